@@ -1,0 +1,60 @@
+-- What a granted call puts into lent buffers.
+use Prim.Native.Nat.{ℕ, _-_, _/_, _%_}
+use mathlib.Core.Bool.{Bool, true, false, _&&_}
+use mathlib.Core.List.{List, [], _∷_, _++_}
+use lib.ListN.{length, replicate}
+use lib.Dec.{leb}
+use Rattle.tree.specs.Content.{content-limit}
+use Rattle.tree.specs.Steps.{Value, done, kind-parent, child-is, none, content-is, numbers-are, cells-are, how-many, unfit}
+
+-- "low byte first": a node number takes two bytes
+abbrev pub number-bytes : ℕ → List ℕ
+number-bytes n = n % 256 ∷ n / 256 ∷ []
+
+abbrev pub list-bytes : List ℕ → List ℕ
+list-bytes [] = []
+list-bytes (n ∷ ns) = number-bytes n ++ list-bytes ns
+
+-- "a 33-byte cell each (length, content, zeros)"
+abbrev pub cell : List ℕ → List ℕ
+cell b = length b ∷ (b ++ replicate (content-limit - length b) 0)
+
+abbrev pub cell-numbers : List (ℕ × List ℕ) → List ℕ
+cell-numbers [] = []
+cell-numbers (c ∷ cs) = number-bytes (c .0) ++ cell-numbers cs
+
+abbrev pub cells : List (ℕ × List ℕ) → List ℕ
+cells [] = []
+cells (c ∷ cs) = cell (c .1) ++ cells cs
+
+-- the content of R, the numbers of TT and of RR
+unfoldable pub first-lent : Value → List ℕ
+first-lent done = []
+first-lent (kind-parent kind parent) = []
+first-lent (child-is number kind) = []
+first-lent none = []
+first-lent (content-is b) = b
+first-lent (numbers-are l) = list-bytes l
+first-lent (cells-are l) = cell-numbers l
+first-lent (how-many n) = []
+first-lent unfit = []
+
+-- the cells of RR
+unfoldable pub second-lent : Value → List ℕ
+second-lent done = []
+second-lent (kind-parent kind parent) = []
+second-lent (child-is number kind) = []
+second-lent none = []
+second-lent (content-is b) = []
+second-lent (numbers-are l) = []
+second-lent (cells-are l) = cells l
+second-lent (how-many n) = []
+second-lent unfit = []
+
+-- the lengths of the lent buffers; 0 where a step has none
+pub record Room : Type 0 where
+  pub first : ℕ
+  pub second : ℕ
+
+abbrev pub has-room : Value → Room → Bool
+has-room v b = leb (length (first-lent v)) (b .first) && leb (length (second-lent v)) (b .second)

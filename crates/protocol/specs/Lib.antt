@@ -1,0 +1,5 @@
+pub mod State
+pub mod Lent
+pub mod Calls
+pub mod History
+pub mod Examples

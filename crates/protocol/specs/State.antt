@@ -1,0 +1,203 @@
+-- The engine's state: the open transactions, and the tree of all nodes held, each with its marks; documents are views of it.
+use Prim.Native.Nat.{ℕ, _+_, _-_, _^_}
+use mathlib.Core.Bool.{Bool, true, false, cond, not, _&&_, _||_}
+use mathlib.Core.List.{List, [], _∷_, _++_, map}
+use lib.ListN.{length}
+use lib.Dec.{eqb}
+use Rattle.tree.specs.Lists.{any, every, has, same}
+use Rattle.tree.specs.Forest.{Forest, Row, rows, amend, view, put}
+use Rattle.tree.specs.Content.{element-kind, between}
+use Rattle.tree.specs.Document.{Node, Document, node-0-alone}
+use Rattle.tree.specs.Steps.{Step, T, C, R, U, D, I, TT, RR, UU, with-content}
+use Rattle.locks.specs.Modes.{Mode, ModeSet, no-mode, union, among}
+use Rattle.locks.specs.Needs.{Lock}
+
+-- transaction numbers are 1 to 16; 0 stands for nobody
+abbrev pub nobody : ℕ
+nobody = 0
+
+abbrev pub is-transaction : ℕ → Bool
+is-transaction t = between 1 16 t
+
+abbrev pub transactions : List ℕ
+transactions = 1 ∷ 2 ∷ 3 ∷ 4 ∷ 5 ∷ 6 ∷ 7 ∷ 8 ∷ 9 ∷ 10 ∷ 11 ∷ 12 ∷ 13 ∷ 14 ∷ 15 ∷ 16 ∷ []
+
+-- a node held: as it is now, its committed content where an open transaction wrote another, who wrote it, inserted it and
+-- deleted it, and for each transaction the set of modes it was granted there
+pub record Marked : Type 0 where
+  pub now : Node
+  pub before : List ℕ
+  pub writer : ℕ
+  pub inserter : ℕ
+  pub deleter : ℕ
+  pub held : ℕ → ModeSet
+
+abbrev pub Tree : Type 0
+Tree = Forest Marked
+
+pub record State : Type 0 where
+  pub is-open : ℕ → Bool
+  pub tree : Tree
+
+-- all nodes held, in document order
+unfoldable pub nodes : Tree → List Marked
+nodes f = map (λ r. r .it) (rows (λ a. a) [] f)
+
+abbrev pub numbered : ℕ → Marked → Bool
+numbered n a = eqb (a .now .number) n
+
+-- a number is held by any node
+abbrev pub number-held : ℕ → Tree → Bool
+number-held n f = any (numbered n) (nodes f)
+
+-- documents ------------------------------------------------------------------------
+
+-- the caller t sees all but what it deleted, with the contents as they are now
+abbrev pub seen-by : ℕ → Marked → Bool
+seen-by t a = not (eqb (a .deleter) t)
+
+unfoldable pub callers-document : ℕ → Tree → Document
+callers-document t f = view (seen-by t) (λ a. a .now) f
+
+-- "the tree in the lent state without nodes that open transactions deleted"
+unfoldable pub held-document : State → Document
+held-document M = view (λ a. not (M .is-open (a .deleter))) (λ a. a .now) (M .tree)
+
+-- a set of transactions shows what they did, and nothing of what the others did
+abbrev pub done-by : (ℕ → Bool) → ℕ → Bool
+done-by S u = eqb u nobody || S u
+
+abbrev pub shown : (ℕ → Bool) → Marked → Bool
+shown S a = done-by S (a .inserter) && not (not (eqb (a .deleter) nobody) && S (a .deleter))
+
+abbrev pub as-shown : (ℕ → Bool) → Marked → Node
+as-shown S a = with-content (a .now) (cond (done-by S (a .writer)) (a .now .content) (a .before))
+
+unfoldable pub document-of : (ℕ → Bool) → Tree → Document
+document-of S f = view (shown S) (as-shown S) f
+
+-- "the one held if they all aborted": nothing that an open transaction did is shown
+abbrev pub committed-document : State → Document
+committed-document M = document-of (λ u. false) (M .tree)
+
+-- marks ------------------------------------------------------------------------------
+
+-- t wrote b; the committed content is kept
+abbrev pub written-by : ℕ → List ℕ → Marked → Marked
+written-by t b a = record {
+  now = with-content (a .now) b;
+  before = cond (eqb (a .writer) nobody) (a .now .content) (a .before);
+  writer = t;
+  inserter = a .inserter;
+  deleter = a .deleter;
+  held = a .held;
+}
+
+abbrev pub deleted-by : ℕ → Marked → Marked
+deleted-by t a = record { now = a .now; before = a .before; writer = a .writer; inserter = a .inserter; deleter = t; held = a .held }
+
+abbrev pub unmarked : Node → Marked
+unmarked a = record { now = a; before = []; writer = nobody; inserter = nobody; deleter = nobody; held = λ u. no-mode }
+
+abbrev pub inserted-by : ℕ → Node → Marked
+inserted-by t a = record { now = a; before = []; writer = nobody; inserter = t; deleter = nobody; held = λ u. no-mode }
+
+-- t is granted the locks that are on this node
+abbrev pub modes-on : List Lock → ℕ → ModeSet
+modes-on [] n = no-mode
+modes-on (l ∷ ls) n = cond (eqb (l .0) n) (union (among (l .1 ∷ [])) (modes-on ls n)) (modes-on ls n)
+
+abbrev pub granted-to : ℕ → List Lock → Marked → Marked
+granted-to t ls a = record {
+  now = a .now;
+  before = a .before;
+  writer = a .writer;
+  inserter = a .inserter;
+  deleter = a .deleter;
+  held = λ u. cond (eqb u t) (union (a .held u) (modes-on ls (a .now .number))) (a .held u);
+}
+
+abbrev pub none-of : ℕ → (ℕ → ModeSet) → ℕ → ModeSet
+none-of t h u = cond (eqb u t) no-mode (h u)
+
+abbrev pub unless : ℕ → ℕ → ℕ
+unless t u = cond (eqb u t) nobody u
+
+-- "commit makes changes lasting"
+abbrev pub settled : ℕ → Marked → Marked
+settled t a = record {
+  now = a .now;
+  before = a .before;
+  writer = unless t (a .writer);
+  inserter = unless t (a .inserter);
+  deleter = a .deleter;
+  held = none-of t (a .held);
+}
+
+-- "abort removes them"
+abbrev pub undone : ℕ → Marked → Marked
+undone t a = record {
+  now = with-content (a .now) (cond (eqb (a .writer) t) (a .before) (a .now .content));
+  before = a .before;
+  writer = unless t (a .writer);
+  inserter = a .inserter;
+  deleter = unless t (a .deleter);
+  held = none-of t (a .held);
+}
+
+-- edits of the tree ------------------------------------------------------------------
+
+-- each node anew, computed from the node and its proper ancestors
+abbrev pub mark : (Row Marked Marked → Marked) → Tree → Tree
+mark g f = amend (λ a. a) g [] f
+
+-- the node numbered n
+abbrev pub mark-node : ℕ → (Marked → Marked) → Tree → Tree
+mark-node n g f = mark (λ r. cond (numbered n (r .it)) (g (r .it)) (r .it)) f
+
+-- t sees it, it is in the subtree of n, and it is an element named a
+abbrev pub renamed : ℕ → ℕ → List ℕ → Row Marked Marked → Bool
+renamed t n a r = every (seen-by t) (r .it ∷ r .above) && any (numbered n) (r .it ∷ r .above) &&
+    eqb (r .it .now .kind) element-kind && same a (r .it .now .content)
+
+-- what a granted step of t does
+abbrev pub act : ℕ → Step → Tree → Tree
+act t (T n) f = f
+act t (C n k) f = f
+act t (R n) f = f
+act t (U n b) f = mark-node n (written-by t b) f
+act t (D n) f = mark-node n (deleted-by t) f
+-- among siblings that t deleted itself the place is a free choice, which no document can show: right behind the one counted last
+act t (I m kind b n k) f = put (numbered n) (seen-by t) k (inserted-by t (record { number = m; kind = kind; content = b })) f
+act t (TT n) f = f
+act t (RR n) f = f
+act t (UU n a b) f = mark (λ r. cond (renamed t n a r) (written-by t b (r .it)) (r .it)) f
+
+unfoldable pub grant : ℕ → List Lock → Tree → Tree
+grant t ls f = mark (λ r. granted-to t ls (r .it)) f
+
+-- what t deleted goes with all below it; the rest of what it did is everybody's; its locks go
+unfoldable pub commit-tree : ℕ → Tree → Tree
+commit-tree t f = view (seen-by t) (settled t) f
+
+-- what t inserted goes with all below it; what it deleted and wrote is as before; its locks go
+unfoldable pub abort-tree : ℕ → Tree → Tree
+abort-tree t f = view (λ a. not (eqb (a .inserter) t)) (undone t) f
+
+unfoldable pub tree-of : Document → Tree
+tree-of d = view (λ a. true) unmarked d
+
+-- states -----------------------------------------------------------------------------
+
+-- "node 0 alone and nothing is open"
+abbrev pub start-state : State
+start-state = record { is-open = λ u. false; tree = tree-of node-0-alone }
+
+abbrev pub with-tree : State → Tree → State
+with-tree M f = record { is-open = M .is-open; tree = f }
+
+abbrev pub opened : ℕ → State → State
+opened t M = record { is-open = λ u. eqb u t || M .is-open u; tree = M .tree }
+
+abbrev pub closed : ℕ → Tree → State → State
+closed t f M = record { is-open = λ u. not (eqb u t) && M .is-open u; tree = f }

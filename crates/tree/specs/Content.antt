@@ -1,0 +1,87 @@
+-- Kinds, names, texts, and which kind may stand under which: document 01, "The tree".
+use Prim.Native.Nat.{ℕ, _-_}
+use mathlib.Core.Bool.{Bool, true, false, cond, not, _&&_, _||_}
+use mathlib.Core.List.{List, [], _∷_, _++_}
+use lib.ListN.{length, take, drop}
+use lib.Dec.{eqb, leb}
+use Rattle.tree.specs.Lists.{every}
+
+-- the paper's numbers of the kinds
+abbrev pub document-kind : ℕ
+document-kind = 1
+
+abbrev pub element-kind : ℕ
+element-kind = 2
+
+abbrev pub attribute-kind : ℕ
+attribute-kind = 3
+
+abbrev pub text-kind : ℕ
+text-kind = 4
+
+abbrev pub between : ℕ → ℕ → ℕ → Bool
+between low high x = leb low x && leb x high
+
+-- an ASCII letter or _
+unfoldable pub name-start : ℕ → Bool
+name-start x = between 65 90 x || between 97 122 x || eqb x 95
+
+-- a letter, a digit, _, - or .
+unfoldable pub name-byte : ℕ → Bool
+name-byte x = name-start x || between 48 57 x || eqb x 45 || eqb x 46
+
+-- 9, 10 or 0x20 to 0x7E
+unfoldable pub text-byte : ℕ → Bool
+text-byte x = eqb x 9 || eqb x 10 || between 32 126 x
+
+-- a content has at most 32 bytes
+abbrev pub content-limit : ℕ
+content-limit = 32
+
+-- the bytes of a name, of any length
+abbrev pub spells-name : List ℕ → Bool
+spells-name [] = false
+spells-name (x ∷ xs) = name-start x && every name-byte xs
+
+-- the bytes of a text, of any length
+abbrev pub spells-text : List ℕ → Bool
+spells-text [] = false
+spells-text (x ∷ xs) = every text-byte (x ∷ xs)
+
+-- a name: 1 to 32 bytes, a letter or _, then letters, digits, _, - and .
+unfoldable pub is-name : List ℕ → Bool
+is-name b = leb (length b) content-limit && spells-name b
+
+-- a text: 1 to 32 bytes, each 9, 10 or 0x20 to 0x7E
+unfoldable pub is-text : List ℕ → Bool
+is-text b = leb (length b) content-limit && spells-text b
+
+-- the column "Content": what a node of a kind may hold
+unfoldable pub allowed : ℕ → List ℕ → Bool
+allowed kind b =
+    cond (eqb kind document-kind) (eqb (length b) 0)
+    (cond (eqb kind element-kind || eqb kind attribute-kind) (is-name b)
+    (eqb kind text-kind && is-text b))
+
+-- whether a kind ever takes a child of a kind: elements under the document, attributes, elements and texts under an element,
+-- texts under an attribute
+unfoldable pub takes : ℕ → ℕ → Bool
+takes parent kind =
+    cond (eqb parent document-kind) (eqb kind element-kind)
+    (cond (eqb parent element-kind) (between element-kind text-kind kind)
+    (eqb parent attribute-kind && eqb kind text-kind))
+
+-- "attributes first, then elements and texts"
+unfoldable pub attributes-first : List ℕ → Bool
+attributes-first [] = true
+attributes-first (kind ∷ kinds) =
+    cond (eqb kind attribute-kind) (attributes-first kinds) (every (λ x. not (eqb x attribute-kind)) kinds)
+
+-- the column "Children": the kinds of the children, in order, that a node of a kind may have
+unfoldable pub children-rule : ℕ → List ℕ → Bool
+children-rule kind kinds =
+    every (takes kind) kinds && cond (eqb kind element-kind) (attributes-first kinds) (leb (length kinds) 1)
+
+-- a list with x as its k-th, k from 1
+unfoldable pub insert-at : {A : Type 0} → ℕ → A → List A → List A
+insert-at k x l = take (k - 1) l ++ (x ∷ drop (k - 1) l)

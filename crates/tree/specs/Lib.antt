@@ -1,0 +1,6 @@
+pub mod Text
+pub mod Lists
+pub mod Forest
+pub mod Content
+pub mod Document
+pub mod Steps

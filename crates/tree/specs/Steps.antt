@@ -1,0 +1,164 @@
+-- The nine steps on a plain document: document 01, "Steps" and "The plain run". Locks, the number of nodes and room in buffers play no part.
+use Prim.Native.Nat.{ℕ, zero, suc}
+use mathlib.Core.Bool.{Bool, true, false, cond, not, _&&_}
+use mathlib.Core.List.{List, [], _∷_, map}
+use lib.ListN.{length}
+use lib.Dec.{eqb, leb}
+use Rattle.tree.specs.Lists.{any, keep, same}
+use Rattle.tree.specs.Forest.{amend, view, put}
+use Rattle.tree.specs.Content.{document-kind, element-kind, is-name, allowed, takes, children-rule, insert-at}
+use Rattle.tree.specs.Document.{Node, Document, Line, is, child, under, select, here, at, numbers, kinds}
+
+pub data Step : Type 0 where
+  T : (n : ℕ) → Step
+  C : (n k : ℕ) → Step
+  R : (n : ℕ) → Step
+  U : (n : ℕ) (bytes : List ℕ) → Step
+  D : (n : ℕ) → Step
+  I : (m kind : ℕ) (bytes : List ℕ) (n k : ℕ) → Step
+  TT : (n : ℕ) → Step
+  RR : (n : ℕ) → Step
+  UU : (n : ℕ) (a b : List ℕ) → Step
+
+-- the node that a step is on; for I the parent
+abbrev pub target : Step → ℕ
+target (T n) = n
+target (C n k) = n
+target (R n) = n
+target (U n b) = n
+target (D n) = n
+target (I m kind b n k) = n
+target (TT n) = n
+target (RR n) = n
+target (UU n a b) = n
+
+-- the number that a step brings in
+abbrev pub brings : Step → List ℕ
+brings (T n) = []
+brings (C n k) = []
+brings (R n) = []
+brings (U n b) = []
+brings (D n) = []
+brings (I m kind b n k) = m ∷ []
+brings (TT n) = []
+brings (RR n) = []
+brings (UU n a b) = []
+
+-- what fits --------------------------------------------------------------------
+
+abbrev pub is-document : Line → Bool
+is-document r = eqb (r .it .kind) document-kind
+
+-- causes 7, 8 and 9, in this order, by their numbers in "Refused calls"; 0 where none of them applies
+abbrev pub misfit : Step → Document → ℕ
+misfit (T n) d = cond (here n d) 0 7
+misfit (C n k) d = cond (here n d) 0 7
+misfit (R n) d = cond (here n d) (cond (is-document (at n d)) 8 0) 7
+misfit (U n b) d = cond (here n d) (cond (is-document (at n d)) 8 (cond (allowed (at n d .it .kind) b) 0 9)) 7
+misfit (D n) d = cond (here n d) (cond (is-document (at n d)) 8 0) 7
+misfit (I m kind b n k) d = cond (here n d) (cond (takes (at n d .it .kind) kind) (cond (allowed kind b) 0 9) 8) 7
+misfit (TT n) d = cond (here n d) 0 7
+misfit (RR n) d = cond (here n d) 0 7
+misfit (UU n a b) d = cond (here n d) (cond (is-name a && is-name b) 0 9) 7
+
+-- k is a place among these children, and the children rule holds with the new one there
+unfoldable pub placed : ℕ → ℕ → ℕ → List ℕ → Bool
+placed parent kind k others = leb 1 k && leb k (suc (length others)) && children-rule parent (insert-at k kind others)
+
+-- cause 11: "k is 0 or past children + 1, or the children rule would break"
+abbrev pub misplaced : Step → Document → Bool
+misplaced (T n) d = false
+misplaced (C n k) d = false
+misplaced (R n) d = false
+misplaced (U n b) d = false
+misplaced (D n) d = false
+misplaced (I m kind b n k) d = not (placed (at n d .it .kind) kind k (kinds (select (child n) d)))
+misplaced (TT n) d = false
+misplaced (RR n) d = false
+misplaced (UU n a b) d = false
+
+-- the plain rules allow the step
+abbrev pub fits : Step → Document → Bool
+fits s d = eqb (misfit s d) 0 && not (any (λ m. here m d) (brings s)) && not (misplaced s d)
+
+-- answers ------------------------------------------------------------------------
+
+-- the column "Answer", with what is written to lent buffers; `unfit` is the plain run's answer to a step that it does not allow
+pub data Value : Type 0 where
+  done : Value
+  kind-parent : (kind parent : ℕ) → Value
+  child-is : (number kind : ℕ) → Value
+  none : Value
+  content-is : (bytes : List ℕ) → Value
+  numbers-are : (list : List ℕ) → Value
+  cells-are : (list : List (ℕ × List ℕ)) → Value
+  how-many : (count : ℕ) → Value
+  unfit : Value
+
+abbrev pub kth : ℕ → List Line → Value
+kth k [] = none
+kth zero (r ∷ rs) = none
+kth (suc zero) (r ∷ rs) = child-is (r .it .number) (r .it .kind)
+kth (suc (suc k)) (r ∷ rs) = kth (suc k) rs
+
+-- 0 for the document
+abbrev pub parent : List ℕ → ℕ
+parent [] = 0
+parent (q ∷ qs) = q
+
+-- an element with this name
+abbrev pub named : List ℕ → Line → Bool
+named a r = eqb (r .it .kind) element-kind && same a (r .it .content)
+
+abbrev pub answer : Step → Document → Value
+answer (T n) d = kind-parent (at n d .it .kind) (parent (at n d .above))
+answer (C n k) d = kth k (select (child n) d)
+answer (R n) d = content-is (at n d .it .content)
+answer (U n b) d = done
+answer (D n) d = done
+answer (I m kind b n k) d = done
+answer (TT n) d = numbers-are (numbers (select (under n) d))
+answer (RR n) d = cells-are (map (λ r. (r .it .number, r .it .content)) (select (under n) d))
+answer (UU n a b) d = how-many (length (keep (named a) (select (under n) d)))
+
+-- the document afterwards ----------------------------------------------------------
+
+abbrev pub with-content : Node → List ℕ → Node
+with-content a b = record { number = a .number; kind = a .kind; content = b }
+
+-- contents anew: for each line that passes, the bytes
+abbrev pub rewrite : (Line → Bool) → List ℕ → Document → Document
+rewrite t b d = amend (λ a. a .number) (λ r. cond (t r) (with-content (r .it) b) (r .it)) [] d
+
+-- n and all below it taken out
+abbrev pub remove : ℕ → Document → Document
+remove n d = view (λ a. not (eqb (a .number) n)) (λ a. a) d
+
+abbrev pub after : Step → Document → Document
+after (T n) d = d
+after (C n k) d = d
+after (R n) d = d
+after (U n b) d = rewrite (is n) b d
+after (D n) d = remove n d
+after (I m kind b n k) d = put (λ a. eqb (a .number) n) (λ a. true) k (record { number = m; kind = kind; content = b }) d
+after (TT n) d = d
+after (RR n) d = d
+after (UU n a b) d = rewrite (λ r. under n r && named a r) b d
+
+-- the plain run ----------------------------------------------------------------------
+
+-- a step that the plain rules do not allow changes nothing and answers unfit
+abbrev pub plain-answer : Step → Document → Value
+plain-answer s d = cond (fits s d) (answer s d) unfit
+
+abbrev pub plain-after : Step → Document → Document
+plain-after s d = cond (fits s d) (after s d) d
+
+-- steps in order: the document that they leave, and their answers
+unfoldable pub plain-document : Document → List Step → Document
+plain-document d [] = d
+plain-document d (s ∷ ss) = plain-document (plain-after s d) ss
+
+unfoldable pub plain-answers : Document → List Step → List Value
+plain-answers d [] = []
+plain-answers d (s ∷ ss) = plain-answer s d ∷ plain-answers (plain-after s d) ss
