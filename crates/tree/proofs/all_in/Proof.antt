@@ -39,7 +39,7 @@ div-if1 c = search needs
 -- src/lib.rt:301:13
 returns : tie.Need-returns Inv-loop μ-loop
 unfolding in-class
-returns c = 
+returns c =
     let l = c .before .before .before .before .loop in
     sym (l .inv .1 ∙ stops (in-class _) _ (l .i) (search needs) (rw (← c .before .class .ensures) (ne-eqb _ _ (c .if1 .taken))))
 
@@ -54,7 +54,7 @@ loop-less c = search needs
 -- src/lib.rt:299:5
 loop-again : tie.Need-loop-again Inv-loop μ-loop
 unfolding in-class
-loop-again c = 
+loop-again c =
     let l = c .before .before .before .before .loop in
     (search needs, l .inv .1 ∙ goes-on (in-class _) _ (l .i) (search needs) (rw (← c .before .class .ensures) (eq-eqb _ _ (c .if1 .left))))
 
