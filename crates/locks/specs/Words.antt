@@ -1,6 +1,6 @@
 -- Sets of modes as 16-bit words, the table by places, and the locks of a step as words.
 use Prim.Native.Nat.{ℕ, zero, suc, _+_, _*_, _/_, _%_, _^_}
-use mathlib.Core.Bool.{Bool, true, false, cond, _&&_}
+use mathlib.Core.Bool.{Bool, true, false, cond, _&&_, _||_}
 use mathlib.Core.List.{List, [], _∷_, map}
 use lib.ListN.{getD}
 use lib.Dec.{eqb}
@@ -30,7 +30,7 @@ word q (suc n) u = cond (q u) 1 0 + 2 * word q n (suc u)
 -- some place from i on, of n, passes
 unfoldable pub some-place : (ℕ → Bool) → ℕ → ℕ → Bool
 some-place q zero i = false
-some-place q (suc n) i = cond (q i) true (some-place q n (suc i))
+some-place q (suc n) i = q i || some-place q n (suc i)
 
 -- some mode of the word w clashes with the mode at place a
 unfoldable pub meets : ℕ → ℕ → Bool

@@ -7,7 +7,7 @@ use Rattle.tree.specs.Lists.{any, every}
 use Rattle.tree.specs.Forest.{Forest, Row, rows, amend, view, put}
 use Rattle.tree.specs.Content.{between}
 use Rattle.tree.specs.Document.{Node, Document, node-0-alone}
-use Rattle.tree.specs.Steps.{Step, T, C, R, U, D, I, TT, RR, UU, named, with-content}
+use Rattle.tree.specs.Steps.{Step, T, C, R, U, D, I, TT, RR, UU, is-named, with-content}
 use Rattle.locks.specs.Modes.{ModeSet, no-mode, union, among}
 use Rattle.locks.specs.Needs.{Lock}
 
@@ -160,7 +160,7 @@ mark-node n g f = mark (λ r. cond (numbered n (r .it)) (g (r .it)) (r .it)) f
 
 -- t sees it, it is in the subtree of n, and it is an element named a
 abbrev pub renamed : ℕ → ℕ → List ℕ → Row Marked Marked → Bool
-renamed t n a r = every (seen-by t) (r .it ∷ r .above) && any (numbered n) (r .it ∷ r .above) && named a (r .it .now)
+renamed t n a r = every (seen-by t) (r .it ∷ r .above) && any (numbered n) (r .it ∷ r .above) && is-named a (r .it .now)
 
 -- what a granted step of t does
 abbrev pub act : ℕ → Step → Tree → Tree

@@ -107,8 +107,11 @@ parent [] = 0
 parent (q ∷ qs) = q
 
 -- an element with this name
-abbrev pub named : List ℕ → Node → Bool
-named a x = eqb (x .kind) element-kind && same a (x .content)
+abbrev pub is-named : List ℕ → Node → Bool
+is-named a x = eqb (x .kind) element-kind && same a (x .content)
+
+abbrev pub named : List ℕ → Line → Bool
+named a r = is-named a (r .it)
 
 abbrev pub answer : Step → Document → Value
 answer (T n) d = kind-parent (at n d .it .kind) (parent (at n d .above))
@@ -119,7 +122,7 @@ answer (D n) d = done
 answer (I m kind b n k) d = done
 answer (TT n) d = numbers-are (numbers (select (under n) d))
 answer (RR n) d = cells-are (map (λ r. (r .it .number, r .it .content)) (select (under n) d))
-answer (UU n a b) d = how-many (length (keep (λ r. named a (r .it)) (select (under n) d)))
+answer (UU n a b) d = how-many (length (keep (named a) (select (under n) d)))
 
 -- the document afterwards ----------------------------------------------------------
 
@@ -143,7 +146,7 @@ after (D n) d = remove n d
 after (I m kind b n k) d = put (λ a. eqb (a .number) n) (λ a. true) k (record { number = m; kind = kind; content = b }) d
 after (TT n) d = d
 after (RR n) d = d
-after (UU n a b) d = rewrite (λ r. under n r && named a (r .it)) b d
+after (UU n a b) d = rewrite (λ r. under n r && named a r) b d
 
 -- the plain run ----------------------------------------------------------------------
 

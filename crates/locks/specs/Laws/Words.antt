@@ -1,7 +1,7 @@
 -- Laws of words: the table by places is the table, a word's bits, the turns of the loops that go through them. Assumes nothing.
 use Prim.Native.Nat.{ℕ, zero, suc, _+_, _*_, _-_, _/_, _%_, _^_, _≤_, _<_}
 use mathlib.Core.Path.{_≡_, refl, sym, ap, _∙_}
-use mathlib.Core.Bool.{Bool, true, false, cond, _&&_}
+use mathlib.Core.Bool.{Bool, true, false, cond, _&&_, _||_}
 use native.Mathlib.Omega.{arith}
 use native.Mathlib.Nat.{pow-succ', lt-of-lt-of-le}
 use native.Mathlib.Numerals.{add-one}
@@ -11,7 +11,7 @@ use Rattle.locks.specs.Words.{clash-at, bit, word, some-place, meets, ma
 
 -- going up through places
 module _ (q : ℕ → Bool) (n i : ℕ) (h : i < n) where
-  turn : some-place q (n - i) i ≡ cond (q i) true (some-place q (n - (i + 1)) (i + 1))
+  turn : some-place q (n - i) i ≡ (q i || some-place q (n - (i + 1)) (i + 1))
   unfolding some-place
   turn = let e : n - i ≡ suc (n - (i + 1)) = omega arith in rw (e, add-one)
 
