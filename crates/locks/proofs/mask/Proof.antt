@@ -40,7 +40,7 @@ loop-less c = search needs
 
 -- src/lib.rt:253:5
 loop-again : tie.Need-loop-again Inv-loop μ-loop
-loop-again c = 
+loop-again c =
     let l = c .before .before .before .loop in
     let w = c .before .before .before .before .args .w in
     (search needs, c .bit-below .ensures ∙ rw (c .before .clashes-with .ensures, l .inv .1) (sym (word-turn (meets w) 12 (l .a) (search needs) (search needs))))
@@ -48,7 +48,7 @@ loop-again c =
 -- src/lib.rt:248:1
 returns : tie.Need-returns Inv-loop μ-loop
 unfolding mask-of
-returns c = 
+returns c =
     let z : c .before .loop .a ≡ 0 = omega arith in
     c .before .loop .inv .1 ∙ ap (λ (i : ℕ). word (meets (c .before .before .args .w)) (12 - i) i) z
 

@@ -84,8 +84,20 @@ in-mask w a = word-bit (meets w) 12 0 (index a) (index-below a) ∙ ap (meets w)
     z n = omega arith
 
     any-same : meets w (index a) ≡ against (in-word w) a
-    any-same = rw (clash-at-index a LT, clash-at-index a LC, clash-at-index a LR, clash-at-index a LU, clash-at-index a LW, clash-at-index a LTT,
-      clash-at-index a LRR, clash-at-index a LUU, clash-at-index a LIR, clash-at-index a LIU, clash-at-index a LIW, clash-at-index a LICW)
+    any-same = rw (
+      clash-at-index a LT,
+      clash-at-index a LC,
+      clash-at-index a LR,
+      clash-at-index a LU,
+      clash-at-index a LW,
+      clash-at-index a LTT,
+      clash-at-index a LRR,
+      clash-at-index a LUU,
+      clash-at-index a LIR,
+      clash-at-index a LIU,
+      clash-at-index a LIW,
+      clash-at-index a LICW,
+    )
 
 -- the union of two words
 bits-or : (x y : ℕ) → x < 2 → y < 2 → eqb (max x y) 1 ≡ (eqb x 1 || eqb y 1)
