@@ -3,7 +3,7 @@ ghost use mathlib.Core.Path.{_≡_};
 ghost use mathlib.Core.Bool.{cond, _&&_};
 ghost use Prim.Native.Nat.{_+_, _*_, _^_, _<_};
 ghost use lib.Bits.{bitOr};
-ghost use Rattle.locks.specs.Words.{clash-at, bit, meets, mask-of, need-words};
+ghost use Rattle.locks.specs.Words.{clash-at, bit, in-common, meets, mask-of, need-words};
 
 // The signs of the table: a clash or none.
 const YES: bool = true;
@@ -54,6 +54,14 @@ pub fn union(v: u16, w: u16) -> u16
     ensures { λ r. ⌜ r ≡ bitOr v w ⌝ }
 {
     v | w
+}
+
+// Whether two sets have a mode in common; the second has no bit that is no mode.
+pub fn share(v: u16, w: u16) -> bool
+    requires { ⌜ w < 4096 ⌝ }
+    ensures { λ r. ⌜ r ≡ in-common v w ⌝ }
+{
+    v & w != 0
 }
 
 // Whether a set has the mode at a place, and that one clashes with another.
