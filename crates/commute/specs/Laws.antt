@@ -3,3 +3,6 @@ pub mod Views
 pub mod Classes
 pub mod Apart
 pub mod Kept
+pub mod Edits
+pub mod Diamond
+pub mod Uniqueness

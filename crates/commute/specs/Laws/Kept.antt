@@ -63,7 +63,7 @@ module _ (d : Document) (u : Unique d) where
     off-removed : has x (target s ∷ path (target s) d) ≡ false
     off-removed = off-path x (LW ∷ []) (needs (D x) d) (node-locked (D x) (path x d)) s (path (target s) d) (compatible-symmetric _ _ c) (all-off-LW s)
 
-    clear-of-removal : Clear-of d u (reach s) (target s) x
+    pub clear-of-removal : Clear-of d u (reach s) (target s) x
     clear-of-removal = go (reach s) (removal-barred s x)
       where
         go : (q : Reach) → bars-removal q (need s) (need (D x)) ≡ true → Clear-of d u q (target s) x
@@ -88,11 +88,11 @@ module _ (d : Document) (u : Unique d) where
     abbrev new : Node
     new = record { number = m; kind = kind; content = b }
 
-    other : eqb m (target s) ≡ false
+    pub other : eqb m (target s) ≡ false
     other = ne-eqb m (target s) (λ e. true≢false (sym hs ∙ ap (λ (q : ℕ). here q d) (sym e) ∙ hm))
 
     -- the new line is not within the reach of s
-    new-line-unseen : within (reach s) (target s) (row new (n ∷ path n d)) ≡ false
+    pub new-line-unseen : within (reach s) (target s) (row new (n ∷ path n d)) ≡ false
     new-line-unseen = go (reach s) (insertion-barred s m kind b n k)
       where
         go : (q : Reach) → bars-insertion q (need s) (need (I m kind b n k)) ≡ true → within q (target s) (row new (n ∷ path n d)) ≡ false
@@ -125,7 +125,7 @@ module _ (d : Document) (u : Unique d) where
     off-p e = off-path (target s) (need s .node) (needs s d) (node-locked s (path (target s) d)) p (path (target p) d) c e
 
     -- no line whose contents s sees or writes is touched
-    untouched : Contents s → (r : Line) → Of r d → within (reach s) (target s) r ≡ true → within (reach p) (target p) r ≡ false
+    pub untouched : Contents s → (r : Line) → Of r d → within (reach s) (target s) r ≡ true → within (reach p) (target p) r ≡ false
     untouched h r m i = go (reach s) (reach p) (writing-barred h w) i
       where
         go : (q q' : Reach) → bars-writing q q' (need s) (need p) ≡ true → within q (target s) r ≡ true → within q' (target p) r ≡ false
