@@ -6,3 +6,7 @@ pub mod Kept
 pub mod Edits
 pub mod Diamond
 pub mod Uniqueness
+pub mod Absence
+pub mod Runs
+pub mod Orders
+pub mod Serial

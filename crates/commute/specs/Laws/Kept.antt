@@ -16,8 +16,10 @@ use Rattle.locks.specs.Modes.{LW, clash}
 use Rattle.locks.specs.Needs.{need, needs, locks}
 use Rattle.locks.specs.Laws.Compatible.{Compatible, compatible-symmetric, All-locked, clashing, excludes, node-locked, new-locked, off-node, off-parent, off-path, off-new}
 use Rattle.commute.specs.Laws.Lines.{Of, Unique, at-line, line-here, not-here, insert}
-use Rattle.commute.specs.Laws.Views.{Reach, itself, children, subtree, within, reach, reads, within-by-number, Shapes, Whole, whole-shapes, Views, Same, views-same, rewrite-shapes, rewrite-whole, remove-whole, insert-whole, shapes-some}
-use Rattle.commute.specs.Laws.Classes.{Rewriting, Class, reading, rewriting, removing, inserting, class, touched, written, after-rewriting, touched-within, Contents, reads-contents, all-off-LW, bars-removal, removal-barred, bars-insertion, insertion-barred, bars-writing, writing-barred, Absent, new-need}
+use Rattle.commute.specs.Laws.Views.{Reach, itself, children, subtree, within, reach, reads, within-by-number, Shapes, Whole, whole-shapes, Views, Same, views-same, rewrite-shapes}
+use Rattle.commute.specs.Laws.Views.{rewrite-whole, remove-whole, insert-whole, shapes-some}
+use Rattle.commute.specs.Laws.Classes.{Rewriting, Class, reading, rewriting, removing, inserting, class, touched, written, after-rewriting, touched-within, Contents, reads-contents}
+use Rattle.commute.specs.Laws.Classes.{all-off-LW, bars-removal, removal-barred, bars-insertion, insertion-barred, bars-writing, writing-barred, Absent, new-need}
 use Rattle.commute.specs.Laws.Apart.{path, path-of, not-under, under-not-under, Clear-of, clear-of}
 
 -- a step that fits ---------------------------------------------------------------------------
