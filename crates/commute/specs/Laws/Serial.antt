@@ -14,7 +14,8 @@ use Rattle.locks.specs.Laws.Compatible.{compatible-symmetric}
 use Rattle.commute.specs.Laws.Lines.{Unique}
 use Rattle.commute.specs.Laws.Classes.{Absent}
 use Rattle.commute.specs.Laws.Runs.{Entry, Valid, Run, run-split, run-append, unique-run, Clear, All-clear, Other-numbers, Brings-once, All-absent}
-use Rattle.commute.specs.Laws.Orders.{Permutation, permuted-has, permuted-distinct, permutation-back, to-back, Distinct, distinct-head, distinct-tail, distinct-cons, logs, logs-append, Apart, None-there, rest-not-there, any-order}
+use Rattle.commute.specs.Laws.Orders.{Permutation, permuted-has, permuted-distinct, permutation-back, to-back, Distinct, distinct-head}
+use Rattle.commute.specs.Laws.Orders.{distinct-tail, distinct-cons, logs, logs-append, Apart, None-there, rest-not-there, any-order}
 
 -- the transactions a, run one after another in this order on d, give every step its answer and its locks, and leave h
 pub record Serial (d : Document) (a : List ℕ) (log : ℕ → List Entry) (h : Document) : Type 0 where
