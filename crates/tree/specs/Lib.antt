@@ -6,3 +6,4 @@ pub mod Document
 pub mod Steps
 pub mod Classes
 pub mod Examples
+pub mod Laws
