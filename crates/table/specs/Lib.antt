@@ -1,0 +1,5 @@
+pub mod Lists
+pub mod Flat
+pub mod Layout
+pub mod Fields
+pub mod Laws
