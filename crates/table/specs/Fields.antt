@@ -5,7 +5,7 @@ use mathlib.Core.List.{List, [], _∷_, _++_}
 use lib.Dec.{eqb}
 use Rattle.tree.specs.Steps.{with-content}
 use Rattle.locks.specs.Modes.{in-word}
-use Rattle.protocol.specs.State.{Marked}
+use Rattle.protocol.specs.State.{Marked, none-of}
 
 -- the four bytes of a cell that stand for themselves: 0 kind, 1 writer, 2 inserter, 3 deleter
 abbrev pub field : ℕ → Marked → ℕ
@@ -37,11 +37,24 @@ with-writer v a = record { now = a .now; before = a .before; writer = v; inserte
 abbrev pub with-inserter : ℕ → Marked → Marked
 with-inserter v a = record { now = a .now; before = a .before; writer = a .writer; inserter = v; deleter = a .deleter; held = a .held }
 
--- the content as it is now
+-- the contents of a node: 0 the one now, 1 the committed one
+abbrev pub text : ℕ → Marked → List ℕ
+text o a = cond (eqb o 0) (a .now .content) (a .before)
+
+abbrev pub with-text : ℕ → List ℕ → Marked → Marked
+with-text o b a = record {
+  now = with-content (a .now) (cond (eqb o 0) b (a .now .content));
+  before = cond (eqb o 0) (a .before) b;
+  writer = a .writer;
+  inserter = a .inserter;
+  deleter = a .deleter;
+  held = a .held;
+}
+
 abbrev pub with-now : List ℕ → Marked → Marked
 with-now b a = record { now = with-content (a .now) b; before = a .before; writer = a .writer; inserter = a .inserter; deleter = a .deleter; held = a .held }
 
--- the content as it is now kept as the committed one, and the other way round
+-- the content now kept as the committed one, and the other way round
 abbrev pub saved : Marked → Marked
 saved a = record { now = a .now; before = a .now .content; writer = a .writer; inserter = a .inserter; deleter = a .deleter; held = a .held }
 
@@ -58,3 +71,7 @@ with-modes t w a = record {
   deleter = a .deleter;
   held = λ u. cond (eqb u t) (in-word w) (a .held u);
 }
+
+-- transaction t holds nothing
+abbrev pub released : ℕ → Marked → Marked
+released t a = record { now = a .now; before = a .before; writer = a .writer; inserter = a .inserter; deleter = a .deleter; held = none-of t (a .held) }

@@ -1,5 +1,6 @@
 -- Lists by place: one element changed, one put in, and those of a rule.
 use Prim.Native.Nat.{ℕ, zero, suc}
+use mathlib.Core.Bool.{Bool, cond}
 use mathlib.Core.List.{List, [], _∷_, _++_}
 use lib.ListN.{take, drop}
 
@@ -18,3 +19,8 @@ module _ {A : Type 0} where
   -- x at place i; those from i on stand one place later
   unfoldable pub insert : ℕ → A → List A → List A
   insert i x l = take i l ++ (x ∷ drop i l)
+
+  -- the place of the first that passes, or the length
+  unfoldable pub first : (A → Bool) → List A → ℕ
+  first t [] = 0
+  first t (x ∷ xs) = cond (t x) 0 (suc (first t xs))

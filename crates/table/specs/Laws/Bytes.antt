@@ -7,6 +7,8 @@ use native.Mathlib.Omega.{arith}
 use native.Mathlib.Nat.{add-assoc}
 use lib.ListN.{length, getD, take, drop, set, length-append, length-take, length-drop, length-set}
 use lib.Seq.{getD-take, getD-drop, ext-getD, getD-set-same, getD-set-other, length-take-le, drop-set-add, take-set-lt}
+use lib.Dec.{eqb}
+use borrow.Author.Tests.{eqb-true, eqb-false}
 use Rattle.table.specs.Layout.{word, part}
 
 -- only the n bytes from k on may differ
@@ -87,3 +89,24 @@ part-at s k n i h = getD-take n (drop k s) i 0 h ∙ getD-drop k s i 0
 pub part-set : (s : List ℕ) (k n i v : ℕ) → i < n → part (set s (k + i) v) k n ≡ set (part s k n) i v
 unfolding part
 part-set s k n i v h = rw (drop-set-add k s i v, take-set-lt n (drop k s) i v h)
+
+-- what a loop over bytes leaves: n bytes from k on, by a rule
+pub record Filled (k n : ℕ) (v : ℕ → ℕ) (s s′ : List ℕ) : Type 0 where
+  pub only : Only k n s s′
+  pub bytes : (j : ℕ) → j < n → getD s′ (k + j) 0 ≡ v j
+
+pub filled-none : (k : ℕ) (v : ℕ → ℕ) (s : List ℕ) → Filled k 0 v s s
+filled-none k v s = record { only = only-none k 0 s; bytes = λ j h. absurd (omega arith) }
+
+pub filled-more : (k n : ℕ) (v : ℕ → ℕ) (s s′ : List ℕ) (x : ℕ) → Filled k n v s s′ → k + n < length s → x ≡ v n → Filled k (n + 1) v s (set s′ (k + n) x)
+filled-more k n v s s′ x f h e =
+    record {
+      only = only-then (only-wider k (n + 1) (f .only) (omega arith) (omega arith)) (only-wider k (n + 1) (only-set s′ (k + n) x) (omega arith) (omega arith));
+      bytes = λ j l. go j l (eqb j n) refl;
+    }
+  where
+    go : (j : ℕ) → j < n + 1 → (t : Bool) → eqb j n ≡ t → getD (set s′ (k + n) x) (k + j) 0 ≡ v j
+    go j l true p = rw (eqb-true j n p) (getD-set-same s′ (k + n) x 0 (omega (arith, f .only .long)) ∙ e)
+    go j l false p =
+        let ne : j ≡ n → ⊥ = eqb-false j n p in
+        getD-set-other s′ (k + n) (k + j) x 0 (λ q. ne (omega arith)) ∙ f .bytes j (omega (arith, ne))

@@ -61,5 +61,6 @@ sized-field o v c l z = record {
 pub field-kept : (s : List ℕ) (i o v k : ℕ) → k ≡ slot s i → Layout s → i < length (nodes s) → o < 4 → Kept s (set s (cell-at k + o) v) (modify i (second (with-field o v)) (nodes s))
 unfolding cell
 field-kept s i o v k e h l b =
-    cell-kept {k = k} (only-wider (cell-at k) 70 (only-set s (cell-at k + o) v) (omega arith) (omega arith)) h i (omega (arith, length-nodes s)) (sym e)
-    (λ c. set c o v) (with-field o v) (part-set s (cell-at k) 70 o v (omega arith)) (λ m c g q z. decode-field o v m c g b q) (λ c q z. sized-field o v c b z)
+    let p : cell (set s (cell-at k + o) v) k ≡ set (cell s k) o v = part-set s (cell-at k) 70 o v (omega arith) in
+    cell-kept {k = k} (only-wider (cell-at k) 70 (only-set s (cell-at k + o) v) (omega arith) (omega arith)) h i (sym e) (omega (arith, length-nodes s)) (with-field o v)
+    (λ m g q z. rw p (decode-field o v m (cell s k) g b q)) (λ z. rw p (sized-field o v (cell s k) b z))

@@ -104,16 +104,16 @@ module _ {k : ℕ} {s s′ : List ℕ} (o : Only (cell-at k) 70 s s′) where
   unfolding held
   cell-held l j = fun-ext (λ t. rw (word-high o (lock-at t j) (omega arith)))
 
-  -- one law for every field of a cell: f is the store in its bytes, g the change of the node
+  -- one law for every change of a cell
   pub cell-kept :
-      Layout s → (i : ℕ) → i < count s → slot s i ≡ k → (f : List ℕ → List ℕ) (g : Marked → Marked) → cell s′ k ≡ f (cell s k) →
-      ((m : ℕ) (c : List ℕ) (h : ℕ → ModeSet) → length c ≡ 70 → Sized c → decode m (f c) h ≡ g (decode m c h)) →
-      ((c : List ℕ) → length c ≡ 70 → Sized c → Sized (f c)) → Kept s s′ (modify i (second g) (nodes s))
-  cell-kept h i l e f g c d z =
+      Layout s → (i : ℕ) → slot s i ≡ k → i < count s → (g : Marked → Marked) →
+      ((m : ℕ) (h : ℕ → ModeSet) → length (cell s k) ≡ 70 → Sized (cell s k) → decode m (cell s′ k) h ≡ g (decode m (cell s k) h)) →
+      (Sized (cell s k) → Sized (cell s′ k)) → Kept s s′ (modify i (second g) (nodes s))
+  cell-kept h i e l g d z =
       let a : k < 1024 = rw e at (h .slots i (omega (arith, h .room))) in
       let y : Sized (cell s k) = rw e at (h .sizes i l) in
       let w : length (cell s k) ≡ 70 = length-cell s k (h .size) a in
       kept-of o (omega arith) h (omega arith) i l g
-      (rw (e, c, cell-held a k) (d (number s i) (cell s k) (held s k) w y))
+      (rw (e, cell-held a k) (d (number s i) (held s k) w y))
       (λ j x ne. (other-cell (slot s j) (λ q. ne (h .apart j i (omega (arith, h .room)) (omega (arith, h .room)) (q ∙ sym e))), cell-held a (slot s j)))
-      (rw (e, c) (z (cell s k) w y))
+      (rw e (z y))
