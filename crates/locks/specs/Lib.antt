@@ -1,2 +1,4 @@
 pub mod Modes
 pub mod Needs
+pub mod Words
+pub mod Laws
