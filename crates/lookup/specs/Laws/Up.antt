@@ -82,8 +82,14 @@ climb-back l e (suc i) h = rw (reverse-take l [] i (omega arith)) (go (ltb (dept
 
 -- what stands at a place of the rows of a tree
 module _ {f : Tree} {p : ℕ} (c : NodeAt 0 f p) where
-  pub entry-at : getD (flat 0 f) p no-entry ≡ (c .depth, c .it)
+  entry-at : getD (flat 0 f) p no-entry ≡ (c .depth, c .it)
   entry-at = ap (λ l. getD l p no-entry) (c .split) ∙ getD-at (c .before) (c .depth, c .it) _ no-entry p (c .count)
+
+  pub depth-at : depth (flat 0 f) p ≡ c .depth
+  depth-at = ap (λ x. x .0) entry-at
+
+  pub item-at : item (flat 0 f) p ≡ c .it
+  item-at = ap (λ x. x .1) entry-at
 
   pub inside : p < length (flat 0 f)
   inside = rw (c .split, length-append (c .before)) (omega (arith, c .count))
@@ -91,10 +97,9 @@ module _ {f : Tree} {p : ℕ} (c : NodeAt 0 f p) where
   pub ups-at : ups (flat 0 f) p ≡ c .above
   unfolding ups above-places back
   ups-at =
-      let e : depth (flat 0 f) p ≡ c .depth = ap (λ x. x .0) entry-at in
       let b : take p (flat 0 f) ≡ c .before = ap (take p) (c .split) ∙ take-at (c .before) _ p (c .count) in
       let k : p ≤ length (flat 0 f) = omega (arith, inside) in
-      rw e (climb-back (flat 0 f) (c .depth) p k ∙ ap (λ l. back (c .depth) (reverseAux l [])) b ∙ c .ancestors [] ∙ append-nil (c .above))
+      rw depth-at (climb-back (flat 0 f) (c .depth) p k ∙ ap (λ l. back (c .depth) (reverseAux l [])) b ∙ c .ancestors [] ∙ append-nil (c .above))
 
   pub rows-behind : drop (suc p) (flat 0 f) ≡ flat (suc (c .depth)) (c .kids) ++ c .behind
   rows-behind =
