@@ -4,3 +4,4 @@ pub mod Seen
 pub mod Find
 pub mod Subtree
 pub mod Children
+pub mod Waiting

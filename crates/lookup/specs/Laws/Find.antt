@@ -69,7 +69,7 @@ held-place m f = ap (any (numbered m)) (nodes-held f) ∙ any-map (numbered m) (
 has-items : (n : ℕ) (l : List Entry) → has n (map (λ x. number-of (x .1)) l) ≡ any (numbered n) (items l)
 has-items n l = any-map (λ q. eqb q n) (λ (x : Entry). number-of (x .1)) l ∙ sym (any-map (numbered n) (λ (x : Entry). x .1) l)
 
-unique-head : (x : Entry) (l : List Entry) → unique (x ∷ l) ≡ true → (any (numbered (number-of (x .1))) (items l) ≡ false) × (unique l ≡ true)
+pub unique-head : (x : Entry) (l : List Entry) → unique (x ∷ l) ≡ true → (any (numbered (number-of (x .1))) (items l) ≡ false) × (unique l ≡ true)
 unique-head x l h = go (has (number-of (x .1)) (map (λ x. number-of (x .1)) l)) (has-items (number-of (x .1)) l) h
   where
     go : (b : Bool) → b ≡ any (numbered (number-of (x .1))) (items l) → cond b false (unique l) ≡ true → (any (numbered (number-of (x .1))) (items l) ≡ false) × (unique l ≡ true)
