@@ -5,3 +5,4 @@ pub mod Find
 pub mod Subtree
 pub mod Children
 pub mod Waiting
+pub mod Judgement

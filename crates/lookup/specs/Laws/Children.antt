@@ -57,7 +57,7 @@ is-child n r = child n (plain r)
 none-child : (n d : ℕ) (up : List Marked) (f : Tree) → leads n (map number-of up) ≡ false → any (numbered n) (nodes-of (flat d f)) ≡ false → keep (is-child n) (lines-of up f) ≡ []
 unfolding rows keep flat
 none-child n d up nil u h = refl
-none-child n d up (node a ks fs) u h = 
+none-child n d up (node a ks fs) u h =
     let j : any (numbered n) (nodes-of (flat (suc d) ks ++ flat d fs)) ≡ false = or-right (numbered n a) _ h in
     rw (
       u,
