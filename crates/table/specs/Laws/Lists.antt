@@ -89,6 +89,12 @@ module _ {A : Type 0} where
   modify-tabulate (suc n) (suc i) f f′ g h e k =
       rw (k 0 (omega arith) (λ m. omega arith), modify-tabulate n i (λ j. f (suc j)) (λ j. f′ (suc j)) g (omega arith) e (λ j l m. k (suc j) (omega arith) (λ o. m (omega arith))))
 
+-- every element of a rule changed
+pub map-tabulate : {A B : Type 0} (n : ℕ) (f : ℕ → A) (f′ : ℕ → B) (g : A → B) → ((j : ℕ) → j < n → f′ j ≡ g (f j)) → tabulate n f′ ≡ map g (tabulate n f)
+unfolding tabulate
+map-tabulate zero f f′ g h = refl
+map-tabulate (suc n) f f′ g h = rw (h 0 (omega arith), map-tabulate n (λ j. f (suc j)) (λ j. f′ (suc j)) g (λ j l. h (suc j) (omega arith)))
+
 -- bytes after a store, by tests that compute at numerals
 pub getD-set-eqb : (l : List ℕ) (i j v d : ℕ) → i < length l → getD (set l i v) j d ≡ cond (eqb i j) v (getD l j d)
 getD-set-eqb l i j v d h = go (eqb i j) refl
