@@ -9,11 +9,10 @@ ghost use lib.Bits.{bitXor};
 ghost use Rattle.locks.specs.Modes.{in-word};
 ghost use Rattle.locks.specs.Words.{bit};
 ghost use Rattle.protocol.specs.State.{deleted-by};
-ghost use Rattle.table.specs.Lists.{modify, first};
-ghost use Rattle.table.specs.Flat.{second};
-ghost use Rattle.table.specs.Layout.{word, slot, is-open, lock-at, nodes, no-entry, Layout, Left, Kept};
-ghost use Rattle.table.specs.Fields.{field, with-field, with-kind, with-writer, with-inserter, text, with-now, saved, restored, with-modes, released};
-ghost use Rattle.table.specs.Laws.Bytes.{put-word, Filled};
+ghost use Rattle.layout.specs.Lists.{modify, first};
+ghost use Rattle.layout.specs.Flat.{second};
+ghost use Rattle.layout.specs.Layout.{word, slot, is-open, lock-at, nodes, no-entry, Layout, Left, Kept};
+ghost use Rattle.layout.specs.Fields.{field, with-field, with-kind, with-writer, with-inserter, text, with-now, saved, restored, with-modes, released};
 
 // The bytes that a state takes; those behind are never touched.
 pub const SIZE: usize = 110608;
@@ -28,34 +27,12 @@ const CELL: usize = 70;
 
 const LOCKS: usize = 77840;
 
-pub fn join(low: u8, high: u8) -> u16
-    ensures { λ r. ⌜ r ≡ low + 256 * high ⌝ }
-{
-    (low as u16) + 256 * (high as u16)
-}
-
-// Sixteen bits from k on, low byte first.
-pub fn word(s: &[u8], k: usize) -> u16
-    requires { ⌜ k + 1 < length (now s) ⌝ }
-    ensures { λ r. ⌜ r ≡ word (now (s .entry)) k ⌝ }
-{
-    join(s[k], s[k + 1])
-}
-
-pub fn set_word(s: &mut [u8], k: usize, v: u16)
-    requires { ⌜ k + 1 < length (now s) ⌝ }
-    ensures { λ r. ⌜ now (s .exit) ≡ put-word (now (s .entry)) k v ⌝ }
-{
-    s[k] = (v % 256) as u8;
-    s[k + 1] = (v / 256) as u8;
-}
-
 // How many nodes are held.
 pub fn count(s: &[u8]) -> usize
     requires { ⌜ Layout (now s) ⌝ }
     ensures { λ r. ⌜ r ≡ length (nodes (now (s .entry))) ⌝ }
 {
-    word(s, 10) as usize
+    layout::word(s, 10) as usize
 }
 
 // The slot of the outline's entry at place i, used or free.
@@ -63,21 +40,21 @@ pub fn slot(s: &[u8], i: usize) -> usize
     requires { ⌜ (Layout (now s)) × (i < 1024) ⌝ }
     ensures { λ r. ⌜ (r ≡ slot (now (s .entry)) i) × (r < 1024) ⌝ }
 {
-    word(s, OUTLINE + ENTRY * i) as usize
+    layout::word(s, OUTLINE + ENTRY * i) as usize
 }
 
 pub fn depth(s: &[u8], i: usize) -> u16
     requires { ⌜ (Layout (now s)) × (i < length (nodes (now s))) ⌝ }
     ensures { λ r. ⌜ r ≡ getD (nodes (now (s .entry))) i no-entry .0 ⌝ }
 {
-    word(s, OUTLINE + ENTRY * i + 2)
+    layout::word(s, OUTLINE + ENTRY * i + 2)
 }
 
 pub fn number(s: &[u8], i: usize) -> u16
     requires { ⌜ (Layout (now s)) × (i < length (nodes (now s))) ⌝ }
     ensures { λ r. ⌜ r ≡ getD (nodes (now (s .entry))) i no-entry .1 .now .number ⌝ }
 {
-    word(s, OUTLINE + ENTRY * i + 4)
+    layout::word(s, OUTLINE + ENTRY * i + 4)
 }
 
 // Byte o of the cell of the node at i: 0 kind, 1 writer, 2 inserter, 3 deleter.
@@ -154,42 +131,6 @@ pub fn set_deleter(s: &mut [u8], i: usize, v: u8)
 
 // Bytes of the state -----------------------------------------------------------------
 
-// Writes b from k on.
-pub fn store(s: &mut [u8], k: usize, b: &[u8])
-    requires { ⌜ k + length (now b) ≤ length (now s) ⌝ }
-    ensures { λ r. ⌜ Filled k (length (now (b .entry))) (λ j. getD (now (b .entry)) j 0) (now (s .entry)) (now (s .exit)) ⌝ }
-{
-    let mut j: usize = 0;
-    while j < b.len() {
-        s[k + j] = b[j];
-        j += 1;
-    }
-}
-
-// Sets n bytes from k on to 0.
-pub fn clear(s: &mut [u8], k: usize, n: usize)
-    requires { ⌜ k + n ≤ length (now s) ⌝ }
-    ensures { λ r. ⌜ Filled k n (λ j. 0) (now (s .entry)) (now (s .exit)) ⌝ }
-{
-    let mut j: usize = 0;
-    while j < n {
-        s[k + j] = 0;
-        j += 1;
-    }
-}
-
-// Copies 32 bytes from k to m; the two do not overlap.
-pub fn copy_32(s: &mut [u8], k: usize, m: usize)
-    requires { ⌜ (k + 32 ≤ length (now s)) × (m + 32 ≤ length (now s)) × ((j : ℕ) → j < 32 → (i : ℕ) → i < 32 → k + j ≡ m + i → ⊥) ⌝ }
-    ensures { λ r. ⌜ Filled m 32 (λ j. getD (now (s .entry)) (k + j) 0) (now (s .entry)) (now (s .exit)) ⌝ }
-{
-    let mut j: usize = 0;
-    while j < 32 {
-        s[m + j] = s[k + j];
-        j += 1;
-    }
-}
-
 // Contents -------------------------------------------------------------------------------
 
 // The length of a content of the node at i: o is 0 for the one now, 1 for the committed one.
@@ -214,7 +155,7 @@ pub fn set_content(s: &mut [u8], i: usize, b: &[u8])
 {
     let k = slot(s, i);
     s[CELLS + CELL * k + 4] = b.len() as u8;
-    store(s, CELLS + CELL * k + 6, b);
+    layout::store(s, CELLS + CELL * k + 6, b);
 }
 
 // The content now is kept as the committed one.
@@ -224,7 +165,7 @@ pub fn save_content(s: &mut [u8], i: usize)
 {
     let c = CELLS + CELL * slot(s, i);
     s[c + 5] = s[c + 4];
-    copy_32(s, c + 6, c + 38);
+    layout::copy_32(s, c + 6, c + 38);
 }
 
 // The committed content is the content again.
@@ -234,7 +175,7 @@ pub fn restore_content(s: &mut [u8], i: usize)
 {
     let c = CELLS + CELL * slot(s, i);
     s[c + 4] = s[c + 5];
-    copy_32(s, c + 38, c + 6);
+    layout::copy_32(s, c + 38, c + 6);
 }
 
 // Locks ----------------------------------------------------------------------------------
@@ -244,7 +185,7 @@ pub fn lock(s: &[u8], t: usize, i: usize) -> u16
     requires { ⌜ (Layout (now s)) × (1 ≤ t) × (t ≤ 16) × (i < length (nodes (now s))) ⌝ }
     ensures { λ r. ⌜ in-word r ≡ getD (nodes (now (s .entry))) i no-entry .1 .held t ⌝ }
 {
-    word(s, LOCKS + 2048 * (t - 1) + 2 * slot(s, i))
+    layout::word(s, LOCKS + 2048 * (t - 1) + 2 * slot(s, i))
 }
 
 pub fn set_lock(s: &mut [u8], t: usize, i: usize, w: u16)
@@ -252,7 +193,7 @@ pub fn set_lock(s: &mut [u8], t: usize, i: usize, w: u16)
     ensures { λ r. ⌜ Kept (now (s .entry)) (now (s .exit)) (modify i (second (with-modes t w)) (nodes (now (s .entry)))) ⌝ }
 {
     let k = slot(s, i);
-    set_word(s, LOCKS + 2048 * (t - 1) + 2 * k, w);
+    layout::set_word(s, LOCKS + 2048 * (t - 1) + 2 * k, w);
 }
 
 // Transaction t holds nothing.
@@ -260,7 +201,7 @@ pub fn release(s: &mut [u8], t: usize)
     requires { ⌜ (Layout (now s)) × (1 ≤ t) × (t ≤ 16) ⌝ }
     ensures { λ r. ⌜ Kept (now (s .entry)) (now (s .exit)) (map (second (released t)) (nodes (now (s .entry)))) ⌝ }
 {
-    clear(s, LOCKS + 2048 * (t - 1), 2048);
+    layout::clear(s, LOCKS + 2048 * (t - 1), 2048);
 }
 
 // Open transactions ------------------------------------------------------------------------
@@ -276,23 +217,23 @@ pub fn is_open(s: &[u8], t: usize) -> bool
     requires { ⌜ (Layout (now s)) × (1 ≤ t) × (t ≤ 16) ⌝ }
     ensures { λ r. ⌜ r ≡ is-open (now (s .entry)) t ⌝ }
 {
-    (word(s, 8) >> (t - 1)) % 2 == 1
+    (layout::word(s, 8) >> (t - 1)) % 2 == 1
 }
 
 pub fn open(s: &mut [u8], t: usize)
     requires { ⌜ (Layout (now s)) × (1 ≤ t) × (t ≤ 16) × (is-open (now s) t ≡ false) ⌝ }
     ensures { λ r. ⌜ Left (now (s .entry)) (now (s .exit)) (λ u. eqb u t || is-open (now (s .entry)) u) (nodes (now (s .entry))) ⌝ }
 {
-    let w = word(s, 8);
-    set_word(s, 8, w ^ power(t - 1));
+    let w = layout::word(s, 8);
+    layout::set_word(s, 8, w ^ power(t - 1));
 }
 
 pub fn close(s: &mut [u8], t: usize)
     requires { ⌜ (Layout (now s)) × (1 ≤ t) × (t ≤ 16) × (is-open (now s) t ≡ true) ⌝ }
     ensures { λ r. ⌜ Left (now (s .entry)) (now (s .exit)) (λ u. not (eqb u t) && is-open (now (s .entry)) u) (nodes (now (s .entry))) ⌝ }
 {
-    let w = word(s, 8);
-    set_word(s, 8, w ^ power(t - 1));
+    let w = layout::word(s, 8);
+    layout::set_word(s, 8, w ^ power(t - 1));
 }
 
 // The place of the node numbered n, or the count.

@@ -1,31 +1,23 @@
-use Rattle.table.specs.Layout.{is-open}
+use Rattle.layout.specs.Layout.{is-open}
 use Rattle.locks.specs.Words.{bit}
-use Rattle.table.specs.Laws.Locks.{is-transaction-of}
+use Rattle.layout.specs.Laws.Locks.{is-transaction-of}
 use native.Mathlib.Omega.{arith}
 use borrow.Author.Needs.{needs}
 use Rattle.table.proofs.is_open.Statement.{statement}
 use Rattle.table.proofs.is_open.Tie as tie
-use Rattle.table.proofs.is_open.Reads as reads
-use Rattle.table.proofs.is_open.Lts as lts
-use Rattle.table.proofs.word.Reads as word-reads
 
--- src/lib.rt:278:6
 word-requires : tie.Need-word-requires
 word-requires c κs = search needs
 
--- src/lib.rt:278:21
 sub-result : tie.Need-sub-result
 sub-result c = search needs
 
--- src/lib.rt:278:21
 cast-result : tie.Need-cast-result
 cast-result c = search needs
 
--- src/lib.rt:278:6
 shr-result : tie.Need-shr-result
 shr-result c = search needs
 
--- src/lib.rt:274:1
 returns : tie.Need-returns
 unfolding is-open bit
 returns c = rw (is-transaction-of _ (c .before .before .pre .1) (c .before .before .pre .2), ← c .word .ensures)

@@ -1,61 +1,45 @@
 use mathlib.Core.Path.{_∙_}
-use Rattle.table.specs.Laws.Texts.{stored-kept}
+use Rattle.layout.specs.Laws.Texts.{stored-kept}
 use native.Mathlib.Omega.{arith}
 use lib.ListN.{length-set}
 use mathlib.Core.Path.{refl}
 use borrow.Author.Needs.{needs}
 use Rattle.table.proofs.set_content.Statement.{statement}
 use Rattle.table.proofs.set_content.Tie as tie
-use Rattle.table.proofs.set_content.Reads as reads
-use Rattle.table.proofs.set_content.Lts as lts
-use Rattle.table.proofs.slot.Reads as slot-reads
-use Rattle.table.proofs.store.Reads as store-reads
 
--- src/lib.rt:214:9
 slot-requires : tie.Need-slot-requires
 slot-requires c κs = search needs
 
--- src/lib.rt:215:31
 cast-s : tie.Need-cast-s
 cast-s c = search needs
 
--- src/lib.rt:215:15
 mul-s : tie.Need-mul-s
 mul-s c = search needs
 
--- src/lib.rt:215:7
 add-s : tie.Need-add-s
 add-s c = search needs
 
--- src/lib.rt:215:7
 add-s-2 : tie.Need-add-s-2
 add-s-2 c = search needs
 
--- src/lib.rt:215:5
 slice-write-s : tie.Need-slice-write-s
 slice-write-s c = search needs
 
--- src/lib.rt:216:22
 mul-store : tie.Need-mul-store
 mul-store c = search needs
 
--- src/lib.rt:216:14
 add-store : tie.Need-add-store
 add-store c = search needs
 
--- src/lib.rt:216:14
 add-store-2 : tie.Need-add-store-2
 add-store-2 c = search needs
 
--- src/lib.rt:216:5
 store-requires : tie.Need-store-requires
 store-requires c κs = simp length-set (search needs)
 
--- src/lib.rt:210:1
 same-length : tie.Need-same-length
 same-length c = c .before .before .store .ensures .only .long ∙ simp length-set
 
--- src/lib.rt:210:1
 returns : tie.Need-returns
 returns c = stored-kept _ _ _ 0 _ _ _ _ _ _ _ (c .before .before .before .before .slot .ensures .0) (c .before .before .store .ensures) (omega arith) (omega arith) (search needs) (search needs) (search needs) refl (search needs) (search needs) (λ j h. refl)
 

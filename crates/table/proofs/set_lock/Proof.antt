@@ -2,48 +2,35 @@ use native.Mathlib.Omega.{arith}
 use mathlib.Core.Path.{_≡_, refl, sym, ap, _∙_}
 use Prim.Native.Nat.{ℕ, zero, suc, _+_, _-_, _*_, _≤_, _<_}
 use lib.ListN.{length, getD, drop}
-use Rattle.table.specs.Laws.Locks.{lock-kept}
+use Rattle.layout.specs.Laws.Locks.{lock-kept}
 use borrow.Author.Needs.{needs}
 use Rattle.table.proofs.set_lock.Statement.{statement}
 use Rattle.table.proofs.set_lock.Tie as tie
-use Rattle.table.proofs.set_lock.Reads as reads
-use Rattle.table.proofs.set_lock.Lts as lts
-use Rattle.table.proofs.set_word.Reads as set-word-reads
-use Rattle.table.proofs.slot.Reads as slot-reads
 
--- src/lib.rt:253:9
 slot-requires : tie.Need-slot-requires
 slot-requires c κs = search needs
 
--- src/lib.rt:254:33
 sub-set-word : tie.Need-sub-set-word
 sub-set-word c = search needs
 
--- src/lib.rt:254:25
 mul-set-word : tie.Need-mul-set-word
 mul-set-word c = search needs
 
--- src/lib.rt:254:17
 add-set-word : tie.Need-add-set-word
 add-set-word c = search needs
 
--- src/lib.rt:254:42
 mul-set-word-2 : tie.Need-mul-set-word-2
 mul-set-word-2 c = search needs
 
--- src/lib.rt:254:17
 add-set-word-2 : tie.Need-add-set-word-2
 add-set-word-2 c = search needs
 
--- src/lib.rt:254:5
 set-word-requires : tie.Need-set-word-requires
 set-word-requires c κs = search needs
 
--- src/lib.rt:249:1
 same-length : tie.Need-same-length
 same-length c = search needs
 
--- src/lib.rt:249:1
 returns : tie.Need-returns
 returns c = lock-kept _ _ _ _ _ _ (c .before .before .set-word .ensures) (c .before .before .before .before .slot .ensures .0) (search needs) (search needs) (search needs) (search needs)
 

@@ -9,12 +9,12 @@ use lib.Dec.{eqb, ltb, leb}
 use borrow.Author.Tests.{ltb-true, ltb-false, leb-true, le-leb, eqb-true, eqb-false, eq-eqb, ne-eqb}
 use Rattle.locks.specs.Modes.{Mode, ModeSet, no-mode, in-word, LT, LC, LR, LU, LW, LTT, LRR, LUU, LIR, LIU, LIW, LICW}
 use Rattle.protocol.specs.State.{is-transaction, Marked, none-of}
-use Rattle.table.specs.Lists.{tabulate, modify}
-use Rattle.table.specs.Flat.{second}
-use Rattle.table.specs.Layout.{state-size, cell-at, lock-at, word, part, count, slot, number, cell, held, decode, Entry, entry, nodes, no-entry, Sized, Layout, Kept}
-use Rattle.table.specs.Fields.{with-modes, released}
-use Rattle.table.specs.Laws.Bytes.{Filled, Only, only-wider, only-word, put-word, word-put, word-low, word-high, part-low}
-use Rattle.table.specs.Laws.Nodes.{node-at, length-nodes, kept-of, kept-map}
+use Rattle.layout.specs.Lists.{tabulate, modify}
+use Rattle.layout.specs.Flat.{second}
+use Rattle.layout.specs.Layout.{state-size, cell-at, lock-at, word, part, count, slot, number, cell, held, decode, Entry, entry, nodes, no-entry, Sized, Layout, Kept}
+use Rattle.layout.specs.Fields.{with-modes, released}
+use Rattle.layout.specs.Laws.Bytes.{Filled, Only, only-wider, only-word, put-word, word-put, word-low, word-high, part-low}
+use Rattle.layout.specs.Laws.Nodes.{node-at, length-nodes, kept-of, kept-map}
 
 pub true-not-false {ℓ} : {X : Type ℓ} → true ≡ false → X
 true-not-false h = absurd (let z : _≡_ {A = ℕ} 0 1 = cc in omega arith)

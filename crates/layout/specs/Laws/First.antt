@@ -8,7 +8,7 @@ use native.Mathlib.Numerals.{add-one}
 use native.Mathlib.Nat.{add-zero, add-suc}
 use lib.ListN.{length, getD, drop, drop-of-length-le}
 use lib.Seq.{drop-cons}
-use Rattle.table.specs.Lists.{first}
+use Rattle.layout.specs.Lists.{first}
 
 module _ {A : Type 0} (t : A → Bool) (l : List A) (i : ℕ) (d : A) (v : first t l ≡ i + first t (drop i l)) where
   pub first-found : i < length l → t (getD l i d) ≡ true → i ≡ first t l

@@ -9,7 +9,7 @@ use lib.ListN.{length, getD, take, drop, set, length-append, length-take, length
 use lib.Seq.{take-nil, getD-take, getD-drop, ext-getD, getD-set-same, getD-set-other, getD-append-add}
 use lib.Dec.{eqb, ltb, leb}
 use borrow.Author.Tests.{eqb-true, eqb-false, ltb-true, ltb-false, leb-true, leb-false}
-use Rattle.table.specs.Lists.{tabulate, modify, insert}
+use Rattle.layout.specs.Lists.{tabulate, modify, insert}
 
 pub drop-take : {A : Type 0} (m n : ℕ) (l : List A) → drop m (take (m + n) l) ≡ take n (drop m l)
 drop-take zero n l = rw zero-add

@@ -10,12 +10,12 @@ use lib.Dec.{eqb}
 use borrow.Author.Tests.{eqb-true, eqb-false, eq-eqb, ne-eqb}
 use Rattle.locks.specs.Words.{bit}
 use Rattle.protocol.specs.State.{is-transaction}
-use Rattle.table.specs.Layout.{state-size, open-at, entry-at, cell-at, lock-at, word, part, count, slot, depth, number, cell, is-open, held, decode, Entry, entry, nodes, Sized, Layout, Left}
-use Rattle.table.specs.Laws.Lists.{tabulate-same}
-use Rattle.table.specs.Laws.Bytes.{Only, only-word, put-word, word-put, word-high, part-low, part-high, drop-high}
-use Rattle.table.specs.Laws.Nodes.{length-nodes}
-use Rattle.table.specs.Laws.Locks.{transaction-low, is-transaction-of}
-use Rattle.table.specs.Laws.Bits.{bit-xor}
+use Rattle.layout.specs.Layout.{state-size, open-at, entry-at, cell-at, lock-at, word, part, count, slot, depth, number, cell, is-open, held, decode, Entry, entry, nodes, Sized, Layout, Left}
+use Rattle.layout.specs.Laws.Lists.{tabulate-same}
+use Rattle.layout.specs.Laws.Bytes.{Only, only-word, put-word, word-put, word-high, part-low, part-high, drop-high}
+use Rattle.layout.specs.Laws.Nodes.{length-nodes}
+use Rattle.layout.specs.Laws.Locks.{transaction-low, is-transaction-of}
+use Rattle.layout.specs.Laws.Bits.{bit-xor}
 
 module _ (s s′ : List ℕ) (o : Only open-at 2 s s′) where
   same-slot : (i : ℕ) → slot s′ i ≡ slot s i

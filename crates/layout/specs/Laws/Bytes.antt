@@ -9,7 +9,7 @@ use lib.ListN.{length, getD, take, drop, set, length-append, length-take, length
 use lib.Seq.{getD-take, getD-drop, ext-getD, getD-set-same, getD-set-other, length-take-le, drop-set-add, take-set-lt}
 use lib.Dec.{eqb, ltb, leb}
 use borrow.Author.Tests.{eqb-true, eqb-false, ltb-true, ltb-false, leb-true, leb-false}
-use Rattle.table.specs.Layout.{word, part}
+use Rattle.layout.specs.Layout.{word, part}
 
 -- only the n bytes from k on may differ
 pub record Only (k n : ℕ) (s s′ : List ℕ) : Type 0 where

@@ -11,14 +11,14 @@ use borrow.Author.Tests.{ltb-true, ltb-false}
 use lib.Seq.{getD-set-same, getD-set-other, getD-take, getD-drop, ext-getD, take-take, length-take-le}
 use Rattle.locks.specs.Modes.{ModeSet}
 use Rattle.protocol.specs.State.{Marked}
-use Rattle.table.specs.Lists.{modify}
-use Rattle.table.specs.Flat.{second}
-use Rattle.table.specs.Layout.{state-size, cell-at, part, count, slot, cell, decode, Entry, entry, nodes, no-entry, Sized, Layout, Kept}
-use Rattle.table.specs.Fields.{text, with-text}
-use Rattle.table.specs.Laws.Lists.{modify-same}
-use Rattle.table.specs.Laws.Bytes.{Only, only-set, only-wider, only-then, Filled, part-at, part-same, length-part}
-use Rattle.table.specs.Laws.Nodes.{node-at, length-nodes, length-cell, cell-kept}
-use Rattle.table.specs.Laws.Fields.{cell-byte}
+use Rattle.layout.specs.Lists.{modify}
+use Rattle.layout.specs.Flat.{second}
+use Rattle.layout.specs.Layout.{state-size, cell-at, part, count, slot, cell, decode, Entry, entry, nodes, no-entry, Sized, Layout, Kept}
+use Rattle.layout.specs.Fields.{text, with-text}
+use Rattle.layout.specs.Laws.Lists.{modify-same}
+use Rattle.layout.specs.Laws.Bytes.{Only, only-set, only-wider, only-then, Filled, part-at, part-same, length-part}
+use Rattle.layout.specs.Laws.Nodes.{node-at, length-nodes, length-cell, cell-kept}
+use Rattle.layout.specs.Laws.Fields.{cell-byte}
 
 -- the content in a cell's bytes
 abbrev stored : ℕ → List ℕ → List ℕ

@@ -8,7 +8,7 @@ use Rattle.tree.specs.Text.{bytes}
 use Rattle.locks.specs.Modes.{ModeSet, no-mode, in-word}
 use Rattle.locks.specs.Words.{bit}
 use Rattle.protocol.specs.State.{is-transaction, Marked, unmarked}
-use Rattle.table.specs.Lists.{tabulate}
+use Rattle.layout.specs.Lists.{tabulate}
 
 -- offsets ----------------------------------------------------------------------------
 

@@ -9,11 +9,11 @@ use lib.Dec.{eqb, ltb}
 use borrow.Author.Tests.{ltb-true, ltb-false, leb-true, eqb-true, eqb-false, eq-eqb, ne-eqb}
 use Rattle.locks.specs.Modes.{ModeSet, no-mode, in-word}
 use Rattle.protocol.specs.State.{is-transaction, Marked}
-use Rattle.table.specs.Lists.{tabulate, modify}
-use Rattle.table.specs.Flat.{second}
-use Rattle.table.specs.Layout.{state-size, open-at, entry-at, cell-at, lock-at, word, part, count, slot, depth, number, cell, is-open, held, decode, Entry, entry, nodes, no-entry, Sized, Layout, Left, Kept}
-use Rattle.table.specs.Laws.Lists.{length-tabulate, getD-tabulate, tabulate-same, modify-tabulate, map-tabulate}
-use Rattle.table.specs.Laws.Bytes.{Only, word-low, word-high, part-low, part-high, part-same, drop-high, length-part, part-at, part-set}
+use Rattle.layout.specs.Lists.{tabulate, modify}
+use Rattle.layout.specs.Flat.{second}
+use Rattle.layout.specs.Layout.{state-size, open-at, entry-at, cell-at, lock-at, word, part, count, slot, depth, number, cell, is-open, held, decode, Entry, entry, nodes, no-entry, Sized, Layout, Left, Kept}
+use Rattle.layout.specs.Laws.Lists.{length-tabulate, getD-tabulate, tabulate-same, modify-tabulate, map-tabulate}
+use Rattle.layout.specs.Laws.Bytes.{Only, word-low, word-high, part-low, part-high, part-same, drop-high, length-part, part-at, part-set}
 
 pub length-nodes : (s : List ℕ) → length (nodes s) ≡ count s
 unfolding nodes
