@@ -16,7 +16,7 @@ use Rattle.locks.specs.Needs.{Need, need, locks, needs}
 use Rattle.locks.specs.Words.{word}
 use Rattle.protocol.specs.State.{Marked, State, number-held, callers-document}
 use Rattle.protocol.specs.Calls.{node-limit, wait-set, table-full}
-use Rattle.table.specs.Layout.{Entry}
+use Rattle.layout.specs.Layout.{Entry}
 use Rattle.lookup.specs.Places.{item, number-of, place-of, ups, numbers-above, children, subtree}
 
 -- causes 8 and 9 of a step on this node; 0 where neither applies

@@ -6,9 +6,9 @@ use lib.ListN.{length, getD, drop}
 use lib.Dec.{eqb, ltb}
 use Rattle.tree.specs.Lists.{every, keep, distinct}
 use Rattle.protocol.specs.State.{Marked, numbered, seen-by}
-use Rattle.table.specs.Lists.{first}
-use Rattle.table.specs.Flat.{prune}
-use Rattle.table.specs.Layout.{Entry, no-entry}
+use Rattle.layout.specs.Lists.{first}
+use Rattle.layout.specs.Flat.{prune}
+use Rattle.layout.specs.Layout.{Entry, no-entry}
 
 -- the depth and the node at a place
 abbrev pub depth : List Entry → ℕ → ℕ

@@ -13,8 +13,8 @@ use Rattle.tree.specs.Document.{Line, child, select}
 use Rattle.tree.specs.Laws.Tests.{or-left, or-right}
 use Rattle.tree.specs.Laws.Lists.{map-append, keep-append}
 use Rattle.protocol.specs.State.{Marked, Tree, numbered, seen-by, callers-document}
-use Rattle.table.specs.Flat.{flat}
-use Rattle.table.specs.Layout.{Entry, no-entry}
+use Rattle.layout.specs.Flat.{flat}
+use Rattle.layout.specs.Layout.{Entry, no-entry}
 use Rattle.lookup.specs.Places.{depth, item, items, number-of, below, child-seen, children-from, children, seen-at}
 use Rattle.lookup.specs.Laws.NodeAt.{nodes-of, lines-of, NodeAt, none-first, none-second}
 use Rattle.lookup.specs.Laws.Up.{depth-at, item-at, ups-at}

@@ -14,9 +14,9 @@ use Rattle.tree.specs.Document.{here, at, is, select, some?}
 use Rattle.tree.specs.Laws.Tests.{or-left, or-right}
 use Rattle.tree.specs.Laws.Lists.{any-map, map-append, map-map, eqb-flip}
 use Rattle.protocol.specs.State.{Marked, Tree, nodes, numbered, number-held, seen-by, callers-document}
-use Rattle.table.specs.Lists.{first}
-use Rattle.table.specs.Flat.{flat}
-use Rattle.table.specs.Layout.{Entry, no-entry}
+use Rattle.layout.specs.Lists.{first}
+use Rattle.layout.specs.Flat.{flat}
+use Rattle.layout.specs.Layout.{Entry, no-entry}
 use Rattle.lookup.specs.Places.{item, items, number-of, unique, place-of, ups, numbers-above, seen-at}
 use Rattle.lookup.specs.Laws.NodeAt.{any-append, nodes-of, lines-of, NodeAt, node-at, none-first, none-second}
 use Rattle.lookup.specs.Laws.Up.{item-at, ups-at}

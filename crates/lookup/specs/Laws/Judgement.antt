@@ -16,8 +16,8 @@ use Rattle.tree.specs.Laws.Lists.{map-map, any-same, keep-map}
 use Rattle.locks.specs.Needs.{locks}
 use Rattle.protocol.specs.State.{Marked, Tree, State, number-held, callers-document}
 use Rattle.protocol.specs.Calls.{node-limit, table-full}
-use Rattle.table.specs.Flat.{flat}
-use Rattle.table.specs.Layout.{Entry}
+use Rattle.layout.specs.Flat.{flat}
+use Rattle.layout.specs.Layout.{Entry}
 use Rattle.lookup.specs.Places.{item, number-of, unique, place-of, ups, numbers-above, seen-at, children, subtree}
 use Rattle.lookup.specs.Found.{misfit-on, misplaced-on, kth-child, answer-at, Found}
 use Rattle.lookup.specs.Laws.Find.{Holder, holder, held-place, count-held, here-nowhere, here-at, line-at}

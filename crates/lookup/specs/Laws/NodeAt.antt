@@ -11,7 +11,7 @@ use Rattle.tree.specs.Lists.{any, keep}
 use Rattle.tree.specs.Forest.{Forest, nil, node, Row, row, rows}
 use Rattle.tree.specs.Laws.Tests.{or-left, or-right, refuted}
 use Rattle.tree.specs.Laws.Lists.{map-append, keep-append}
-use Rattle.table.specs.Flat.{flat}
+use Rattle.layout.specs.Flat.{flat}
 use Rattle.lookup.specs.Places.{below}
 
 pub any-append : {A : Type 0} (q : A → Bool) (l k : List A) → any q (l ++ k) ≡ (any q l || any q k)

@@ -15,8 +15,8 @@ use Rattle.tree.specs.Document.{Line, under, select}
 use Rattle.tree.specs.Laws.Lists.{any-map, map-append, map-map, keep-append, keep-all, keep-none}
 use Rattle.tree.specs.Laws.Rows.{of-rows, every-below, any-below}
 use Rattle.protocol.specs.State.{Marked, Tree, numbered, seen-by, callers-document}
-use Rattle.table.specs.Flat.{flat, prune}
-use Rattle.table.specs.Layout.{Entry, no-entry}
+use Rattle.layout.specs.Flat.{flat, prune}
+use Rattle.layout.specs.Layout.{Entry, no-entry}
 use Rattle.lookup.specs.Places.{depth, item, items, number-of, below, seen-from, subtree, subtree-end, seen-at}
 use Rattle.lookup.specs.Laws.NodeAt.{nodes-of, lines-of, NodeAt, below-flat, below-none}
 use Rattle.lookup.specs.Laws.Up.{depth-at, item-at, ups-at, rows-behind}

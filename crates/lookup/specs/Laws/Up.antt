@@ -10,8 +10,8 @@ use lib.Dec.{ltb}
 use borrow.Author.Tests.{lt-ltb, le-ltb}
 use Rattle.tree.specs.Forest.{Forest}
 use Rattle.protocol.specs.State.{Marked, Tree}
-use Rattle.table.specs.Flat.{flat}
-use Rattle.table.specs.Layout.{Entry, no-entry}
+use Rattle.layout.specs.Flat.{flat}
+use Rattle.layout.specs.Layout.{Entry, no-entry}
 use Rattle.lookup.specs.Places.{depth, item, climb, above-places, ups}
 use Rattle.lookup.specs.Laws.NodeAt.{NodeAt, back}
 

@@ -17,8 +17,8 @@ use Rattle.locks.specs.Needs.{Need, need, Lock, each, every-one, up, locks}
 use Rattle.locks.specs.Words.{word}
 use Rattle.protocol.specs.State.{Marked, Tree, State, transactions, nodes, numbered, number-held}
 use Rattle.protocol.specs.Calls.{clashes, blocks, sum-of-bits, wait-set}
-use Rattle.table.specs.Flat.{flat}
-use Rattle.table.specs.Layout.{Entry, no-entry}
+use Rattle.layout.specs.Flat.{flat}
+use Rattle.layout.specs.Layout.{Entry, no-entry}
 use Rattle.lookup.specs.Places.{depth, item, items, number-of, unique, climb, above-places, ups, numbers-above}
 use Rattle.lookup.specs.Found.{blocks-node, blocks-way, blocks-at, wait-word}
 use Rattle.lookup.specs.Laws.NodeAt.{any-append}
