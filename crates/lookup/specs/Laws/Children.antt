@@ -10,12 +10,14 @@ use borrow.Author.Tests.{eq-eqb, ne-eqb}
 use Rattle.tree.specs.Lists.{any, every, leads, keep}
 use Rattle.tree.specs.Forest.{Forest, nil, node, Row, row, rows}
 use Rattle.tree.specs.Document.{Line, child, select}
+use Rattle.tree.specs.Steps.{child-is, none}
 use Rattle.tree.specs.Laws.Tests.{or-left, or-right}
 use Rattle.tree.specs.Laws.Lists.{map-append, keep-append}
 use Rattle.protocol.specs.State.{Marked, Tree, numbered, seen-by, callers-document}
 use Rattle.layout.specs.Flat.{flat}
 use Rattle.layout.specs.Layout.{Entry, no-entry}
 use Rattle.lookup.specs.Places.{depth, item, items, number-of, below, child-seen, children-from, children, seen-at}
+use Rattle.lookup.specs.Found.{kth-child}
 use Rattle.lookup.specs.Laws.NodeAt.{nodes-of, lines-of, NodeAt, none-first, none-second}
 use Rattle.lookup.specs.Laws.Up.{depth-at, item-at, ups-at}
 use Rattle.lookup.specs.Laws.Seen.{plain, seen-line, select-seen, plain-nodes}
@@ -46,6 +48,24 @@ module _ (t : ℕ) (l : List Entry) (e i : ℕ) where
   pub child-end : length l ≤ i → children-from t e (drop i l) ≡ []
   unfolding children-from keep
   child-end h = rw (below-end l e i h)
+
+-- the k-th child, counted down
+pub kth-zero : (cs : List Marked) → kth-child 0 cs ≡ none
+unfolding kth-child
+kth-zero [] = refl
+kth-zero (c ∷ cs) = refl
+
+pub kth-none : (k : ℕ) → kth-child k [] ≡ none
+unfolding kth-child
+kth-none k = refl
+
+pub kth-first : (c : Marked) (cs : List Marked) → kth-child 1 (c ∷ cs) ≡ child-is (c .now .number) (c .now .kind)
+unfolding kth-child
+kth-first c cs = refl
+
+pub kth-later : (k : ℕ) (c : Marked) (cs : List Marked) → 1 < k → kth-child k (c ∷ cs) ≡ kth-child (k - 1) cs
+unfolding kth-child
+kth-later k c cs h = let e : k ≡ suc (suc (k - 2)) = omega arith in let z : k - 1 ≡ suc (k - 2) = omega arith in ap (λ n. kth-child n (c ∷ cs)) e ∙ rw z
 
 -- the lines of the children -----------------------------------------------------------------
 

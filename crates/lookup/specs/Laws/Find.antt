@@ -16,6 +16,7 @@ use Rattle.tree.specs.Laws.Lists.{any-map, map-append, map-map, eqb-flip}
 use Rattle.protocol.specs.State.{Marked, Tree, nodes, numbered, number-held, seen-by, callers-document}
 use Rattle.layout.specs.Lists.{first}
 use Rattle.layout.specs.Flat.{flat}
+use Rattle.layout.specs.Laws.First.{first-passes}
 use Rattle.layout.specs.Layout.{Entry, no-entry}
 use Rattle.lookup.specs.Places.{item, items, number-of, unique, place-of, ups, numbers-above, seen-at}
 use Rattle.lookup.specs.Laws.NodeAt.{any-append, nodes-of, lines-of, NodeAt, node-at, none-first, none-second}
@@ -63,6 +64,10 @@ any-first t (x ∷ l) = go (t x) (any-first t l)
 
 pub held-place : (m : ℕ) (f : Tree) → number-held m f ≡ ltb (place-of m (flat 0 f)) (length (flat 0 f))
 held-place m f = ap (any (numbered m)) (nodes-held f) ∙ any-map (numbered m) (λ x. x .1) (flat 0 f) ∙ any-first (λ (x : Entry). numbered m (x .1)) (flat 0 f)
+
+-- what a search by number finds
+pub found-number : (n : ℕ) (l : List Entry) → place-of n l < length l → number-of (item l (place-of n l)) ≡ n
+found-number n l h = eqb-true (number-of (item l (place-of n l))) n (first-passes (λ (x : Entry). numbered n (x .1)) l no-entry h)
 
 -- apart ------------------------------------------------------------------------------------
 

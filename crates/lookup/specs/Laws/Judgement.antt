@@ -15,11 +15,12 @@ use Rattle.tree.specs.Steps.{Value, done, kind-parent, child-is, none, content-
 use Rattle.tree.specs.Laws.Lists.{map-map, any-same, keep-map}
 use Rattle.locks.specs.Needs.{locks}
 use Rattle.protocol.specs.State.{Marked, Tree, State, number-held, callers-document}
-use Rattle.protocol.specs.Calls.{node-limit, table-full}
+use Rattle.protocol.specs.Lent.{Room}
+use Rattle.protocol.specs.Calls.{node-limit, table-full, unchanged, refused, judged}
 use Rattle.layout.specs.Flat.{flat}
 use Rattle.layout.specs.Layout.{Entry}
 use Rattle.lookup.specs.Places.{item, number-of, unique, place-of, ups, numbers-above, seen-at, children, subtree}
-use Rattle.lookup.specs.Found.{misfit-on, misplaced-on, kth-child, answer-at, Found}
+use Rattle.lookup.specs.Found.{misfit-on, misplaced-on, kth-child, answer-at, Found, judged-at}
 use Rattle.lookup.specs.Laws.Find.{Holder, holder, held-place, count-held, here-nowhere, here-at, line-at}
 use Rattle.lookup.specs.Laws.Children.{child-lines}
 use Rattle.lookup.specs.Laws.Subtree.{subtree-lines}
@@ -131,8 +132,24 @@ module _ (l : List Entry) (t : ℕ) (s : Step) (M : State) (rows : l ≡ flat 0 
           lock-list = rw line-is;
           misfits = misfit-here s (callers-document t (M .tree)) (item l p .now) (numbers-above l p) here-is line-is;
           held = any-same (λ m. number-held m (M .tree)) (λ m. ltb (place-of m l) (length l)) (brings s) (λ m i. held-place m (M .tree) ∙ rw (← rows));
-          waits = λ b. rw line-is (wait-set-at t s M l p (sym rows) u h n b);
+          wait = λ b. rw line-is (wait-set-at t s M l p (sym rows) u h n b);
           misplaces = misplaced-here s (callers-document t (M .tree)) (item l p .now) (numbers-above l p) (children t l p) line-is kids-are;
           full = ap (λ z. any (λ m. leb node-limit z) (brings s)) (count-held (M .tree) ∙ ap length (sym rows));
           answers = answer-here s t l p (callers-document t (M .tree)) line-is kids-are all-are;
         }
+
+-- the whole judgement ---------------------------------------------------------------------------
+
+pub judged-missing : (t : ℕ) (s : Step) (room : Room) (M : State) → misfit s (callers-document t (M .tree)) ≡ 7
+    → judged t s room M (callers-document t (M .tree)) ≡ unchanged (refused 7) M
+unfolding judged
+judged-missing t s room M h = rw h
+
+pub judged-found : (l : List Entry) (t : ℕ) (s : Step) (room : Room) (M : State) (p : ℕ) → Found l t s M p
+    → judged t s room M (callers-document t (M .tree)) ≡ judged-at t s room M l p
+unfolding judged judged-at
+judged-found l t s room M p f = go (any (λ m. number-held m (M .tree)) (brings s)) refl
+  where
+    go : (b : Bool) → any (λ m. number-held m (M .tree)) (brings s) ≡ b → judged t s room M (callers-document t (M .tree)) ≡ judged-at t s room M l p
+    go true e = let h = sym (f .held) ∙ e in rw (f .misfits, e, h)
+    go false e = let h = sym (f .held) ∙ e in rw (f .misfits, e, h, f .wait e, f .lock-list, f .misplaces, f .full, f .answers)

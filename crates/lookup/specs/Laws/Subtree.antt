@@ -5,6 +5,7 @@ use mathlib.Core.Bool.{Bool, true, false, cond, not, _&&_, _||_, and-false, or-t
 use mathlib.Core.List.{List, [], _∷_, _++_, map, append-assoc, append-nil, List·Memᴰ}
 use native.Mathlib.Omega.{arith}
 use native.Mathlib.Numerals.{add-one}
+use native.Mathlib.Nat.{add-zero}
 use lib.ListN.{length, getD, drop, drop-of-length-le}
 use lib.Seq.{drop-cons}
 use lib.Dec.{eqb, leb, ltb}
@@ -69,6 +70,21 @@ module _ (l : List Entry) (e i : ℕ) where
     pub seen-end : length l ≤ i → seen-from t hidden e (drop i l) ≡ []
     unfolding seen-from prune
     seen-end h = rw (below-end h)
+
+-- the end of the subtree: a loop stands at i
+module _ (l : List Entry) (p i : ℕ) (v : subtree-end l p ≡ i + length (below (depth l p) (drop i l))) where
+  pub end-turn : i < length l → depth l p < depth l i → subtree-end l p ≡ i + 1 + length (below (depth l p) (drop (i + 1) l))
+  end-turn h k = v ∙ rw (below-turn l (depth l p) i h k) (omega arith)
+
+  pub end-left : i < length l → depth l i ≤ depth l p → subtree-end l p ≡ i
+  end-left h k = v ∙ rw (below-left l (depth l p) i h k, add-zero i)
+
+  pub end-end : length l ≤ i → subtree-end l p ≡ i
+  end-end h = v ∙ rw (below-end l (depth l p) i h, add-zero i)
+
+pub end-start : (l : List Entry) (p : ℕ) → subtree-end l p ≡ p + 1 + length (below (depth l p) (drop (p + 1) l))
+unfolding subtree-end
+end-start l p = rw (add-one p)
 
 -- what is shown of a forest ------------------------------------------------------------
 

@@ -22,8 +22,29 @@ use Rattle.layout.specs.Layout.{Entry, no-entry}
 use Rattle.lookup.specs.Places.{depth, item, items, number-of, unique, climb, above-places, ups, numbers-above}
 use Rattle.lookup.specs.Found.{blocks-node, blocks-way, blocks-at, wait-word}
 use Rattle.lookup.specs.Laws.NodeAt.{any-append}
-use Rattle.lookup.specs.Laws.Up.{climb-before}
+use Rattle.lookup.specs.Laws.Up.{climb-before, ups-found, ups-passed, ups-top}
 use Rattle.lookup.specs.Laws.Find.{nodes-held, unique-head}
+
+-- the turns --------------------------------------------------------------------------
+
+-- a loop goes down through the places: those from i on were looked at, e is the depth of the last ancestor found
+module _ (ms ms′ ms″ : List Mode) (u : ℕ) (l : List Entry) (e i : ℕ) (h : 0 < i) where
+  pub way-found : depth l (i - 1) < e → blocks-way ms ms′ ms″ u (map (item l) (climb l e i))
+      ≡ (blocks-node ms u (item l (i - 1)) || blocks-way ms′ ms″ ms″ u (map (item l) (climb l (depth l (i - 1)) (i - 1))))
+  unfolding blocks-way
+  way-found k = ap (blocks-way ms ms′ ms″ u) (ups-found l e i h k)
+
+  pub way-passed : e ≤ depth l (i - 1) → blocks-way ms ms′ ms″ u (map (item l) (climb l e i)) ≡ blocks-way ms ms′ ms″ u (map (item l) (climb l e (i - 1)))
+  way-passed k = ap (blocks-way ms ms′ ms″ u) (ups-passed l e i h k)
+
+pub way-top : (ms ms′ ms″ : List Mode) (u : ℕ) (l : List Entry) (i : ℕ) → blocks-way ms ms′ ms″ u (map (item l) (climb l 0 i)) ≡ false
+unfolding blocks-way
+way-top ms ms′ ms″ u l i = ap (blocks-way ms ms′ ms″ u) (ups-top l i)
+
+pub way-start : (ms ms′ ms″ : List Mode) (u : ℕ) (l : List Entry) (p : ℕ)
+    → blocks-way ms ms′ ms″ u (item l p ∷ ups l p) ≡ (blocks-node ms u (item l p) || blocks-way ms′ ms″ ms″ u (map (item l) (climb l (depth l p) p)))
+unfolding blocks-way ups above-places
+way-start ms ms′ ms″ u l p = refl
 
 -- tests of two lists in either order ---------------------------------------------------
 
