@@ -48,15 +48,15 @@ way-start ms ms′ ms″ u l p = refl
 
 -- tests of two lists in either order ---------------------------------------------------
 
-or-false : (b : Bool) → (b || false) ≡ b
+pub or-false : (b : Bool) → (b || false) ≡ b
 or-false true = refl
 or-false false = refl
 
-any-never : {A : Type 0} (l : List A) → any (λ a. false) l ≡ false
+pub any-never : {A : Type 0} (l : List A) → any (λ a. false) l ≡ false
 any-never [] = refl
 any-never (x ∷ l) = any-never l
 
-any-or : {A : Type 0} (t s : A → Bool) (l : List A) → any (λ a. t a || s a) l ≡ (any t l || any s l)
+pub any-or : {A : Type 0} (t s : A → Bool) (l : List A) → any (λ a. t a || s a) l ≡ (any t l || any s l)
 any-or t s [] = refl
 any-or t s (x ∷ l) = rw (any-or t s l) (go (t x) (s x) (any t l) (any s l))
   where
@@ -66,7 +66,7 @@ any-or t s (x ∷ l) = rw (any-or t s l) (go (t x) (s x) (any t l) (any s l))
     go false true false d = refl
     go false false c d = refl
 
-any-any : {A B : Type 0} (t : A → B → Bool) (l : List A) (k : List B) → any (λ a. any (t a) k) l ≡ any (λ b. any (λ a. t a b) l) k
+pub any-any : {A B : Type 0} (t : A → B → Bool) (l : List A) (k : List B) → any (λ a. any (t a) k) l ≡ any (λ b. any (λ a. t a b) l) k
 any-any t [] k = sym (any-never k)
 any-any t (x ∷ l) k = rw (any-any t l k) (sym (any-or (t x) (λ b. any (λ a. t a b) l) k))
 
