@@ -6,4 +6,5 @@ pub mod Subtree
 pub mod Children
 pub mod Waiting
 pub mod Masks
+pub mod Placing
 pub mod Judgement
