@@ -1,10 +1,10 @@
 -- The place of a new child, as one pass over the kinds of the children decides it.
-use Prim.Native.Nat.{ℕ, zero, suc}
+use Prim.Native.Nat.{ℕ, suc}
 use mathlib.Core.Bool.{Bool, true, cond, _&&_}
 use mathlib.Core.List.{List, [], _∷_}
 use lib.ListN.{length}
 use lib.Dec.{eqb, leb, ltb}
-use Rattle.tree.specs.Lists.{every, keep}
+use Rattle.tree.specs.Lists.{keep}
 use Rattle.tree.specs.Content.{element-kind, attribute-kind, takes}
 
 -- how many are attributes

@@ -1,7 +1,7 @@
 -- One test of a lock word: some mode held clashes with one that is needed exactly if the word meets the needed modes' mask.
-use mathlib.Core.Path.{_≡_, refl, sym, ap, _∙_, fun-ext}
-use Prim.Native.Nat.{ℕ, zero, suc, _+_, _*_, _/_, _%_, _^_, _≤_, _<_, min}
-use mathlib.Core.Bool.{Bool, true, false, cond, not, _&&_, _||_}
+use mathlib.Core.Path.{_≡_, refl, sym, ap, _∙_}
+use Prim.Native.Nat.{ℕ, zero, suc, _+_, _*_, _/_, _%_, _^_, _<_, min}
+use mathlib.Core.Bool.{Bool, true, false, not, _&&_, _||_}
 use mathlib.Core.List.{List, [], _∷_, List·Memᴰ}
 use native.Mathlib.Omega.{arith}
 use native.Mathlib.Nat.{pow-succ', div-div-eq-div-mul}
@@ -44,7 +44,8 @@ one-mode q LICW = or-false (q LICW)
 any-among : (q : Mode → Bool) (ms : List Mode) → any q ms ≡ any (λ b. among ms b && q b) modes
 any-among q [] = refl
 any-among q (a ∷ ms) =
-    rw (← one-mode q a, any-among q ms) (sym (any-or (λ b. same-mode b a && q b) (λ b. among ms b && q b) modes) ∙ any-same _ (λ b. among (a ∷ ms) b && q b) modes (λ b m. go (same-mode b a) (among ms b) (q b)))
+    rw (← one-mode q a, any-among q ms)
+    (sym (any-or (λ b. same-mode b a && q b) (λ b. among ms b && q b) modes) ∙ any-same _ (λ b. among (a ∷ ms) b && q b) modes (λ b m. go (same-mode b a) (among ms b) (q b)))
   where
     go : (x y z : Bool) → ((x && z) || (y && z)) ≡ ((x || y) && z)
     go true true true = refl

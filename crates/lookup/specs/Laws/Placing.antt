@@ -5,7 +5,7 @@ use mathlib.Core.Bool.{Bool, true, false, cond, not, _&&_, and-false, false≢tr
 use mathlib.Core.List.{List, [], _∷_, _++_}
 use native.Mathlib.Omega.{arith}
 use native.Mathlib.Numerals.{add-one}
-use lib.ListN.{length, take, drop, length-append, length-take, length-drop, take-append-drop}
+use lib.ListN.{length, take, drop, length-append, take-append-drop}
 use lib.Dec.{eqb, leb, ltb, leb·zero, leb·suc-suc, eqb·suc-zero}
 use borrow.Author.Tests.{eqb-true, eqb-false, leb-true, le-leb, lt-leb, eq-eqb, ne-eqb}
 use Rattle.tree.specs.Lists.{every, keep}
@@ -81,7 +81,9 @@ every-append t (x ∷ l) k = rw (every-append t l k) (go (t x) (every t l) (ever
     go false b c = refl
 
 every-insert : (t : ℕ → Bool) (j x : ℕ) (l : List ℕ) → every t (take j l ++ (x ∷ drop j l)) ≡ (t x && every t l)
-every-insert t j x l = every-append t (take j l) (x ∷ drop j l) ∙ go (every t (take j l)) (t x) (every t (drop j l)) ∙ ap (λ b. t x && b) (sym (every-append t (take j l) (drop j l)) ∙ ap (every t) (take-append-drop j l))
+every-insert t j x l =
+    every-append t (take j l) (x ∷ drop j l) ∙ go (every t (take j l)) (t x) (every t (drop j l))
+    ∙ ap (λ b. t x && b) (sym (every-append t (take j l) (drop j l)) ∙ ap (every t) (take-append-drop j l))
   where
     go : (a b c : Bool) → (a && (b && c)) ≡ (b && (a && c))
     go true b c = refl

@@ -5,22 +5,22 @@ use mathlib.Core.Bool.{Bool, true, false, cond, not, _&&_, _||_}
 use mathlib.Core.List.{List, [], _∷_, _++_, map, List·Memᴰ, List·Memᴰ·head, List·Memᴰ·tail}
 use native.Mathlib.Omega.{arith}
 use native.Mathlib.Nat.{pow-succ'}
-use lib.ListN.{length, getD}
+use lib.ListN.{length}
 use lib.Dec.{eqb}
 use borrow.Author.Tests.{eq-eqb}
 use Rattle.tree.specs.Lists.{any}
 use Rattle.tree.specs.Steps.{Step, target, brings}
-use Rattle.tree.specs.Laws.Tests.{or-left, or-right, or-swap}
+use Rattle.tree.specs.Laws.Tests.{or-left, or-right}
 use Rattle.tree.specs.Laws.Lists.{any-map, any-same, eqb-flip}
 use Rattle.locks.specs.Modes.{Mode, against}
 use Rattle.locks.specs.Needs.{Need, need, Lock, each, every-one, up, locks}
 use Rattle.locks.specs.Words.{word}
-use Rattle.protocol.specs.State.{Marked, Tree, State, transactions, nodes, numbered, number-held}
+use Rattle.protocol.specs.State.{Marked, State, transactions, nodes, numbered, number-held}
 use Rattle.protocol.specs.Calls.{clashes, blocks, sum-of-bits, wait-set}
 use Rattle.layout.specs.Flat.{flat}
-use Rattle.layout.specs.Layout.{Entry, no-entry}
+use Rattle.layout.specs.Layout.{Entry}
 use Rattle.lookup.specs.Places.{depth, item, items, number-of, unique, climb, above-places, ups, numbers-above}
-use Rattle.lookup.specs.Found.{blocks-node, blocks-way, blocks-at, wait-word}
+use Rattle.lookup.specs.Found.{blocks-node, blocks-way, wait-word}
 use Rattle.lookup.specs.Laws.NodeAt.{any-append}
 use Rattle.lookup.specs.Laws.Up.{climb-before, ups-found, ups-passed, ups-top}
 use Rattle.lookup.specs.Laws.Find.{nodes-held, unique-head}
