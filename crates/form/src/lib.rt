@@ -174,7 +174,7 @@ pub fn formed(s: &[u8]) -> bool
     if !header(s) {
         return false;
     }
-    let n = layout::join(s[10], s[11]) as usize;
+    let n = layout::word(s, 10) as usize;
     if !apart(s, 0, NODES, NODES) {
         return false;
     }

@@ -9,11 +9,6 @@ use Rattle.form.specs.Check.{column}
 use Rattle.form.specs.Laws.Fresh.{fresh-from, fresh-begin, fresh-high, fresh-met, fresh-next, fresh-end}
 use Rattle.form.proofs.apart.Statement.{statement}
 use Rattle.form.proofs.apart.Tie as tie
-use Rattle.form.proofs.apart.Reads as reads
-use Rattle.form.proofs.apart.Lts as lts
-use Rattle.form.proofs.has_bit.Reads as has-bit-reads
-use Rattle.form.proofs.power.Reads as power-reads
-use Rattle.layout.proofs.word.Reads as word-reads
 
 abbrev Inv-loop : tie.InvT-loop
 Inv-loop s o n limit seen₀ i₀ seen i = (i ≤ n) × (length seen ≡ 1024) × (apart limit (column s o n) ≡ fresh-from limit s o n seen i)
@@ -21,75 +16,57 @@ Inv-loop s o n limit seen₀ i₀ seen i = (i ≤ n) × (length seen ≡ 1024) �
 abbrev μ-loop : tie.MeasureT-loop
 μ-loop s o n limit seen₀ i₀ seen i = n - i
 
--- src/lib.rt:78:5
 loop-holds : tie.Need-loop-holds Inv-loop μ-loop
 loop-holds c = (search needs, refl, fresh-begin _ _ _ _ _ refl)
 
--- src/lib.rt:79:43
 mul-word : tie.Need-mul-word Inv-loop μ-loop
 mul-word c = search needs
 
--- src/lib.rt:79:33
 add-word : tie.Need-add-word Inv-loop μ-loop
 add-word c = search needs
 
--- src/lib.rt:79:33
 add-word-2 : tie.Need-add-word-2 Inv-loop μ-loop
 add-word-2 c = search needs
 
--- src/lib.rt:79:17
 word-requires : tie.Need-word-requires Inv-loop μ-loop
 word-requires c κs = search needs
 
--- src/lib.rt:79:17
 cast-w : tie.Need-cast-w Inv-loop μ-loop
 cast-w c = search needs
 
--- src/lib.rt:81:13
 returns : tie.Need-returns Inv-loop μ-loop
 returns c = fresh-high _ _ _ _ _ _ (c .before .before .before .loop .inv .2) _ (search needs) (c .before .word .ensures) (search needs)
 
--- src/lib.rt:83:19
 mul-old : tie.Need-mul-old Inv-loop μ-loop
 mul-old c = search needs
 
--- src/lib.rt:83:19
 array-read-old : tie.Need-array-read-old Inv-loop μ-loop
 array-read-old c = search needs
 
--- src/lib.rt:84:12
 has-bit-requires : tie.Need-has-bit-requires Inv-loop μ-loop
 has-bit-requires c κs = search needs
 
--- src/lib.rt:85:13
 returns-2 : tie.Need-returns-2 Inv-loop μ-loop
 returns-2 c = fresh-met _ _ _ _ _ _ (c .before .before .before .before .before .loop .inv .2) _ (search needs) (c .before .before .before .word .ensures) (search needs) _ (c .before .has-bit .ensures) (c .if2 .taken)
 
--- src/lib.rt:87:32
 power-requires : tie.Need-power-requires Inv-loop μ-loop
 power-requires c κs = search needs
 
--- src/lib.rt:87:9
 mul-seen : tie.Need-mul-seen Inv-loop μ-loop
 mul-seen c = search needs
 
--- src/lib.rt:87:9
 array-write-seen : tie.Need-array-write-seen Inv-loop μ-loop
 array-write-seen c = search needs
 
--- src/lib.rt:88:9
 add-i : tie.Need-add-i Inv-loop μ-loop
 add-i c = search needs
 
--- src/lib.rt:78:5
 loop-less : tie.Need-loop-less Inv-loop μ-loop
 loop-less c = search needs
 
--- src/lib.rt:78:5
 loop-again : tie.Need-loop-again Inv-loop μ-loop
 loop-again c = (search needs, simp length-set (c .before .before .before .before .before .before .loop .inv .1), fresh-next _ _ _ _ _ _ (c .before .before .before .before .before .before .loop .inv .2) _ (search needs) (c .before .before .before .before .word .ensures) (search needs) _ (c .before .before .has-bit .ensures) (c .before .if2 .left) (c .before .before .before .before .before .before .loop .inv .1) _ (c .power .ensures))
 
--- src/lib.rt:72:1
 returns-3 : tie.Need-returns-3 Inv-loop μ-loop
 returns-3 c = fresh-end _ _ _ _ _ _ (c .before .loop .inv .2) (search needs)
 

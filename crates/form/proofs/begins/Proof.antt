@@ -8,8 +8,6 @@ use Rattle.layout.specs.Layout.{part}
 use Rattle.form.specs.Laws.Begins.{same-from, same-begin, same-differs, same-next, same-end}
 use Rattle.form.proofs.begins.Statement.{statement}
 use Rattle.form.proofs.begins.Tie as tie
-use Rattle.form.proofs.begins.Reads as reads
-use Rattle.form.proofs.begins.Lts as lts
 
 abbrev Inv-loop : tie.InvT-loop
 Inv-loop s b i₀ i = (i ≤ length b) × (same (part s 0 (length b)) b ≡ same-from i s b)
@@ -17,35 +15,27 @@ Inv-loop s b i₀ i = (i ≤ length b) × (same (part s 0 (length b)) b ≡ same
 abbrev μ-loop : tie.MeasureT-loop
 μ-loop s b i₀ i = length b - i
 
--- src/lib.rt:30:5
 loop-holds : tie.Need-loop-holds Inv-loop μ-loop
 loop-holds c = (search needs, same-begin _ _)
 
--- src/lib.rt:31:12
 shared-slice-read-if1 : tie.Need-shared-slice-read-if1 Inv-loop μ-loop
 shared-slice-read-if1 c = search needs
 
--- src/lib.rt:31:20
 shared-slice-read-if1-2 : tie.Need-shared-slice-read-if1-2 Inv-loop μ-loop
 shared-slice-read-if1-2 c = search needs
 
--- src/lib.rt:32:13
 returns : tie.Need-returns Inv-loop μ-loop
 returns c = same-differs _ _ _ (search needs) (c .before .before .before .before .loop .inv .1) (search needs) (c .if1 .taken)
 
--- src/lib.rt:34:9
 add-i : tie.Need-add-i Inv-loop μ-loop
 add-i c = search needs
 
--- src/lib.rt:30:5
 loop-less : tie.Need-loop-less Inv-loop μ-loop
 loop-less c = search needs
 
--- src/lib.rt:30:5
 loop-again : tie.Need-loop-again Inv-loop μ-loop
 loop-again c = (search needs, same-next _ _ _ (search needs) (c .before .before .before .before .loop .inv .1) (search needs) (c .if1 .left))
 
--- src/lib.rt:25:1
 returns-2 : tie.Need-returns-2 Inv-loop μ-loop
 returns-2 c = same-end _ _ _ (search needs) (c .before .loop .inv .1) (search needs)
 

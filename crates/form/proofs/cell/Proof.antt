@@ -3,75 +3,55 @@ use Rattle.form.specs.Laws.Cells.{cell-low, cell-high, cell-writer, cell
 use borrow.Author.Needs.{needs}
 use Rattle.form.proofs.cell.Statement.{statement}
 use Rattle.form.proofs.cell.Tie as tie
-use Rattle.form.proofs.cell.Reads as reads
-use Rattle.form.proofs.cell.Lts as lts
-use Rattle.form.proofs.sizes.Reads as sizes-reads
 
--- src/lib.rt:110:21
 mul-c : tie.Need-mul-c
 mul-c c = search needs
 
--- src/lib.rt:110:13
 add-c : tie.Need-add-c
 add-c c = search needs
 
--- src/lib.rt:111:8
 shared-slice-read-if1 : tie.Need-shared-slice-read-if1
 shared-slice-read-if1 c = search needs
 
--- src/lib.rt:112:9
 returns : tie.Need-returns
 returns c = cell-low _ _ _ _ _ (c .if1 .taken)
 
--- src/lib.rt:114:15
 shared-slice-read-if2 : tie.Need-shared-slice-read-if2
 shared-slice-read-if2 c = search needs
 
--- src/lib.rt:115:9
 returns-2 : tie.Need-returns-2
 returns-2 c = cell-high _ _ _ _ _ (search needs) (c .if2 .taken)
 
--- src/lib.rt:117:15
 add-if3 : tie.Need-add-if3
 add-if3 c = search needs
 
--- src/lib.rt:117:13
 shared-slice-read-if3 : tie.Need-shared-slice-read-if3
 shared-slice-read-if3 c = search needs
 
--- src/lib.rt:118:9
 returns-3 : tie.Need-returns-3
 returns-3 c = cell-writer _ _ _ _ _ (search needs) (search needs) (c .if3 .taken)
 
--- src/lib.rt:120:17
 add-if4 : tie.Need-add-if4
 add-if4 c = search needs
 
--- src/lib.rt:120:15
 shared-slice-read-if4 : tie.Need-shared-slice-read-if4
 shared-slice-read-if4 c = search needs
 
--- src/lib.rt:121:9
 returns-4 : tie.Need-returns-4
 returns-4 c = cell-inserter _ _ _ _ _ (search needs) (search needs) (search needs) (c .if4 .taken)
 
--- src/lib.rt:123:17
 add-if5 : tie.Need-add-if5
 add-if5 c = search needs
 
--- src/lib.rt:123:15
 shared-slice-read-if5 : tie.Need-shared-slice-read-if5
 shared-slice-read-if5 c = search needs
 
--- src/lib.rt:124:9
 returns-5 : tie.Need-returns-5
 returns-5 c = cell-deleter _ _ _ _ _ (search needs) (search needs) (search needs) (search needs) (c .if5 .taken)
 
--- src/lib.rt:126:5
 sizes-requires : tie.Need-sizes-requires
 sizes-requires c κs = search needs
 
--- src/lib.rt:106:1
 returns-6 : tie.Need-returns-6
 returns-6 c = cell-sizes _ _ _ _ _ (search needs) (search needs) (search needs) (search needs) (search needs) _ (c .sizes .ensures)
 

@@ -4,48 +4,34 @@ use Rattle.form.specs.Laws.Check.{first-deep, first-numbered, first-cell
 use borrow.Author.Needs.{needs}
 use Rattle.form.proofs.document.Statement.{statement}
 use Rattle.form.proofs.document.Tie as tie
-use Rattle.form.proofs.document.Reads as reads
-use Rattle.form.proofs.document.Lts as lts
-use Rattle.form.proofs.cell.Reads as cell-reads
-use Rattle.layout.proofs.word.Reads as word-reads
 
--- src/lib.rt:134:24
 add-word : tie.Need-add-word
 add-word c = search needs
 
--- src/lib.rt:134:8
 word-requires : tie.Need-word-requires
 word-requires c κs = search needs
 
--- src/lib.rt:135:9
 returns : tie.Need-returns
 returns c = first-deep _ _ (c .before .word .ensures) (c .if1 .taken)
 
--- src/lib.rt:137:24
 add-word-2 : tie.Need-add-word-2
 add-word-2 c = search needs
 
--- src/lib.rt:137:8
 word-requires-2 : tie.Need-word-requires-2
 word-requires-2 c κs = search needs
 
--- src/lib.rt:138:9
 returns-2 : tie.Need-returns-2
 returns-2 c = first-numbered _ _ (c .before .before .before .word .ensures) (search needs) _ (c .before .word2 .ensures) (c .if2 .taken)
 
--- src/lib.rt:140:13
 word-requires-3 : tie.Need-word-requires-3
 word-requires-3 c κs = search needs
 
--- src/lib.rt:140:13
 cast-cell : tie.Need-cast-cell
 cast-cell c = search needs
 
--- src/lib.rt:140:5
 cell-requires : tie.Need-cell-requires
 cell-requires c κs = (search needs, slot-small _ 0 _ (search needs) (omega arith) (c .word3 .ensures))
 
--- src/lib.rt:130:1
 returns-3 : tie.Need-returns-3
 returns-3 c = first-cell _ _ (c .before .before .before .before .before .word .ensures) (search needs) _ (c .before .before .before .word2 .ensures) (search needs) _ (c .before .word3 .ensures) _ (c .cell .ensures)
 

@@ -1,60 +1,52 @@
 use borrow.Author.Needs.{needs}
+use native.Mathlib.Omega.{arith}
+use mathlib.Core.Path.{_≡_, sym, _∙_}
+use borrow.Author.Tests.{not-true, not-false}
+use Rattle.layout.specs.Layout.{count}
+use Rattle.form.specs.Laws.Check.{header-size, header-room, outlined, formed-header, formed-slots, formed-nodes, formed-numbers}
 use Rattle.form.proofs.formed.Statement.{statement}
 use Rattle.form.proofs.formed.Tie as tie
-use Rattle.form.proofs.formed.Reads as reads
-use Rattle.form.proofs.formed.Lts as lts
-use Rattle.form.proofs.apart.Reads as apart-reads
-use Rattle.form.proofs.header.Reads as header-reads
-use Rattle.form.proofs.nodes.Reads as nodes-reads
-use Rattle.layout.proofs.join.Reads as join-reads
 
--- src/lib.rt:174:9
 header-requires : tie.Need-header-requires
 header-requires c κs = search needs
 
--- src/lib.rt:175:9
 returns : tie.Need-returns
-returns c = ?
+returns c = formed-header _ (sym (c .before .header .ensures) ∙ not-true _ (c .if1 .taken))
 
--- src/lib.rt:177:26
-shared-slice-read-join : tie.Need-shared-slice-read-join
-shared-slice-read-join c = ?
+word-requires : tie.Need-word-requires
+word-requires c κs = omega (arith, header-size _ (sym (c .before .header .ensures) ∙ not-false _ (c .if1 .left)))
 
--- src/lib.rt:177:33
-shared-slice-read-join-2 : tie.Need-shared-slice-read-join-2
-shared-slice-read-join-2 c = ?
-
--- src/lib.rt:177:13
-join-requires : tie.Need-join-requires
-join-requires c κs = search needs
-
--- src/lib.rt:177:13
 cast-n : tie.Need-cast-n
 cast-n c = search needs
 
--- src/lib.rt:178:9
 apart-requires : tie.Need-apart-requires
-apart-requires c κs = ?
+apart-requires c κs = (header-size _ (sym (c .before .before .header .ensures) ∙ not-false _ (c .before .if1 .left)), omega arith, omega arith)
 
--- src/lib.rt:179:9
 returns-2 : tie.Need-returns-2
-returns-2 c = ?
+returns-2 c = formed-slots _ (sym (c .before .before .before .before .header .ensures) ∙ not-false _ (c .before .before .before .if1 .left)) (sym (c .before .apart .ensures) ∙ not-true _ (c .if2 .taken))
 
--- src/lib.rt:181:9
 nodes-requires : tie.Need-nodes-requires
-nodes-requires c κs = ?
+unfolding count
+nodes-requires c κs =
+    (outlined _ (sym (c .before .before .before .before .header .ensures) ∙ not-false _ (c .before .before .before .if1 .left)) (sym (c .before .apart .ensures) ∙ not-false _ (c .if2 .left)), c .before .before .word .ensures)
 
--- src/lib.rt:182:9
 returns-3 : tie.Need-returns-3
-returns-3 c = ?
+returns-3 c =
+    formed-nodes _ (sym (c .before .before .before .before .before .before .header .ensures) ∙ not-false _ (c .before .before .before .before .before .if1 .left)) (sym (c .before .before .before .apart .ensures) ∙ not-false _ (c .before .before .if2 .left))
+    (sym (c .before .nodes .ensures) ∙ not-true _ (c .if3 .taken))
 
--- src/lib.rt:184:5
 apart-requires-2 : tie.Need-apart-requires-2
-apart-requires-2 c κs = ?
+unfolding count
+apart-requires-2 c κs =
+    let h = sym (c .before .before .before .before .before .before .header .ensures) ∙ not-false _ (c .before .before .before .before .before .if1 .left) in
+    (header-size _ h, omega arith, omega (arith, header-room _ h, c .before .before .before .before .word .ensures))
 
--- src/lib.rt:171:1
 returns-4 : tie.Need-returns-4
-returns-4 c = ?
+unfolding count
+returns-4 c =
+    c .apart2 .ensures
+    ∙ formed-numbers _ (sym (c .before .before .before .before .before .before .before .header .ensures) ∙ not-false _ (c .before .before .before .before .before .before .if1 .left)) (sym (c .before .before .before .before .apart .ensures) ∙ not-false _ (c .before .before .before .if2 .left))
+    (sym (c .before .before .nodes .ensures) ∙ not-false _ (c .before .if3 .left)) (λ j. omega (arith, c .before .before .before .before .before .before .before .before .shared-slice-known .given j)) _ (c .before .before .before .before .before .word .ensures)
 
 pub formed-spec : {M : Type 1} → statement M
 formed-spec =
@@ -62,9 +54,7 @@ formed-spec =
     (tie.spec
     header-requires
     returns
-    shared-slice-read-join
-    shared-slice-read-join-2
-    join-requires
+    word-requires
     cast-n
     apart-requires
     returns-2

@@ -4,14 +4,10 @@ use mathlib.Core.Path.{refl}
 use borrow.Author.Needs.{needs}
 use Rattle.form.proofs.has_bit.Statement.{statement}
 use Rattle.form.proofs.has_bit.Tie as tie
-use Rattle.form.proofs.has_bit.Reads as reads
-use Rattle.form.proofs.has_bit.Lts as lts
 
--- src/lib.rt:60:6
 shr-result : tie.Need-shr-result
 shr-result c = search needs
 
--- src/lib.rt:56:1
 returns : tie.Need-returns
 unfolding bit
 returns c = refl

@@ -11,11 +11,6 @@ use Rattle.form.specs.Check.{fine-nodes}
 use Rattle.form.specs.Laws.Check.{fine-from, slot-small, first-bad, first-good, rows-low, rows-high, rows-bad, rows-next, rows-end}
 use Rattle.form.proofs.nodes.Statement.{statement}
 use Rattle.form.proofs.nodes.Tie as tie
-use Rattle.form.proofs.nodes.Reads as reads
-use Rattle.form.proofs.nodes.Lts as lts
-use Rattle.form.proofs.cell.Reads as cell-reads
-use Rattle.form.proofs.document.Reads as document-reads
-use Rattle.layout.proofs.word.Reads as word-reads
 
 abbrev Inv-loop : tie.InvT-loop
 Inv-loop s n before₀ i₀ before i = (1 ≤ i) × (i ≤ n) × (before ≤ 65535) × (fine-nodes s ≡ fine-from before (drop i (cells s)) (drop i (layout.nodes s)))
@@ -23,87 +18,66 @@ Inv-loop s n before₀ i₀ before i = (1 ≤ i) × (i ≤ n) × (before ≤ 655
 abbrev μ-loop : tie.MeasureT-loop
 μ-loop s n before₀ i₀ before i = n - i
 
--- src/lib.rt:148:9
 document-requires : tie.Need-document-requires Inv-loop μ-loop
 document-requires c κs = search needs
 
--- src/lib.rt:149:9
 returns : tie.Need-returns Inv-loop μ-loop
 returns c = first-bad _ (search needs) (sym (c .before .document .ensures) ∙ not-true _ (c .if1 .taken))
 
--- src/lib.rt:153:5
 loop-holds : tie.Need-loop-holds Inv-loop μ-loop
 loop-holds c = (search needs, search needs, search needs, first-good _ (search needs) (sym (c .before .document .ensures) ∙ not-false _ (c .if1 .left)))
 
--- src/lib.rt:154:43
 mul-word : tie.Need-mul-word Inv-loop μ-loop
 mul-word c = search needs
 
--- src/lib.rt:154:33
 add-word : tie.Need-add-word Inv-loop μ-loop
 add-word c = search needs
 
--- src/lib.rt:154:33
 add-word-2 : tie.Need-add-word-2 Inv-loop μ-loop
 add-word-2 c = search needs
 
--- src/lib.rt:154:17
 word-requires : tie.Need-word-requires Inv-loop μ-loop
 word-requires c κs = search needs
 
--- src/lib.rt:154:17
 cast-d : tie.Need-cast-d Inv-loop μ-loop
 cast-d c = search needs
 
--- src/lib.rt:156:13
 returns-2 : tie.Need-returns-2 Inv-loop μ-loop
 returns-2 c = rows-low _ _ _ _ (c .before .before .before .loop .inv .3) (search needs) (c .before .word .ensures) (search needs)
 
--- src/lib.rt:158:12
 add-if3 : tie.Need-add-if3 Inv-loop μ-loop
 add-if3 c = search needs
 
--- src/lib.rt:159:13
 returns-3 : tie.Need-returns-3 Inv-loop μ-loop
 returns-3 c = rows-high _ _ _ _ (c .before .before .before .before .loop .inv .3) (search needs) (c .before .before .word .ensures) (search needs) (search needs)
 
--- src/lib.rt:161:47
 mul-word-2 : tie.Need-mul-word-2 Inv-loop μ-loop
 mul-word-2 c = search needs
 
--- src/lib.rt:161:37
 add-word-3 : tie.Need-add-word-3 Inv-loop μ-loop
 add-word-3 c = search needs
 
--- src/lib.rt:161:21
 word-requires-2 : tie.Need-word-requires-2 Inv-loop μ-loop
 word-requires-2 c κs = search needs
 
--- src/lib.rt:161:21
 cast-cell : tie.Need-cast-cell Inv-loop μ-loop
 cast-cell c = search needs
 
--- src/lib.rt:161:13
 cell-requires : tie.Need-cell-requires Inv-loop μ-loop
 cell-requires c κs = (search needs, slot-small _ (c .before .before .before .before .before .loop .i) _ (search needs) (search needs) (c .word2 .ensures))
 
--- src/lib.rt:162:13
 returns-4 : tie.Need-returns-4 Inv-loop μ-loop
 returns-4 c = rows-bad _ _ _ _ (c .before .before .before .before .before .before .before .loop .inv .3) (search needs) (c .before .before .before .before .before .word .ensures) _ (c .before .before .word2 .ensures) (search needs) (search needs) (sym (c .before .cell .ensures) ∙ not-true _ (c .if4 .taken))
 
--- src/lib.rt:165:9
 add-i : tie.Need-add-i Inv-loop μ-loop
 add-i c = search needs
 
--- src/lib.rt:153:5
 loop-less : tie.Need-loop-less Inv-loop μ-loop
 loop-less c = search needs
 
--- src/lib.rt:153:5
 loop-again : tie.Need-loop-again Inv-loop μ-loop
 loop-again c = (search needs, search needs, search needs, rows-next _ _ _ _ (c .before .before .before .before .before .before .before .loop .inv .3) (search needs) (c .before .before .before .before .before .word .ensures) _ (c .before .before .word2 .ensures) (search needs) (search needs) (sym (c .before .cell .ensures) ∙ not-false _ (c .if4 .left)))
 
--- src/lib.rt:144:1
 returns-5 : tie.Need-returns-5 Inv-loop μ-loop
 returns-5 c = rows-end _ (c .before .loop .before) (c .before .loop .i) (c .before .loop .inv .3) (search needs)
 
