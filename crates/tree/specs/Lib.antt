@@ -4,3 +4,4 @@ pub mod Forest
 pub mod Content
 pub mod Document
 pub mod Steps
+pub mod Laws

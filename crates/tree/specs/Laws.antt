@@ -1,0 +1,6 @@
+pub mod Tests
+pub mod Lists
+pub mod Rows
+pub mod Amend
+pub mod View
+pub mod Put
