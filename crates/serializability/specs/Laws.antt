@@ -2,4 +2,5 @@ pub mod Outcomes
 pub mod WaitSet
 pub mod OneCall
 pub mod Ledgers
+pub mod Shown
 pub mod LockPlaces
