@@ -3,4 +3,5 @@ pub mod WaitSet
 pub mod OneCall
 pub mod Ledgers
 pub mod Shown
+pub mod Numbers
 pub mod LockPlaces
