@@ -1,2 +1,3 @@
 pub mod Modes
 pub mod Needs
+pub mod Laws

@@ -4,3 +4,4 @@ pub mod Rows
 pub mod Amend
 pub mod View
 pub mod Put
+pub mod Distinct

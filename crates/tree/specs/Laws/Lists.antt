@@ -1,6 +1,6 @@
 -- Laws of `keep`, `every`, `any`, `has` and `map`.
 use mathlib.Core.Path.{_≡_, refl, sym, ap, _∙_}
-use Prim.Native.Nat.{ℕ, zero, suc, _+_}
+use Prim.Native.Nat.{ℕ, zero, suc, _+_, _≤_}
 use mathlib.Core.Bool.{Bool, true, false, cond, not, _&&_, _||_, false≢true, true≢false, or-true}
 use mathlib.Core.List.{List, [], _∷_, _++_, map, List·Memᴰ, List·Memᴰ·head, List·Memᴰ·tail, List·Memᴰ·cases-cons, List·Memᴰ·not-nil}
 use mathlib.Core.Logic.{_⊎_, inl, inr}
@@ -151,6 +151,13 @@ module _ {A : Type 0} where
 
   pub count-append : (t : A → Bool) (l k : List A) → count t (l ++ k) ≡ count t l + count t k
   count-append t l k = ap length (keep-append t l k) ∙ length-append (keep t l) (keep t k)
+
+  pub count-some : (t : A → Bool) (l : List A) {a : A} → List·Memᴰ a l → t a ≡ true → 1 ≤ count t l
+  count-some t l {a} m h = go (keep t l) (keep-in t l m h)
+    where
+      go : (k : List A) → List·Memᴰ a k → 1 ≤ length k
+      go [] i = absurd (List·Memᴰ·not-nil i)
+      go (x ∷ k) i = omega arith
 
   -- map --------------------------------------------------------------------------
 
