@@ -2,6 +2,10 @@ pub mod Outcomes
 pub mod WaitSet
 pub mod OneCall
 pub mod Ledgers
+pub mod LockPlaces
 pub mod Shown
 pub mod Numbers
-pub mod LockPlaces
+pub mod Marks
+pub mod Seen
+pub mod Acts
+pub mod Keeping
