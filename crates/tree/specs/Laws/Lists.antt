@@ -7,7 +7,7 @@ use mathlib.Core.Logic.{_⊎_, inl, inr}
 use lib.ListN.{length, length-append}
 use lib.Dec.{eqb}
 use native.Mathlib.Omega.{arith}
-use borrow.Author.Tests.{eqb-true, eq-eqb}
+use borrow.Author.Tests.{eqb-true, eqb-false, eq-eqb, ne-eqb}
 use Rattle.tree.specs.Lists.{every, any, keep, has}
 use Rattle.tree.specs.Laws.Tests.{and-left, and-right, or-cases}
 
@@ -35,6 +35,14 @@ module _ {A : Type 0} where
   at-any t [] m h = absurd (List·Memᴰ·not-nil m)
   at-any t (x ∷ xs) (List·Memᴰ·head e) h = rw (ap t (sym e) ∙ h)
   at-any t (x ∷ xs) (List·Memᴰ·tail m) h = rw (at-any t xs m h) (or-true (t x))
+
+  pub every-same : (t s : A → Bool) (l : List A) → ((a : A) → List·Memᴰ a l → t a ≡ s a) → every t l ≡ every s l
+  every-same t s [] h = refl
+  every-same t s (x ∷ xs) h = rw (h x (List·Memᴰ·head refl), every-same t s xs (λ a m. h a (List·Memᴰ·tail m)))
+
+  pub any-same : (t s : A → Bool) (l : List A) → ((a : A) → List·Memᴰ a l → t a ≡ s a) → any t l ≡ any s l
+  any-same t s [] h = refl
+  any-same t s (x ∷ xs) h = rw (h x (List·Memᴰ·head refl), any-same t s xs (λ a m. h a (List·Memᴰ·tail m)))
 
   -- none passes exactly if all fail
   pub every-not : (t : A → Bool) (l : List A) → every (λ a. not (t a)) l ≡ not (any t l)
@@ -187,6 +195,9 @@ module _ {A : Type 0} where
   map-in f (List·Memᴰ·tail m) = List·Memᴰ·tail (map-in f m)
 
 -- has ----------------------------------------------------------------------------
+
+pub eqb-flip : (m n : ℕ) → eqb m n ≡ false → eqb n m ≡ false
+eqb-flip m n h = ne-eqb n m (λ e. eqb-false m n h (sym e))
 
 pub has-in : (n : ℕ) (l : List ℕ) → has n l ≡ true → List·Memᴰ n l
 has-in n [] h = absurd (false≢true h)
