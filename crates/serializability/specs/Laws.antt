@@ -9,3 +9,5 @@ pub mod Marks
 pub mod Seen
 pub mod Acts
 pub mod Keeping
+pub mod Standing
+pub mod Granting
