@@ -11,43 +11,51 @@ use Rattle.tree.specs.Forest.{Row, row, put}
 use Rattle.tree.specs.Document.{Node, Document, here, at}
 use Rattle.tree.specs.Steps.{Step, T, C, R, U, D, I, TT, RR, UU, target, brings}
 use Rattle.tree.specs.Laws.Tests.{and-left, and-right, or-cases}
-use Rattle.tree.specs.Laws.Put.{put-in, put-new}
+use Rattle.tree.specs.Laws.Put.{put-in, put-new, in-put, New}
 use Rattle.locks.specs.Modes.{Mode, modes, index, same-mode, among, union}
 use Rattle.locks.specs.Needs.{Lock, locks, needs}
 use Rattle.protocol.specs.State.{nobody, Marked, Tree, numbered, seen-by, callers-document, written-by, deleted-by, inserted-by, modes-on, granted-to, mark, renamed, act, grant}
 use Rattle.serializability.specs.Laws.Shown.{Place, Inside, path, numbers-of}
-use Rattle.serializability.specs.Laws.Numbers.{number-of, marked, marked-above, marked-numbers, mark-in}
+use Rattle.serializability.specs.Laws.Numbers.{number-of, marked, marked-above, marked-numbers, mark-in, in-mark}
 use Rattle.serializability.specs.Laws.LockPlaces.{lock-place}
 use Rattle.serializability.specs.Laws.Standing.{Standing, Carried, ancestor-place}
 
+written-number : (t : ℕ) (b : List ℕ) (a : Marked) (x : Bool) → cond x (written-by t b a) a .now .number ≡ a .now .number
+written-number t b a true = refl
+written-number t b a false = refl
+
+written-inserter : (t : ℕ) (b : List ℕ) (a : Marked) (x : Bool) → cond x (written-by t b a) a .inserter ≡ a .inserter
+written-inserter t b a true = refl
+written-inserter t b a false = refl
+
+deleted-number : (t : ℕ) (a : Marked) (x : Bool) → cond x (deleted-by t a) a .now .number ≡ a .now .number
+deleted-number t a true = refl
+deleted-number t a false = refl
+
+deleted-inserter : (t : ℕ) (a : Marked) (x : Bool) → cond x (deleted-by t a) a .inserter ≡ a .inserter
+deleted-inserter t a true = refl
+deleted-inserter t a false = refl
+
 carried-by-mark : (c : Place → Marked) → ((r : Place) → c r .now .number ≡ number-of r) → (u : ℕ) → ((r : Place) (a : Mode) → r .it .held u a ≡ true → c r .held u a ≡ true)
-    → (f : Tree) (r : Place) → Inside r f → Carried u (mark c f) r
-carried-by-mark c sn u sh f r i = (marked c r, mark-in c f i, sn r, marked-numbers c sn (r .above), sh r)
+    → ((r : Place) → c r .inserter ≡ r .it .inserter) → (f : Tree) (r : Place) → Inside r f → Carried u (mark c f) r
+carried-by-mark c sn u sh si f r i = (marked c r, mark-in c f i, sn r, marked-numbers c sn (r .above), sh r, λ e. si r ∙ e)
 
 carried-by-write : (test : Place → Bool) (t : ℕ) (b : List ℕ) (u : ℕ) (f : Tree) (r : Place) → Inside r f → Carried u (mark (λ r. cond (test r) (written-by t b (r .it)) (r .it)) f) r
-carried-by-write test t b u f r i = carried-by-mark _ (λ x. number (x .it) (test x)) u (λ x a h. holding (x .it) (test x) a h) f r i
+carried-by-write test t b u f r i = carried-by-mark _ (λ x. written-number t b (x .it) (test x)) u (λ x a h. holding (x .it) (test x) a h) (λ x. written-inserter t b (x .it) (test x)) f r i
   where
-    number : (a : Marked) (x : Bool) → cond x (written-by t b a) a .now .number ≡ a .now .number
-    number a true = refl
-    number a false = refl
-
     holding : (a : Marked) (x : Bool) (m : Mode) → a .held u m ≡ true → cond x (written-by t b a) a .held u m ≡ true
     holding a true m h = h
     holding a false m h = h
 
 carried-by-delete : (n t : ℕ) (u : ℕ) (f : Tree) (r : Place) → Inside r f → Carried u (mark (λ r. cond (numbered n (r .it)) (deleted-by t (r .it)) (r .it)) f) r
-carried-by-delete n t u f r i = carried-by-mark _ (λ x. number (x .it) (numbered n (x .it))) u (λ x a h. holding (x .it) (numbered n (x .it)) a h) f r i
+carried-by-delete n t u f r i = carried-by-mark _ (λ x. deleted-number t (x .it) (numbered n (x .it))) u (λ x a h. holding (x .it) (numbered n (x .it)) a h) (λ x. deleted-inserter t (x .it) (numbered n (x .it))) f r i
   where
-    number : (a : Marked) (x : Bool) → cond x (deleted-by t a) a .now .number ≡ a .now .number
-    number a true = refl
-    number a false = refl
-
     holding : (a : Marked) (x : Bool) (m : Mode) → a .held u m ≡ true → cond x (deleted-by t a) a .held u m ≡ true
     holding a true m h = h
     holding a false m h = h
 
 abbrev same-place : (u : ℕ) (f : Tree) (r : Place) → Inside r f → Carried u f r
-same-place u f r i = (r, i, refl, refl, λ a h. h)
+same-place u f r i = (r, i, refl, refl, λ a h. h, λ e. e)
 
 act-carries : (t : ℕ) (s : Step) (u : ℕ) (f : Tree) (r : Place) → Inside r f → Carried u (act t s f) r
 act-carries t (T n) u f r i = same-place u f r i
@@ -75,7 +83,7 @@ modes-granted (x ∷ ls) l (List·Memᴰ·tail m) = go (eqb (x .0) (l .0)) (mode
 
 grant-carries : (t : ℕ) (ls : List Lock) (u : ℕ) (f : Tree) (r : Place) → Inside r f → Carried u (grant t ls f) r
 unfolding grant
-grant-carries t ls u f r i = carried-by-mark (λ x. granted-to t ls (x .it)) (λ x. refl) u (λ x a h. keep (x .it) a (eqb u t) h) f r i
+grant-carries t ls u f r i = carried-by-mark (λ x. granted-to t ls (x .it)) (λ x. refl) u (λ x a h. keep (x .it) a (eqb u t) h) (λ x. refl) f r i
   where
     keep : (x : Marked) (a : Mode) (b : Bool) → x .held u a ≡ true → cond b (union (x .held u) (modes-on ls (x .now .number))) (x .held u) a ≡ true
     keep x a true h = rw h
@@ -99,7 +107,7 @@ pub step-carries : (t : ℕ) (s : Step) (ls : List Lock) (u : ℕ) (f : Tree) (r
 step-carries t s ls u f r i =
     let a = act-carries t s u f r i in
     let g = grant-carries t ls u (act t s f) (a .0) (a .1) in
-    (g .0, g .1, g .2 ∙ a .2, g .3 ∙ a .3, λ m h. g .4 m (a .4 m h))
+    (g .0, g .1, g .2 ∙ a .2, g .3 ∙ a .3, λ m h. g .4 m (a .4 m h), λ e. g .5 (a .5 e))
 
 -- the new node of an insertion
 act-brings : (t : ℕ) (s : Step) (m : ℕ) → has m (brings s) ≡ true → (f : Tree) (r : Place) → Inside r f → number-of r ≡ target s
@@ -138,11 +146,11 @@ step-standing t s p f r i e o = record {
     N : Carried t (after-step t s ls f) r
     N = step-carries t s ls t f r i
 
-    fresh : (m : ℕ) → has m (brings s) ≡ true → (x : Place) × Inside x (after-step t s ls f) × (number-of x ≡ m) × (numbers-of (x .above) ≡ numbers-of (path (N .0)))
+    fresh : (m : ℕ) → has m (brings s) ≡ true → (x : Place) × Inside x (after-step t s ls f) × (number-of x ≡ m) × (numbers-of (x .above) ≡ numbers-of (path (N .0))) × (x .it .inserter ≡ t)
     fresh m h =
         let a = act-brings t s m h f r i e in
         let g = grant-carries t ls t (act t s f) (a .0) (a .1) in
-        (g .0, g .1, g .2 ∙ a .2, g .3 ∙ ap numbers-of (a .3) ∙ sym (ap₂ (λ (z : ℕ) (w : List ℕ). z ∷ w) (N .2) (N .3)))
+        (g .0, g .1, g .2 ∙ a .2, g .3 ∙ ap numbers-of (a .3) ∙ sym (ap₂ (λ (z : ℕ) (w : List ℕ). z ∷ w) (N .2) (N .3)), g .5 (a .4))
 
     bits : (l : Lock) → List·Memᴰ l ls → (x : Place) × Inside x (after-step t s ls f) × (number-of x ≡ l .0) × (x .it .held t (l .1) ≡ true)
     bits l m = go (lock-place s p l m)
@@ -153,3 +161,44 @@ step-standing t s p f r i e o = record {
             let a = act-carries t s t f (b .0) (b .1) in
             grant-there t ls (act t s f) l m (a .0) (a .1) (a .2 ∙ b .2)
         go (inr y) = let a = act-brings t s (l .0) y f r i e in grant-there t ls (act t s f) l m (a .0) (a .1) (a .2)
+
+-- the places afterwards: those before, and the new one --------------------------------------------
+
+-- a place with such a number and inserter was there before, or is the step's new one
+abbrev pub Known-place : ℕ → Step → Tree → Place → Type 0
+Known-place t s f r = ((x : Place) × Inside x f × (number-of r ≡ number-of x) × (r .it .inserter ≡ x .it .inserter)) ⊎ ((has (number-of r) (brings s) ≡ true) × (r .it .inserter ≡ t))
+
+in-marked : (c : Place → Marked) → ((r : Place) → c r .now .number ≡ number-of r) → ((r : Place) → c r .inserter ≡ r .it .inserter) → (f : Tree) (r : Place) → Inside r (mark c f)
+    → (x : Place) × Inside x f × (number-of r ≡ number-of x) × (r .it .inserter ≡ x .it .inserter)
+in-marked c sn si f r i =
+    let a = in-mark c f i in
+    (a .0, a .1, ap number-of (a .2) ∙ sn (a .0), ap (λ (z : Place). z .it .inserter) (a .2) ∙ si (a .0))
+
+act-places : (t : ℕ) (s : Step) (f : Tree) (r : Place) → Inside r (act t s f) → Known-place t s f r
+act-places t (T n) f r i = inl (r, i, refl, refl)
+act-places t (C n k) f r i = inl (r, i, refl, refl)
+act-places t (R n) f r i = inl (r, i, refl, refl)
+act-places t (U n b) f r i = inl (in-marked _ (λ x. written-number t b (x .it) (numbered n (x .it))) (λ x. written-inserter t b (x .it) (numbered n (x .it))) f r i)
+act-places t (D n) f r i = inl (in-marked _ (λ x. deleted-number t (x .it) (numbered n (x .it))) (λ x. deleted-inserter t (x .it) (numbered n (x .it))) f r i)
+act-places t (I m kind b n k) f r i = go (in-put (numbered n) (seen-by t) k new (λ a. a) [] f i)
+  where
+    new : Marked
+    new = inserted-by t (record { number = m; kind = kind; content = b })
+
+    go : Inside r f ⊎ New (numbered n) (seen-by t) k new (λ a. a) r [] f → Known-place t (I m kind b n k) f r
+    go (inl x) = inl (r, x, refl, refl)
+    go (inr x) = inr (rw (x .3, eq-eqb m m refl), rw (x .3))
+act-places t (TT n) f r i = inl (r, i, refl, refl)
+act-places t (RR n) f r i = inl (r, i, refl, refl)
+act-places t (UU n a b) f r i = inl (in-marked _ (λ x. written-number t b (x .it) (renamed t n a x)) (λ x. written-inserter t b (x .it) (renamed t n a x)) f r i)
+
+pub step-places : (t : ℕ) (s : Step) (ls : List Lock) (f : Tree) (r : Place) → Inside r (after-step t s ls f) → Known-place t s f r
+unfolding grant
+step-places t s ls f r i = go (act-places t s f (a .0) (a .1))
+  where
+    a : (x : Place) × Inside x (act t s f) × (number-of r ≡ number-of x) × (r .it .inserter ≡ x .it .inserter)
+    a = in-marked (λ x. granted-to t ls (x .it)) (λ x. refl) (λ x. refl) (act t s f) r i
+
+    go : Known-place t s f (a .0) → Known-place t s f r
+    go (inl x) = inl (x .0, x .1, a .2 ∙ x .2, a .3 ∙ x .3)
+    go (inr x) = inr (rw (a .2) (x .0), a .3 ∙ x .1)

@@ -30,7 +30,7 @@ pub record Standing (f : Tree) (u : ℕ) (s : Step) (hs : List Lock) : Type 0 wh
   pub inside : Inside node f
   pub number : number-of node ≡ target s
   pub locked : hs ≡ locks s (numbers-of (node .above))
-  pub new : (m : ℕ) → has m (brings s) ≡ true → (r : Place) × Inside r f × (number-of r ≡ m) × (numbers-of (r .above) ≡ numbers-of (path node))
+  pub new : (m : ℕ) → has m (brings s) ≡ true → (r : Place) × Inside r f × (number-of r ≡ m) × (numbers-of (r .above) ≡ numbers-of (path node)) × (r .it .inserter ≡ u)
   pub held : (l : Lock) → List·Memᴰ l hs → (r : Place) × Inside r f × (number-of r ≡ l .0) × (r .it .held u (l .1) ≡ true)
 
 -- a step needs a mode on its node, on the parent, and above
@@ -86,7 +86,7 @@ covers f d u s hs g l m r i e q h = rw (g .locked) (go (lock-place s P l (rw (g 
     on-path : has q (numbers-of (path (g .node))) ≡ true → (a : Mode) × Locked q a (locks s P)
     on-path y = path-locked s P q (rw (g .number) at y)
 
-    below-new : (x : (r : Place) × Inside r f × (number-of r ≡ l .0) × (numbers-of (r .above) ≡ numbers-of (path (g .node)))) → has (l .0) (brings s) ≡ true → (a : Mode) × Locked q a (locks s P)
+    below-new : (x : (r : Place) × Inside r f × (number-of r ≡ l .0) × (numbers-of (r .above) ≡ numbers-of (path (g .node))) × (r .it .inserter ≡ u)) → has (l .0) (brings s) ≡ true → (a : Mode) × Locked q a (locks s P)
     below-new x b = step (eqb (number-of r) q) refl h
       where
         step : (y : Bool) → eqb (number-of r) q ≡ y → (y || has q (numbers-of (r .above))) ≡ true → (a : Mode) × Locked q a (locks s P)
@@ -130,9 +130,9 @@ no-wait-compatible t ls hs M u w ne o tr link = unblocked-compatible ls hs u (M 
 
 -- after an edit ------------------------------------------------------------------------------
 
--- the place is there after an edit, with its number, its path and the modes that u was granted
+-- the place is there after an edit, with its number, its path, the modes that u was granted, and u as its inserter if it was that
 abbrev pub Carried : ℕ → Tree → Place → Type 0
-Carried u f' r = (s : Place) × Inside s f' × (number-of s ≡ number-of r) × (numbers-of (s .above) ≡ numbers-of (r .above)) × ((a : Mode) → r .it .held u a ≡ true → s .it .held u a ≡ true)
+Carried u f' r = (s : Place) × Inside s f' × (number-of s ≡ number-of r) × (numbers-of (s .above) ≡ numbers-of (r .above)) × ((a : Mode) → r .it .held u a ≡ true → s .it .held u a ≡ true) × (r .it .inserter ≡ u → s .it .inserter ≡ u)
 
 -- where the edit carries the places that a step locked
 pub standing-carried : (f f' : Tree) → Distinct f → (u : ℕ) (s : Step) (hs : List Lock) → Standing f u s hs
@@ -152,12 +152,12 @@ standing-carried f f' d u s hs g carry = record {
     N : Carried u f' (g .node)
     N = carry (g .node) (g .inside) on-path
 
-    fresh : (m : ℕ) → has m (brings s) ≡ true → (r : Place) × Inside r f × (number-of r ≡ m) × (numbers-of (r .above) ≡ numbers-of (path (g .node)))
-        → (r : Place) × Inside r f' × (number-of r ≡ m) × (numbers-of (r .above) ≡ numbers-of (path (N .0)))
+    fresh : (m : ℕ) → has m (brings s) ≡ true → (r : Place) × Inside r f × (number-of r ≡ m) × (numbers-of (r .above) ≡ numbers-of (path (g .node))) × (r .it .inserter ≡ u)
+        → (r : Place) × Inside r f' × (number-of r ≡ m) × (numbers-of (r .above) ≡ numbers-of (path (N .0))) × (r .it .inserter ≡ u)
     fresh m h x =
         let lw : Locked m LW hs = rw (g .locked) (new-locked s (numbers-of (g .node .above)) m h LW (rw (new-need s m h) (List·Memᴰ·head refl))) in
         let c = carry (x .0) (x .1) (covers f d u s hs g (m, LW) lw (x .0) (x .1) (x .2)) in
-        (c .0, c .1, c .2 ∙ x .2, c .3 ∙ x .3 ∙ sym (ap₂ (λ (z : ℕ) (w : List ℕ). z ∷ w) (N .2) (N .3)))
+        (c .0, c .1, c .2 ∙ x .2, c .3 ∙ x .3 ∙ sym (ap₂ (λ (z : ℕ) (w : List ℕ). z ∷ w) (N .2) (N .3)), c .5 (x .4))
 
     bits : (l : Lock) → List·Memᴰ l hs → (r : Place) × Inside r f × (number-of r ≡ l .0) × (r .it .held u (l .1) ≡ true)
         → (r : Place) × Inside r f' × (number-of r ≡ l .0) × (r .it .held u (l .1) ≡ true)
