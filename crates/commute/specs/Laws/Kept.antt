@@ -16,8 +16,10 @@ use Rattle.locks.specs.Modes.{LW, clash}
 use Rattle.locks.specs.Needs.{need, needs, locks}
 use Rattle.locks.specs.Laws.Compatible.{Compatible, compatible-symmetric, All-locked, clashing, excludes, node-locked, new-locked, off-node, off-parent, off-path, off-new}
 use Rattle.commute.specs.Laws.Lines.{Of, Unique, at-line, line-here, not-here, insert}
-use Rattle.commute.specs.Laws.Views.{Reach, itself, children, subtree, within, reach, reads, within-by-number, Shapes, Whole, whole-shapes, Views, Same, views-same, rewrite-shapes, rewrite-whole, remove-whole, insert-whole, shapes-some}
-use Rattle.commute.specs.Laws.Classes.{Rewriting, Class, reading, rewriting, removing, inserting, class, touched, written, after-rewriting, touched-within, Contents, reads-contents, all-off-LW, bars-removal, removal-barred, bars-insertion, insertion-barred, bars-writing, writing-barred, Absent, new-need}
+use Rattle.commute.specs.Laws.Views.{Reach, itself, children, subtree, within, reach, reads, within-by-number, Shapes, Whole, whole-shapes, Views, Same, views-same, rewrite-shapes}
+use Rattle.commute.specs.Laws.Views.{rewrite-whole, remove-whole, insert-whole, shapes-some}
+use Rattle.commute.specs.Laws.Classes.{Rewriting, Class, reading, rewriting, removing, inserting, class, touched, written, after-rewriting, touched-within, Contents, reads-contents}
+use Rattle.commute.specs.Laws.Classes.{all-off-LW, bars-removal, removal-barred, bars-insertion, insertion-barred, bars-writing, writing-barred, Absent, new-need}
 use Rattle.commute.specs.Laws.Apart.{path, path-of, not-under, under-not-under, Clear-of, clear-of}
 
 -- a step that fits ---------------------------------------------------------------------------
@@ -63,7 +65,7 @@ module _ (d : Document) (u : Unique d) where
     off-removed : has x (target s ∷ path (target s) d) ≡ false
     off-removed = off-path x (LW ∷ []) (needs (D x) d) (node-locked (D x) (path x d)) s (path (target s) d) (compatible-symmetric _ _ c) (all-off-LW s)
 
-    clear-of-removal : Clear-of d u (reach s) (target s) x
+    pub clear-of-removal : Clear-of d u (reach s) (target s) x
     clear-of-removal = go (reach s) (removal-barred s x)
       where
         go : (q : Reach) → bars-removal q (need s) (need (D x)) ≡ true → Clear-of d u q (target s) x
@@ -88,11 +90,11 @@ module _ (d : Document) (u : Unique d) where
     abbrev new : Node
     new = record { number = m; kind = kind; content = b }
 
-    other : eqb m (target s) ≡ false
+    pub other : eqb m (target s) ≡ false
     other = ne-eqb m (target s) (λ e. true≢false (sym hs ∙ ap (λ (q : ℕ). here q d) (sym e) ∙ hm))
 
     -- the new line is not within the reach of s
-    new-line-unseen : within (reach s) (target s) (row new (n ∷ path n d)) ≡ false
+    pub new-line-unseen : within (reach s) (target s) (row new (n ∷ path n d)) ≡ false
     new-line-unseen = go (reach s) (insertion-barred s m kind b n k)
       where
         go : (q : Reach) → bars-insertion q (need s) (need (I m kind b n k)) ≡ true → within q (target s) (row new (n ∷ path n d)) ≡ false
@@ -125,7 +127,7 @@ module _ (d : Document) (u : Unique d) where
     off-p e = off-path (target s) (need s .node) (needs s d) (node-locked s (path (target s) d)) p (path (target p) d) c e
 
     -- no line whose contents s sees or writes is touched
-    untouched : Contents s → (r : Line) → Of r d → within (reach s) (target s) r ≡ true → within (reach p) (target p) r ≡ false
+    pub untouched : Contents s → (r : Line) → Of r d → within (reach s) (target s) r ≡ true → within (reach p) (target p) r ≡ false
     untouched h r m i = go (reach s) (reach p) (writing-barred h w) i
       where
         go : (q q' : Reach) → bars-writing q q' (need s) (need p) ≡ true → within q (target s) r ≡ true → within q' (target p) r ≡ false
