@@ -11,3 +11,4 @@ pub mod Acts
 pub mod Keeping
 pub mod Standing
 pub mod Granting
+pub mod Whole
