@@ -12,3 +12,4 @@ pub mod Keeping
 pub mod Standing
 pub mod Granting
 pub mod Whole
+pub mod Ends
