@@ -13,3 +13,4 @@ pub mod Standing
 pub mod Granting
 pub mod Whole
 pub mod Ends
+pub mod Tracking
