@@ -14,3 +14,4 @@ pub mod Granting
 pub mod Whole
 pub mod Ends
 pub mod Tracking
+pub mod AnyOrder
