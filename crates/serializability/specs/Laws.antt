@@ -15,3 +15,4 @@ pub mod Whole
 pub mod Ends
 pub mod Tracking
 pub mod AnyOrder
+pub mod Held
