@@ -16,3 +16,4 @@ pub mod Ends
 pub mod Tracking
 pub mod AnyOrder
 pub mod Held
+pub mod Pending

@@ -40,7 +40,7 @@ pub record Ending (t : ℕ) (stays : Marked → Bool) (g : Marked → Marked) : 
   pub held-stays : (a : Marked) (u : ℕ) (m : Mode) → (u ≡ t → ⊥) → a .held u m ≡ true → g a .held u m ≡ true
 
 -- LW clashes with every mode
-LW-clashes : (a : Mode) → clash a LW ≡ true
+pub LW-clashes : (a : Mode) → clash a LW ≡ true
 unfolding clash
 LW-clashes a = every-mode (λ m. clash m LW) refl a
 
@@ -52,6 +52,13 @@ emptied-own t log = rw (eq-eqb t t refl)
 
 in-emptied-other : (t : ℕ) (log : ℕ → List Entry) (u : ℕ) {y : Entry} → List·Memᴰ y (emptied t log u) → u ≡ t → ⊥
 in-emptied-other t log u m e = List·Memᴰ·not-nil (rw (e, emptied-own t log) at m)
+
+-- the locks of two transactions are compatible
+pub logs-compatible : {c : Document} {log : ℕ → List Entry} {M : State} → Good c log M → (u v : ℕ) → (u ≡ v → ⊥) → Compatible (holds log u) (holds log v)
+logs-compatible {log = log} g u v ne q a b i j =
+    let x = lock-entry (log u) (q, a) i in
+    let y = lock-entry (log v) (q, b) j in
+    g .serial [] refl .apart .clear u v ne (x .0) (y .0) (x .1) (y .1) q a b (x .2) (y .2)
 
 -- the tree --------------------------------------------------------------------------------------
 
@@ -109,13 +116,6 @@ module _ (c : Document) (log : ℕ → List Entry) (M : State) (g : Good c log M
           step (inr (inl x)) = inr (inl (λ l j. rw (holds-other u (w .1)) (x l j)))
           step (inr (inr x)) = inr (inr (renames-other u (numbers-of (path (a .0))) (w .1) x))
 
-  -- the locks of two transactions are compatible
-  compatible-all : (u v : ℕ) → (u ≡ v → ⊥) → Compatible (holds log u) (holds log v)
-  compatible-all u v ne q a b i j =
-      let x = lock-entry (log u) (q, a) i in
-      let y = lock-entry (log v) (q, b) j in
-      g .serial [] refl .apart .clear u v ne (x .0) (y .0) (x .1) (y .1) q a b (x .2) (y .2)
-
   -- where another transaction locked all of a path nothing goes
   path-stays : (u : ℕ) → (u ≡ t → ⊥) → (l : List Marked) → Each (λ a. a) (Guarded (holds log)) l → ((q : ℕ) → has q (numbers-of l) ≡ true → (m : Mode) × Locked q m (holds log u)) → every stays l ≡ true
   path-stays u ne [] k w = refl
@@ -127,7 +127,7 @@ module _ (c : Document) (log : ℕ → List Entry) (M : State) (g : Good c log M
           let v = w (a .now .number) (rw (eq-eqb (a .now .number) (a .now .number) refl)) in
           let lw : Locked (a .now .number) LW (holds log t) =
           k .0 t nz (end .cut a x) (a .now .number, LW) (node-locked (D (a .now .number)) (numbers-of p) LW (List·Memᴰ·head refl)) in
-          absurd (true≢false (sym (LW-clashes (v .0)) ∙ compatible-all u t ne (a .now .number) (v .0) LW (v .1) lw))
+          absurd (true≢false (sym (LW-clashes (v .0)) ∙ logs-compatible g u t ne (a .now .number) (v .0) LW (v .1) lw))
 
   end-standing : (u : ℕ) (y : Entry) → List·Memᴰ y (log' u) → Standing rest u (y .step) (y .held)
   end-standing u y i = standing-carried f rest (g .covered .distinct) u (y .step) (y .held) (g .standing u y (in-emptied t log u i)) carry

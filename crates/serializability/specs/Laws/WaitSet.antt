@@ -73,3 +73,23 @@ sum-empty q e u h = sym (sum-bit q u h) ∙ rw e (none (2 ^ (u - 1)))
 pub sum-none : (q : ℕ → Bool) (ts : List ℕ) → ((u : ℕ) → List·Memᴰ u ts → q u ≡ false) → sum-of-bits q ts ≡ 0
 sum-none q [] h = refl
 sum-none q (t ∷ ts) h = rw (h t (List·Memᴰ·head refl), sum-none q ts (λ u i. h u (List·Memᴰ·tail i)))
+
+-- i, i + 1, .. , n of them
+abbrev numbers-from : ℕ → ℕ → List ℕ
+numbers-from i zero = []
+numbers-from i (suc n) = i ∷ numbers-from (suc i) n
+
+in-numbers-from : (n i u : ℕ) → i ≤ u → u < i + n → List·Memᴰ u (numbers-from i n)
+in-numbers-from zero i u l h = absurd (omega arith)
+in-numbers-from (suc n) i u l h = go (eqb u i) refl (λ k. in-numbers-from n (suc i) u k (omega arith))
+  where
+    go : (b : Bool) → eqb u i ≡ b → (suc i ≤ u → List·Memᴰ u (numbers-from (suc i) n)) → List·Memᴰ u (i ∷ numbers-from (suc i) n)
+    go true e rest = List·Memᴰ·head (eqb-true u i e)
+    go false e rest = List·Memᴰ·tail (rest (omega (arith, eqb-false u i e)))
+
+-- the numbers 1 to 16 are all listed
+pub transaction-in : (u : ℕ) → is-transaction u ≡ true → List·Memᴰ u transactions
+transaction-in u h =
+    let low : 1 ≤ u = leb-true 1 u (and-left (leb 1 u) (leb u 16) h) in
+    let high : u ≤ 16 = leb-true u 16 (and-right (leb 1 u) (leb u 16) h) in
+    in-numbers-from 16 1 u low (omega arith)
