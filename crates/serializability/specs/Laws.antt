@@ -17,3 +17,4 @@ pub mod Tracking
 pub mod AnyOrder
 pub mod Held
 pub mod Pending
+pub mod Main

@@ -48,7 +48,7 @@ equal-same b b' e = rw e (same-self b')
 
 -- the numbers that a log brought in -----------------------------------------------------------
 
-abbrev steps : List Entry → List Step
+abbrev pub steps : List Entry → List Step
 steps l = map (λ x. x .step) l
 
 in-inserted : (l : List Entry) (y : Entry) → List·Memᴰ y l → (m : ℕ) → has m (brings (y .step)) ≡ true → List·Memᴰ m (inserted (steps l))
