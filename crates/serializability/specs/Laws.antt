@@ -18,3 +18,4 @@ pub mod AnyOrder
 pub mod Held
 pub mod Pending
 pub mod Main
+pub mod Reached

@@ -69,6 +69,10 @@ inserted-in (x ∷ l) m i = go (List·Memᴰ·append-cases (brings (x .step)) i)
 none-at : {A : Type 0} (t : A → Bool) (l : List A) → any t l ≡ false → {a : A} → List·Memᴰ a l → t a ≡ false
 none-at t l h {a} m = refuted (t a) (λ e. true≢false (sym (at-any t l m e) ∙ h))
 
+-- some of the transactions are distinct
+pub some-distinct : (S : ℕ → Bool) → distinct (keep S transactions) ≡ true
+some-distinct S = ap distinct (sym (map-self (λ n. n) (keep S transactions) (λ a m. refl))) ∙ distinct-keep (λ n. n) S transactions refl
+
 -- nobody, and one transaction -------------------------------------------------------------------
 
 abbrev none : ℕ → Bool
@@ -175,9 +179,6 @@ module _ (c : Document) (log : ℕ → List Entry) (M : State) (g : Good c log M
   abbrev open-ones : List ℕ
   open-ones = keep (M .is-open) transactions
 
-  open-distinct : distinct open-ones ≡ true
-  open-distinct = ap distinct (sym (map-self (λ n. n) open-ones (λ a m. refl))) ∙ distinct-keep (λ n. n) (M .is-open) transactions refl
-
   open-is : (u : ℕ) → has u open-ones ≡ M .is-open u
   open-is u = go (M .is-open u) refl
     where
@@ -187,7 +188,7 @@ module _ (c : Document) (log : ℕ → List Entry) (M : State) (g : Good c log M
 
   pub quiet-held : ((t : ℕ) → List·Memᴰ t transactions → pending-in committed (steps (log t)) (with-only t) ≡ false) → held-document M ≡ committed
   quiet-held q =
-      let r : Run committed (orders.logs log open-ones) (document-of (λ u. has u open-ones) f) = rw c-committed at (g .serial open-ones open-distinct .run) in
+      let r : Run committed (orders.logs log open-ones) (document-of (λ u. has u open-ones) f) = rw c-committed at (g .serial open-ones (some-distinct (M .is-open)) .run) in
       held-shown c log M g ∙ document-same (M .is-open) (λ u. has u open-ones) f (λ u. sym (open-is u))
       ∙ run-one-end committed (orders.logs log open-ones) _ committed r (idle-logs open-ones idle)
     where
