@@ -1,3 +1,4 @@
 pub mod Modes
 pub mod Needs
+pub mod Words
 pub mod Laws

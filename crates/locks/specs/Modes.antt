@@ -1,7 +1,7 @@
 -- The twelve lock modes, their table and sets of them: document 01, "Lock modes".
 use Prim.Native.Nat.{ℕ, _/_, _%_, _^_}
 use Prim.Native.String.{String}
-use mathlib.Core.Bool.{Bool, true, false, _&&_, _||_}
+use mathlib.Core.Bool.{Bool, false, _&&_, _||_}
 use mathlib.Core.List.{List, [], _∷_}
 use lib.ListN.{getD}
 use lib.Dec.{eqb}

@@ -1,16 +1,17 @@
 -- The calls, as functions of the state to an outcome and a next state: document 01, "Steps" and "Refused calls".
 use Prim.Native.Nat.{ℕ, _+_, _-_, _^_}
 use mathlib.Core.Path.{_≡_}
-use mathlib.Core.Bool.{Bool, true, false, cond, not, _&&_, _||_}
-use mathlib.Core.List.{List, [], _∷_, map}
+use mathlib.Core.Bool.{Bool, true, cond, not, _&&_}
+use mathlib.Core.List.{List, [], _∷_}
 use lib.ListN.{length}
 use lib.Dec.{eqb, leb}
 use Rattle.tree.specs.Lists.{any}
-use Rattle.tree.specs.Document.{Document, Line, lines, numbers, legal}
+use Rattle.tree.specs.Document.{Document, lines, numbers, legal}
 use Rattle.tree.specs.Steps.{Step, Value, done, how-many, misfit, misplaced, brings, answer}
-use Rattle.locks.specs.Modes.{modes, clash}
+use Rattle.locks.specs.Modes.{against}
 use Rattle.locks.specs.Needs.{Lock, needs}
-use Rattle.protocol.specs.State.{is-transaction, transactions, Marked, Tree, State, nodes, numbered, number-held, callers-document, committed-document, act, grant, commit-tree, abort-tree, tree-of, start-state, with-tree, opened, closed}
+use Rattle.protocol.specs.State.{is-transaction, transactions, Marked, Tree, State, nodes, numbered, number-held, callers-document, committed-document, act, grant, commit-tree, abort-tree, tree-of}
+use Rattle.protocol.specs.State.{start-state, with-tree, opened, closed}
 use Rattle.protocol.specs.Lent.{Room, has-room}
 
 -- "at most 1,024 nodes are held"
@@ -61,7 +62,7 @@ becomes v M = record { outcome = granted v; state = M }
 
 -- u holds, on this node, a mode that clashes with one of the locks
 abbrev pub clashes : List Lock → ℕ → Marked → Bool
-clashes ls u a = any (λ l. numbered (l .0) a && any (λ b. a .held u b && clash (l .1) b) modes) ls
+clashes ls u a = any (λ l. numbered (l .0) a && against (a .held u) (l .1)) ls
 
 -- another open transaction, which holds such a mode on some node
 abbrev pub blocks : ℕ → List Lock → State → ℕ → Bool
@@ -98,13 +99,14 @@ if-open t M next = cond (not (is-transaction t)) (unchanged (refused 1) M) (cond
 
 -- calls --------------------------------------------------------------------------------
 
--- 15, then what the input says
+-- load with nothing open: what the input says
 abbrev pub loaded : Input → State → Next
 loaded (unreadable cause offset) M = unchanged (refused-at cause offset) M
 loaded (stands-for d h) M = becomes (how-many (length (lines d))) (with-tree M (tree-of d))
 
 unfoldable pub next : Call → State → Next
 next start M = becomes done start-state
+-- 15 before all that the input says
 next (load input) M = cond (any (M .is-open) transactions) (unchanged (refused 15) M) (loaded input M)
 next (begin t) M =
     cond (not (is-transaction t)) (unchanged (refused 1) M) (cond (M .is-open t) (unchanged (refused 2) M) (becomes done (opened t M)))

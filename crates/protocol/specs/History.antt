@@ -1,13 +1,13 @@
 -- Lists of calls, the plain run that they are compared with, and what is pending: document 01, "The plain run" and "Steps".
 use Prim.Native.Nat.{ℕ}
 use mathlib.Core.Bool.{Bool, true, false, cond, not, _&&_, _||_}
-use mathlib.Core.List.{List, [], _∷_, _++_, map}
+use mathlib.Core.List.{List, [], _∷_, _++_}
 use lib.Dec.{eqb}
 use Rattle.tree.specs.Lists.{any, same}
 use Rattle.tree.specs.Document.{Document, lines, here, at, node-0-alone}
 use Rattle.tree.specs.Steps.{Step, Value, unfit, brings, plain-document, plain-answers}
 use Rattle.protocol.specs.State.{State, transactions}
-use Rattle.protocol.specs.Calls.{Call, start, load, begin, commit, abort, step, write, Input, unreadable, stands-for, Outcome, granted, written, waits, refused, refused-at, next}
+use Rattle.protocol.specs.Calls.{Call, start, load, begin, commit, abort, step, write, unreadable, stands-for, Outcome, granted, written, waits, refused, refused-at, next}
 
 -- a call with its outcome
 pub record Event : Type 0 where

@@ -1,8 +1,8 @@
 -- What a granted call puts into lent buffers.
 use Prim.Native.Nat.{ℕ, _-_, _/_, _%_}
-use mathlib.Core.Bool.{Bool, true, false, _&&_}
-use mathlib.Core.List.{List, [], _∷_, _++_}
-use lib.ListN.{length, replicate}
+use mathlib.Core.Bool.{Bool, _&&_}
+use mathlib.Core.List.{List, [], _∷_, _++_, map}
+use lib.ListN.{length, replicate, drop}
 use lib.Dec.{leb}
 use Rattle.tree.specs.Content.{content-limit}
 use Rattle.tree.specs.Steps.{Value, done, kind-parent, child-is, none, content-is, numbers-are, cells-are, how-many, unfit}
@@ -19,10 +19,6 @@ list-bytes (n ∷ ns) = number-bytes n ++ list-bytes ns
 abbrev pub cell : List ℕ → List ℕ
 cell b = length b ∷ (b ++ replicate (content-limit - length b) 0)
 
-abbrev pub cell-numbers : List (ℕ × List ℕ) → List ℕ
-cell-numbers [] = []
-cell-numbers (c ∷ cs) = number-bytes (c .0) ++ cell-numbers cs
-
 abbrev pub cells : List (ℕ × List ℕ) → List ℕ
 cells [] = []
 cells (c ∷ cs) = cell (c .1) ++ cells cs
@@ -35,7 +31,7 @@ first-lent (child-is number kind) = []
 first-lent none = []
 first-lent (content-is b) = b
 first-lent (numbers-are l) = list-bytes l
-first-lent (cells-are l) = cell-numbers l
+first-lent (cells-are l) = list-bytes (map (λ c. c .0) l)
 first-lent (how-many n) = []
 first-lent unfit = []
 
@@ -58,3 +54,7 @@ pub record Room : Type 0 where
 
 abbrev pub has-room : Value → Room → Bool
 has-room v b = leb (length (first-lent v)) (b .first) && leb (length (second-lent v)) (b .second)
+
+-- a lent buffer afterwards: "bytes of a lent buffer behind the answer keep their values"
+abbrev pub filled : List ℕ → List ℕ → List ℕ
+filled b buffer = b ++ drop (length b) buffer

@@ -1,15 +1,14 @@
 -- The engine's state: the open transactions, and the tree of all nodes held, each with its marks; documents are views of it.
-use Prim.Native.Nat.{ℕ, _+_, _-_, _^_}
+use Prim.Native.Nat.{ℕ}
 use mathlib.Core.Bool.{Bool, true, false, cond, not, _&&_, _||_}
-use mathlib.Core.List.{List, [], _∷_, _++_, map}
-use lib.ListN.{length}
+use mathlib.Core.List.{List, [], _∷_, map}
 use lib.Dec.{eqb}
-use Rattle.tree.specs.Lists.{any, every, has, same}
+use Rattle.tree.specs.Lists.{any, every}
 use Rattle.tree.specs.Forest.{Forest, Row, rows, amend, view, put}
-use Rattle.tree.specs.Content.{element-kind, between}
+use Rattle.tree.specs.Content.{between}
 use Rattle.tree.specs.Document.{Node, Document, node-0-alone}
-use Rattle.tree.specs.Steps.{Step, T, C, R, U, D, I, TT, RR, UU, with-content}
-use Rattle.locks.specs.Modes.{Mode, ModeSet, no-mode, union, among}
+use Rattle.tree.specs.Steps.{Step, T, C, R, U, D, I, TT, RR, UU, is-named, with-content}
+use Rattle.locks.specs.Modes.{ModeSet, no-mode, union, among}
 use Rattle.locks.specs.Needs.{Lock}
 
 -- transaction numbers are 1 to 16; 0 stands for nobody
@@ -22,8 +21,8 @@ is-transaction t = between 1 16 t
 abbrev pub transactions : List ℕ
 transactions = 1 ∷ 2 ∷ 3 ∷ 4 ∷ 5 ∷ 6 ∷ 7 ∷ 8 ∷ 9 ∷ 10 ∷ 11 ∷ 12 ∷ 13 ∷ 14 ∷ 15 ∷ 16 ∷ []
 
--- a node held: as it is now, its committed content where an open transaction wrote another, who wrote it, inserted it and
--- deleted it, and for each transaction the set of modes it was granted there
+-- a node held: as it is now, its committed content (read only where an open transaction is the writer), which open transaction
+-- wrote it, inserted it and deleted it (0: none), and for each transaction the set of modes it was granted there
 pub record Marked : Type 0 where
   pub now : Node
   pub before : List ℕ
@@ -59,16 +58,20 @@ seen-by t a = not (eqb (a .deleter) t)
 unfoldable pub callers-document : ℕ → Tree → Document
 callers-document t f = view (seen-by t) (λ a. a .now) f
 
+-- a transaction of the set deleted the node
+abbrev pub deleted-in : (ℕ → Bool) → Marked → Bool
+deleted-in S a = not (eqb (a .deleter) nobody) && S (a .deleter)
+
 -- "the tree in the lent state without nodes that open transactions deleted"
 unfoldable pub held-document : State → Document
-held-document M = view (λ a. not (M .is-open (a .deleter))) (λ a. a .now) (M .tree)
+held-document M = view (λ a. not (deleted-in (M .is-open) a)) (λ a. a .now) (M .tree)
 
 -- a set of transactions shows what they did, and nothing of what the others did
 abbrev pub done-by : (ℕ → Bool) → ℕ → Bool
 done-by S u = eqb u nobody || S u
 
 abbrev pub shown : (ℕ → Bool) → Marked → Bool
-shown S a = done-by S (a .inserter) && not (not (eqb (a .deleter) nobody) && S (a .deleter))
+shown S a = done-by S (a .inserter) && not (deleted-in S a)
 
 abbrev pub as-shown : (ℕ → Bool) → Marked → Node
 as-shown S a = with-content (a .now) (cond (done-by S (a .writer)) (a .now .content) (a .before))
@@ -157,8 +160,7 @@ mark-node n g f = mark (λ r. cond (numbered n (r .it)) (g (r .it)) (r .it)) f
 
 -- t sees it, it is in the subtree of n, and it is an element named a
 abbrev pub renamed : ℕ → ℕ → List ℕ → Row Marked Marked → Bool
-renamed t n a r = every (seen-by t) (r .it ∷ r .above) && any (numbered n) (r .it ∷ r .above) &&
-    eqb (r .it .now .kind) element-kind && same a (r .it .now .content)
+renamed t n a r = every (seen-by t) (r .it ∷ r .above) && any (numbered n) (r .it ∷ r .above) && is-named a (r .it .now)
 
 -- what a granted step of t does
 abbrev pub act : ℕ → Step → Tree → Tree
@@ -167,7 +169,8 @@ act t (C n k) f = f
 act t (R n) f = f
 act t (U n b) f = mark-node n (written-by t b) f
 act t (D n) f = mark-node n (deleted-by t) f
--- among siblings that t deleted itself the place is a free choice, which no document can show: right behind the one counted last
+-- among siblings that t deleted itself the place is a free choice, which no document can show: right behind the one counted last,
+-- for k = 1 before all
 act t (I m kind b n k) f = put (numbered n) (seen-by t) k (inserted-by t (record { number = m; kind = kind; content = b })) f
 act t (TT n) f = f
 act t (RR n) f = f

@@ -1,8 +1,7 @@
 -- A plain document: document 01, "The tree". Documents are equal when numbers, kinds, order, parents and contents are.
-use Prim.Native.Nat.{ℕ, zero, suc}
-use mathlib.Core.Bool.{Bool, true, false, cond, _&&_}
+use Prim.Native.Nat.{ℕ}
+use mathlib.Core.Bool.{Bool, true, false, _&&_}
 use mathlib.Core.List.{List, [], _∷_, map}
-use lib.ListN.{length}
 use lib.Dec.{eqb}
 use Rattle.tree.specs.Lists.{keep, has, leads, distinct}
 use Rattle.tree.specs.Forest.{Forest, nil, node, Row, row, rows}

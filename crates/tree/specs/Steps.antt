@@ -107,8 +107,11 @@ parent [] = 0
 parent (q ∷ qs) = q
 
 -- an element with this name
+abbrev pub is-named : List ℕ → Node → Bool
+is-named a x = eqb (x .kind) element-kind && same a (x .content)
+
 abbrev pub named : List ℕ → Line → Bool
-named a r = eqb (r .it .kind) element-kind && same a (r .it .content)
+named a r = is-named a (r .it)
 
 abbrev pub answer : Step → Document → Value
 answer (T n) d = kind-parent (at n d .it .kind) (parent (at n d .above))

@@ -1,0 +1,48 @@
+use mathlib.Core.Path.{_∙_}
+use borrow.Author.Tests.{eq-eqb, ne-eqb}
+use Rattle.tree.specs.Content.{allowed}
+use borrow.Author.Needs.{needs}
+use Rattle.tree.proofs.allowed.Statement.{statement}
+use Rattle.tree.proofs.allowed.Tie as tie
+
+returns : tie.Need-returns
+unfolding allowed
+returns c = rw (eq-eqb _ _ (c .if1 .taken))
+
+is-name-requires : tie.Need-is-name-requires
+is-name-requires c κs = search needs
+
+returns-2 : tie.Need-returns-2
+unfolding allowed
+returns-2 c = c .is-name .ensures ∙ rw (ne-eqb _ _ (c .before .before .if1 .left), eq-eqb _ _ (c .before .if2 .taken))
+
+is-name-requires-2 : tie.Need-is-name-requires-2
+is-name-requires-2 c κs = search needs
+
+returns-3 : tie.Need-returns-3
+unfolding allowed
+returns-3 c = c .is-name2 .ensures ∙ rw (ne-eqb _ _ (c .before .before .before .if1 .left), ne-eqb _ _ (c .before .before .if2 .left), eq-eqb _ _ (c .before .if3 .taken))
+
+is-text-requires : tie.Need-is-text-requires
+is-text-requires c κs = search needs
+
+returns-4 : tie.Need-returns-4
+unfolding allowed
+returns-4 c = c .is-text .ensures ∙ rw (ne-eqb _ _ (c .before .before .before .before .if1 .left), ne-eqb _ _ (c .before .before .before .if2 .left), ne-eqb _ _ (c .before .before .if3 .left), eq-eqb _ _ (c .before .if4 .taken))
+
+returns-5 : tie.Need-returns-5
+unfolding allowed
+returns-5 c = rw (ne-eqb _ _ (c .before .before .before .if1 .left), ne-eqb _ _ (c .before .before .if2 .left), ne-eqb _ _ (c .before .if3 .left), ne-eqb _ _ (c .if4 .left))
+
+pub allowed-spec : {M : Type 1} → statement M
+allowed-spec =
+    tie.close
+    (tie.spec
+    returns
+    is-name-requires
+    returns-2
+    is-name-requires-2
+    returns-3
+    is-text-requires
+    returns-4
+    returns-5)

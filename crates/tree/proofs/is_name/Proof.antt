@@ -1,0 +1,39 @@
+use mathlib.Core.Path.{sym, _∙_}
+use borrow.Author.Tests.{not-true, not-false}
+use Rattle.tree.proofs.Table.{name-empty, name-long, name-is}
+use borrow.Author.Needs.{needs}
+use Rattle.tree.proofs.is_name.Statement.{statement}
+use Rattle.tree.proofs.is_name.Tie as tie
+
+returns : tie.Need-returns
+returns c = sym (name-empty _ (c .if1 .taken))
+
+returns-2 : tie.Need-returns-2
+returns-2 c = sym (name-long _ (c .if2 .taken))
+
+shared-slice-read-name-start : tie.Need-shared-slice-read-name-start
+shared-slice-read-name-start c = search needs
+
+name-start-requires : tie.Need-name-start-requires
+name-start-requires c κs = search needs
+
+returns-3 : tie.Need-returns-3
+returns-3 c = sym (name-is _ (c .before .before .before .before .if1 .left) (c .before .before .before .if2 .left) ∙ rw (sym (c .before .name-start .ensures) ∙ not-true _ (c .if3 .taken)))
+
+all-in-requires : tie.Need-all-in-requires
+all-in-requires c κs = search needs
+
+returns-4 : tie.Need-returns-4
+returns-4 c = c .all-in .ensures ∙ sym (name-is _ (c .before .before .before .before .before .if1 .left) (c .before .before .before .before .if2 .left) ∙ rw (sym (c .before .before .name-start .ensures) ∙ not-false _ (c .before .if3 .left)))
+
+pub is-name-spec : {M : Type 1} → statement M
+is-name-spec =
+    tie.close
+    (tie.spec
+    returns
+    returns-2
+    shared-slice-read-name-start
+    name-start-requires
+    returns-3
+    all-in-requires
+    returns-4)
