@@ -22,7 +22,7 @@ use Rattle.serializability.specs.Laws.Seen.{own-shown, own-path, own-con
 pub renamed-under : (t n : ℕ) (a : List ℕ) (r : Place) → renamed t n a r ≡ true → has n (numbers-of (path r)) ≡ true
 renamed-under t n a r h =
     any-map (λ q. eqb q n) (λ (x : Marked). x .now .number) (path r)
-    ∙ and-right (every (seen-by t) (path r)) (any (numbered n) (path r)) (and-left _ _ (and-left _ _ h))
+    ∙ and-right (every (seen-by t) (path r)) (any (numbered n) (path r)) (and-left _ _ h)
 
 module _ (holds : ℕ → List Lock) (f : Tree) (cov : Covered holds f) (t : ℕ) (nz : t ≡ nobody → ⊥) (S : ℕ → Bool) where
   pub act-shown : S t ≡ true → (s : Step) → here (target s) (callers-document t f) ≡ true → Compatible-step holds f cov t nz s → document-of S (act t s f) ≡ after s (document-of S f)

@@ -17,7 +17,7 @@ use Rattle.locks.specs.Needs.{Lock, locks}
 use Rattle.locks.specs.Laws.Compatible.{node-locked}
 use Rattle.commute.specs.Laws.Lines.{Of, at-line, line-here}
 use Rattle.commute.specs.Laws.Runs.{Entry}
-use Rattle.protocol.specs.State.{nobody, State, Marked, Tree, done-by, shown, as-shown, document-of, held-document}
+use Rattle.protocol.specs.State.{nobody, State, Marked, Tree, deleted-in, done-by, shown, as-shown, document-of, held-document}
 use Rattle.serializability.specs.Laws.Shown.{Place, Inside, path, numbers-of}
 use Rattle.serializability.specs.Laws.Numbers.{number-of, Distinct, one-place}
 use Rattle.serializability.specs.Laws.Marks.{Within, Renames}
@@ -81,9 +81,6 @@ module _ (c : Document) (log : ℕ → List Entry) (M : State) (g : Good c log M
       go (inr (inl w)) = holder-open u (number-of r, LU) (w (number-of r, LU) (node-locked (U (number-of r) []) (numbers-of (r .above)) LU (List·Memᴰ·head refl)))
       go (inr (inr w)) = renamer-open u (numbers-of (path r)) w
 
-  pub nobody-closed : M .is-open nobody ≡ false
-  nobody-closed = refuted _ (λ e. false≢true (g .numbered nobody e))
-
   -- a mark is nobody's or of an open transaction
   pub inserter-done : (r : Place) → Inside r (M .tree) → done-by (M .is-open) (r .it .inserter) ≡ true
   inserter-done r i = go (eqb (r .it .inserter) nobody) refl
@@ -102,9 +99,6 @@ module _ (c : Document) (log : ℕ → List Entry) (M : State) (g : Good c log M
   -- the held document is what the open transactions show
   pub held-shown : held-document M ≡ document-of (M .is-open) (M .tree)
   unfolding held-document document-of
-  held-shown = view-agree (λ a. a) (shown (M .is-open)) (shown (M .is-open)) (λ a. refl) (λ a. not (M .is-open (a .deleter))) (as-shown (M .is-open)) (λ a. a .now) [] (M .tree) refl
-      (λ r i e. rw (inserter-done r i) (sight (r .it .deleter) (eqb (r .it .deleter) nobody) refl)) (λ r i e. rw (writer-done r i))
-    where
-      sight : (u : ℕ) (x : Bool) → eqb u nobody ≡ x → not (M .is-open u) ≡ not (not x && M .is-open u)
-      sight u true e = rw (eqb-true u nobody e, nobody-closed)
-      sight u false e = refl
+  held-shown =
+      view-agree (λ a. a) (shown (M .is-open)) (shown (M .is-open)) (λ a. refl) (λ a. not (deleted-in (M .is-open) a)) (as-shown (M .is-open)) (λ a. a .now) [] (M .tree) refl
+      (λ r i e. rw (inserter-done r i)) (λ r i e. rw (writer-done r i))

@@ -29,7 +29,7 @@ use Rattle.serializability.specs.Laws.Numbers.{number-of, Distinct, one-
 use Rattle.serializability.specs.Laws.Standing.{path-locked}
 use Rattle.serializability.specs.Laws.Whole.{holds, Good, log-open}
 use Rattle.serializability.specs.Laws.Ends.{LW-clashes, logs-compatible, document-same}
-use Rattle.serializability.specs.Laws.Held.{visible, line-in, place-of, line-of-place, here-place, place-here, here-visible, marker-open, writer-open, nobody-closed, inserter-done, writer-done, held-shown}
+use Rattle.serializability.specs.Laws.Held.{visible, line-in, place-of, line-of-place, here-place, place-here, here-visible, marker-open, writer-open, inserter-done, writer-done, held-shown}
 
 -- strings of bytes --------------------------------------------------------------------------
 

@@ -7,9 +7,8 @@ use lib.Dec.{eqb}
 use borrow.Author.Tests.{eqb-true, eqb-false, eq-eqb, ne-eqb}
 use Rattle.tree.specs.Lists.{any, every, has, same}
 use Rattle.tree.specs.Forest.{Forest, nil, node, Row, row, rows, amend, view, put}
-use Rattle.tree.specs.Content.{element-kind}
 use Rattle.tree.specs.Document.{Node, Document, is, under}
-use Rattle.tree.specs.Steps.{with-content, named, rewrite, remove}
+use Rattle.tree.specs.Steps.{with-content, is-named, named, rewrite, remove}
 use Rattle.tree.specs.Laws.Tests.{and-left, and-right}
 use Rattle.tree.specs.Laws.Lists.{any-map}
 use Rattle.tree.specs.Laws.Rows.{In, self, inner, later, line}
@@ -131,7 +130,7 @@ module _ (t : ℕ) (nz : t ≡ nobody → ⊥) (S : ℕ → Bool) where
         → document-of S (mark (λ r. cond (renamed t n a r) (written-by t b (r .it)) (r .it)) f) ≡ rewrite (λ r. under n r && named a r) b (document-of S f)
     unfolding document-of
     UU-shown n a b f h = view-amend (λ x. x) (shown S) (shown S) (λ x. refl) (shown S) (as-shown S) (as-shown S) c (λ x. x .number) c' numbers-of (λ x q e. refl) [] f refl
-        (λ r i e. sight (r .it) (renamed t n a r)) (λ r i e. words r i e (has n (numbers-of (path r))) refl)
+        (λ r i e. sight (r .it) (renamed t n a r)) words
       where
         c : Place → Marked
         c r = cond (renamed t n a r) (written-by t b (r .it)) (r .it)
@@ -143,32 +142,33 @@ module _ (t : ℕ) (nz : t ≡ nobody → ⊥) (S : ℕ → Bool) where
         sight x true = refl
         sight x false = refl
 
-        tests : (x y k z : Bool) → x ≡ true → (x && y && k && z) ≡ (y && (k && z))
-        tests true true k z e = refl
-        tests true false k z e = refl
-        tests false y k z e = absurd (false≢true e)
+        tests : (x y z : Bool) → x ≡ true → (x && y && z) ≡ (y && z)
+        tests true y z e = refl
+        tests false y z e = absurd (false≢true e)
 
         numbers : (p : List Marked) → any (numbered n) p ≡ has n (numbers-of p)
         numbers p = sym (any-map (λ q. eqb q n) (λ x. x .now .number) p)
 
-        content : (x : Marked) (y : Bool) → as-shown S x ≡ x .now → as-shown S (cond y (written-by t b x) x) ≡ cond y (with-content (as-shown S x) b) (as-shown S x)
-        content x true e = rw (done-own t S st)
-        content x false e = refl
+        content : (x : Marked) (y : Bool) → as-shown S (cond y (written-by t b x) x) ≡ cond y (with-content (as-shown S x) b) (as-shown S x)
+        content x true = rw (done-own t S st)
+        content x false = refl
 
-        words : (r : Place) → Inside r f → every (shown S) (path r) ≡ true → (y : Bool) → has n (numbers-of (path r)) ≡ y
-            → as-shown S (c r) ≡ c' (row (as-shown S (r .it)) (numbers-of (r .above)))
-        words r i v true e =
+        seen-line : Place → Row Node ℕ
+        seen-line r = row (as-shown S (r .it)) (numbers-of (r .above))
+
+        -- t sees there what is shown, so its test is the plain one
+        test : (r : Place) → Inside r f → every (shown S) (path r) ≡ true → (y : Bool) → has n (numbers-of (path r)) ≡ y → renamed t n a r ≡ (y && named a (seen-line r))
+        test r i v true e =
             let q = h r i e in
-            let te : renamed t n a r ≡ (under n (row (as-shown S (r .it)) (numbers-of (r .above))) && named a (row (as-shown S (r .it)) (numbers-of (r .above)))) =
-            tests (every (seen-by t) (path r)) (any (numbered n) (path r)) (eqb (r .it .now .kind) element-kind) (same a (r .it .now .content)) (sym (q .0) ∙ v)
-            ∙ ap₂ (λ (x : Bool) (y : Node). x && (eqb (y .kind) element-kind && same a (y .content))) (numbers (path r)) (sym (q .1)) in
-            ap (λ x. as-shown S (cond x (written-by t b (r .it)) (r .it))) te
-            ∙ content (r .it) (under n (row (as-shown S (r .it)) (numbers-of (r .above))) && named a (row (as-shown S (r .it)) (numbers-of (r .above)))) (q .1)
-        words r i v false e =
-            let te : renamed t n a r ≡ false = ap (λ x. every (seen-by t) (path r) && x && eqb (r .it .now .kind) element-kind && same a (r .it .now .content)) (numbers (path r) ∙ e)
-            ∙ rw (and-false (every (seen-by t) (path r))) in
-            ap (λ x. as-shown S (cond x (written-by t b (r .it)) (r .it))) te
-            ∙ sym (ap (λ x. cond (x && named a (row (as-shown S (r .it)) (numbers-of (r .above)))) (with-content (as-shown S (r .it)) b) (as-shown S (r .it))) e)
+            tests (every (seen-by t) (path r)) (any (numbered n) (path r)) (is-named a (r .it .now)) (sym (q .0) ∙ v)
+            ∙ ap₂ (λ (x : Bool) (z : Node). x && is-named a z) (numbers (path r) ∙ e) (sym (q .1))
+        test r i v false e =
+            ap (λ x. every (seen-by t) (path r) && x && is-named a (r .it .now)) (numbers (path r) ∙ e) ∙ rw (and-false (every (seen-by t) (path r)))
+
+        words : (r : Place) → Inside r f → every (shown S) (path r) ≡ true → as-shown S (c r) ≡ c' (seen-line r)
+        words r i v =
+            ap (λ x. as-shown S (cond x (written-by t b (r .it)) (r .it))) (test r i v (has n (numbers-of (path r))) refl)
+            ∙ content (r .it) (has n (numbers-of (path r)) && named a (seen-line r))
 
   -- without t: nothing ---------------------------------------------------------------------
 
