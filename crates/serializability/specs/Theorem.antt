@@ -12,7 +12,7 @@ use Rattle.tree.specs.Steps.{Step, Value, target, plain-document, plain-answers
 use Rattle.locks.specs.Needs.{Lock, needs}
 use Rattle.protocol.specs.State.{State, is-transaction, transactions, nodes, callers-document, held-document, document-of, committed-document}
 use Rattle.protocol.specs.Lent.{Room}
-use Rattle.protocol.specs.Calls.{Call, start, abort, step, write, Outcome, written, waits, refused, blocks, next}
+use Rattle.protocol.specs.Calls.{Call, start, abort, step, write, written, waits, refused, blocks, next}
 use Rattle.protocol.specs.History.{Event, history, state-after, is-granted, Ledger, new-ledger, ledger, fed, plain, plain-run-answers, answers-given, pending}
 
 -- a list that begins with a start, in any state: a start is always granted

@@ -1,21 +1,20 @@
 -- A granted step is the plain step in the document of every set with its transaction, and nothing in the others.
-use mathlib.Core.Path.{_≡_, refl, sym, ap, ap₂, _∙_}
-use Prim.Native.Nat.{ℕ, zero, suc}
-use mathlib.Core.Bool.{Bool, true, false, cond, not, _&&_, _||_, false≢true, true≢false}
-use mathlib.Core.List.{List, [], _∷_, _++_, map, List·Memᴰ}
+use mathlib.Core.Path.{_≡_, refl, _∙_}
+use Prim.Native.Nat.{ℕ}
+use mathlib.Core.Bool.{Bool, true, false}
+use mathlib.Core.List.{List}
 use lib.Dec.{eqb}
-use borrow.Author.Tests.{eqb-true, eqb-false, eq-eqb, ne-eqb}
-use Rattle.tree.specs.Lists.{any, every, has, leads}
-use Rattle.tree.specs.Document.{Document, here, at}
-use Rattle.tree.specs.Steps.{Step, T, C, R, U, D, I, TT, RR, UU, target, brings, after}
+use borrow.Author.Tests.{eqb-true, eq-eqb}
+use Rattle.tree.specs.Lists.{any, every, has}
+use Rattle.tree.specs.Document.{here}
+use Rattle.tree.specs.Steps.{Step, T, C, R, U, D, I, TT, RR, UU, target, after}
 use Rattle.tree.specs.Laws.Tests.{and-left, and-right}
 use Rattle.tree.specs.Laws.Lists.{any-map}
 use Rattle.locks.specs.Modes.{clash}
 use Rattle.locks.specs.Needs.{Lock}
-use Rattle.protocol.specs.State.{nobody, Marked, Tree, numbered, seen-by, shown, as-shown, callers-document, document-of, renamed, act}
-use Rattle.serializability.specs.Laws.Shown.{Place, Inside, path, numbers-of, local, U-shown, D-shown, I-shown, UU-shown, write-hidden, D-hidden, I-hidden}
-use Rattle.serializability.specs.Laws.Numbers.{number-of}
-use Rattle.serializability.specs.Laws.Marks.{own, Covered, own-node, writer-node}
+use Rattle.protocol.specs.State.{nobody, Marked, Tree, numbered, seen-by, callers-document, document-of, renamed, act}
+use Rattle.serializability.specs.Laws.Shown.{Place, path, numbers-of, local, U-shown, D-shown, I-shown, UU-shown, write-hidden, D-hidden, I-hidden}
+use Rattle.serializability.specs.Laws.Marks.{Covered, own-node, writer-node}
 use Rattle.serializability.specs.Laws.Seen.{own-shown, own-path, own-content, Compatible-step, own-seen, own-read}
 
 -- the test of UU holds only in the subtree

@@ -1,18 +1,17 @@
 -- Any of the open transactions, in any order, behind the committed ones: the plain run leaves what the tree shows of them.
-use mathlib.Core.Path.{_≡_, refl, sym, ap, ap₂, _∙_}
-use Prim.Native.Nat.{ℕ, zero, suc}
-use mathlib.Core.Bool.{Bool, true, false, cond}
+use mathlib.Core.Path.{_≡_, refl, sym}
+use Prim.Native.Nat.{ℕ}
 use mathlib.Core.List.{List, [], _∷_, _++_, map}
-use Rattle.tree.specs.Lists.{has, distinct}
+use Rattle.tree.specs.Lists.{has}
 use Rattle.tree.specs.Document.{Document, node-0-alone}
-use Rattle.tree.specs.Steps.{Step, Value, plain-document, plain-answers}
+use Rattle.tree.specs.Steps.{Step, Value}
 use Rattle.tree.specs.Laws.Lists.{map-append}
 use Rattle.commute.specs.Laws.Runs.{Entry, Run, run-append, run-document, run-answers}
 use Rattle.commute.specs.Laws.Orders as orders
 use Rattle.protocol.specs.State.{State, document-of, start-state}
-use Rattle.protocol.specs.Calls.{Call, start, next}
-use Rattle.protocol.specs.History.{Event, history, state-after, Ledger, new-ledger, ledger, fed}
-use Rattle.serializability.specs.Theorem.{since-start, reached, logs, steps-of, answered, answers-of, Runs, AnyOrder}
+use Rattle.protocol.specs.Calls.{Call, next}
+use Rattle.protocol.specs.History.{history, state-after, Ledger, new-ledger, ledger, fed}
+use Rattle.serializability.specs.Theorem.{since-start, reached, logs, answered, Runs, AnyOrder}
 use Rattle.serializability.specs.Laws.Ledgers.{noted-as, logs-as, tracked, tracked-as}
 use Rattle.serializability.specs.Laws.Tracking.{note, Tracks, calls-track, start-tracks}
 

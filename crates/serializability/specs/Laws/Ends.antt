@@ -1,25 +1,25 @@
 -- Commit and abort keep the state serializable: a commit moves its log to the committed transactions, an abort drops it.
-use mathlib.Core.Path.{_≡_, refl, sym, ap, ap₂, _∙_, fun-ext}
-use Prim.Native.Nat.{ℕ, zero, suc}
-use mathlib.Core.Bool.{Bool, true, false, cond, not, _&&_, _||_, false≢true, true≢false, or-true, and-false}
-use mathlib.Core.List.{List, [], _∷_, _++_, map, List·Memᴰ, List·Memᴰ·head, List·Memᴰ·tail, List·Memᴰ·not-nil}
+use mathlib.Core.Path.{_≡_, refl, sym, ap, _∙_, fun-ext}
+use Prim.Native.Nat.{ℕ}
+use mathlib.Core.Bool.{Bool, true, false, cond, not, _&&_, _||_, true≢false, or-true}
+use mathlib.Core.List.{List, [], _∷_, map, List·Memᴰ, List·Memᴰ·head, List·Memᴰ·not-nil}
 use mathlib.Core.Logic.{_⊎_, inl, inr}
 use lib.Dec.{eqb}
 use borrow.Author.Tests.{eqb-true, eqb-false, eq-eqb, ne-eqb, not-true, not-false}
-use Rattle.tree.specs.Lists.{any, every, has}
-use Rattle.tree.specs.Forest.{Row, row, view}
+use Rattle.tree.specs.Lists.{every, has}
+use Rattle.tree.specs.Forest.{view}
 use Rattle.tree.specs.Document.{Document}
-use Rattle.tree.specs.Steps.{Step, D, U, UU, brings}
-use Rattle.tree.specs.Laws.Tests.{and-left, and-right, refuted}
+use Rattle.tree.specs.Steps.{D, U, brings}
+use Rattle.tree.specs.Laws.Tests.{and-left, and-right}
 use Rattle.tree.specs.Laws.Rows.{Each, each-above}
 use Rattle.locks.specs.Modes.{Mode, LW, clash}
-use Rattle.locks.specs.Needs.{Lock, locks}
+use Rattle.locks.specs.Needs.{locks}
 use Rattle.locks.specs.Laws.Compatible.{Locked, Compatible, node-locked}
 use Rattle.locks.specs.Laws.Clash.{every-mode}
 use Rattle.commute.specs.Laws.Runs.{Entry, Run, run-one-end}
-use Rattle.commute.specs.Laws.Orders.{Permutation, Distinct, permuted-has, permuted-distinct, permutation-back, to-front, distinct-head, distinct-tail, distinct-cons}
+use Rattle.commute.specs.Laws.Orders.{Distinct, permuted-has, permuted-distinct, permutation-back, to-front, distinct-head, distinct-tail, distinct-cons}
 use Rattle.commute.specs.Laws.Serial.{Serial, reorder, commit, emptied, in-emptied, forget, idle}
-use Rattle.protocol.specs.State.{nobody, State, Marked, Tree, is-transaction, seen-by, document-of, unless, none-of, settled, undone, commit-tree, abort-tree, closed}
+use Rattle.protocol.specs.State.{nobody, State, Marked, Tree, seen-by, document-of, unless, none-of, settled, undone, commit-tree, abort-tree, closed}
 use Rattle.serializability.specs.Laws.Shown.{Place, Inside, path, numbers-of, plus, minus, commit-shown, abort-shown}
 use Rattle.serializability.specs.Laws.Numbers.{number-of, seen-as, in-part, part-in, part-distinct}
 use Rattle.serializability.specs.Laws.Marks.{Within, Guarded, Renames, Authored, Covered}

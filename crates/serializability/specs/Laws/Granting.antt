@@ -1,22 +1,20 @@
 -- A granted step leaves every place where it is, and its own locks in the sets of the nodes.
 use mathlib.Core.Path.{_≡_, refl, sym, ap, ap₂, _∙_}
-use Prim.Native.Nat.{ℕ, zero, suc}
-use mathlib.Core.Bool.{Bool, true, false, cond, not, _&&_, _||_, false≢true, true≢false, or-true}
-use mathlib.Core.List.{List, [], _∷_, _++_, map, List·Memᴰ, List·Memᴰ·head, List·Memᴰ·tail, List·Memᴰ·not-nil}
+use Prim.Native.Nat.{ℕ}
+use mathlib.Core.Bool.{Bool, true, false, cond, _||_, false≢true, or-true}
+use mathlib.Core.List.{List, [], _∷_, List·Memᴰ, List·Memᴰ·head, List·Memᴰ·tail, List·Memᴰ·not-nil}
 use mathlib.Core.Logic.{_⊎_, inl, inr}
 use lib.Dec.{eqb}
-use borrow.Author.Tests.{eqb-true, eqb-false, eq-eqb, ne-eqb}
-use Rattle.tree.specs.Lists.{any, every, has, leads}
-use Rattle.tree.specs.Forest.{Row, row, put}
-use Rattle.tree.specs.Document.{Node, Document, here, at}
+use borrow.Author.Tests.{eqb-true, eq-eqb}
+use Rattle.tree.specs.Lists.{has}
+use Rattle.tree.specs.Forest.{row}
 use Rattle.tree.specs.Steps.{Step, T, C, R, U, D, I, TT, RR, UU, target, brings}
-use Rattle.tree.specs.Laws.Tests.{and-left, and-right, or-cases}
 use Rattle.tree.specs.Laws.Put.{put-in, put-new, in-put, New}
-use Rattle.locks.specs.Modes.{Mode, modes, index, same-mode, among, union}
-use Rattle.locks.specs.Needs.{Lock, locks, needs}
-use Rattle.protocol.specs.State.{nobody, Marked, Tree, numbered, seen-by, callers-document, written-by, deleted-by, inserted-by, modes-on, granted-to, mark, renamed, act, grant}
+use Rattle.locks.specs.Modes.{Mode, index, among, union}
+use Rattle.locks.specs.Needs.{Lock, locks}
+use Rattle.protocol.specs.State.{Marked, Tree, numbered, seen-by, written-by, deleted-by, inserted-by, modes-on, granted-to, mark, renamed, act, grant}
 use Rattle.serializability.specs.Laws.Shown.{Place, Inside, path, numbers-of}
-use Rattle.serializability.specs.Laws.Numbers.{number-of, marked, marked-above, marked-numbers, mark-in, in-mark}
+use Rattle.serializability.specs.Laws.Numbers.{number-of, marked, marked-numbers, mark-in, in-mark}
 use Rattle.serializability.specs.Laws.LockPlaces.{lock-place}
 use Rattle.serializability.specs.Laws.Standing.{Standing, Carried, ancestor-place}
 

@@ -1,27 +1,26 @@
 -- The documents of a state that is in step with its logs: marks are those of open transactions, and the held document is what they show.
-use mathlib.Core.Path.{_≡_, refl, sym, ap, ap₂, _∙_, fun-ext}
-use Prim.Native.Nat.{ℕ, zero, suc}
-use mathlib.Core.Bool.{Bool, true, false, cond, not, _&&_, _||_, false≢true, true≢false, or-true, and-false}
-use mathlib.Core.List.{List, [], _∷_, _++_, map, List·Memᴰ, List·Memᴰ·head, List·Memᴰ·tail, List·Memᴰ·not-nil}
+use mathlib.Core.Path.{_≡_, refl, sym, ap, _∙_}
+use Prim.Native.Nat.{ℕ}
+use mathlib.Core.Bool.{Bool, true, false, not, _||_}
+use mathlib.Core.List.{List, [], _∷_, List·Memᴰ, List·Memᴰ·head}
 use mathlib.Core.Logic.{_⊎_, inl, inr}
 use lib.Dec.{eqb}
-use borrow.Author.Tests.{eqb-true, eqb-false, eq-eqb, ne-eqb}
-use Rattle.tree.specs.Lists.{any, every, has}
-use Rattle.tree.specs.Forest.{Row, row, view}
-use Rattle.tree.specs.Document.{Node, Document, Line, here, at}
-use Rattle.tree.specs.Steps.{Step, D, U, UU, with-content}
-use Rattle.tree.specs.Laws.Tests.{and-left, and-right, refuted}
+use borrow.Author.Tests.{eqb-false, eq-eqb}
+use Rattle.tree.specs.Lists.{every}
+use Rattle.tree.specs.Forest.{row}
+use Rattle.tree.specs.Document.{Document, Line, here, at}
+use Rattle.tree.specs.Steps.{D, U, UU}
 use Rattle.tree.specs.Laws.View.{in-view, view-in, view-agree}
-use Rattle.locks.specs.Modes.{Mode, LW, LU, LUU}
+use Rattle.locks.specs.Modes.{LW, LU, LUU}
 use Rattle.locks.specs.Needs.{Lock, locks}
 use Rattle.locks.specs.Laws.Compatible.{node-locked}
 use Rattle.commute.specs.Laws.Lines.{Of, at-line, line-here}
 use Rattle.commute.specs.Laws.Runs.{Entry}
-use Rattle.protocol.specs.State.{nobody, State, Marked, Tree, deleted-in, done-by, shown, as-shown, document-of, held-document}
+use Rattle.protocol.specs.State.{nobody, State, Tree, deleted-in, done-by, shown, as-shown, document-of, held-document}
 use Rattle.serializability.specs.Laws.Shown.{Place, Inside, path, numbers-of}
 use Rattle.serializability.specs.Laws.Numbers.{number-of, Distinct, one-place}
 use Rattle.serializability.specs.Laws.Marks.{Within, Renames}
-use Rattle.serializability.specs.Laws.Whole.{lock-entry, holds, Good, log-open, nobody-idle}
+use Rattle.serializability.specs.Laws.Whole.{lock-entry, holds, Good, log-open}
 
 -- lines and places --------------------------------------------------------------------------
 

@@ -1,23 +1,21 @@
 -- A granted step keeps the marks covered by the locks that are held then.
-use mathlib.Core.Path.{_≡_, refl, sym, ap, ap₂, _∙_}
-use Prim.Native.Nat.{ℕ, zero, suc}
-use mathlib.Core.Bool.{Bool, true, false, cond, not, _&&_, _||_, false≢true, true≢false, or-true}
-use mathlib.Core.List.{List, [], _∷_, _++_, map, List·Memᴰ, List·Memᴰ·head, List·Memᴰ·tail, List·Memᴰ·append-cases, Memᴰ·append-left, Memᴰ·append-right, List·Memᴰ·not-nil, List·Memᴰ·cases-cons}
+use mathlib.Core.Path.{_≡_, refl, sym}
+use Prim.Native.Nat.{ℕ}
+use mathlib.Core.Bool.{Bool, true, false, cond, _||_, false≢true, or-true}
+use mathlib.Core.List.{List, [], _∷_, List·Memᴰ}
 use mathlib.Core.Logic.{_⊎_, inl, inr}
 use lib.Dec.{eqb}
-use borrow.Author.Tests.{eqb-true, eqb-false, eq-eqb, ne-eqb}
-use Rattle.tree.specs.Lists.{any, every, has, leads}
-use Rattle.tree.specs.Forest.{Row, row, put}
-use Rattle.tree.specs.Document.{Node, Document, here, at}
+use borrow.Author.Tests.{eqb-true, eq-eqb}
+use Rattle.tree.specs.Lists.{has}
+use Rattle.tree.specs.Forest.{row, put}
+use Rattle.tree.specs.Document.{Node, here, at}
 use Rattle.tree.specs.Steps.{Step, T, C, R, U, D, I, TT, RR, UU, target, brings}
-use Rattle.tree.specs.Laws.Tests.{and-left, and-right, refuted}
 use Rattle.tree.specs.Laws.Rows.{Each, each-above}
 use Rattle.tree.specs.Laws.Put.{in-put, New}
-use Rattle.locks.specs.Modes.{Mode, LW, LIW, LICW, LT, LC}
-use Rattle.locks.specs.Needs.{Lock, Need, need, each, every-one, up, locks, needs}
+use Rattle.locks.specs.Needs.{Lock, locks, needs}
 use Rattle.protocol.specs.State.{nobody, Marked, Tree, numbered, number-held, seen-by, callers-document, written-by, deleted-by, inserted-by, granted-to, mark, mark-node, renamed, act, grant}
-use Rattle.serializability.specs.Laws.Shown.{Place, Inside, path, numbers-of, local}
-use Rattle.serializability.specs.Laws.Numbers.{number-of, Distinct, one-place, place-held, marked-above, in-mark, marked-numbers, mark-distinct, put-distinct}
+use Rattle.serializability.specs.Laws.Shown.{Place, Inside, path, numbers-of}
+use Rattle.serializability.specs.Laws.Numbers.{number-of, marked-above, in-mark, marked-numbers, mark-distinct, put-distinct}
 use Rattle.serializability.specs.Laws.Marks.{Within, Guarded, Renames, Authored, Covered, above-is}
 use Rattle.serializability.specs.Laws.Seen.{Compatible-step}
 use Rattle.serializability.specs.Laws.Acts.{renamed-under}

@@ -1,15 +1,14 @@
 -- A ledger with more noted than the history tells: each of the history's ledgers is read off it.
-use mathlib.Core.Path.{_≡_, refl, sym, ap, ap₂, _∙_, fun-ext}
-use Prim.Native.Nat.{ℕ, zero, suc}
+use mathlib.Core.Path.{_≡_, refl, sym, ap, _∙_, fun-ext}
+use Prim.Native.Nat.{ℕ}
 use mathlib.Core.Bool.{Bool, true, false, cond}
 use mathlib.Core.List.{List, [], _∷_, _++_, map}
 use lib.Dec.{eqb}
 use Rattle.tree.specs.Laws.Lists.{map-append}
 use Rattle.tree.specs.Steps.{Step, Value}
-use Rattle.tree.specs.Document.{node-0-alone}
 use Rattle.protocol.specs.State.{State}
-use Rattle.protocol.specs.Calls.{Call, start, load, begin, commit, abort, step, write, Input, unreadable, stands-for, next}
-use Rattle.protocol.specs.History.{Event, history, state-after, is-granted, value-of, Ledger, new-ledger, with-log, entered, ledger}
+use Rattle.protocol.specs.Calls.{Call, start, load, begin, commit, abort, step, write, unreadable, stands-for, next}
+use Rattle.protocol.specs.History.{history, is-granted, value-of, Ledger, with-log, entered, ledger}
 use Rattle.serializability.specs.Theorem.{logs}
 
 module _ {X E : Type 0} (g : X → E) where

@@ -1,15 +1,15 @@
 -- On which nodes the locks of a step are.
-use mathlib.Core.Path.{_≡_, refl, sym, ap, _∙_}
-use Prim.Native.Nat.{ℕ, zero, suc}
-use mathlib.Core.Bool.{Bool, true, false, _||_, false≢true, or-true}
-use mathlib.Core.List.{List, [], _∷_, _++_, map, List·Memᴰ, List·Memᴰ·head, List·Memᴰ·tail, List·Memᴰ·not-nil, List·Memᴰ·append-cases, List·Memᴰ·eq-of-singleton}
+use mathlib.Core.Path.{_≡_, refl, sym, ap}
+use Prim.Native.Nat.{ℕ}
+use mathlib.Core.Bool.{true, or-true}
+use mathlib.Core.List.{List, [], _∷_, _++_, List·Memᴰ, List·Memᴰ·head, List·Memᴰ·tail, List·Memᴰ·not-nil, List·Memᴰ·append-cases, List·Memᴰ·eq-of-singleton}
 use mathlib.Core.Logic.{_⊎_, inl, inr}
 use lib.Dec.{eqb}
 use borrow.Author.Tests.{eq-eqb}
-use Rattle.tree.specs.Lists.{any, has}
+use Rattle.tree.specs.Lists.{has}
 use Rattle.tree.specs.Laws.Lists.{in-map}
 use Rattle.tree.specs.Steps.{Step, U, D, I, UU, target, brings}
-use Rattle.locks.specs.Modes.{Mode, LT, LC, LW, LIW, LICW}
+use Rattle.locks.specs.Modes.{Mode, LT, LW, LIW, LICW}
 use Rattle.locks.specs.Needs.{Lock, Need, need, each, every-one, up, locks}
 use Rattle.locks.specs.Laws.Compatible.{All-locked, node-locked, above-locked, new-locked}
 

@@ -1,23 +1,21 @@
 -- Demand 3 and A.14, for every list of calls that begins with a start.
-use mathlib.Core.Path.{_≡_, refl, sym, ap, ap₂, _∙_}
-use Prim.Native.Nat.{ℕ, zero, suc}
-use mathlib.Core.Bool.{Bool, true, false, cond, not, false≢true, true≢false}
-use mathlib.Core.List.{List, [], _∷_, _++_, map, append-assoc, List·Memᴰ, List·Memᴰ·not-nil}
+use mathlib.Core.Path.{_≡_, refl, sym, ap, _∙_}
+use Prim.Native.Nat.{ℕ}
+use mathlib.Core.Bool.{Bool, true, false, false≢true, true≢false}
+use mathlib.Core.List.{List, [], _∷_, _++_}
 use mathlib.Core.Logic.{_↔_}
-use Rattle.tree.specs.Lists.{any, every, has, distinct}
-use Rattle.tree.specs.Document.{Document, node-0-alone}
-use Rattle.tree.specs.Steps.{Step, Value, plain-document, plain-answers}
+use Rattle.tree.specs.Lists.{any, has}
+use Rattle.tree.specs.Steps.{plain-document}
 use Rattle.tree.specs.Laws.Tests.{refuted}
 use Rattle.tree.specs.Laws.Lists.{any-at, at-any, every-at, any-same}
-use Rattle.commute.specs.Laws.Runs.{Entry, Run, run-document, run-answers}
-use Rattle.protocol.specs.State.{nobody, State, is-transaction, transactions, held-document, document-of, committed-document}
-use Rattle.protocol.specs.Calls.{Call, start, load, begin, commit, abort, step, write, Outcome, written, next}
+use Rattle.commute.specs.Laws.Runs.{run-document, run-answers}
+use Rattle.protocol.specs.State.{State, is-transaction, transactions, held-document, document-of, committed-document}
+use Rattle.protocol.specs.Calls.{Call, start, load, begin, commit, abort, step, write, written, next}
 use Rattle.protocol.specs.History.{Event, history, state-after, fed, plain, plain-run-answers, answers-given, pending-in, pending}
-use Rattle.serializability.specs.Theorem.{since-start, reached, answered, Runs, OpenInAnyOrder, writes-plain, Demand3}
-use Rattle.serializability.specs.Laws.Ledgers.{noted-as}
+use Rattle.serializability.specs.Theorem.{since-start, reached, OpenInAnyOrder, writes-plain, Demand3}
 use Rattle.serializability.specs.Laws.Tracking.{Tracks}
 use Rattle.serializability.specs.Laws.Ends.{document-same}
-use Rattle.serializability.specs.Laws.AnyOrder.{step-of, value-of-entry, entries, reached-tracks, fed-is, answered-is, any-order}
+use Rattle.serializability.specs.Laws.AnyOrder.{entries, reached-tracks, fed-is, answered-is, any-order}
 use Rattle.serializability.specs.Laws.Held.{held-shown}
 use Rattle.serializability.specs.Laws.Pending.{steps, log-run, quiet-held, held-quiet}
 

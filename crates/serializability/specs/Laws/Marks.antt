@@ -1,23 +1,23 @@
 -- The marks of a tree against the locks: where a step's locks are compatible with those of the others, only its own transaction left marks.
-use mathlib.Core.Path.{_≡_, refl, sym, ap, ap₂, _∙_}
-use Prim.Native.Nat.{ℕ, zero, suc}
-use mathlib.Core.Bool.{Bool, true, false, cond, not, _&&_, _||_, false≢true, true≢false, or-true, and-false}
-use mathlib.Core.List.{List, [], _∷_, _++_, map, List·Memᴰ, List·Memᴰ·head, List·Memᴰ·tail, List·Memᴰ·not-nil}
+use mathlib.Core.Path.{_≡_, refl, sym, ap, _∙_}
+use Prim.Native.Nat.{ℕ}
+use mathlib.Core.Bool.{Bool, true, false, _&&_, _||_, false≢true, true≢false, or-true}
+use mathlib.Core.List.{List, [], _∷_, List·Memᴰ}
 use mathlib.Core.Logic.{_⊎_, inl, inr}
 use lib.Dec.{eqb}
 use borrow.Author.Tests.{eqb-true, eqb-false, eq-eqb, ne-eqb}
-use Rattle.tree.specs.Lists.{any, every, has, leads}
-use Rattle.tree.specs.Forest.{Row, row}
-use Rattle.tree.specs.Document.{Document, Line, here, at}
+use Rattle.tree.specs.Lists.{every, has, leads}
+use Rattle.tree.specs.Forest.{row}
+use Rattle.tree.specs.Document.{Line, here, at}
 use Rattle.tree.specs.Steps.{Step, T, C, R, U, D, I, TT, RR, UU, target}
-use Rattle.tree.specs.Laws.Tests.{and-left, and-right, refuted}
+use Rattle.tree.specs.Laws.Tests.{and-left}
 use Rattle.tree.specs.Laws.Rows.{Each, each-above}
 use Rattle.tree.specs.Laws.View.{in-view}
-use Rattle.locks.specs.Modes.{Mode, LC, LU, LW, LUU, LIU, LIW, LICW, clash}
-use Rattle.locks.specs.Needs.{Lock, Need, need, locks, needs}
-use Rattle.locks.specs.Laws.Compatible.{Locked, Compatible, compatible-symmetric, All-locked, node-locked, clashing, excludes, off-node, off-parent, off-path}
-use Rattle.commute.specs.Laws.Lines.{Of, at-line}
-use Rattle.protocol.specs.State.{nobody, Marked, Tree, seen-by, done-by, shown, as-shown, callers-document, document-of}
+use Rattle.locks.specs.Modes.{LU, LW, LUU, LICW, clash}
+use Rattle.locks.specs.Needs.{Lock, need, locks, needs}
+use Rattle.locks.specs.Laws.Compatible.{Compatible, compatible-symmetric, All-locked, node-locked, clashing, excludes, off-node, off-parent, off-path}
+use Rattle.commute.specs.Laws.Lines.{at-line}
+use Rattle.protocol.specs.State.{nobody, Marked, Tree, seen-by, callers-document}
 use Rattle.serializability.specs.Laws.Shown.{Place, Inside, path, numbers-of, local}
 use Rattle.serializability.specs.Laws.Numbers.{number-of, Distinct, one-place}
 

@@ -1,23 +1,21 @@
 -- The places of a marked tree: where they are after an edit, and that no two have one number.
 use mathlib.Core.Path.{_≡_, refl, sym, ap, _∙_}
-use Prim.Native.Nat.{ℕ, zero, suc, _+_, _≤_}
-use mathlib.Core.Bool.{Bool, true, false, cond, not, _&&_, _||_, false≢true, true≢false}
-use mathlib.Core.List.{List, [], _∷_, _++_, map, List·Memᴰ}
-use mathlib.Core.Logic.{_⊎_, inl, inr}
+use Prim.Native.Nat.{ℕ, _+_, _≤_}
+use mathlib.Core.Bool.{Bool, true, false, true≢false}
+use mathlib.Core.List.{List, [], _∷_, map, List·Memᴰ}
 use native.Mathlib.Omega.{arith}
 use lib.ListN.{length}
 use lib.Dec.{eqb}
-use borrow.Author.Tests.{eqb-true, eqb-false, eq-eqb, ne-eqb}
-use Rattle.tree.specs.Lists.{any, every, has, keep, distinct}
-use Rattle.tree.specs.Forest.{Forest, nil, node, Row, row, rows, amend, view, put}
-use Rattle.tree.specs.Document.{Node, Document}
-use Rattle.tree.specs.Laws.Tests.{and-left, and-right, refuted}
+use borrow.Author.Tests.{eqb-true, eq-eqb}
+use Rattle.tree.specs.Lists.{every, keep, distinct}
+use Rattle.tree.specs.Forest.{row, rows, view, put}
+use Rattle.tree.specs.Laws.Tests.{refuted}
 use Rattle.tree.specs.Laws.Lists.{map-map, keep-none, count, any-at, at-any, map-in, in-map}
 use Rattle.tree.specs.Laws.Distinct.{distinct-one, distinct-keep, distinct-count, count-distinct}
-use Rattle.tree.specs.Laws.Rows.{In, self, inner, later, line, to-rows, of-rows}
+use Rattle.tree.specs.Laws.Rows.{to-rows, of-rows}
 use Rattle.tree.specs.Laws.Amend.{rows-amend, in-amend, amend-in}
 use Rattle.tree.specs.Laws.View.{rows-view, in-view, view-in}
-use Rattle.tree.specs.Laws.Put.{put-kept, put-count, in-put, put-in, put-new, New}
+use Rattle.tree.specs.Laws.Put.{put-kept, put-count}
 use Rattle.protocol.specs.State.{Marked, Tree, nodes, numbered, number-held, mark}
 use Rattle.serializability.specs.Laws.Shown.{Place, Inside, path, numbers-of}
 

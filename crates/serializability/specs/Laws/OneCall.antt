@@ -1,23 +1,22 @@
 -- Demands 1 and 2 on one call.
 use mathlib.Core.Path.{_≡_, refl, sym, ap, _∙_}
-use Prim.Native.Nat.{ℕ, zero, suc}
+use Prim.Native.Nat.{ℕ}
 use mathlib.Core.Bool.{Bool, true, false, cond, not, _&&_, _||_, false≢true, true≢false}
-use mathlib.Core.List.{List, [], _∷_}
 use mathlib.Core.Logic.{_⊎_, inl, inr}
 use lib.Dec.{eqb}
-use borrow.Author.Tests.{eqb-true, eqb-false, eq-eqb, ne-eqb}
+use borrow.Author.Tests.{eqb-false}
 use Rattle.tree.specs.Lists.{any}
 use Rattle.tree.specs.Laws.Lists.{every-at}
 use Rattle.tree.specs.Document.{Document, here, at}
 use Rattle.tree.specs.Steps.{Step, T, C, R, U, D, I, TT, RR, UU, Value, target, misfit, is-document}
 use Rattle.tree.specs.Content.{is-name, allowed, takes}
-use Rattle.locks.specs.Needs.{Lock, needs}
+use Rattle.locks.specs.Needs.{needs}
 use Rattle.protocol.specs.State.{State, is-transaction, transactions, callers-document}
 use Rattle.protocol.specs.Lent.{Room}
-use Rattle.protocol.specs.Calls.{Call, start, load, begin, commit, abort, step, write, Input, unreadable, stands-for, Outcome, granted, written, waits, refused, refused-at, Next, unchanged, becomes, blocks, wait-set, judged, if-open, loaded, next}
+use Rattle.protocol.specs.Calls.{start, load, begin, commit, abort, step, write, Input, unreadable, stands-for, Outcome, granted, written, waits, refused, refused-at, Next, unchanged, becomes, blocks, wait-set, judged, if-open, loaded, next}
 use Rattle.protocol.specs.History.{is-granted}
-use Rattle.serializability.specs.Theorem.{NotGranted, WaitSet, Waiting, NoClashNoWait, FoundNotSeven}
-use Rattle.serializability.specs.Laws.Outcomes.{Reason, by-misfit, by-number, by-clash, by-place, by-limit, by-room, Passed, Verdict, judged-verdict, if-open-cases}
+use Rattle.serializability.specs.Theorem.{NotGranted, Waiting, NoClashNoWait, FoundNotSeven}
+use Rattle.serializability.specs.Laws.Outcomes.{Reason, by-misfit, by-number, by-clash, by-place, by-limit, by-room, Verdict, judged-verdict, if-open-cases}
 use Rattle.serializability.specs.Laws.WaitSet.{sum-bit, sum-bound, sum-none}
 
 -- demand 1 -------------------------------------------------------------------------------

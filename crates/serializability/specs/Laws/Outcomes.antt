@@ -1,21 +1,16 @@
 -- What a call's outcome says of the state and of the tests that it passed.
-use mathlib.Core.Path.{_≡_, refl, sym, ap, _∙_}
-use Prim.Native.Nat.{ℕ, zero, suc}
-use mathlib.Core.Bool.{Bool, true, false, cond, not, _&&_, _||_, false≢true, true≢false}
-use mathlib.Core.List.{List, [], _∷_}
+use mathlib.Core.Path.{_≡_, refl}
+use Prim.Native.Nat.{ℕ}
+use mathlib.Core.Bool.{Bool, true, false, cond, not, _||_}
 use mathlib.Core.Logic.{_⊎_, inl, inr}
 use lib.Dec.{eqb}
-use borrow.Author.Tests.{eqb-true, not-true}
 use Rattle.tree.specs.Lists.{any}
-use Rattle.tree.specs.Document.{Document, here, at, lines}
-use Rattle.tree.specs.Steps.{Step, T, C, R, U, D, I, TT, RR, UU, Value, done, how-many, target, brings, misfit, misplaced, fits, answer, is-document}
-use Rattle.tree.specs.Content.{is-name, allowed, takes}
+use Rattle.tree.specs.Document.{Document}
+use Rattle.tree.specs.Steps.{Step, brings, misfit, misplaced, answer}
 use Rattle.locks.specs.Needs.{needs}
-use Rattle.protocol.specs.State.{State, Tree, is-transaction, transactions, nodes, number-held, callers-document, act, grant, commit-tree, abort-tree, tree-of, start-state, with-tree, opened, closed}
+use Rattle.protocol.specs.State.{State, is-transaction, number-held, act, grant, with-tree}
 use Rattle.protocol.specs.Lent.{Room, has-room}
-use Rattle.protocol.specs.Calls.{Call, start, load, begin, commit, abort, step, write, Input, unreadable, stands-for, Outcome, granted, written, waits, refused, refused-at, Next, unchanged, becomes, wait-set, table-full, judged, if-open, loaded, next}
-use Rattle.protocol.specs.History.{is-granted, value-of}
-use Rattle.serializability.specs.Theorem.{NotGranted, FoundNotSeven}
+use Rattle.protocol.specs.Calls.{Outcome, waits, refused, Next, unchanged, becomes, wait-set, table-full, judged, if-open}
 
 -- what the tests of a step say -----------------------------------------------------------
 

@@ -1,35 +1,34 @@
 -- The held document is the committed one exactly if nothing is pending.
 use mathlib.Core.Path.{_≡_, refl, sym, ap, ap₂, _∙_}
-use Prim.Native.Nat.{ℕ, zero, suc}
+use Prim.Native.Nat.{ℕ}
 use mathlib.Core.Bool.{Bool, true, false, cond, not, _&&_, _||_, false≢true, true≢false, or-true, and-false}
-use mathlib.Core.List.{List, [], _∷_, _++_, map, append-nil, List·Memᴰ, List·Memᴰ·head, List·Memᴰ·tail, List·Memᴰ·not-nil, Memᴰ·append-left, Memᴰ·append-right, List·Memᴰ·append-cases}
-use mathlib.Core.Logic.{_⊎_, inl, inr, _↔_}
+use mathlib.Core.List.{List, [], _∷_, map, append-nil, List·Memᴰ, List·Memᴰ·head, List·Memᴰ·tail, List·Memᴰ·not-nil, Memᴰ·append-left, Memᴰ·append-right, List·Memᴰ·append-cases}
+use mathlib.Core.Logic.{_⊎_, inl, inr}
 use lib.Dec.{eqb}
-use borrow.Author.Tests.{eqb-true, eqb-false, eq-eqb, ne-eqb, not-true, not-false}
+use borrow.Author.Tests.{eqb-true, eqb-false, eq-eqb, not-true, not-false}
 use Rattle.tree.specs.Lists.{any, every, has, keep, same, distinct}
-use Rattle.tree.specs.Forest.{Row, row}
+use Rattle.tree.specs.Forest.{row}
 use Rattle.tree.specs.Document.{Node, Document, Line, lines, here, at}
 use Rattle.tree.specs.Steps.{Step, D, brings, with-content}
 use Rattle.tree.specs.Laws.Tests.{and-left, and-right, or-left, or-right, refuted}
-use Rattle.tree.specs.Laws.Lists.{any-at, at-any, every-at, has-in, in-has, in-keep, keep-in, map-self}
+use Rattle.tree.specs.Laws.Lists.{any-at, at-any, has-in, in-has, in-keep, keep-in, map-self}
 use Rattle.tree.specs.Laws.Distinct.{distinct-keep}
 use Rattle.tree.specs.Laws.Rows.{Each, each-above}
 use Rattle.tree.specs.Laws.View.{view-agree}
-use Rattle.locks.specs.Modes.{Mode, LW, clash}
-use Rattle.locks.specs.Needs.{Lock, locks}
+use Rattle.locks.specs.Modes.{Mode, LW}
 use Rattle.locks.specs.Laws.Compatible.{Locked, node-locked}
 use Rattle.commute.specs.Laws.Lines.{Of, of-lines, to-lines}
 use Rattle.commute.specs.Laws.Runs.{Entry, Run, run-append, run-one-end}
 use Rattle.commute.specs.Laws.Orders as orders
-use Rattle.protocol.specs.State.{nobody, State, Marked, Tree, transactions, is-transaction, done-by, shown, as-shown, document-of, held-document}
+use Rattle.protocol.specs.State.{nobody, State, Marked, Tree, transactions, done-by, shown, as-shown, document-of, held-document}
 use Rattle.protocol.specs.History.{inserted, pending-in}
 use Rattle.serializability.specs.Laws.WaitSet.{transaction-in}
 use Rattle.serializability.specs.Laws.Shown.{Place, Inside, path, numbers-of}
-use Rattle.serializability.specs.Laws.Numbers.{number-of, Distinct, one-place}
+use Rattle.serializability.specs.Laws.Numbers.{number-of}
 use Rattle.serializability.specs.Laws.Standing.{path-locked}
 use Rattle.serializability.specs.Laws.Whole.{holds, Good, log-open}
 use Rattle.serializability.specs.Laws.Ends.{LW-clashes, logs-compatible, document-same}
-use Rattle.serializability.specs.Laws.Held.{visible, line-in, place-of, line-of-place, here-place, place-here, here-visible, marker-open, writer-open, inserter-done, writer-done, held-shown}
+use Rattle.serializability.specs.Laws.Held.{visible, line-in, place-of, line-of-place, place-here, here-visible, marker-open, writer-open, inserter-done, held-shown}
 
 -- strings of bytes --------------------------------------------------------------------------
 

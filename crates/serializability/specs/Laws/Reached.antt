@@ -1,30 +1,29 @@
 -- What holds in every state that is reached: distinct numbers, legal documents, and the committed document as the one held if all aborted.
 use mathlib.Core.Path.{_≡_, refl, sym, ap, ap₂, _∙_}
-use Prim.Native.Nat.{ℕ, zero, suc}
+use Prim.Native.Nat.{ℕ}
 use mathlib.Core.Bool.{Bool, true, false, cond, not, _&&_, _||_, false≢true, true≢false, or-true, and-false}
-use mathlib.Core.List.{List, [], _∷_, _++_, map, List·Memᴰ, List·Memᴰ·head, List·Memᴰ·tail, List·Memᴰ·not-nil}
+use mathlib.Core.List.{List, [], _∷_, map, List·Memᴰ, List·Memᴰ·head, List·Memᴰ·tail, List·Memᴰ·not-nil}
 use lib.Dec.{eqb}
-use borrow.Author.Tests.{eqb-true, eqb-false, eq-eqb, ne-eqb}
-use Rattle.tree.specs.Lists.{any, every, has, keep, distinct}
+use borrow.Author.Tests.{eqb-false, eq-eqb}
+use Rattle.tree.specs.Lists.{has, keep, distinct}
 use Rattle.tree.specs.Document.{Document, legal}
 use Rattle.tree.specs.Steps.{done, with-content}
-use Rattle.tree.specs.Laws.Tests.{and-left, and-right, refuted}
+use Rattle.tree.specs.Laws.Tests.{refuted}
 use Rattle.tree.specs.Laws.Lists.{every-at, has-in, in-has, in-keep, keep-in}
 use Rattle.tree.specs.Laws.View.{view-agree}
-use Rattle.commute.specs.Laws.Runs.{Entry, Run}
+use Rattle.commute.specs.Laws.Runs.{Entry}
 use Rattle.commute.specs.Laws.Orders as orders
 use Rattle.commute.specs.Laws.Legal.{legal-run}
-use Rattle.protocol.specs.State.{nobody, State, Marked, Tree, is-transaction, transactions, nodes, done-by, shown, as-shown, document-of, held-document, committed-document, abort-tree, closed}
-use Rattle.protocol.specs.Calls.{Call, abort, Outcome, Next, unchanged, becomes, refused, next}
+use Rattle.protocol.specs.State.{nobody, State, Tree, is-transaction, transactions, done-by, shown, as-shown, document-of, held-document, committed-document, abort-tree, closed}
+use Rattle.protocol.specs.Calls.{Call, abort, unchanged, becomes, refused, next}
 use Rattle.protocol.specs.History.{state-after, Ledger}
 use Rattle.serializability.specs.Theorem.{reached, all-aborted, Reached}
 use Rattle.serializability.specs.Laws.WaitSet.{transaction-in}
-use Rattle.serializability.specs.Laws.Ledgers.{tracked}
-use Rattle.serializability.specs.Laws.Shown.{Place, Inside, path, minus, abort-shown}
+use Rattle.serializability.specs.Laws.Shown.{Place, Inside, minus, abort-shown}
 use Rattle.serializability.specs.Laws.Numbers.{distinct-numbers}
 use Rattle.serializability.specs.Laws.Whole.{Good}
 use Rattle.serializability.specs.Laws.Ends.{document-same}
-use Rattle.serializability.specs.Laws.Tracking.{note, Tracks, calls-track}
+use Rattle.serializability.specs.Laws.Tracking.{Tracks, calls-track}
 use Rattle.serializability.specs.Laws.AnyOrder.{entries, reached-tracks}
 use Rattle.serializability.specs.Laws.Held.{marker-open, writer-open, held-shown}
 use Rattle.serializability.specs.Laws.Pending.{some-distinct}

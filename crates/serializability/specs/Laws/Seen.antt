@@ -1,24 +1,24 @@
 -- A step whose locks are compatible with the others' sees in its caller's document what it sees in the document of every set
 -- of transactions with the caller in it.
-use mathlib.Core.Path.{_≡_, refl, sym, ap, ap₂, _∙_}
-use Prim.Native.Nat.{ℕ, zero, suc}
-use mathlib.Core.Bool.{Bool, true, false, cond, not, _&&_, _||_, false≢true, true≢false}
-use mathlib.Core.List.{List, [], _∷_, _++_, map, List·Memᴰ}
+use mathlib.Core.Path.{_≡_, refl, sym, ap, _∙_}
+use Prim.Native.Nat.{ℕ}
+use mathlib.Core.Bool.{Bool, true, false, not, _&&_, _||_, false≢true, true≢false}
+use mathlib.Core.List.{List, [], _∷_, map}
 use lib.Dec.{eqb}
-use borrow.Author.Tests.{eqb-true, eqb-false, eq-eqb, ne-eqb}
-use Rattle.tree.specs.Lists.{any, every, has, leads, keep}
-use Rattle.tree.specs.Forest.{Row, row, rows, view}
-use Rattle.tree.specs.Document.{Node, Document, Line, lines, is, child, under, select, here, at}
+use borrow.Author.Tests.{eqb-true}
+use Rattle.tree.specs.Lists.{every, has, leads, keep}
+use Rattle.tree.specs.Forest.{row, rows, view}
+use Rattle.tree.specs.Document.{Node, Line, lines, select, here}
 use Rattle.tree.specs.Steps.{Step, T, C, R, U, D, I, TT, RR, UU, target, brings, with-content}
 use Rattle.tree.specs.Laws.Tests.{and-left, and-right, refuted}
 use Rattle.tree.specs.Laws.Lists.{keep-map, keep-keep, keep-same, in-keep, map-map, map-same}
 use Rattle.tree.specs.Laws.Rows.{of-rows}
 use Rattle.tree.specs.Laws.View.{rows-view, in-view}
-use Rattle.locks.specs.Modes.{LC, LU, LUU, LICW, clash}
-use Rattle.locks.specs.Needs.{Lock, need, needs}
+use Rattle.locks.specs.Modes.{clash}
+use Rattle.locks.specs.Needs.{Lock, needs}
 use Rattle.locks.specs.Laws.Compatible.{Compatible}
 use Rattle.commute.specs.Laws.Lines.{at-line}
-use Rattle.commute.specs.Laws.Views.{shape, Shapes, Whole, whole-shapes, Reach, itself, children, subtree, within, reach, reads, Views}
+use Rattle.commute.specs.Laws.Views.{shape, Shapes, Whole, Reach, itself, children, subtree, within, reach, reads, Views}
 use Rattle.protocol.specs.State.{nobody, Marked, Tree, number-held, seen-by, done-by, shown, as-shown, callers-document, document-of}
 use Rattle.serializability.specs.Laws.Shown.{Place, Inside, path, numbers-of, local}
 use Rattle.serializability.specs.Laws.Numbers.{number-of, place-held}

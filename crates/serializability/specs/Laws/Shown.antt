@@ -1,21 +1,21 @@
 -- What a set of transactions shows of the tree after a step, a grant of locks, a commit, an abort and a load.
 use mathlib.Core.Path.{_≡_, refl, sym, ap, ap₂, _∙_}
-use Prim.Native.Nat.{ℕ, zero, suc}
-use mathlib.Core.Bool.{Bool, true, false, cond, not, _&&_, _||_, false≢true, true≢false, or-true, and-false}
-use mathlib.Core.List.{List, [], _∷_, _++_, map, List·Memᴰ}
+use Prim.Native.Nat.{ℕ}
+use mathlib.Core.Bool.{Bool, true, false, cond, not, _&&_, _||_, false≢true, or-true, and-false}
+use mathlib.Core.List.{List, [], _∷_, map}
 use lib.Dec.{eqb}
-use borrow.Author.Tests.{eqb-true, eqb-false, eq-eqb, ne-eqb}
-use Rattle.tree.specs.Lists.{any, every, has, same}
-use Rattle.tree.specs.Forest.{Forest, nil, node, Row, row, rows, amend, view, put}
+use borrow.Author.Tests.{eqb-true, eq-eqb, ne-eqb}
+use Rattle.tree.specs.Lists.{any, every, has}
+use Rattle.tree.specs.Forest.{nil, node, Row, row, amend, view, put}
 use Rattle.tree.specs.Document.{Node, Document, is, under}
 use Rattle.tree.specs.Steps.{with-content, is-named, named, rewrite, remove}
-use Rattle.tree.specs.Laws.Tests.{and-left, and-right}
+use Rattle.tree.specs.Laws.Tests.{and-left}
 use Rattle.tree.specs.Laws.Lists.{any-map}
-use Rattle.tree.specs.Laws.Rows.{In, self, inner, later, line}
+use Rattle.tree.specs.Laws.Rows.{In, self, inner, later}
 use Rattle.tree.specs.Laws.View.{view-view, view-agree, view-amend}
 use Rattle.tree.specs.Laws.Put.{view-put, view-put-hidden}
 use Rattle.locks.specs.Needs.{Lock}
-use Rattle.protocol.specs.State.{nobody, Marked, Tree, numbered, seen-by, done-by, shown, as-shown, document-of, written-by, deleted-by, unmarked, inserted-by, granted-to, unless, settled, undone, mark, mark-node, renamed, grant, commit-tree, abort-tree, tree-of}
+use Rattle.protocol.specs.State.{nobody, Marked, Tree, numbered, seen-by, done-by, shown, as-shown, document-of, written-by, deleted-by, inserted-by, granted-to, unless, settled, undone, mark, mark-node, renamed, grant, commit-tree, abort-tree, tree-of}
 
 -- a node held, with the nodes above it
 abbrev pub Place : Type 0

@@ -1,23 +1,23 @@
 -- The nodes of a granted step stand in the tree, with its locks in their sets, until its transaction ends.
 use mathlib.Core.Path.{_≡_, refl, sym, ap, ap₂, _∙_}
-use Prim.Native.Nat.{ℕ, zero, suc}
-use mathlib.Core.Bool.{Bool, true, false, cond, not, _&&_, _||_, false≢true, true≢false, or-true, and-false}
-use mathlib.Core.List.{List, [], _∷_, _++_, map, List·Memᴰ, List·Memᴰ·head, List·Memᴰ·tail, List·Memᴰ·not-nil}
+use Prim.Native.Nat.{ℕ}
+use mathlib.Core.Bool.{Bool, true, false, not, _&&_, _||_, false≢true, true≢false, or-true}
+use mathlib.Core.List.{List, [], _∷_, List·Memᴰ, List·Memᴰ·head}
 use mathlib.Core.Logic.{_⊎_, inl, inr}
 use lib.Dec.{eqb}
-use borrow.Author.Tests.{eqb-true, eqb-false, eq-eqb, ne-eqb, not-true}
-use Rattle.tree.specs.Lists.{any, every, has, leads}
-use Rattle.tree.specs.Forest.{Row, row}
+use borrow.Author.Tests.{eqb-true, eq-eqb, ne-eqb, not-true}
+use Rattle.tree.specs.Lists.{any, has}
+use Rattle.tree.specs.Forest.{row}
 use Rattle.tree.specs.Steps.{Step, T, C, R, U, D, I, TT, RR, UU, target, brings}
-use Rattle.tree.specs.Laws.Tests.{and-left, and-right, refuted}
+use Rattle.tree.specs.Laws.Tests.{refuted}
 use Rattle.tree.specs.Laws.Lists.{at-any, every-not}
 use Rattle.tree.specs.Laws.Rows.{Each, each-above}
-use Rattle.locks.specs.Modes.{Mode, LT, LC, LR, LU, LW, LTT, LRR, LUU, LIR, LIU, LIW, LICW, modes, clash, same-mode}
-use Rattle.locks.specs.Needs.{Lock, Need, need, locks, needs}
+use Rattle.locks.specs.Modes.{Mode, LT, LC, LR, LU, LW, LTT, LRR, LUU, LIR, LIU, LIW, LICW, modes, clash}
+use Rattle.locks.specs.Needs.{Lock, need, locks}
 use Rattle.locks.specs.Laws.Clash.{every-mode}
 use Rattle.locks.specs.Laws.Compatible.{Locked, Compatible, All-locked, node-locked, above-locked, new-locked}
 use Rattle.commute.specs.Laws.Classes.{new-need}
-use Rattle.protocol.specs.State.{nobody, State, Marked, Tree, numbered, nodes, is-transaction, transactions, modes-on}
+use Rattle.protocol.specs.State.{State, Marked, Tree, numbered, nodes, is-transaction}
 use Rattle.protocol.specs.Calls.{clashes, blocks, wait-set}
 use Rattle.serializability.specs.Laws.Shown.{Place, Inside, path, numbers-of}
 use Rattle.serializability.specs.Laws.Numbers.{number-of, Distinct, one-place, place-node}

@@ -1,34 +1,34 @@
 -- Every call keeps the state in step with a ledger of entries.
-use mathlib.Core.Path.{_≡_, refl, sym, ap, ap₂, _∙_, fun-ext}
-use Prim.Native.Nat.{ℕ, zero, suc}
-use mathlib.Core.Bool.{Bool, true, false, cond, not, _&&_, _||_, false≢true, true≢false, or-true}
-use mathlib.Core.List.{List, [], _∷_, _++_, map, List·Memᴰ, List·Memᴰ·not-nil}
+use mathlib.Core.Path.{_≡_, refl, sym, ap, _∙_, fun-ext}
+use Prim.Native.Nat.{ℕ}
+use mathlib.Core.Bool.{Bool, true, false, cond, not, _&&_, _||_, false≢true, true≢false}
+use mathlib.Core.List.{List, [], _∷_, map, List·Memᴰ·not-nil}
 use mathlib.Core.Logic.{_⊎_, inl, inr}
 use lib.Dec.{eqb}
-use borrow.Author.Tests.{eqb-true, eqb-false, eq-eqb, ne-eqb}
-use Rattle.tree.specs.Lists.{any, every, has, keep, distinct}
-use Rattle.tree.specs.Forest.{Forest, nil, node, Row, row, rows, view}
-use Rattle.tree.specs.Document.{Node, Document, Line, lines, numbers, legal, node-0-alone, ruled}
+use borrow.Author.Tests.{eqb-true, ne-eqb}
+use Rattle.tree.specs.Lists.{any, every, has, distinct}
+use Rattle.tree.specs.Forest.{Forest, nil, node, Row, row, rows}
+use Rattle.tree.specs.Document.{Node, Document, lines, numbers, legal, node-0-alone, ruled}
 use Rattle.tree.specs.Content.{allowed, children-rule}
-use Rattle.tree.specs.Steps.{Step, Value, answer}
-use Rattle.tree.specs.Laws.Tests.{and-left, and-right, refuted}
+use Rattle.tree.specs.Steps.{Step, Value}
+use Rattle.tree.specs.Laws.Tests.{and-left, and-right}
 use Rattle.tree.specs.Laws.Lists.{map-append, map-map, keep-all}
 use Rattle.tree.specs.Laws.View.{rows-view, in-view}
 use Rattle.locks.specs.Needs.{Lock, needs}
 use Rattle.commute.specs.Laws.Lines.{Unique}
 use Rattle.commute.specs.Laws.Runs.{Entry, Run, run-append}
 use Rattle.commute.specs.Laws.Orders.{Distinct, logs}
-use Rattle.commute.specs.Laws.Serial.{Serial, noted, emptied}
-use Rattle.protocol.specs.State.{nobody, State, Marked, Tree, is-transaction, transactions, callers-document, document-of, unmarked, tree-of, start-state, with-tree, opened, closed, commit-tree, abort-tree}
+use Rattle.commute.specs.Laws.Serial.{emptied}
+use Rattle.protocol.specs.State.{nobody, State, Marked, is-transaction, transactions, callers-document, unmarked, tree-of, start-state, opened, closed}
 use Rattle.protocol.specs.Lent.{Room}
 use Rattle.protocol.specs.Calls.{Call, start, load, begin, commit, abort, step, write, Input, unreadable, stands-for, loadable, Outcome, Next, unchanged, becomes, refused, judged, if-open, loaded, next}
 use Rattle.protocol.specs.History.{state-after, is-granted, value-of, Ledger, new-ledger, entered}
-use Rattle.serializability.specs.Laws.Outcomes.{Reason, by-misfit, by-number, by-clash, by-place, by-limit, by-room, Passed, Verdict, judged-verdict, if-open-cases}
+use Rattle.serializability.specs.Laws.Outcomes.{Reason, by-misfit, by-number, by-clash, by-place, by-limit, by-room, Verdict, judged-verdict, if-open-cases}
 use Rattle.serializability.specs.Laws.OneCall.{not-granted}
 use Rattle.serializability.specs.Laws.Ledgers.{entered-in, tracked}
-use Rattle.serializability.specs.Laws.Shown.{Place, Inside, path, numbers-of, load-shown}
+use Rattle.serializability.specs.Laws.Shown.{Place, Inside, load-shown}
 use Rattle.serializability.specs.Laws.Numbers as places
-use Rattle.serializability.specs.Laws.Whole.{holds, Good, entry, stepped, step-good}
+use Rattle.serializability.specs.Laws.Whole.{Good, step-good}
 use Rattle.serializability.specs.Laws.Ends.{commit-good, abort-good}
 
 -- a tree without marks ------------------------------------------------------------------------

@@ -1,14 +1,14 @@
 -- The bits of a wait set are the transactions that block.
 use mathlib.Core.Path.{_≡_, refl, sym, ap, _∙_}
-use Prim.Native.Nat.{ℕ, zero, suc, _+_, _-_, _*_, _/_, _%_, _^_, _<_, _≤_, zero-le, suc-le-suc}
-use mathlib.Core.Bool.{Bool, true, false, cond, not, _&&_, _||_, false≢true, true≢false}
+use Prim.Native.Nat.{ℕ, zero, suc, _+_, _-_, _*_, _/_, _%_, _^_, _<_, _≤_}
+use mathlib.Core.Bool.{Bool, true, false, cond}
 use mathlib.Core.List.{List, [], _∷_, List·Memᴰ, List·Memᴰ·head, List·Memᴰ·tail}
 use native.Mathlib.Omega.{arith}
 use native.Mathlib.Nat.{div-one, zero-div, pow-suc}
 use lib.Dec.{eqb, leb}
 use lib.Arith.{digits-div, digits-mod}
 use lib.Pow.{shr-shr}
-use borrow.Author.Tests.{eqb-true, eqb-false, eq-eqb, ne-eqb, leb-true}
+use borrow.Author.Tests.{eqb-true, eqb-false, leb-true}
 use Rattle.tree.specs.Laws.Tests.{and-left, and-right}
 use Rattle.protocol.specs.State.{transactions, is-transaction}
 use Rattle.protocol.specs.Calls.{sum-of-bits}

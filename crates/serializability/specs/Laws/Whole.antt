@@ -1,36 +1,35 @@
 -- The state against the logs: for every list of distinct transactions, in every order, the plain rules lead from the committed document
 -- to the one that the tree shows of them. A granted step keeps this.
-use mathlib.Core.Path.{_≡_, refl, sym, ap, ap₂, _∙_}
-use Prim.Native.Nat.{ℕ, zero, suc}
-use mathlib.Core.Bool.{Bool, true, false, cond, not, _&&_, _||_, false≢true, true≢false, or-true}
-use mathlib.Core.List.{List, [], _∷_, _++_, map, List·Memᴰ, List·Memᴰ·head, List·Memᴰ·tail, List·Memᴰ·not-nil, Memᴰ·append-left, Memᴰ·append-right, List·Memᴰ·append-cases}
+use mathlib.Core.Path.{_≡_, refl, sym, ap, _∙_}
+use Prim.Native.Nat.{ℕ}
+use mathlib.Core.Bool.{Bool, true, false, cond, false≢true, true≢false}
+use mathlib.Core.List.{List, [], _∷_, _++_, List·Memᴰ, List·Memᴰ·head, List·Memᴰ·tail, List·Memᴰ·not-nil, Memᴰ·append-left, Memᴰ·append-right, List·Memᴰ·append-cases}
 use mathlib.Core.Logic.{_⊎_, inl, inr}
 use lib.Dec.{eqb}
-use borrow.Author.Tests.{eqb-true, eqb-false, eq-eqb, ne-eqb, not-true}
+use borrow.Author.Tests.{eqb-true, eq-eqb, ne-eqb}
 use Rattle.tree.specs.Lists.{any, every, has}
 use Rattle.tree.specs.Document.{Document, here, at}
-use Rattle.tree.specs.Steps.{Step, target, brings, misfit, misplaced, fits, answer, after}
-use Rattle.tree.specs.Laws.Tests.{and-left, and-right, refuted}
+use Rattle.tree.specs.Steps.{Step, target, brings, fits, answer, after}
+use Rattle.tree.specs.Laws.Tests.{refuted}
 use Rattle.tree.specs.Laws.Lists.{at-any, any-at, has-in, in-has}
 use Rattle.locks.specs.Needs.{Lock, needs}
 use Rattle.locks.specs.Laws.Compatible.{Compatible}
 use Rattle.commute.specs.Laws.Views.{views-same}
 use Rattle.commute.specs.Laws.Classes.{Absent}
 use Rattle.commute.specs.Laws.Kept.{fits-here}
-use Rattle.commute.specs.Laws.Runs.{Entry, Valid, Run, Clear, Other-numbers}
-use Rattle.commute.specs.Laws.Orders.{Permutation, Distinct, permutation-back, to-front}
+use Rattle.commute.specs.Laws.Runs.{Entry, Valid, Clear}
+use Rattle.commute.specs.Laws.Orders.{Distinct, permutation-back, to-front}
 use Rattle.commute.specs.Laws.Serial.{Serial, reorder, noted, in-noted, Grantable, grant, grant-other}
 use Rattle.protocol.specs.State.{nobody, State, Tree, is-transaction, number-held, seen-by, shown, as-shown, callers-document, document-of, act, with-tree}
 use Rattle.protocol.specs.State as state
-use Rattle.protocol.specs.Calls.{wait-set}
 use Rattle.serializability.specs.Laws.Outcomes.{Passed}
 use Rattle.serializability.specs.Laws.Shown.{Place, Inside, path, numbers-of, grant-shown}
-use Rattle.serializability.specs.Laws.Numbers.{number-of, one-place, place-held}
+use Rattle.serializability.specs.Laws.Numbers.{number-of, place-held}
 use Rattle.serializability.specs.Laws.Marks.{Within, Covered, target-place}
-use Rattle.serializability.specs.Laws.Seen.{Compatible-step, seen, unheld-absent}
+use Rattle.serializability.specs.Laws.Seen.{seen, unheld-absent}
 use Rattle.serializability.specs.Laws.Acts.{act-shown, act-hidden}
 use Rattle.serializability.specs.Laws.Keeping.{act-covered, grant-covered}
-use Rattle.serializability.specs.Laws.Standing.{Standing, Carried, standing-carried, no-wait-compatible}
+use Rattle.serializability.specs.Laws.Standing.{Standing, standing-carried, no-wait-compatible}
 use Rattle.serializability.specs.Laws.Granting.{after-step, step-carries, step-standing, Known-place, step-places}
 
 -- the locks of a log
