@@ -2,7 +2,6 @@ pub mod Outcomes
 pub mod WaitSet
 pub mod OneCall
 pub mod Ledgers
-pub mod LockPlaces
 pub mod Shown
 pub mod Numbers
 pub mod Marks

@@ -15,7 +15,7 @@ use Rattle.tree.specs.Laws.Rows.{Each, each-above}
 use Rattle.locks.specs.Modes.{Mode, LW, clash}
 use Rattle.locks.specs.Needs.{locks}
 use Rattle.locks.specs.Laws.Compatible.{Locked, Compatible, node-locked}
-use Rattle.locks.specs.Laws.Clash.{every-mode}
+use Rattle.locks.specs.Laws.Excludes.{LW-clashes}
 use Rattle.commute.specs.Laws.Runs.{Entry, Run, run-one-end}
 use Rattle.commute.specs.Laws.Orders.{Distinct, permuted-has, permuted-distinct, permutation-back, to-front, distinct-head, distinct-tail, distinct-cons}
 use Rattle.commute.specs.Laws.Serial.{Serial, reorder, commit, emptied, in-emptied, forget, idle}
@@ -38,11 +38,6 @@ pub record Ending (t : ℕ) (stays : Marked → Bool) (g : Marked → Marked) : 
   -- the others' stay
   pub inserter-stays : (a : Marked) (u : ℕ) → (u ≡ t → ⊥) → eqb (a .inserter) u ≡ true → eqb (g a .inserter) u ≡ true
   pub held-stays : (a : Marked) (u : ℕ) (m : Mode) → (u ≡ t → ⊥) → a .held u m ≡ true → g a .held u m ≡ true
-
--- LW clashes with every mode
-pub LW-clashes : (a : Mode) → clash a LW ≡ true
-unfolding clash
-LW-clashes a = every-mode (λ m. clash m LW) refl a
 
 emptied-other : (t : ℕ) (log : ℕ → List Entry) (u : ℕ) → (u ≡ t → ⊥) → emptied t log u ≡ log u
 emptied-other t log u ne = rw (ne-eqb u t ne)

@@ -15,7 +15,7 @@ use Rattle.locks.specs.Needs.{Lock, locks}
 use Rattle.protocol.specs.State.{Marked, Tree, numbered, seen-by, written-by, deleted-by, inserted-by, modes-on, granted-to, mark, renamed, act, grant}
 use Rattle.serializability.specs.Laws.Shown.{Place, Inside, path, numbers-of}
 use Rattle.serializability.specs.Laws.Numbers.{number-of, marked, marked-numbers, mark-in, in-mark}
-use Rattle.serializability.specs.Laws.LockPlaces.{lock-place}
+use Rattle.locks.specs.Laws.Places.{lock-place}
 use Rattle.serializability.specs.Laws.Standing.{Standing, Carried, ancestor-place}
 
 written-number : (t : ℕ) (b : List ℕ) (a : Marked) (x : Bool) → cond x (written-by t b a) a .now .number ≡ a .now .number

@@ -19,7 +19,7 @@ use Rattle.serializability.specs.Laws.Numbers.{number-of, marked-above, 
 use Rattle.serializability.specs.Laws.Marks.{Within, Guarded, Renames, Authored, Covered, above-is}
 use Rattle.serializability.specs.Laws.Seen.{Compatible-step}
 use Rattle.serializability.specs.Laws.Acts.{renamed-under}
-use Rattle.serializability.specs.Laws.LockPlaces.{insertion-guards, U-locks, UU-locks}
+use Rattle.locks.specs.Laws.Places.{insertion-guards, U-locks, UU-locks}
 
 -- locks are only added
 module _ (holds holds' : ℕ → List Lock) (more : (u : ℕ) → Within (holds u) (holds' u)) where

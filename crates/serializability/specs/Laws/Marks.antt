@@ -16,6 +16,7 @@ use Rattle.tree.specs.Laws.View.{in-view}
 use Rattle.locks.specs.Modes.{LU, LW, LUU, LICW, clash}
 use Rattle.locks.specs.Needs.{Lock, need, locks, needs}
 use Rattle.locks.specs.Laws.Compatible.{Compatible, compatible-symmetric, All-locked, node-locked, clashing, excludes, off-node, off-parent, off-path}
+use Rattle.locks.specs.Laws.Excludes.{LW-excludes}
 use Rattle.commute.specs.Laws.Lines.{at-line}
 use Rattle.protocol.specs.State.{nobody, Marked, Tree, seen-by, callers-document}
 use Rattle.serializability.specs.Laws.Shown.{Place, Inside, path, numbers-of, local}
@@ -69,19 +70,6 @@ foreign t a h = go (local t (a .inserter)) refl h
     go true p i = let w = away (a .deleter) i in (a .deleter, w .0, w .1, rw (eq-eqb (a .deleter) (a .deleter) refl) (or-true (eqb (a .inserter) (a .deleter))))
     go false p i = let w = away (a .inserter) p in (a .inserter, w .0, w .1, rw (eq-eqb (a .inserter) (a .inserter) refl))
 
--- a step that locks a node excludes LW there and above
-LW-excludes : (s : Step) → excludes (LW ∷ []) (need s) ≡ true
-unfolding clash
-LW-excludes (T n) = refl
-LW-excludes (C n k) = refl
-LW-excludes (R n) = refl
-LW-excludes (U n b) = refl
-LW-excludes (D n) = refl
-LW-excludes (I m kind b n k) = refl
-LW-excludes (TT n) = refl
-LW-excludes (RR n) = refl
-LW-excludes (UU n a b) = refl
-
 -- a step of t on a node of its document, compatible with what the others hold
 module _ (holds : ℕ → List Lock) (f : Tree) (cov : Covered holds f) (t : ℕ) (s : Step) (hs : here (target s) (callers-document t f) ≡ true)
     (compat : (u : ℕ) → (u ≡ t → ⊥) → Compatible (needs s (callers-document t f)) (holds u)) where
@@ -133,7 +121,7 @@ module _ (holds : ℕ → List Lock) (f : Tree) (cov : Covered holds f) (t : ℕ
   own-node r i e = own-all (path r) (known r i) (λ q h. rw (e, above-is r i e) at h)
 
   -- where the node is locked so that it takes no insertion or deletion of a child
-  pub own-child : clashing (need s .node) (LICW ∷ []) ≡ true → (r : Place) → Inside r f → leads n₀ (numbers-of (r .above)) ≡ true → every (own t) (path r) ≡ true
+  pub own-child : clashing (need s .node) (need (D 0) .parent) ≡ true → (r : Place) → Inside r f → leads n₀ (numbers-of (r .above)) ≡ true → every (own t) (path r) ≡ true
   own-child c r i h = go (r .above) h (known r i)
     where
       go : (o : List Marked) → leads n₀ (numbers-of o) ≡ true → Each (λ a. a) Known (r .it ∷ o) → every (own t) (r .it ∷ o) ≡ true

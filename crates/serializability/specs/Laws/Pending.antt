@@ -25,9 +25,10 @@ use Rattle.protocol.specs.History.{inserted, pending-in}
 use Rattle.serializability.specs.Laws.WaitSet.{transaction-in}
 use Rattle.serializability.specs.Laws.Shown.{Place, Inside, path, numbers-of}
 use Rattle.serializability.specs.Laws.Numbers.{number-of}
-use Rattle.serializability.specs.Laws.Standing.{path-locked}
+use Rattle.locks.specs.Laws.Places.{path-locked}
+use Rattle.locks.specs.Laws.Excludes.{LW-clashes}
 use Rattle.serializability.specs.Laws.Whole.{holds, Good, log-open}
-use Rattle.serializability.specs.Laws.Ends.{LW-clashes, logs-compatible, document-same}
+use Rattle.serializability.specs.Laws.Ends.{logs-compatible, document-same}
 use Rattle.serializability.specs.Laws.Held.{visible, line-in, place-of, line-of-place, place-here, here-visible, marker-open, writer-open, inserter-done, held-shown}
 
 -- strings of bytes --------------------------------------------------------------------------

@@ -14,9 +14,10 @@ use Rattle.tree.specs.Laws.Tests.{and-left, and-right, refuted}
 use Rattle.tree.specs.Laws.Lists.{keep-map, keep-keep, keep-same, in-keep, map-map, map-same}
 use Rattle.tree.specs.Laws.Rows.{of-rows}
 use Rattle.tree.specs.Laws.View.{rows-view, in-view}
-use Rattle.locks.specs.Modes.{clash}
 use Rattle.locks.specs.Needs.{Lock, needs}
 use Rattle.locks.specs.Laws.Compatible.{Compatible}
+use Rattle.locks.specs.Laws.Excludes.{kth-child, new-child, children-kept, numbers-below, cells-below, names-below, subtree-kept}
+use Rattle.locks.specs.Laws.Excludes.{reads as reads-node, reads-below, renames-below, content-LUU, contents-LUU, content-kept, contents-kept}
 use Rattle.commute.specs.Laws.Lines.{at-line}
 use Rattle.commute.specs.Laws.Views.{shape, Shapes, Whole, Reach, itself, children, subtree, within, reach, reads, Views}
 use Rattle.protocol.specs.State.{nobody, Marked, Tree, number-held, seen-by, done-by, shown, as-shown, callers-document, document-of}
@@ -119,30 +120,28 @@ module _ (holds : ℕ → List Lock) (f : Tree) (cov : Covered holds f) (t : ℕ
   -- what the step sees has no marks of others
   pub own-seen : (s : Step) → here (target s) (callers-document t f) ≡ true → Compatible-step s
       → (r : Place) → Inside r f → places (reach s) (target s) r ≡ true → every (own t) (path r) ≡ true
-  unfolding clash
   own-seen (T n) hs c r i e = own-node holds f cov t (T n) hs c r i (eqb-true _ n e)
-  own-seen (C n k) hs c r i e = own-child holds f cov t (C n k) hs c refl r i e
+  own-seen (C n k) hs c r i e = own-child holds f cov t (C n k) hs c (children-kept (kth-child n k)) r i e
   own-seen (R n) hs c r i e = own-node holds f cov t (R n) hs c r i (eqb-true _ n e)
   own-seen (U n b) hs c r i e = own-node holds f cov t (U n b) hs c r i (eqb-true _ n e)
   own-seen (D n) hs c r i e = own-node holds f cov t (D n) hs c r i (eqb-true _ n e)
-  own-seen (I m kind b n k) hs c r i e = own-child holds f cov t (I m kind b n k) hs c refl r i e
-  own-seen (TT n) hs c r i e = own-subtree holds f cov t (TT n) hs c refl r i e
-  own-seen (RR n) hs c r i e = own-subtree holds f cov t (RR n) hs c refl r i e
-  own-seen (UU n a b) hs c r i e = own-subtree holds f cov t (UU n a b) hs c refl r i e
+  own-seen (I m kind b n k) hs c r i e = own-child holds f cov t (I m kind b n k) hs c (children-kept (new-child m kind b n k)) r i e
+  own-seen (TT n) hs c r i e = own-subtree holds f cov t (TT n) hs c (subtree-kept (numbers-below n)) r i e
+  own-seen (RR n) hs c r i e = own-subtree holds f cov t (RR n) hs c (subtree-kept (cells-below n)) r i e
+  own-seen (UU n a b) hs c r i e = own-subtree holds f cov t (UU n a b) hs c (subtree-kept (names-below n a b)) r i e
 
   -- what the step reads nobody else wrote
   pub own-read : (s : Step) → here (target s) (callers-document t f) ≡ true → Compatible-step s → reads s ≡ true
       → (r : Place) → Inside r f → places (reach s) (target s) r ≡ true → local t (r .it .writer) ≡ true
-  unfolding clash
   own-read (T n) hs c z r i e = absurd (false≢true z)
   own-read (C n k) hs c z r i e = absurd (false≢true z)
-  own-read (R n) hs c z r i e = writer-node holds f cov t (R n) hs c refl refl r i (eqb-true _ n e)
+  own-read (R n) hs c z r i e = writer-node holds f cov t (R n) hs c (content-LUU (reads-node n)) (content-kept (reads-node n)) r i (eqb-true _ n e)
   own-read (U n b) hs c z r i e = absurd (false≢true z)
   own-read (D n) hs c z r i e = absurd (false≢true z)
   own-read (I m kind b n k) hs c z r i e = absurd (false≢true z)
   own-read (TT n) hs c z r i e = absurd (false≢true z)
-  own-read (RR n) hs c z r i e = writer-subtree holds f cov t (RR n) hs c refl refl refl refl r i e
-  own-read (UU n a b) hs c z r i e = writer-subtree holds f cov t (UU n a b) hs c refl refl refl refl r i e
+  own-read (RR n) hs c z r i e = writer-subtree holds f cov t (RR n) hs c (contents-LUU (reads-below n)) (subtree-kept (cells-below n)) (contents-kept (reads-below n) .0) (contents-kept (reads-below n) .1) r i e
+  own-read (UU n a b) hs c z r i e = writer-subtree holds f cov t (UU n a b) hs c (contents-LUU (renames-below n a b)) (subtree-kept (names-below n a b)) (contents-kept (renames-below n a b) .0) (contents-kept (renames-below n a b) .1) r i e
 
   pub seen : (S : ℕ → Bool) → S t ≡ true → (s : Step) → here (target s) (callers-document t f) ≡ true → Compatible-step s
       → ((m : ℕ) → has m (brings s) ≡ true → number-held m f ≡ false) → Views s (callers-document t f) (document-of S f)

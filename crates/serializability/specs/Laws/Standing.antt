@@ -21,7 +21,7 @@ use Rattle.protocol.specs.State.{State, Marked, Tree, numbered, nodes, is-trans
 use Rattle.protocol.specs.Calls.{clashes, blocks, wait-set}
 use Rattle.serializability.specs.Laws.Shown.{Place, Inside, path, numbers-of}
 use Rattle.serializability.specs.Laws.Numbers.{number-of, Distinct, one-place, place-node}
-use Rattle.serializability.specs.Laws.LockPlaces.{lock-place}
+use Rattle.locks.specs.Laws.Places.{lock-place, path-locked}
 use Rattle.serializability.specs.Laws.WaitSet.{sum-empty}
 
 -- a step s of u with the locks hs
@@ -32,30 +32,6 @@ pub record Standing (f : Tree) (u : ℕ) (s : Step) (hs : List Lock) : Type 0 wh
   pub locked : hs ≡ locks s (numbers-of (node .above))
   pub new : (m : ℕ) → has m (brings s) ≡ true → (r : Place) × Inside r f × (number-of r ≡ m) × (numbers-of (r .above) ≡ numbers-of (path node)) × (r .it .inserter ≡ u)
   pub held : (l : Lock) → List·Memᴰ l hs → (r : Place) × Inside r f × (number-of r ≡ l .0) × (r .it .held u (l .1) ≡ true)
-
--- a step needs a mode on its node, on the parent, and above
-some-need : (s : Step) → ((a : Mode) × List·Memᴰ a (need s .node)) × ((a : Mode) × List·Memᴰ a (need s .parent)) × ((a : Mode) × List·Memᴰ a (need s .above))
-some-need (T n) = ((LT, List·Memᴰ·head refl), (LT, List·Memᴰ·head refl), (LT, List·Memᴰ·head refl))
-some-need (C n k) = ((LC, List·Memᴰ·head refl), (LT, List·Memᴰ·head refl), (LT, List·Memᴰ·head refl))
-some-need (R n) = ((LR, List·Memᴰ·head refl), (LIR, List·Memᴰ·head refl), (LIR, List·Memᴰ·head refl))
-some-need (U n b) = ((LU, List·Memᴰ·head refl), (LIU, List·Memᴰ·head refl), (LIU, List·Memᴰ·head refl))
-some-need (D n) = ((LW, List·Memᴰ·head refl), (LICW, List·Memᴰ·head refl), (LIW, List·Memᴰ·head refl))
-some-need (I m kind b n k) = ((LC, List·Memᴰ·head refl), (LT, List·Memᴰ·head refl), (LT, List·Memᴰ·head refl))
-some-need (TT n) = ((LTT, List·Memᴰ·head refl), (LT, List·Memᴰ·head refl), (LT, List·Memᴰ·head refl))
-some-need (RR n) = ((LRR, List·Memᴰ·head refl), (LIR, List·Memᴰ·head refl), (LIR, List·Memᴰ·head refl))
-some-need (UU n a b) = ((LUU, List·Memᴰ·head refl), (LIU, List·Memᴰ·head refl), (LIU, List·Memᴰ·head refl))
-
--- so it has a lock on its node and on every node above
-pub path-locked : (s : Step) (p : List ℕ) (q : ℕ) → has q (target s ∷ p) ≡ true → (a : Mode) × Locked q a (locks s p)
-path-locked s p q h = go (eqb (target s) q) refl h
-  where
-    up : All-locked q (need s .parent) (locks s p) ⊎ All-locked q (need s .above) (locks s p) → (a : Mode) × Locked q a (locks s p)
-    up (inl f) = let a = some-need s .1 in (a .0, f (a .0) (a .1))
-    up (inr f) = let a = some-need s .2 in (a .0, f (a .0) (a .1))
-
-    go : (x : Bool) → eqb (target s) q ≡ x → (x || has q p) ≡ true → (a : Mode) × Locked q a (locks s p)
-    go true e i = let a = some-need s .0 in (a .0, rw (eqb-true (target s) q e) at (node-locked s p (a .0) (a .1)))
-    go false e i = up (above-locked s p q i)
 
 -- paths ------------------------------------------------------------------------------------
 

@@ -1,17 +1,17 @@
 -- On which nodes the locks of a step are.
 use mathlib.Core.Path.{_≡_, refl, sym, ap}
 use Prim.Native.Nat.{ℕ}
-use mathlib.Core.Bool.{true, or-true}
+use mathlib.Core.Bool.{Bool, true, false, _||_, or-true}
 use mathlib.Core.List.{List, [], _∷_, _++_, List·Memᴰ, List·Memᴰ·head, List·Memᴰ·tail, List·Memᴰ·not-nil, List·Memᴰ·append-cases, List·Memᴰ·eq-of-singleton}
 use mathlib.Core.Logic.{_⊎_, inl, inr}
 use lib.Dec.{eqb}
-use borrow.Author.Tests.{eq-eqb}
+use borrow.Author.Tests.{eqb-true, eq-eqb}
 use Rattle.tree.specs.Lists.{has}
 use Rattle.tree.specs.Laws.Lists.{in-map}
-use Rattle.tree.specs.Steps.{Step, U, D, I, UU, target, brings}
-use Rattle.locks.specs.Modes.{Mode, LT, LW, LIW, LICW}
+use Rattle.tree.specs.Steps.{Step, T, C, R, U, D, I, TT, RR, UU, target, brings}
+use Rattle.locks.specs.Modes.{Mode, LT, LC, LR, LU, LW, LTT, LRR, LUU, LIR, LIU, LIW, LICW}
 use Rattle.locks.specs.Needs.{Lock, Need, need, each, every-one, up, locks}
-use Rattle.locks.specs.Laws.Compatible.{All-locked, node-locked, above-locked, new-locked}
+use Rattle.locks.specs.Laws.Compatible.{Locked, All-locked, node-locked, above-locked, new-locked}
 
 -- the node and the mode of a lock
 pub in-each : (ms : List Mode) (q : ℕ) (l : Lock) → List·Memᴰ l (each ms q) → (l .0 ≡ q) × List·Memᴰ (l .1) ms
@@ -49,6 +49,34 @@ lock-place s p l m = go (List·Memᴰ·append-cases (each (need s .node) (target
         → (has (l .0) (target s ∷ p) ≡ true) ⊎ (has (l .0) (brings s) ≡ true)
     go (inl i) = inl (rw (eq-eqb (target s) (l .0) (sym (in-each (need s .node) (target s) l i .0))))
     go (inr i) = rest (List·Memᴰ·append-cases (up (need s) p) i)
+
+-- a lock on every node of a path --------------------------------------------------------------
+
+-- a step needs a mode on its node, on the parent, and above
+some-need : (s : Step) → ((a : Mode) × List·Memᴰ a (need s .node)) × ((a : Mode) × List·Memᴰ a (need s .parent)) × ((a : Mode) × List·Memᴰ a (need s .above))
+some-need (T n) = ((LT, List·Memᴰ·head refl), (LT, List·Memᴰ·head refl), (LT, List·Memᴰ·head refl))
+some-need (C n k) = ((LC, List·Memᴰ·head refl), (LT, List·Memᴰ·head refl), (LT, List·Memᴰ·head refl))
+some-need (R n) = ((LR, List·Memᴰ·head refl), (LIR, List·Memᴰ·head refl), (LIR, List·Memᴰ·head refl))
+some-need (U n b) = ((LU, List·Memᴰ·head refl), (LIU, List·Memᴰ·head refl), (LIU, List·Memᴰ·head refl))
+some-need (D n) = ((LW, List·Memᴰ·head refl), (LICW, List·Memᴰ·head refl), (LIW, List·Memᴰ·head refl))
+some-need (I m kind b n k) = ((LC, List·Memᴰ·head refl), (LT, List·Memᴰ·head refl), (LT, List·Memᴰ·head refl))
+some-need (TT n) = ((LTT, List·Memᴰ·head refl), (LT, List·Memᴰ·head refl), (LT, List·Memᴰ·head refl))
+some-need (RR n) = ((LRR, List·Memᴰ·head refl), (LIR, List·Memᴰ·head refl), (LIR, List·Memᴰ·head refl))
+some-need (UU n a b) = ((LUU, List·Memᴰ·head refl), (LIU, List·Memᴰ·head refl), (LIU, List·Memᴰ·head refl))
+
+-- so it has a lock on its node and on every node above
+pub path-locked : (s : Step) (p : List ℕ) (q : ℕ) → has q (target s ∷ p) ≡ true → (a : Mode) × Locked q a (locks s p)
+path-locked s p q h = go (eqb (target s) q) refl h
+  where
+    up : All-locked q (need s .parent) (locks s p) ⊎ All-locked q (need s .above) (locks s p) → (a : Mode) × Locked q a (locks s p)
+    up (inl f) = let a = some-need s .1 in (a .0, f (a .0) (a .1))
+    up (inr f) = let a = some-need s .2 in (a .0, f (a .0) (a .1))
+
+    go : (x : Bool) → eqb (target s) q ≡ x → (x || has q p) ≡ true → (a : Mode) × Locked q a (locks s p)
+    go true e i = let a = some-need s .0 in (a .0, rw (eqb-true (target s) q e) at (node-locked s p (a .0) (a .1)))
+    go false e i = up (above-locked s p q i)
+
+-- insertions and deletions ---------------------------------------------------------------------
 
 -- the locks of the deletion of a new node are among those of its insertion
 pub insertion-guards : (m kind : ℕ) (b : List ℕ) (n k : ℕ) (p : List ℕ) (l : Lock) → List·Memᴰ l (locks (D m) (n ∷ p)) → List·Memᴰ l (locks (I m kind b n k) p)
