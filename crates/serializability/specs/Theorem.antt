@@ -1,14 +1,14 @@
 -- What is claimed of every list of calls that begins with a start: document 01, "The plain run" (demand 3), and document 02, A.14.
 -- Only definitions of tree, locks and protocol are used; the proofs are in Laws.
-use Prim.Native.Nat.{ℕ, _-_, _<_, _/_, _%_, _^_}
+use Prim.Native.Nat.{ℕ, _-_, _<_, _^_}
 use mathlib.Core.Path.{_≡_}
 use mathlib.Core.Logic.{_↔_}
 use mathlib.Core.Bool.{Bool, true, false}
 use mathlib.Core.List.{List, [], _∷_, _++_, map}
-use lib.Dec.{eqb}
 use Rattle.tree.specs.Lists.{has, distinct}
 use Rattle.tree.specs.Document.{Document, here, legal, node-0-alone}
 use Rattle.tree.specs.Steps.{Step, Value, target, plain-document, plain-answers}
+use Rattle.locks.specs.Words.{bit}
 use Rattle.locks.specs.Needs.{Lock, needs}
 use Rattle.protocol.specs.State.{State, is-transaction, transactions, nodes, callers-document, held-document, document-of, committed-document}
 use Rattle.protocol.specs.Lent.{Room}
@@ -87,10 +87,6 @@ pub record Reached (M : State) : Type 0 where
 -- demand 1: a call that waits or is refused leaves the state as it was
 abbrev pub NotGranted : Type 0
 NotGranted = (c : Call) (M : State) → is-granted (next c M .outcome) ≡ false → next c M .state ≡ M
-
--- bit i of a set
-abbrev pub bit : ℕ → ℕ → Bool
-bit w i = eqb (w / 2 ^ i % 2) 1
 
 -- demand 2: "a 16-bit set with bit t-1 for each such transaction t, and no other", never empty
 pub record WaitSet (w t : ℕ) (ls : List Lock) (M : State) : Type 0 where

@@ -12,7 +12,7 @@ use Rattle.tree.specs.Document.{Document}
 use Rattle.tree.specs.Steps.{D, U, brings}
 use Rattle.tree.specs.Laws.Tests.{and-left, and-right}
 use Rattle.tree.specs.Laws.Rows.{Each, each-above}
-use Rattle.locks.specs.Modes.{Mode, LW, clash}
+use Rattle.locks.specs.Modes.{Mode, LW}
 use Rattle.locks.specs.Needs.{locks}
 use Rattle.locks.specs.Laws.Compatible.{Locked, Compatible, node-locked}
 use Rattle.locks.specs.Laws.Excludes.{LW-clashes}

@@ -9,11 +9,11 @@ use borrow.Author.Tests.{eqb-true, eqb-false, eq-eqb, ne-eqb}
 use Rattle.tree.specs.Lists.{every, has, leads}
 use Rattle.tree.specs.Forest.{row}
 use Rattle.tree.specs.Document.{Line, here, at}
-use Rattle.tree.specs.Steps.{Step, T, C, R, U, D, I, TT, RR, UU, target}
+use Rattle.tree.specs.Steps.{Step, U, D, UU, target}
 use Rattle.tree.specs.Laws.Tests.{and-left}
 use Rattle.tree.specs.Laws.Rows.{Each, each-above}
 use Rattle.tree.specs.Laws.View.{in-view}
-use Rattle.locks.specs.Modes.{LU, LW, LUU, LICW, clash}
+use Rattle.locks.specs.Modes.{LU, LW, LUU}
 use Rattle.locks.specs.Needs.{Lock, need, locks, needs}
 use Rattle.locks.specs.Laws.Compatible.{Compatible, compatible-symmetric, All-locked, node-locked, clashing, excludes, off-node, off-parent, off-path}
 use Rattle.locks.specs.Laws.Excludes.{LW-excludes}

@@ -8,14 +8,14 @@ use lib.Dec.{eqb}
 use borrow.Author.Tests.{eqb-true, eq-eqb, ne-eqb, not-true}
 use Rattle.tree.specs.Lists.{any, has}
 use Rattle.tree.specs.Forest.{row}
-use Rattle.tree.specs.Steps.{Step, T, C, R, U, D, I, TT, RR, UU, target, brings}
+use Rattle.tree.specs.Steps.{Step, target, brings}
 use Rattle.tree.specs.Laws.Tests.{refuted}
 use Rattle.tree.specs.Laws.Lists.{at-any, every-not}
 use Rattle.tree.specs.Laws.Rows.{Each, each-above}
-use Rattle.locks.specs.Modes.{Mode, LT, LC, LR, LU, LW, LTT, LRR, LUU, LIR, LIU, LIW, LICW, modes, clash}
-use Rattle.locks.specs.Needs.{Lock, need, locks}
+use Rattle.locks.specs.Modes.{Mode, LW, modes, clash}
+use Rattle.locks.specs.Needs.{Lock, locks}
 use Rattle.locks.specs.Laws.Clash.{every-mode}
-use Rattle.locks.specs.Laws.Compatible.{Locked, Compatible, All-locked, node-locked, above-locked, new-locked}
+use Rattle.locks.specs.Laws.Compatible.{Locked, Compatible, new-locked}
 use Rattle.commute.specs.Laws.Classes.{new-need}
 use Rattle.protocol.specs.State.{State, Marked, Tree, numbered, nodes, is-transaction}
 use Rattle.protocol.specs.Calls.{clashes, blocks, wait-set}
