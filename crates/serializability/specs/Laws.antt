@@ -2,6 +2,7 @@ pub mod Outcomes
 pub mod WaitSet
 pub mod OneCall
 pub mod Ledgers
+pub mod Edited
 pub mod Shown
 pub mod Numbers
 pub mod Marks
@@ -13,6 +14,7 @@ pub mod Granting
 pub mod Whole
 pub mod Ends
 pub mod Tracking
+pub mod Released
 pub mod AnyOrder
 pub mod Held
 pub mod Pending

@@ -4,13 +4,14 @@ use Prim.Native.Nat.{ℕ, _-_, _<_, _^_}
 use mathlib.Core.Path.{_≡_}
 use mathlib.Core.Logic.{_↔_}
 use mathlib.Core.Bool.{Bool, true, false}
-use mathlib.Core.List.{List, [], _∷_, _++_, map}
+use mathlib.Core.List.{List, [], _∷_, _++_, map, List·Memᴰ}
 use Rattle.tree.specs.Lists.{has, distinct}
 use Rattle.tree.specs.Document.{Document, here, legal, node-0-alone}
 use Rattle.tree.specs.Steps.{Step, Value, target, plain-document, plain-answers}
+use Rattle.locks.specs.Modes.{Mode}
 use Rattle.locks.specs.Words.{bit}
 use Rattle.locks.specs.Needs.{Lock, needs}
-use Rattle.protocol.specs.State.{State, is-transaction, transactions, nodes, callers-document, held-document, document-of, committed-document}
+use Rattle.protocol.specs.State.{State, Marked, is-transaction, transactions, nodes, callers-document, held-document, document-of, committed-document}
 use Rattle.protocol.specs.Lent.{Room}
 use Rattle.protocol.specs.Calls.{Call, start, abort, step, write, written, waits, refused, blocks, next}
 use Rattle.protocol.specs.History.{Event, history, state-after, is-granted, Ledger, new-ledger, ledger, fed, plain, plain-run-answers, answers-given, pending}
@@ -79,6 +80,8 @@ pub record Reached (M : State) : Type 0 where
   pub numbers-distinct : distinct (map (λ a. a .now .number) (nodes (M .tree))) ≡ true
   pub documents-legal : (S : ℕ → Bool) → legal (document-of S (M .tree)) ≡ true
   pub held-legal : legal (held-document M) ≡ true
+  -- a transaction that is not open holds no lock: commit and abort empty its sets
+  pub locks-open : (a : Marked) → List·Memᴰ a (nodes (M .tree)) → (u : ℕ) (m : Mode) → a .held u m ≡ true → M .is-open u ≡ true
   -- "the committed one .. is the one held if they all aborted"
   pub committed-if-aborted : held-document (all-aborted M) ≡ committed-document M
 

@@ -13,44 +13,21 @@ use Rattle.tree.specs.Laws.Put.{put-in, put-new, in-put, New}
 use Rattle.locks.specs.Modes.{Mode, index, among, union}
 use Rattle.locks.specs.Needs.{Lock, locks}
 use Rattle.protocol.specs.State.{Marked, Tree, numbered, seen-by, written-by, deleted-by, inserted-by, modes-on, granted-to, mark, renamed, act, grant}
+use Rattle.serializability.specs.Laws.Edited.{written-number, written-inserter, written-held, deleted-number, deleted-inserter, deleted-held}
 use Rattle.serializability.specs.Laws.Shown.{Place, Inside, path, numbers-of}
 use Rattle.serializability.specs.Laws.Numbers.{number-of, marked, marked-numbers, mark-in, in-mark}
 use Rattle.locks.specs.Laws.Places.{lock-place}
 use Rattle.serializability.specs.Laws.Standing.{Standing, Carried, ancestor-place}
-
-written-number : (t : ℕ) (b : List ℕ) (a : Marked) (x : Bool) → cond x (written-by t b a) a .now .number ≡ a .now .number
-written-number t b a true = refl
-written-number t b a false = refl
-
-written-inserter : (t : ℕ) (b : List ℕ) (a : Marked) (x : Bool) → cond x (written-by t b a) a .inserter ≡ a .inserter
-written-inserter t b a true = refl
-written-inserter t b a false = refl
-
-deleted-number : (t : ℕ) (a : Marked) (x : Bool) → cond x (deleted-by t a) a .now .number ≡ a .now .number
-deleted-number t a true = refl
-deleted-number t a false = refl
-
-deleted-inserter : (t : ℕ) (a : Marked) (x : Bool) → cond x (deleted-by t a) a .inserter ≡ a .inserter
-deleted-inserter t a true = refl
-deleted-inserter t a false = refl
 
 carried-by-mark : (c : Place → Marked) → ((r : Place) → c r .now .number ≡ number-of r) → (u : ℕ) → ((r : Place) (a : Mode) → r .it .held u a ≡ true → c r .held u a ≡ true)
     → ((r : Place) → c r .inserter ≡ r .it .inserter) → (f : Tree) (r : Place) → Inside r f → Carried u (mark c f) r
 carried-by-mark c sn u sh si f r i = (marked c r, mark-in c f i, sn r, marked-numbers c sn (r .above), sh r, λ e. si r ∙ e)
 
 carried-by-write : (test : Place → Bool) (t : ℕ) (b : List ℕ) (u : ℕ) (f : Tree) (r : Place) → Inside r f → Carried u (mark (λ r. cond (test r) (written-by t b (r .it)) (r .it)) f) r
-carried-by-write test t b u f r i = carried-by-mark _ (λ x. written-number t b (x .it) (test x)) u (λ x a h. holding (x .it) (test x) a h) (λ x. written-inserter t b (x .it) (test x)) f r i
-  where
-    holding : (a : Marked) (x : Bool) (m : Mode) → a .held u m ≡ true → cond x (written-by t b a) a .held u m ≡ true
-    holding a true m h = h
-    holding a false m h = h
+carried-by-write test t b u f r i = carried-by-mark _ (λ x. written-number t b (x .it) (test x)) u (λ x a h. written-held t b (x .it) (test x) u a ∙ h) (λ x. written-inserter t b (x .it) (test x)) f r i
 
 carried-by-delete : (n t : ℕ) (u : ℕ) (f : Tree) (r : Place) → Inside r f → Carried u (mark (λ r. cond (numbered n (r .it)) (deleted-by t (r .it)) (r .it)) f) r
-carried-by-delete n t u f r i = carried-by-mark _ (λ x. deleted-number t (x .it) (numbered n (x .it))) u (λ x a h. holding (x .it) (numbered n (x .it)) a h) (λ x. deleted-inserter t (x .it) (numbered n (x .it))) f r i
-  where
-    holding : (a : Marked) (x : Bool) (m : Mode) → a .held u m ≡ true → cond x (deleted-by t a) a .held u m ≡ true
-    holding a true m h = h
-    holding a false m h = h
+carried-by-delete n t u f r i = carried-by-mark _ (λ x. deleted-number t (x .it) (numbered n (x .it))) u (λ x a h. deleted-held t (x .it) (numbered n (x .it)) u a ∙ h) (λ x. deleted-inserter t (x .it) (numbered n (x .it))) f r i
 
 abbrev same-place : (u : ℕ) (f : Tree) (r : Place) → Inside r f → Carried u f r
 same-place u f r i = (r, i, refl, refl, λ a h. h, λ e. e)

@@ -14,6 +14,7 @@ use Rattle.tree.specs.Laws.Rows.{Each, each-above}
 use Rattle.tree.specs.Laws.Put.{in-put, New}
 use Rattle.locks.specs.Needs.{Lock, locks, needs}
 use Rattle.protocol.specs.State.{nobody, Marked, Tree, numbered, number-held, seen-by, callers-document, written-by, deleted-by, inserted-by, granted-to, mark, mark-node, renamed, act, grant}
+use Rattle.serializability.specs.Laws.Edited.{written-number, written-inserter, written-deleter, deleted-number, deleted-inserter, deleted-writer}
 use Rattle.serializability.specs.Laws.Shown.{Place, Inside, path, numbers-of}
 use Rattle.serializability.specs.Laws.Numbers.{number-of, marked-above, in-mark, marked-numbers, mark-distinct, put-distinct}
 use Rattle.serializability.specs.Laws.Marks.{Within, Guarded, Renames, Authored, Covered, above-is}
@@ -94,20 +95,8 @@ module _ (holds holds' : ℕ → List Lock) (more : (u : ℕ) → Within (holds 
         → ((r : Place) → Inside r f → test r ≡ true → Within (locks (U (number-of r) []) (numbers-of (r .above))) (holds' t) ⊎ Renames holds' t (numbers-of (path r)))
         → Covered holds' (mark (λ r. cond (test r) (written-by t b (r .it)) (r .it)) f)
     unfolding Deleted Written
-    write-covered test b h = mark-covered _ (λ r. number (r .it) (test r)) (λ r. inserter (r .it) (test r)) (λ r i. inl (deleter (r .it) (test r))) (λ r i. writer r (test r) (h r i))
+    write-covered test b h = mark-covered _ (λ r. written-number t b (r .it) (test r)) (λ r. written-inserter t b (r .it) (test r)) (λ r i. inl (written-deleter t b (r .it) (test r))) (λ r i. writer r (test r) (h r i))
       where
-        number : (a : Marked) (x : Bool) → cond x (written-by t b a) a .now .number ≡ a .now .number
-        number a true = refl
-        number a false = refl
-
-        inserter : (a : Marked) (x : Bool) → cond x (written-by t b a) a .inserter ≡ a .inserter
-        inserter a true = refl
-        inserter a false = refl
-
-        deleter : (a : Marked) (x : Bool) → cond x (written-by t b a) a .deleter ≡ a .deleter
-        deleter a true = refl
-        deleter a false = refl
-
         writer : (r : Place) (x : Bool) → (x ≡ true → Within (locks (U (number-of r) []) (numbers-of (r .above))) (holds' t) ⊎ Renames holds' t (numbers-of (path r)))
             → (cond x (written-by t b (r .it)) (r .it) .writer ≡ r .it .writer)
             ⊎ ((cond x (written-by t b (r .it)) (r .it) .writer ≡ t) × (Within (locks (U (number-of r) []) (numbers-of (r .above))) (holds' t) ⊎ Renames holds' t (numbers-of (path r))))
@@ -116,21 +105,9 @@ module _ (holds holds' : ℕ → List Lock) (more : (u : ℕ) → Within (holds 
 
     delete-covered : (n : ℕ) → ((r : Place) → Inside r f → number-of r ≡ n → Within (locks (D (number-of r)) (numbers-of (r .above))) (holds' t)) → Covered holds' (mark-node n (deleted-by t) f)
     unfolding Deleted Written
-    delete-covered n h = mark-covered _ (λ r. number (r .it) (numbered n (r .it))) (λ r. inserter (r .it) (numbered n (r .it)))
-        (λ r i. deleter r (numbered n (r .it)) (λ e. h r i (eqb-true _ n e))) (λ r i. inl (writer (r .it) (numbered n (r .it))))
+    delete-covered n h = mark-covered _ (λ r. deleted-number t (r .it) (numbered n (r .it))) (λ r. deleted-inserter t (r .it) (numbered n (r .it)))
+        (λ r i. deleter r (numbered n (r .it)) (λ e. h r i (eqb-true _ n e))) (λ r i. inl (deleted-writer t (r .it) (numbered n (r .it))))
       where
-        number : (a : Marked) (x : Bool) → cond x (deleted-by t a) a .now .number ≡ a .now .number
-        number a true = refl
-        number a false = refl
-
-        inserter : (a : Marked) (x : Bool) → cond x (deleted-by t a) a .inserter ≡ a .inserter
-        inserter a true = refl
-        inserter a false = refl
-
-        writer : (a : Marked) (x : Bool) → cond x (deleted-by t a) a .writer ≡ a .writer
-        writer a true = refl
-        writer a false = refl
-
         deleter : (r : Place) (x : Bool) → (x ≡ true → Within (locks (D (number-of r)) (numbers-of (r .above))) (holds' t))
             → (cond x (deleted-by t (r .it)) (r .it) .deleter ≡ r .it .deleter)
             ⊎ ((cond x (deleted-by t (r .it)) (r .it) .deleter ≡ t) × Within (locks (D (number-of r)) (numbers-of (r .above))) (holds' t))

@@ -52,6 +52,12 @@ pub place-node : (f : Tree) {r : Place} → Inside r f → List·Memᴰ (r .it) 
 unfolding nodes
 place-node f i = map-in (λ (x : Place). x .it) (to-rows (λ a. a) i)
 
+pub node-place : (f : Tree) {a : Marked} → List·Memᴰ a (nodes f) → (r : Place) × Inside r f × (r .it ≡ a)
+unfolding nodes
+node-place f m =
+    let b = in-map (λ (r : Place). r .it) (rows (λ a. a) [] f) m in
+    (b .0, of-rows (λ a. a) (b .0) [] f (b .1), sym (b .2))
+
 -- other marks ------------------------------------------------------------------------------
 
 module _ (c : Place → Marked) where

@@ -24,6 +24,7 @@ use Rattle.serializability.specs.Laws.Numbers.{distinct-numbers}
 use Rattle.serializability.specs.Laws.Whole.{Good}
 use Rattle.serializability.specs.Laws.Ends.{document-same}
 use Rattle.serializability.specs.Laws.Tracking.{Tracks, calls-track}
+use Rattle.serializability.specs.Laws.Released.{holders-open}
 use Rattle.serializability.specs.Laws.AnyOrder.{entries, reached-tracks}
 use Rattle.serializability.specs.Laws.Held.{marker-open, writer-open, held-shown}
 use Rattle.serializability.specs.Laws.Pending.{some-distinct}
@@ -148,6 +149,7 @@ always-reached M cs = record {
   numbers-distinct = distinct-numbers (reached M cs .tree) (tr .good .covered .distinct);
   documents-legal = legal-set;
   held-legal = rw (held-shown (tr .c) (entries cs .open-log) (reached M cs) (tr .good)) (legal-set (reached M cs .is-open));
+  locks-open = holders-open M cs;
   committed-if-aborted = aborted-held (entries cs) (reached M cs) tr;
 }
   where

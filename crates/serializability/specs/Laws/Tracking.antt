@@ -61,7 +61,7 @@ load-distinct d u =
     ) u
 
 -- nobody marked a node
-load-unmarked : (d : Document) (r : Place) → Inside r (tree-of d) → (a : Node) × (r .it ≡ unmarked a)
+pub load-unmarked : (d : Document) (r : Place) → Inside r (tree-of d) → (a : Node) × (r .it ≡ unmarked a)
 unfolding tree-of
 load-unmarked d r i =
     let v = in-view (λ (a : Node). a) (λ a. true) (λ a. true) (λ a. refl) unmarked (λ a. a) unmarked (λ a. refl) [] d refl i in
