@@ -133,14 +133,15 @@ module _ (c : Document) (log : ℕ → List Entry) (M : State) (g : Good c log M
       carry : (r : Place) → Inside r f → ((q : ℕ) → has q (numbers-of (path r)) ≡ true → (m : Mode) × Locked q m (y .held)) → Carried u rest r
       carry r j w =
           let stay : every stays (path r) ≡ true = path-stays u ne (path r) (each-above (λ a. a) (Guarded (holds log)) tt (g .covered .guarded) j)
-          (λ q z. let m = w q z in (m .0, in-locks-of (log u) y (in-emptied t log u i) (q, m .0) (m .1))) in (
-            seen-as stays h r,
-            part-in stays h f j stay,
-            end .number (r .it),
-            numbers-same (r .above),
-            λ a x. end .held-stays (r .it) u a ne x,
-            λ e. eqb-true _ u (end .inserter-stays (r .it) u ne (eq-eqb _ u e)),
-          )
+          (λ q z. let m = w q z in (m .0, in-locks-of (log u) y (in-emptied t log u i) (q, m .0) (m .1))) in
+          record {
+            place = seen-as stays h r;
+            inside = part-in stays h f j stay;
+            number = end .number (r .it);
+            above = numbers-same (r .above);
+            held = λ a x. end .held-stays (r .it) u a ne x;
+            inserter = λ e. eqb-true _ u (end .inserter-stays (r .it) u ne (eq-eqb _ u e));
+          }
 
   end-brought : (r : Place) → Inside r rest → (r .it .inserter ≡ nobody → ⊥) → (y : Entry) × List·Memᴰ y (log' (r .it .inserter)) × (has (number-of r) (brings (y .step)) ≡ true)
   end-brought r i nu =

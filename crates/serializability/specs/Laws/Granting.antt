@@ -17,20 +17,22 @@ use Rattle.serializability.specs.Laws.Edited.{written-number, written-in
 use Rattle.serializability.specs.Laws.Shown.{Place, Inside, path, numbers-of}
 use Rattle.serializability.specs.Laws.Numbers.{number-of, marked, marked-numbers, mark-in, in-mark}
 use Rattle.locks.specs.Laws.Places.{lock-place}
-use Rattle.serializability.specs.Laws.Standing.{Standing, Carried, ancestor-place}
+use Rattle.serializability.specs.Laws.Standing.{Standing, Carried, carried-path, ancestor-place}
 
 carried-by-mark : (c : Place → Marked) → ((r : Place) → c r .now .number ≡ number-of r) → (u : ℕ) → ((r : Place) (a : Mode) → r .it .held u a ≡ true → c r .held u a ≡ true)
     → ((r : Place) → c r .inserter ≡ r .it .inserter) → (f : Tree) (r : Place) → Inside r f → Carried u (mark c f) r
-carried-by-mark c sn u sh si f r i = (marked c r, mark-in c f i, sn r, marked-numbers c sn (r .above), sh r, λ e. si r ∙ e)
+carried-by-mark c sn u sh si f r i =
+    record { place = marked c r; inside = mark-in c f i; number = sn r; above = marked-numbers c sn (r .above); held = sh r; inserter = λ e. si r ∙ e }
 
 carried-by-write : (test : Place → Bool) (t : ℕ) (b : List ℕ) (u : ℕ) (f : Tree) (r : Place) → Inside r f → Carried u (mark (λ r. cond (test r) (written-by t b (r .it)) (r .it)) f) r
 carried-by-write test t b u f r i = carried-by-mark _ (λ x. written-number t b (x .it) (test x)) u (λ x a h. written-held t b (x .it) (test x) u a ∙ h) (λ x. written-inserter t b (x .it) (test x)) f r i
 
 carried-by-delete : (n t : ℕ) (u : ℕ) (f : Tree) (r : Place) → Inside r f → Carried u (mark (λ r. cond (numbered n (r .it)) (deleted-by t (r .it)) (r .it)) f) r
-carried-by-delete n t u f r i = carried-by-mark _ (λ x. deleted-number t (x .it) (numbered n (x .it))) u (λ x a h. deleted-held t (x .it) (numbered n (x .it)) u a ∙ h) (λ x. deleted-inserter t (x .it) (numbered n (x .it))) f r i
+carried-by-delete n t u f r i = carried-by-mark _ (λ x. deleted-number t (x .it) (numbered n (x .it))) u
+    (λ x a h. deleted-held t (x .it) (numbered n (x .it)) u a ∙ h) (λ x. deleted-inserter t (x .it) (numbered n (x .it))) f r i
 
 abbrev same-place : (u : ℕ) (f : Tree) (r : Place) → Inside r f → Carried u f r
-same-place u f r i = (r, i, refl, refl, λ a h. h, λ e. e)
+same-place u f r i = record { place = r; inside = i; number = refl; above = refl; held = λ a h. h; inserter = λ e. e }
 
 act-carries : (t : ℕ) (s : Step) (u : ℕ) (f : Tree) (r : Place) → Inside r f → Carried u (act t s f) r
 act-carries t (T n) u f r i = same-place u f r i
@@ -81,8 +83,15 @@ after-step t s ls f = grant t ls (act t s f)
 pub step-carries : (t : ℕ) (s : Step) (ls : List Lock) (u : ℕ) (f : Tree) (r : Place) → Inside r f → Carried u (after-step t s ls f) r
 step-carries t s ls u f r i =
     let a = act-carries t s u f r i in
-    let g = grant-carries t ls u (act t s f) (a .0) (a .1) in
-    (g .0, g .1, g .2 ∙ a .2, g .3 ∙ a .3, λ m h. g .4 m (a .4 m h), λ e. g .5 (a .5 e))
+    let g = grant-carries t ls u (act t s f) (a .place) (a .inside) in
+    record {
+      place = g .place;
+      inside = g .inside;
+      number = g .number ∙ a .number;
+      above = g .above ∙ a .above;
+      held = λ m h. g .held m (a .held m h);
+      inserter = λ e. g .inserter (a .inserter e);
+    }
 
 -- the new node of an insertion
 act-brings : (t : ℕ) (s : Step) (m : ℕ) → has m (brings s) ≡ true → (f : Tree) (r : Place) → Inside r f → number-of r ≡ target s
@@ -107,10 +116,10 @@ act-brings t (UU n a b) m h f r i e = absurd (false≢true h)
 pub step-standing : (t : ℕ) (s : Step) (p : List ℕ) (f : Tree) (r : Place) → Inside r f → number-of r ≡ target s → numbers-of (r .above) ≡ p
     → Standing (after-step t s (locks s p) f) t s (locks s p)
 step-standing t s p f r i e o = record {
-  node = N .0;
-  inside = N .1;
-  number = N .2 ∙ e;
-  locked = rw (N .3 ∙ o);
+  node = N .place;
+  inside = N .inside;
+  number = N .number ∙ e;
+  locked = rw (N .above ∙ o);
   new = fresh;
   held = bits;
 }
@@ -121,11 +130,11 @@ step-standing t s p f r i e o = record {
     N : Carried t (after-step t s ls f) r
     N = step-carries t s ls t f r i
 
-    fresh : (m : ℕ) → has m (brings s) ≡ true → (x : Place) × Inside x (after-step t s ls f) × (number-of x ≡ m) × (numbers-of (x .above) ≡ numbers-of (path (N .0))) × (x .it .inserter ≡ t)
+    fresh : (m : ℕ) → has m (brings s) ≡ true → (x : Place) × Inside x (after-step t s ls f) × (number-of x ≡ m) × (numbers-of (x .above) ≡ numbers-of (path (N .place))) × (x .it .inserter ≡ t)
     fresh m h =
         let a = act-brings t s m h f r i e in
         let g = grant-carries t ls t (act t s f) (a .0) (a .1) in
-        (g .0, g .1, g .2 ∙ a .2, g .3 ∙ ap numbers-of (a .3) ∙ sym (ap₂ (λ (z : ℕ) (w : List ℕ). z ∷ w) (N .2) (N .3)), g .5 (a .4))
+        (g .place, g .inside, g .number ∙ a .2, g .above ∙ ap numbers-of (a .3) ∙ sym (carried-path N), g .inserter (a .4))
 
     bits : (l : Lock) → List·Memᴰ l ls → (x : Place) × Inside x (after-step t s ls f) × (number-of x ≡ l .0) × (x .it .held t (l .1) ≡ true)
     bits l m = go (lock-place s p l m)
@@ -134,7 +143,7 @@ step-standing t s p f r i e o = record {
         go (inl y) =
             let b = ancestor-place f i (l .0) (rw (e, o) y) in
             let a = act-carries t s t f (b .0) (b .1) in
-            grant-there t ls (act t s f) l m (a .0) (a .1) (a .2 ∙ b .2)
+            grant-there t ls (act t s f) l m (a .place) (a .inside) (a .number ∙ b .2)
         go (inr y) = let a = act-brings t s (l .0) y f r i e in grant-there t ls (act t s f) l m (a .0) (a .1) (a .2)
 
 -- the places afterwards: those before, and the new one --------------------------------------------

@@ -13,7 +13,8 @@ use Rattle.tree.specs.Content.{is-name, allowed, takes}
 use Rattle.locks.specs.Needs.{needs}
 use Rattle.protocol.specs.State.{State, is-transaction, transactions, callers-document}
 use Rattle.protocol.specs.Lent.{Room}
-use Rattle.protocol.specs.Calls.{start, load, begin, commit, abort, step, write, Input, unreadable, stands-for, Outcome, granted, written, waits, refused, refused-at, Next, unchanged, becomes, blocks, wait-set, judged, if-open, loaded, next}
+use Rattle.protocol.specs.Calls.{start, load, begin, commit, abort, step, write, Input, unreadable, stands-for, Outcome, granted, written, waits, refused, refused-at}
+use Rattle.protocol.specs.Calls.{Next, unchanged, becomes, blocks, wait-set, judged, if-open, loaded, next}
 use Rattle.protocol.specs.History.{is-granted}
 use Rattle.serializability.specs.Theorem.{NotGranted, Waiting, NoClashNoWait, FoundNotSeven}
 use Rattle.serializability.specs.Laws.Outcomes.{Reason, by-misfit, by-number, by-clash, by-place, by-limit, by-room, Verdict, judged-verdict, if-open-cases}

@@ -220,7 +220,8 @@ module _ (c : Document) (log : ℕ → List Entry) (M : State) (g : Good c log M
         go true p y q = refl
         go false p false q = refl
         go false p true q =
-            let o : M .is-open (r .it .deleter) ≡ true = marker-open c log M g r i (r .it .deleter) (eqb-false _ nobody p) (rw (eq-eqb (r .it .deleter) (r .it .deleter) refl) (or-true (eqb (r .it .inserter) (r .it .deleter)))) in
+            let o : M .is-open (r .it .deleter) ≡ true = marker-open c log M g r i (r .it .deleter) (eqb-false _ nobody p)
+            (rw (eq-eqb (r .it .deleter) (r .it .deleter) refl) (or-true (eqb (r .it .inserter) (r .it .deleter)))) in
             absurd (false≢true (rw (p, o) at (and-right (done-by (M .is-open) (r .it .inserter)) _ b)))
 
     only-visible : (t : ℕ) → (t ≡ nobody → ⊥) → (l : List Marked) → Each (λ a. a) (λ a p. Inside (row a p) f) l → every (shown none) l ≡ true → every (shown (M .is-open)) l ≡ true → every (shown (only t)) l ≡ true

@@ -12,7 +12,8 @@ use Rattle.tree.specs.Steps.{Step, T, C, R, U, D, I, TT, RR, UU, done}
 use Rattle.tree.specs.Laws.Put.{in-put, New}
 use Rattle.locks.specs.Modes.{Mode, union}
 use Rattle.locks.specs.Needs.{Lock, needs}
-use Rattle.protocol.specs.State.{State, Marked, Tree, is-transaction, transactions, nodes, numbered, seen-by, callers-document, inserted-by, modes-on, granted-to, none-of, settled, undone, mark, renamed, act, grant, commit-tree, abort-tree, tree-of, start-state, opened}
+use Rattle.protocol.specs.State.{State, Marked, Tree, is-transaction, transactions, nodes, numbered, seen-by, callers-document, inserted-by, modes-on, granted-to}
+use Rattle.protocol.specs.State.{none-of, settled, undone, mark, renamed, act, grant, commit-tree, abort-tree, tree-of, start-state, opened}
 use Rattle.protocol.specs.Lent.{Room}
 use Rattle.protocol.specs.Calls.{Call, start, load, begin, commit, abort, step, write, Input, unreadable, stands-for, Next, unchanged, becomes, refused, judged, if-open, loaded, next}
 use Rattle.protocol.specs.History.{state-after}

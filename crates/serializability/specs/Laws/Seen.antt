@@ -140,8 +140,10 @@ module _ (holds : ℕ → List Lock) (f : Tree) (cov : Covered holds f) (t : ℕ
   own-read (D n) hs c z r i e = absurd (false≢true z)
   own-read (I m kind b n k) hs c z r i e = absurd (false≢true z)
   own-read (TT n) hs c z r i e = absurd (false≢true z)
-  own-read (RR n) hs c z r i e = writer-subtree holds f cov t (RR n) hs c (contents-LUU (reads-below n)) (subtree-kept (cells-below n)) (contents-kept (reads-below n) .0) (contents-kept (reads-below n) .1) r i e
-  own-read (UU n a b) hs c z r i e = writer-subtree holds f cov t (UU n a b) hs c (contents-LUU (renames-below n a b)) (subtree-kept (names-below n a b)) (contents-kept (renames-below n a b) .0) (contents-kept (renames-below n a b) .1) r i e
+  own-read (RR n) hs c z r i e = writer-subtree holds f cov t (RR n) hs c (contents-LUU (reads-below n)) (subtree-kept (cells-below n))
+      (contents-kept (reads-below n) .0) (contents-kept (reads-below n) .1) r i e
+  own-read (UU n a b) hs c z r i e = writer-subtree holds f cov t (UU n a b) hs c (contents-LUU (renames-below n a b)) (subtree-kept (names-below n a b))
+      (contents-kept (renames-below n a b) .0) (contents-kept (renames-below n a b) .1) r i e
 
   pub seen : (S : ℕ → Bool) → S t ≡ true → (s : Step) → here (target s) (callers-document t f) ≡ true → Compatible-step s
       → ((m : ℕ) → has m (brings s) ≡ true → number-held m f ≡ false) → Views s (callers-document t f) (document-of S f)

@@ -15,7 +15,8 @@ use Rattle.tree.specs.Laws.Rows.{In, self, inner, later}
 use Rattle.tree.specs.Laws.View.{view-view, view-agree, view-amend}
 use Rattle.tree.specs.Laws.Put.{view-put, view-put-hidden}
 use Rattle.locks.specs.Needs.{Lock}
-use Rattle.protocol.specs.State.{nobody, Marked, Tree, numbered, seen-by, done-by, shown, as-shown, document-of, written-by, deleted-by, inserted-by, granted-to, unless, settled, undone, mark, mark-node, renamed, grant, commit-tree, abort-tree, tree-of}
+use Rattle.protocol.specs.State.{nobody, Marked, Tree, numbered, seen-by, done-by, shown, as-shown, document-of, written-by, deleted-by, inserted-by, granted-to}
+use Rattle.protocol.specs.State.{unless, settled, undone, mark, mark-node, renamed, grant, commit-tree, abort-tree, tree-of}
 
 -- a node held, with the nodes above it
 abbrev pub Place : Type 0

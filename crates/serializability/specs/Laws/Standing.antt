@@ -107,17 +107,25 @@ no-wait-compatible t ls hs M u w ne o tr link = unblocked-compatible ls hs u (M 
 -- after an edit ------------------------------------------------------------------------------
 
 -- the place is there after an edit, with its number, its path, the modes that u was granted, and u as its inserter if it was that
-abbrev pub Carried : ℕ → Tree → Place → Type 0
-Carried u f' r = (s : Place) × Inside s f' × (number-of s ≡ number-of r) × (numbers-of (s .above) ≡ numbers-of (r .above)) × ((a : Mode) → r .it .held u a ≡ true → s .it .held u a ≡ true) × (r .it .inserter ≡ u → s .it .inserter ≡ u)
+pub record Carried (u : ℕ) (f : Tree) (r : Place) : Type 0 where
+  pub place : Place
+  pub inside : Inside place f
+  pub number : number-of place ≡ number-of r
+  pub above : numbers-of (place .above) ≡ numbers-of (r .above)
+  pub held : (a : Mode) → r .it .held u a ≡ true → place .it .held u a ≡ true
+  pub inserter : r .it .inserter ≡ u → place .it .inserter ≡ u
+
+pub carried-path : {u : ℕ} {f : Tree} {r : Place} (c : Carried u f r) → numbers-of (path (c .place)) ≡ numbers-of (path r)
+carried-path c = ap₂ (λ (z : ℕ) (w : List ℕ). z ∷ w) (c .number) (c .above)
 
 -- where the edit carries the places that a step locked
 pub standing-carried : (f f' : Tree) → Distinct f → (u : ℕ) (s : Step) (hs : List Lock) → Standing f u s hs
     → ((r : Place) → Inside r f → ((q : ℕ) → has q (numbers-of (path r)) ≡ true → (a : Mode) × Locked q a hs) → Carried u f' r) → Standing f' u s hs
 standing-carried f f' d u s hs g carry = record {
-  node = N .0;
-  inside = N .1;
-  number = N .2 ∙ g .number;
-  locked = rw (N .3) (g .locked);
+  node = N .place;
+  inside = N .inside;
+  number = N .number ∙ g .number;
+  locked = rw (N .above) (g .locked);
   new = λ m h. fresh m h (g .new m h);
   held = λ l i. bits l i (g .held l i);
 }
@@ -129,14 +137,14 @@ standing-carried f f' d u s hs g carry = record {
     N = carry (g .node) (g .inside) on-path
 
     fresh : (m : ℕ) → has m (brings s) ≡ true → (r : Place) × Inside r f × (number-of r ≡ m) × (numbers-of (r .above) ≡ numbers-of (path (g .node))) × (r .it .inserter ≡ u)
-        → (r : Place) × Inside r f' × (number-of r ≡ m) × (numbers-of (r .above) ≡ numbers-of (path (N .0))) × (r .it .inserter ≡ u)
+        → (r : Place) × Inside r f' × (number-of r ≡ m) × (numbers-of (r .above) ≡ numbers-of (path (N .place))) × (r .it .inserter ≡ u)
     fresh m h x =
         let lw : Locked m LW hs = rw (g .locked) (new-locked s (numbers-of (g .node .above)) m h LW (rw (new-need s m h) (List·Memᴰ·head refl))) in
         let c = carry (x .0) (x .1) (covers f d u s hs g (m, LW) lw (x .0) (x .1) (x .2)) in
-        (c .0, c .1, c .2 ∙ x .2, c .3 ∙ x .3 ∙ sym (ap₂ (λ (z : ℕ) (w : List ℕ). z ∷ w) (N .2) (N .3)), c .5 (x .4))
+        (c .place, c .inside, c .number ∙ x .2, c .above ∙ x .3 ∙ sym (carried-path N), c .inserter (x .4))
 
     bits : (l : Lock) → List·Memᴰ l hs → (r : Place) × Inside r f × (number-of r ≡ l .0) × (r .it .held u (l .1) ≡ true)
         → (r : Place) × Inside r f' × (number-of r ≡ l .0) × (r .it .held u (l .1) ≡ true)
     bits l i x =
         let c = carry (x .0) (x .1) (covers f d u s hs g l i (x .0) (x .1) (x .2)) in
-        (c .0, c .1, c .2 ∙ x .2, c .4 (l .1) (x .3))
+        (c .place, c .inside, c .number ∙ x .2, c .held (l .1) (x .3))
