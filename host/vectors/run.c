@@ -243,6 +243,6 @@ int main(int count, char **arguments)
 {
     for (int i = 1; i < count; i++)
         run_file(tested_engine, arguments[i]);
-    printf("vectors of the %s: %lu passed, %lu failed\n", tested_engine->name, passed, failed);
+    printf("vectors, %s\n%lu passed, %lu failed\n", tested_engine->name, passed, failed);
     return failed != 0;
 }
