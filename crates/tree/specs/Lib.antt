@@ -5,3 +5,4 @@ pub mod Content
 pub mod Document
 pub mod Steps
 pub mod Classes
+pub mod Laws

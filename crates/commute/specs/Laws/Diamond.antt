@@ -1,0 +1,131 @@
+-- Two steps whose locks do not clash: in either order both fit, answer and need the same, and leave the same document.
+use mathlib.Core.Path.{_≡_, refl, sym, ap, _∙_}
+use Prim.Native.Nat.{ℕ}
+use mathlib.Core.Bool.{Bool, true, false, not, _&&_, _||_, false≢true, true≢false}
+use mathlib.Core.List.{List, [], _∷_}
+use mathlib.Core.Logic.{_⊎_, inl, inr}
+use lib.Dec.{eqb}
+use borrow.Author.Tests.{eq-eqb}
+use Rattle.tree.specs.Lists.{has, leads}
+use Rattle.tree.specs.Forest.{Row, row}
+use Rattle.tree.specs.Document.{Node, Document, Line, is, here, at, some?, first}
+use Rattle.tree.specs.Steps.{Step, D, I, target, fits, after, remove, rewrite}
+use Rattle.tree.specs.Laws.Tests.{or-left}
+use Rattle.tree.specs.Laws.Lists.{eqb-flip}
+use Rattle.locks.specs.Modes.{LW}
+use Rattle.locks.specs.Needs.{needs, locks}
+use Rattle.locks.specs.Laws.Compatible.{Compatible, compatible-symmetric, new-locked, off-path}
+use Rattle.commute.specs.Laws.Lines.{Of, Unique, at-line, line-here, in-remove, insert}
+use Rattle.commute.specs.Laws.Views.{itself, within, reach, within-by-number, Same, rewrite-shapes, insert-whole, shapes-some, shapes-above}
+use Rattle.commute.specs.Laws.Classes.{Rewriting, Class, reading, rewriting, removing, inserting, class, touched, written, after-rewriting, touched-within, write, all-off-LW, Absent}
+use Rattle.commute.specs.Laws.Apart.{path, path-of}
+use Rattle.commute.specs.Laws.Edits.{remove-rewrite, remove-remove, rewrite-rewrite, rewrite-insert, remove-insert, insert-insert}
+use Rattle.commute.specs.Laws.Kept.{fits-here, fits-absent, other, new-line-unseen, clear-of-removal, untouched, same-kept}
+
+module _ (d : Document) (u : Unique d) where
+  module _ (s : Step) (hs : here (target s) d ≡ true) {p : Step} (w : Rewriting p) (hp : here (target p) d ≡ true) (c : Compatible (needs s d) (needs p d)) where
+    two-rewrites : (v : Rewriting s) → rewrite (touched v) (written v) (rewrite (touched w) (written w) d) ≡ rewrite (touched w) (written w) (rewrite (touched v) (written v) d)
+    two-rewrites v = rewrite-rewrite (touched v) (written v) (touched w) (written w) d (λ r m. go r m (within (reach s) (target s) r) refl)
+      where
+        -- outside a step's reach no line is touched, whatever its content
+        idle : {z : Step} (x : Rewriting z) (r : Line) → within (reach z) (target z) r ≡ false → (a : Node) → a .number ≡ r .it .number → touched x (row a (r .above)) ≡ false
+        idle {z} x r e a i = touched-within x (row a (r .above)) (within-by-number (reach z) (target z) (row a (r .above)) r i refl ∙ e)
+
+        go : (r : Line) → Of r d → (t : Bool) → within (reach s) (target s) r ≡ t
+            → ((a : Node) → a .number ≡ r .it .number → touched v (row a (r .above)) ≡ false) ⊎ ((a : Node) → a .number ≡ r .it .number → touched w (row a (r .above)) ≡ false)
+        go r m true e = inr (idle w r (untouched d u s hs w hp c (write v) r m e))
+        go r m false e = inl (idle v r e)
+
+  module _ (m kind : ℕ) (b : List ℕ) (n k : ℕ) (g : fits (I m kind b n k) d ≡ true) where
+    hn : here n d ≡ true
+    hn = fits-here (I m kind b n k) d g
+
+    hm : here m d ≡ false
+    hm = fits-absent (I m kind b n k) d g m (rw (eq-eqb m m refl))
+
+    rewrite-and-insert : {s : Step} (v : Rewriting s) → here (target s) d ≡ true → Compatible (needs s d) (needs (I m kind b n k) d)
+        → rewrite (touched v) (written v) (after (I m kind b n k) d) ≡ after (I m kind b n k) (rewrite (touched v) (written v) d)
+    rewrite-and-insert {s} v hs c = rewrite-insert (touched v) (written v) (record { number = m; kind = kind; content = b }) n k d
+        (λ r o e. touched-within v _ (rw (path-of d u n hn r o e) (new-line-unseen d u s hs m kind b n k hn hm c)))
+
+    remove-and-insert : (x : ℕ) → here x d ≡ true → Compatible (needs (D x) d) (needs (I m kind b n k) d) → remove x (after (I m kind b n k) d) ≡ after (I m kind b n k) (remove x d)
+    remove-and-insert x hx c = remove-insert x (record { number = m; kind = kind; content = b }) n k d (other d u (D x) hx m kind b n k hn hm c)
+        (λ r o e. rw (path-of d u x hx r o e) (clear-of-removal d u (I m kind b n k) hn x hx (compatible-symmetric _ _ c) .1))
+
+    two-inserts : (m' kind' : ℕ) (b' : List ℕ) (n' k' : ℕ) → fits (I m' kind' b' n' k') d ≡ true → Compatible (needs (I m' kind' b' n' k') d) (needs (I m kind b n k) d)
+        → after (I m' kind' b' n' k') (after (I m kind b n k) d) ≡ after (I m kind b n k) (after (I m' kind' b' n' k') d)
+    two-inserts m' kind' b' n' k' h c =
+        let hn' = fits-here (I m' kind' b' n' k') d h in
+        let hm' = fits-absent (I m' kind' b' n' k') d h m' (rw (eq-eqb m' m' refl)) in
+        insert-insert (record { number = m'; kind = kind'; content = b' }) (record { number = m; kind = kind; content = b }) n' n k' k d
+        (other d u (I m kind b n k) hn m' kind' b' n' k' hn' hm' (compatible-symmetric _ _ c)) (other d u (I m' kind' b' n' k') hn' m kind b n k hn hm c)
+        (eqb-flip n n' (new-line-unseen d u (I m' kind' b' n' k') hn' m kind b n k hn hm c))
+
+  -- either order, one document
+  pub commute : (p s : Step) → fits p d ≡ true → fits s d ≡ true → Compatible (needs s d) (needs p d) → after s (after p d) ≡ after p (after s d)
+  commute p s g h c = go (class p) (class s) g h c
+    where
+      go : {p s : Step} → Class p → Class s → fits p d ≡ true → fits s d ≡ true → Compatible (needs s d) (needs p d) → after s (after p d) ≡ after p (after s d)
+      go {p} {s} (reading e b) k g h c = rw (e d, e (after s d))
+      go {p} {s} (rewriting w) (reading e b) g h c = rw (e d, e (after p d))
+      go {p} {s} (rewriting w) (rewriting v) g h c = simp (after-rewriting v, after-rewriting w) (two-rewrites s (fits-here s d h) w (fits-here p d g) c v)
+      go {p} {s} (rewriting w) (removing x) g h c = simp (after-rewriting w) (remove-rewrite x (touched w) (written w) d)
+      go {p} {s} (rewriting w) (inserting m kind b n k) g h c = simp (after-rewriting w) (sym (rewrite-and-insert m kind b n k h w (fits-here p d g) (compatible-symmetric _ _ c)))
+      go {p} {s} (removing x) (reading e b) g h c = rw (e d, e (after p d))
+      go {p} {s} (removing x) (rewriting v) g h c = simp (after-rewriting v) (sym (remove-rewrite x (touched v) (written v) d))
+      go {p} {s} (removing x) (removing y) g h c = remove-remove y x d
+      go {p} {s} (removing x) (inserting m kind b n k) g h c = sym (remove-and-insert m kind b n k h x (fits-here (D x) d g) (compatible-symmetric _ _ c))
+      go {p} {s} (inserting m kind b n k) (reading e _) g h c = rw (e d, e (after p d))
+      go {p} {s} (inserting m kind b n k) (rewriting v) g h c = simp (after-rewriting v) (rewrite-and-insert m kind b n k g v (fits-here s d h) c)
+      go {p} {s} (inserting m kind b n k) (removing x) g h c = remove-and-insert m kind b n k g x (fits-here (D x) d h) c
+      go {p} {s} (inserting m kind b n k) (inserting m' kind' b' n' k') g h c = two-inserts m kind b n k g m' kind' b' n' k' h c
+
+  -- after p the node of s is where it was before
+  back : (p s : Step) → fits p d ≡ true → here (target s) (after p d) ≡ true → Compatible (needs s (after p d)) (needs p d)
+      → (here (target s) d ≡ true) × (path (target s) (after p d) ≡ path (target s) d)
+  back p s g h c = go (class p) g h c
+    where
+      go : {p : Step} → Class p → fits p d ≡ true → here (target s) (after p d) ≡ true → Compatible (needs s (after p d)) (needs p d)
+          → (here (target s) d ≡ true) × (path (target s) (after p d) ≡ path (target s) d)
+      go (reading e b) g h c = (rw (e d) at h, rw (e d))
+      go (rewriting w) g h c =
+          let i = rewrite-shapes (touched w) (written w) (is (target s)) (within-by-number itself (target s)) d in
+          (sym (shapes-some (is (target s)) d _ i) ∙ (rw (after-rewriting w d) at h), rw (after-rewriting w d) (shapes-above (is (target s)) d _ i))
+      go (removing x) g h c =
+          let a = at-line (target s) (remove x d) h in
+          let i = in-remove x d {r = at (target s) (remove x d)} (a .0) in
+          let e = line-here (target s) d (at (target s) (remove x d)) (i .0) (a .1) in
+          (e, path-of d u (target s) e (at (target s) (remove x d)) (i .0) (a .1))
+      go (inserting m kind b n k) g h c =
+          let o = off-path m (LW ∷ []) (needs (I m kind b n k) d) (new-locked (I m kind b n k) (path n d) m (rw (eq-eqb m m refl))) s _ (compatible-symmetric _ _ c) (all-off-LW s) in
+          let i = insert-whole (record { number = m; kind = kind; content = b }) n k (is (target s)) d (λ r o' e. eqb-flip (target s) m (or-left _ _ o)) in
+          (sym (ap some? i) ∙ h, ap (λ (l : List Line). first l .above) i)
+
+  -- s after p without a clash, and what it brings in absent before: s could go first, and all is the same
+  pub record Swapped (p s : Step) : Type 0 where
+    pub fit : fits s d ≡ true
+    pub first-same : Same s d (after p d)
+    pub second-same : Same p d (after s d)
+    pub one-document : after s (after p d) ≡ after p (after s d)
+
+  pub swap : (p s : Step) → fits p d ≡ true → fits s (after p d) ≡ true → Absent s d → Compatible (needs s (after p d)) (needs p d) → Swapped p s
+  swap p s g h a c =
+      let b = back p s g (fits-here s (after p d) h) c in
+      let c' : Compatible (needs s d) (needs p d) = rw (ap (locks s) (b .1)) at c in
+      let e = same-kept d u p s g (b .0) a c' in
+      let h' : fits s d ≡ true = sym (e .fit) ∙ h in
+      record {
+        fit = h';
+        first-same = e;
+        second-same = same-kept d u s p h' (fits-here p d g) (fits-absent p d g) (compatible-symmetric (needs s d) (needs p d) c');
+        one-document = commute p s g h' c';
+      }
+
+  -- both fit without a clash: either may go first
+  pub diamond : (p s : Step) → fits p d ≡ true → fits s d ≡ true → Compatible (needs s d) (needs p d) → Swapped p s
+  diamond p s g h c = record {
+    fit = h;
+    first-same = same-kept d u p s g (fits-here s d h) (fits-absent s d h) c;
+    second-same = same-kept d u s p h (fits-here p d g) (fits-absent p d g) (compatible-symmetric (needs s d) (needs p d) c);
+    one-document = commute p s g h c;
+  }

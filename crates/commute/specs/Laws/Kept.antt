@@ -1,0 +1,167 @@
+-- A step leaves what another sees, if their locks do not clash.
+use mathlib.Core.Path.{_≡_, refl, sym, ap, _∙_}
+use Prim.Native.Nat.{ℕ}
+use mathlib.Core.Bool.{Bool, true, false, cond, not, _&&_, _||_, false≢true, true≢false}
+use mathlib.Core.List.{List, [], _∷_}
+use mathlib.Core.Logic.{_⊎_, inl, inr}
+use lib.Dec.{eqb}
+use borrow.Author.Tests.{eqb-true, eqb-false, eq-eqb, ne-eqb, not-true}
+use Rattle.tree.specs.Lists.{any, has, leads}
+use Rattle.tree.specs.Forest.{Row, row}
+use Rattle.tree.specs.Document.{Node, Document, Line, is, under, here, at, some?}
+use Rattle.tree.specs.Steps.{Step, T, C, R, U, D, I, TT, RR, UU, target, brings, fits, misfit, misplaced, after, remove, rewrite}
+use Rattle.tree.specs.Laws.Tests.{and-left, and-right, or-left, or-right, refuted}
+use Rattle.tree.specs.Laws.Lists.{at-any, has-in, eqb-flip}
+use Rattle.locks.specs.Modes.{LW, clash}
+use Rattle.locks.specs.Needs.{need, needs, locks}
+use Rattle.locks.specs.Laws.Compatible.{Compatible, compatible-symmetric, All-locked, clashing, excludes, node-locked, new-locked, off-node, off-parent, off-path, off-new}
+use Rattle.commute.specs.Laws.Lines.{Of, Unique, at-line, line-here, not-here, insert}
+use Rattle.commute.specs.Laws.Views.{Reach, itself, children, subtree, within, reach, reads, within-by-number, Shapes, Whole, whole-shapes, Views, Same, views-same, rewrite-shapes}
+use Rattle.commute.specs.Laws.Views.{rewrite-whole, remove-whole, insert-whole, shapes-some}
+use Rattle.commute.specs.Laws.Classes.{Rewriting, Class, reading, rewriting, removing, inserting, class, touched, written, after-rewriting, touched-within, Contents, reads-contents}
+use Rattle.commute.specs.Laws.Classes.{all-off-LW, bars-removal, removal-barred, bars-insertion, insertion-barred, bars-writing, writing-barred, Absent, new-need}
+use Rattle.commute.specs.Laws.Apart.{path, path-of, not-under, under-not-under, Clear-of, clear-of}
+
+-- a step that fits ---------------------------------------------------------------------------
+
+zero-if : (t : Bool) (x : ℕ) → eqb (cond t x 7) 0 ≡ true → t ≡ true
+zero-if true x h = refl
+zero-if false x h = absurd (false≢true h)
+
+pub misfit-here : (s : Step) (d : Document) → eqb (misfit s d) 0 ≡ true → here (target s) d ≡ true
+misfit-here (T n) d h = zero-if _ _ h
+misfit-here (C n k) d h = zero-if _ _ h
+misfit-here (R n) d h = zero-if _ _ h
+misfit-here (U n b) d h = zero-if _ _ h
+misfit-here (D n) d h = zero-if _ _ h
+misfit-here (I m kind b n k) d h = zero-if _ _ h
+misfit-here (TT n) d h = zero-if _ _ h
+misfit-here (RR n) d h = zero-if _ _ h
+misfit-here (UU n a b) d h = zero-if _ _ h
+
+module _ (s : Step) (d : Document) (h : fits s d ≡ true) where
+  pub fits-misfit : eqb (misfit s d) 0 ≡ true
+  fits-misfit = and-left _ _ (and-left _ _ h)
+
+  pub fits-placed : misplaced s d ≡ false
+  fits-placed = not-true _ (and-right (eqb (misfit s d) 0 && not (any (λ m. here m d) (brings s))) _ h)
+
+  -- its node is there
+  pub fits-here : here (target s) d ≡ true
+  fits-here = misfit-here s d fits-misfit
+
+  -- what it brings in is not
+  pub fits-absent : Absent s d
+  fits-absent m i = refuted _ (λ e. true≢false (sym (at-any (λ q. here q d) (brings s) (has-in m (brings s) i) e) ∙ none))
+    where
+      none : any (λ q. here q d) (brings s) ≡ false
+      none = not-true _ (and-right (eqb (misfit s d) 0) _ (and-left _ _ h))
+
+-- what is left ---------------------------------------------------------------------------------
+
+module _ (d : Document) (u : Unique d) where
+  -- s against the removal of x
+  module _ (s : Step) (hs : here (target s) d ≡ true) (x : ℕ) (hx : here x d ≡ true) (c : Compatible (needs s d) (needs (D x) d)) where
+    off-removed : has x (target s ∷ path (target s) d) ≡ false
+    off-removed = off-path x (LW ∷ []) (needs (D x) d) (node-locked (D x) (path x d)) s (path (target s) d) (compatible-symmetric _ _ c) (all-off-LW s)
+
+    pub clear-of-removal : Clear-of d u (reach s) (target s) x
+    clear-of-removal = go (reach s) (removal-barred s x)
+      where
+        go : (q : Reach) → bars-removal q (need s) (need (D x)) ≡ true → Clear-of d u q (target s) x
+        go itself e = off-removed
+        go children e = (off-removed, off-parent (target s) (need s .node) (needs s d) (node-locked s (path (target s) d)) (D x) (path x d) c e)
+        go subtree e = (off-removed, off-path (target s) (need s .node) (needs s d) (node-locked s (path (target s) d)) (D x) (path x d) c e)
+
+    views-removal : Absent s d → Views s d (remove x d)
+    views-removal a = record {
+      node = whole-shapes _ d _ (remove-whole x (is (target s)) d (not-under d u (target s) x hs off-removed));
+      lines = whole-shapes _ d _ seen;
+      contents = λ e. seen;
+      absent = λ m i. ap some? (remove-whole x (is m) d (λ r o e. absurd (not-here m d (a m i) r o (eqb-true _ m e))));
+    }
+      where
+        seen : Whole (within (reach s) (target s)) d (remove x d)
+        seen = remove-whole x (within (reach s) (target s)) d (clear-of d u (reach s) (target s) x hs hx clear-of-removal)
+
+  -- s against an insertion
+  module _ (s : Step) (hs : here (target s) d ≡ true) (m kind : ℕ) (b : List ℕ) (n k : ℕ) (hn : here n d ≡ true) (hm : here m d ≡ false)
+      (c : Compatible (needs s d) (needs (I m kind b n k) d)) where
+    abbrev new : Node
+    new = record { number = m; kind = kind; content = b }
+
+    pub other : eqb m (target s) ≡ false
+    other = ne-eqb m (target s) (λ e. true≢false (sym hs ∙ ap (λ (q : ℕ). here q d) (sym e) ∙ hm))
+
+    -- the new line is not within the reach of s
+    pub new-line-unseen : within (reach s) (target s) (row new (n ∷ path n d)) ≡ false
+    new-line-unseen = go (reach s) (insertion-barred s m kind b n k)
+      where
+        go : (q : Reach) → bars-insertion q (need s) (need (I m kind b n k)) ≡ true → within q (target s) (row new (n ∷ path n d)) ≡ false
+        go itself e = other
+        go children e = off-node (target s) (need s .node) (needs s d) (node-locked s (path (target s) d)) (I m kind b n k) (path n d) c e
+        go subtree e = rw other (off-path (target s) (need s .node) (needs s d) (node-locked s (path (target s) d)) (I m kind b n k) (path n d) c e)
+
+    -- both bring in different numbers
+    new-number : (q : ℕ) → has q (brings s) ≡ true → eqb m q ≡ false
+    unfolding clash
+    new-number q i = or-left _ _ (off-new q (need s .new) (needs s d) (new-locked s (path (target s) d) q i) (I m kind b n k) (path n d) c (rw (new-need s q i)))
+
+    views-insertion : Views s d (insert new n k d)
+    views-insertion = record {
+      node = whole-shapes _ d _ (insert-whole new n k (is (target s)) d (λ r o e. other));
+      lines = whole-shapes _ d _ seen;
+      contents = λ e. seen;
+      absent = λ q i. ap some? (insert-whole new n k (is q) d (λ r o e. new-number q i));
+    }
+      where
+        seen : Whole (within (reach s) (target s)) d (insert new n k d)
+        seen = insert-whole new n k (within (reach s) (target s)) d (λ r o e. rw (path-of d u n hn r o e) new-line-unseen)
+
+  -- s against new contents
+  module _ (s : Step) (hs : here (target s) d ≡ true) {p : Step} (w : Rewriting p) (hp : here (target p) d ≡ true) (c : Compatible (needs s d) (needs p d)) where
+    off-s : excludes (need p .node) (need s) ≡ true → has (target p) (target s ∷ path (target s) d) ≡ false
+    off-s e = off-path (target p) (need p .node) (needs p d) (node-locked p (path (target p) d)) s (path (target s) d) (compatible-symmetric _ _ c) e
+
+    off-p : excludes (need s .node) (need p) ≡ true → has (target s) (target p ∷ path (target p) d) ≡ false
+    off-p e = off-path (target s) (need s .node) (needs s d) (node-locked s (path (target s) d)) p (path (target p) d) c e
+
+    -- no line whose contents s sees or writes is touched
+    pub untouched : Contents s → (r : Line) → Of r d → within (reach s) (target s) r ≡ true → within (reach p) (target p) r ≡ false
+    untouched h r m i = go (reach s) (reach p) (writing-barred h w) i
+      where
+        go : (q q' : Reach) → bars-writing q q' (need s) (need p) ≡ true → within q (target s) r ≡ true → within q' (target p) r ≡ false
+        go itself itself e i =
+            rw (eqb-true _ (target s) i) (eqb-flip (target p) (target s) (off-node (target s) (need s .node) (needs s d) (node-locked s (path (target s) d)) p (path (target p) d) c e))
+        go itself children e i = absurd (false≢true e)
+        go itself subtree e i = not-under d u (target s) (target p) hs (off-s e) r m i
+        go children q e i = absurd (false≢true e)
+        go subtree itself e i = refuted _ (λ j. true≢false (sym i ∙ not-under d u (target p) (target s) hp (off-p e) r m j))
+        go subtree children e i = absurd (false≢true e)
+        go subtree subtree e i = under-not-under d u (target s) (target p) hs hp (off-s (and-right (excludes (need s .node) (need p)) _ e)) (off-p (and-left _ _ e)) r m i
+
+    views-rewriting : Views s d (rewrite (touched w) (written w) d)
+    views-rewriting = record {
+      node = rewrite-shapes (touched w) (written w) (is (target s)) (within-by-number itself (target s)) d;
+      lines = rewrite-shapes (touched w) (written w) (within (reach s) (target s)) (within-by-number (reach s) (target s)) d;
+      contents = λ e. rewrite-whole (touched w) (written w) (within (reach s) (target s)) (within-by-number (reach s) (target s)) d
+          (λ r m i. touched-within w r (untouched (reads-contents s e) r m i));
+      absent = λ q i. shapes-some (is q) d _ (rewrite-shapes (touched w) (written w) (is q) (within-by-number itself q) d);
+    }
+
+  views-self : (s : Step) → Views s d d
+  views-self s = record { node = refl; lines = refl; contents = λ e. refl; absent = λ m i. refl }
+
+  -- after p, s sees what it saw
+  pub views-kept : (p s : Step) → fits p d ≡ true → here (target s) d ≡ true → Absent s d → Compatible (needs s d) (needs p d) → Views s d (after p d)
+  views-kept p s g h a c = go (class p) g c
+    where
+      go : {p : Step} → Class p → fits p d ≡ true → Compatible (needs s d) (needs p d) → Views s d (after p d)
+      go {p} (reading e b) g c = rw (e d) (views-self s)
+      go {p} (rewriting w) g c = rw (after-rewriting w d) (views-rewriting s h w (fits-here p d g) c)
+      go (removing x) g c = views-removal s h x (fits-here (D x) d g) c a
+      go (inserting m kind b n k) g c =
+          views-insertion s h m kind b n k (fits-here (I m kind b n k) d g) (fits-absent (I m kind b n k) d g m (rw (eq-eqb m m refl))) c
+
+  pub same-kept : (p s : Step) → fits p d ≡ true → here (target s) d ≡ true → Absent s d → Compatible (needs s d) (needs p d) → Same s d (after p d)
+  same-kept p s g h a c = views-same s d (after p d) (views-kept p s g h a c)

@@ -1,0 +1,7 @@
+pub mod Tests
+pub mod Lists
+pub mod Rows
+pub mod Amend
+pub mod View
+pub mod Put
+pub mod Distinct
