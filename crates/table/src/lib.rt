@@ -1,15 +1,18 @@
 // The lent bytes: where they hold the nodes, the locks and the open transactions (docs/STATE.md). Contracts speak of `nodes` alone.
 ghost use mathlib.Core.Path.{_≡_};
-ghost use mathlib.Core.Bool.{true, false};
-ghost use mathlib.Core.List.{[]};
-ghost use Prim.Native.Nat.{_+_, _-_, _*_, _<_, _≤_};
+ghost use mathlib.Core.Bool.{true, false, not, _&&_, _||_};
+ghost use mathlib.Core.List.{[], map, _++_};
+ghost use Prim.Native.Nat.{ℕ, _+_, _-_, _*_, _^_, _<_, _≤_};
 ghost use lib.ListN.{length, getD, set, drop};
+ghost use lib.Dec.{eqb};
+ghost use lib.Bits.{bitXor};
+ghost use Rattle.locks.specs.Modes.{in-word};
+ghost use Rattle.locks.specs.Words.{bit};
 ghost use Rattle.protocol.specs.State.{deleted-by};
-ghost use Rattle.table.specs.Lists.{modify};
-ghost use Rattle.table.specs.Flat.{second};
-ghost use Rattle.table.specs.Layout.{word, slot, cell-at, nodes, no-entry, Layout, Kept};
-ghost use Rattle.table.specs.Fields.{field, with-field, with-kind, with-writer, with-inserter};
-ghost use Rattle.table.specs.Laws.Bytes.{put-word};
+ghost use Rattle.layout.specs.Lists.{modify, first};
+ghost use Rattle.layout.specs.Flat.{second};
+ghost use Rattle.layout.specs.Layout.{word, slot, is-open, lock-at, nodes, no-entry, Layout, Left, Kept};
+ghost use Rattle.layout.specs.Fields.{field, with-field, with-kind, with-writer, with-inserter, text, with-now, saved, restored, with-modes, released};
 
 // The bytes that a state takes; those behind are never touched.
 pub const SIZE: usize = 110608;
@@ -22,34 +25,14 @@ const CELLS: usize = 6160;
 
 const CELL: usize = 70;
 
-pub fn join(low: u8, high: u8) -> u16
-    ensures { λ r. ⌜ r ≡ low + 256 * high ⌝ }
-{
-    (low as u16) + 256 * (high as u16)
-}
-
-// Sixteen bits from k on, low byte first.
-pub fn word(s: &[u8], k: usize) -> u16
-    requires { ⌜ k + 1 < length (now s) ⌝ }
-    ensures { λ r. ⌜ r ≡ word (now (s .entry)) k ⌝ }
-{
-    join(s[k], s[k + 1])
-}
-
-pub fn set_word(s: &mut [u8], k: usize, v: u16)
-    requires { ⌜ k + 1 < length (now s) ⌝ }
-    ensures { λ r. ⌜ now (s .exit) ≡ put-word (now (s .entry)) k v ⌝ }
-{
-    s[k] = (v % 256) as u8;
-    s[k + 1] = (v / 256) as u8;
-}
+const LOCKS: usize = 77840;
 
 // How many nodes are held.
 pub fn count(s: &[u8]) -> usize
     requires { ⌜ Layout (now s) ⌝ }
     ensures { λ r. ⌜ r ≡ length (nodes (now (s .entry))) ⌝ }
 {
-    word(s, 10) as usize
+    layout::word(s, 10) as usize
 }
 
 // The slot of the outline's entry at place i, used or free.
@@ -57,21 +40,21 @@ pub fn slot(s: &[u8], i: usize) -> usize
     requires { ⌜ (Layout (now s)) × (i < 1024) ⌝ }
     ensures { λ r. ⌜ (r ≡ slot (now (s .entry)) i) × (r < 1024) ⌝ }
 {
-    word(s, OUTLINE + ENTRY * i) as usize
+    layout::word(s, OUTLINE + ENTRY * i) as usize
 }
 
 pub fn depth(s: &[u8], i: usize) -> u16
     requires { ⌜ (Layout (now s)) × (i < length (nodes (now s))) ⌝ }
     ensures { λ r. ⌜ r ≡ getD (nodes (now (s .entry))) i no-entry .0 ⌝ }
 {
-    word(s, OUTLINE + ENTRY * i + 2)
+    layout::word(s, OUTLINE + ENTRY * i + 2)
 }
 
 pub fn number(s: &[u8], i: usize) -> u16
     requires { ⌜ (Layout (now s)) × (i < length (nodes (now s))) ⌝ }
     ensures { λ r. ⌜ r ≡ getD (nodes (now (s .entry))) i no-entry .1 .now .number ⌝ }
 {
-    word(s, OUTLINE + ENTRY * i + 4)
+    layout::word(s, OUTLINE + ENTRY * i + 4)
 }
 
 // Byte o of the cell of the node at i: 0 kind, 1 writer, 2 inserter, 3 deleter.
@@ -144,4 +127,127 @@ pub fn set_deleter(s: &mut [u8], i: usize, v: u8)
     ensures { λ r. ⌜ Kept (now (s .entry)) (now (s .exit)) (modify i (second (deleted-by v)) (nodes (now (s .entry)))) ⌝ }
 {
     set_field(s, i, 3, v);
+}
+
+// Bytes of the state -----------------------------------------------------------------
+
+// Contents -------------------------------------------------------------------------------
+
+// The length of a content of the node at i: o is 0 for the one now, 1 for the committed one.
+pub fn size(s: &[u8], i: usize, o: usize) -> usize
+    requires { ⌜ (Layout (now s)) × (i < length (nodes (now s))) × (o < 2) ⌝ }
+    ensures { λ r. ⌜ (r ≡ length (text o (getD (nodes (now (s .entry))) i no-entry .1))) × (r ≤ 32) ⌝ }
+{
+    s[CELLS + CELL * slot(s, i) + 4 + o] as usize
+}
+
+// Byte j of a content of the node at i.
+pub fn content(s: &[u8], i: usize, o: usize, j: usize) -> u8
+    requires { ⌜ (Layout (now s)) × (i < length (nodes (now s))) × (o < 2) × (j < length (text o (getD (nodes (now s)) i no-entry .1))) ⌝ }
+    ensures { λ r. ⌜ r ≡ getD (text o (getD (nodes (now (s .entry))) i no-entry .1)) j 0 ⌝ }
+{
+    s[CELLS + CELL * slot(s, i) + 6 + 32 * o + j]
+}
+
+pub fn set_content(s: &mut [u8], i: usize, b: &[u8])
+    requires { ⌜ (Layout (now s)) × (i < length (nodes (now s))) × (length (now b) ≤ 32) ⌝ }
+    ensures { λ r. ⌜ Kept (now (s .entry)) (now (s .exit)) (modify i (second (with-now (now (b .entry)))) (nodes (now (s .entry)))) ⌝ }
+{
+    let k = slot(s, i);
+    s[CELLS + CELL * k + 4] = b.len() as u8;
+    layout::store(s, CELLS + CELL * k + 6, b);
+}
+
+// The content now is kept as the committed one.
+pub fn save_content(s: &mut [u8], i: usize)
+    requires { ⌜ (Layout (now s)) × (i < length (nodes (now s))) ⌝ }
+    ensures { λ r. ⌜ Kept (now (s .entry)) (now (s .exit)) (modify i (second saved) (nodes (now (s .entry)))) ⌝ }
+{
+    let c = CELLS + CELL * slot(s, i);
+    s[c + 5] = s[c + 4];
+    layout::copy_32(s, c + 6, c + 38);
+}
+
+// The committed content is the content again.
+pub fn restore_content(s: &mut [u8], i: usize)
+    requires { ⌜ (Layout (now s)) × (i < length (nodes (now s))) ⌝ }
+    ensures { λ r. ⌜ Kept (now (s .entry)) (now (s .exit)) (modify i (second restored) (nodes (now (s .entry)))) ⌝ }
+{
+    let c = CELLS + CELL * slot(s, i);
+    s[c + 4] = s[c + 5];
+    layout::copy_32(s, c + 38, c + 6);
+}
+
+// Locks ----------------------------------------------------------------------------------
+
+// The modes that transaction t was granted on the node at i, as a word.
+pub fn lock(s: &[u8], t: usize, i: usize) -> u16
+    requires { ⌜ (Layout (now s)) × (1 ≤ t) × (t ≤ 16) × (i < length (nodes (now s))) ⌝ }
+    ensures { λ r. ⌜ in-word r ≡ getD (nodes (now (s .entry))) i no-entry .1 .held t ⌝ }
+{
+    layout::word(s, LOCKS + 2048 * (t - 1) + 2 * slot(s, i))
+}
+
+pub fn set_lock(s: &mut [u8], t: usize, i: usize, w: u16)
+    requires { ⌜ (Layout (now s)) × (1 ≤ t) × (t ≤ 16) × (i < length (nodes (now s))) ⌝ }
+    ensures { λ r. ⌜ Kept (now (s .entry)) (now (s .exit)) (modify i (second (with-modes t w)) (nodes (now (s .entry)))) ⌝ }
+{
+    let k = slot(s, i);
+    layout::set_word(s, LOCKS + 2048 * (t - 1) + 2 * k, w);
+}
+
+// Transaction t holds nothing.
+pub fn release(s: &mut [u8], t: usize)
+    requires { ⌜ (Layout (now s)) × (1 ≤ t) × (t ≤ 16) ⌝ }
+    ensures { λ r. ⌜ Kept (now (s .entry)) (now (s .exit)) (map (second (released t)) (nodes (now (s .entry)))) ⌝ }
+{
+    layout::clear(s, LOCKS + 2048 * (t - 1), 2048);
+}
+
+// Open transactions ------------------------------------------------------------------------
+
+fn power(m: usize) -> u16
+    requires { ⌜ m < 16 ⌝ }
+    ensures { λ r. ⌜ r ≡ 2 ^ m ⌝ }
+{
+    1 << m
+}
+
+pub fn is_open(s: &[u8], t: usize) -> bool
+    requires { ⌜ (Layout (now s)) × (1 ≤ t) × (t ≤ 16) ⌝ }
+    ensures { λ r. ⌜ r ≡ is-open (now (s .entry)) t ⌝ }
+{
+    (layout::word(s, 8) >> (t - 1)) % 2 == 1
+}
+
+pub fn open(s: &mut [u8], t: usize)
+    requires { ⌜ (Layout (now s)) × (1 ≤ t) × (t ≤ 16) × (is-open (now s) t ≡ false) ⌝ }
+    ensures { λ r. ⌜ Left (now (s .entry)) (now (s .exit)) (λ u. eqb u t || is-open (now (s .entry)) u) (nodes (now (s .entry))) ⌝ }
+{
+    let w = layout::word(s, 8);
+    layout::set_word(s, 8, w ^ power(t - 1));
+}
+
+pub fn close(s: &mut [u8], t: usize)
+    requires { ⌜ (Layout (now s)) × (1 ≤ t) × (t ≤ 16) × (is-open (now s) t ≡ true) ⌝ }
+    ensures { λ r. ⌜ Left (now (s .entry)) (now (s .exit)) (λ u. not (eqb u t) && is-open (now (s .entry)) u) (nodes (now (s .entry))) ⌝ }
+{
+    let w = layout::word(s, 8);
+    layout::set_word(s, 8, w ^ power(t - 1));
+}
+
+// The place of the node numbered n, or the count.
+pub fn find(s: &[u8], n: u16) -> usize
+    requires { ⌜ Layout (now s) ⌝ }
+    ensures { λ r. ⌜ r ≡ first (λ x. eqb (x .1 .now .number) n) (nodes (now (s .entry))) ⌝ }
+{
+    let m = count(s);
+    let mut i: usize = 0;
+    while i < m {
+        if number(s, i) == n {
+            return i;
+        }
+        i += 1;
+    }
+    i
 }

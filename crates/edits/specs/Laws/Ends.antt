@@ -9,7 +9,7 @@ use lib.Dec.{eqb, leb, ltb}
 use borrow.Author.Tests.{lt-ltb, le-ltb, le-leb, lt-leb, leb-true, leb-false, ltb-true, ltb-false}
 use Rattle.tree.specs.Forest.{Forest, nil, node, view}
 use Rattle.tree.specs.Laws.Lists.{map-append}
-use Rattle.table.specs.Flat.{flat, second, prune}
+use Rattle.layout.specs.Flat.{flat, second, prune}
 use Rattle.edits.specs.Rows.{left-out}
 
 -- 0 leaves nothing out; a limit leaves out from its own depth on

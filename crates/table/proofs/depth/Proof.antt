@@ -1,30 +1,22 @@
 use mathlib.Core.Path.{_∙_}
-use Rattle.table.specs.Laws.Fields.{depth-at}
+use Rattle.layout.specs.Laws.Fields.{depth-at}
 use native.Mathlib.Omega.{arith}
 use borrow.Author.Needs.{needs}
 use Rattle.table.proofs.depth.Statement.{statement}
 use Rattle.table.proofs.depth.Tie as tie
-use Rattle.table.proofs.depth.Reads as reads
-use Rattle.table.proofs.depth.Lts as lts
-use Rattle.table.proofs.word.Reads as word-reads
 
--- src/lib.rt:63:23
 mul-word : tie.Need-mul-word
 mul-word c = search needs
 
--- src/lib.rt:63:13
 add-word : tie.Need-add-word
 add-word c = search needs
 
--- src/lib.rt:63:13
 add-word-2 : tie.Need-add-word-2
 add-word-2 c = search needs
 
--- src/lib.rt:63:5
 word-requires : tie.Need-word-requires
 word-requires c κs = search needs
 
--- src/lib.rt:59:1
 returns : tie.Need-returns
 returns c = c .word .ensures ∙ depth-at _ _ (search needs)
 

@@ -9,12 +9,12 @@ use lib.Dec.{eqb, ltb, leb}
 use borrow.Author.Tests.{ltb-true, ltb-false, leb-true, le-leb, eqb-true, eqb-false, eq-eqb, ne-eqb}
 use Rattle.locks.specs.Modes.{Mode, ModeSet, no-mode, in-word, LT, LC, LR, LU, LW, LTT, LRR, LUU, LIR, LIU, LIW, LICW}
 use Rattle.protocol.specs.State.{is-transaction, Marked, none-of}
-use Rattle.table.specs.Lists.{tabulate, modify}
-use Rattle.table.specs.Flat.{second}
-use Rattle.table.specs.Layout.{state-size, cell-at, lock-at, word, part, count, slot, number, cell, held, decode, Entry, entry, nodes, no-entry, Sized, Layout, Kept}
-use Rattle.table.specs.Fields.{with-modes, released}
-use Rattle.table.specs.Laws.Bytes.{Only, only-wider, only-word, put-word, word-put, word-low, word-high, part-low}
-use Rattle.table.specs.Laws.Nodes.{node-at, length-nodes, kept-of}
+use Rattle.layout.specs.Lists.{tabulate, modify}
+use Rattle.layout.specs.Flat.{second}
+use Rattle.layout.specs.Layout.{state-size, cell-at, lock-at, word, part, count, slot, number, cell, held, decode, Entry, entry, nodes, no-entry, Sized, Layout, Kept}
+use Rattle.layout.specs.Fields.{with-modes, released}
+use Rattle.layout.specs.Laws.Bytes.{Filled, Only, only-wider, only-word, put-word, word-put, word-low, word-high, part-low}
+use Rattle.layout.specs.Laws.Nodes.{node-at, length-nodes, kept-of, kept-map}
 
 pub true-not-false {ℓ} : {X : Type ℓ} → true ≡ false → X
 true-not-false h = absurd (let z : _≡_ {A = ℕ} 0 1 = cc in omega arith)
@@ -101,16 +101,50 @@ module _ (s : List ℕ) (t k w : ℕ) (a : 1 ≤ t) (b : t ≤ 16) (l : k < 1024
   lock-cell j c = part-low only (cell-at j) 70 (omega arith)
 
 -- a lock word stored
-pub lock-kept : (s : List ℕ) (t i k w : ℕ) → k ≡ slot s i → Layout s → 1 ≤ t → t ≤ 16 → i < length (nodes s) → Kept s (put-word s (lock-at t k) w) (modify i (second (with-modes t w)) (nodes s))
+pub lock-kept : (s s′ : List ℕ) (t i k w : ℕ) → s′ ≡ put-word s (lock-at t k) w → k ≡ slot s i → Layout s → 1 ≤ t → t ≤ 16 → i < length (nodes s) → Kept s s′ (modify i (second (with-modes t w)) (nodes s))
 unfolding decode
-lock-kept s t i k w e h a b l =
+lock-kept s s′ t i k w q e h a b l =
     let c : i < count s = omega (arith, length-nodes s) in
     let d : k < 1024 = rw e (h .slots i (omega (arith, h .room))) in
     let in-range : (j : ℕ) → j < count s → slot s j < 1024 = λ j x. h .slots j (omega (arith, h .room)) in
-    kept-of (only-word s (lock-at t k) w) (omega arith) h (omega arith) i c (with-modes t w)
+    rw q (kept-of (only-word s (lock-at t k) w) (omega arith) h (omega arith) i c (with-modes t w)
     (rw (← e, lock-cell s t k w a b d (h .size) k d, held-here s t k w a b d (h .size)))
     (λ j x ne. (
       lock-cell s t k w a b d (h .size) (slot s j) (in-range j x),
       held-there s t k w a b d (h .size) (slot s j) (in-range j x) (λ q. ne (h .apart j i (omega (arith, h .room)) (omega (arith, h .room)) (q ∙ e))),
     ))
-    (rw (← e, lock-cell s t k w a b d (h .size) k d) (rw (← e) at (h .sizes i c)))
+    (rw (← e, lock-cell s t k w a b d (h .size) k d) (rw (← e) at (h .sizes i c))))
+
+-- all lock words of t cleared
+module _ (s s′ : List ℕ) (t p₀ : ℕ) (f : Filled p₀ 2048 (λ j. 0) s s′) (e : p₀ ≡ lock-at t 0) (a : 1 ≤ t) (b : t ≤ 16) where
+  released-word : (k : ℕ) → k < 1024 → word s′ (lock-at t k) ≡ 0
+  unfolding word
+  released-word k l =
+      let p : lock-at t k ≡ p₀ + 2 * k = omega arith in
+      let q : p₀ + 2 * k + 1 ≡ p₀ + (2 * k + 1) = omega arith in
+      rw (p, q, f .bytes (2 * k) (omega arith), f .bytes (2 * k + 1) (omega arith))
+
+  kept-word : (u k : ℕ) → 1 ≤ u → k < 1024 → (u ≡ t → ⊥) → word s′ (lock-at u k) ≡ word s (lock-at u k)
+  kept-word u k c l ne = go (ltb u t) refl
+    where
+      go : (x : Bool) → ltb u t ≡ x → word s′ (lock-at u k) ≡ word s (lock-at u k)
+      go true p = word-low (f .only) (lock-at u k) (omega (arith, ltb-true u t p))
+      go false p = word-high (f .only) (lock-at u k) (omega (arith, ltb-false u t p, ne))
+
+  released-held : (k : ℕ) → k < 1024 → held s′ k ≡ none-of t (held s k)
+  unfolding held
+  released-held k l = fun-ext (λ u. go u (eqb u t) refl (is-transaction u) refl)
+    where
+      go : (u : ℕ) (x : Bool) → eqb u t ≡ x → (y : Bool) → is-transaction u ≡ y →
+          cond (is-transaction u) (in-word (word s′ (lock-at u k))) no-mode ≡ cond x no-mode (cond (is-transaction u) (in-word (word s (lock-at u k))) no-mode)
+      go u true p y q = rw (eqb-true u t p, is-transaction-of t a b, released-word k l, no-modes)
+      go u false p true q = rw (q, kept-word u k (transaction-low u q) l (eqb-false u t p))
+      go u false p false q = rw q
+
+  pub released-kept : Layout s → Kept s s′ (map (second (released t)) (nodes s))
+  unfolding decode cell
+  released-kept h =
+      let in-range : (j : ℕ) → j < count s → slot s j < 1024 = λ j x. h .slots j (omega (arith, h .room)) in
+      let same : (j : ℕ) → j < count s → cell s′ (slot s j) ≡ cell s (slot s j) = λ j x. part-low (f .only) (cell-at (slot s j)) 70 (omega (arith, in-range j x)) in
+      kept-map (f .only) (omega arith) h (omega arith) (released t)
+      (λ j x. rw (released-held (slot s j) (in-range j x), same j x)) same

@@ -10,13 +10,13 @@ use lib.Dec.{eqb, ltb}
 use borrow.Author.Tests.{ltb-true, ltb-false, leb-true, eqb-true, eqb-false, eq-eqb, ne-eqb}
 use Rattle.locks.specs.Modes.{ModeSet, no-mode, in-word}
 use Rattle.protocol.specs.State.{is-transaction, Marked}
-use Rattle.table.specs.Lists.{modify}
-use Rattle.table.specs.Flat.{second}
-use Rattle.table.specs.Layout.{state-size, entry-at, cell-at, word, part, count, slot, depth, number, cell, held, decode, Entry, entry, nodes, no-entry, Sized, Layout, Kept}
-use Rattle.table.specs.Fields.{field, with-field}
-use Rattle.table.specs.Laws.Lists.{getD-set-eqb}
-use Rattle.table.specs.Laws.Bytes.{Only, only-set, only-wider, part-at, part-set}
-use Rattle.table.specs.Laws.Nodes.{node-at, length-nodes, length-cell, cell-kept}
+use Rattle.layout.specs.Lists.{modify}
+use Rattle.layout.specs.Flat.{second}
+use Rattle.layout.specs.Layout.{state-size, entry-at, cell-at, word, part, count, slot, depth, number, cell, held, decode, Entry, entry, nodes, no-entry, Sized, Layout, Kept}
+use Rattle.layout.specs.Fields.{field, with-field}
+use Rattle.layout.specs.Laws.Lists.{getD-set-eqb}
+use Rattle.layout.specs.Laws.Bytes.{Only, only-set, only-wider, part-at, part-set}
+use Rattle.layout.specs.Laws.Nodes.{node-at, length-nodes, length-cell, cell-kept}
 
 -- a byte of the cell of the node at place i
 pub cell-byte : (s : List ℕ) (k o : ℕ) → o < 70 → getD s (cell-at k + o) 0 ≡ getD (cell s k) o 0

@@ -9,7 +9,7 @@ use lib.ListN.{length, getD, take, drop, set, length-append, length-take, length
 use lib.Seq.{take-nil, getD-take, getD-drop, ext-getD, getD-set-same, getD-set-other, getD-append-add}
 use lib.Dec.{eqb, ltb, leb}
 use borrow.Author.Tests.{eqb-true, eqb-false, ltb-true, ltb-false, leb-true, leb-false}
-use Rattle.table.specs.Lists.{tabulate, modify, insert}
+use Rattle.layout.specs.Lists.{tabulate, modify, insert}
 
 pub drop-take : {A : Type 0} (m n : ℕ) (l : List A) → drop m (take (m + n) l) ≡ take n (drop m l)
 drop-take zero n l = rw zero-add
@@ -88,6 +88,12 @@ module _ {A : Type 0} where
   modify-tabulate (suc n) zero f f′ g h e k = rw (e, tabulate-same n (λ j. f′ (suc j)) (λ j. f (suc j)) (λ j l. k (suc j) (omega arith) (λ m. omega arith)))
   modify-tabulate (suc n) (suc i) f f′ g h e k =
       rw (k 0 (omega arith) (λ m. omega arith), modify-tabulate n i (λ j. f (suc j)) (λ j. f′ (suc j)) g (omega arith) e (λ j l m. k (suc j) (omega arith) (λ o. m (omega arith))))
+
+-- every element of a rule changed
+pub map-tabulate : {A B : Type 0} (n : ℕ) (f : ℕ → A) (f′ : ℕ → B) (g : A → B) → ((j : ℕ) → j < n → f′ j ≡ g (f j)) → tabulate n f′ ≡ map g (tabulate n f)
+unfolding tabulate
+map-tabulate zero f f′ g h = refl
+map-tabulate (suc n) f f′ g h = rw (h 0 (omega arith), map-tabulate n (λ j. f (suc j)) (λ j. f′ (suc j)) g (λ j l. h (suc j) (omega arith)))
 
 -- bytes after a store, by tests that compute at numerals
 pub getD-set-eqb : (l : List ℕ) (i j v d : ℕ) → i < length l → getD (set l i v) j d ≡ cond (eqb i j) v (getD l j d)

@@ -7,9 +7,9 @@ use native.Mathlib.Omega.{arith}
 use native.Mathlib.Nat.{add-assoc}
 use lib.ListN.{length, getD, take, drop, set, length-append, length-take, length-drop, length-set}
 use lib.Seq.{getD-take, getD-drop, ext-getD, getD-set-same, getD-set-other, length-take-le, drop-set-add, take-set-lt}
-use lib.Dec.{eqb}
-use borrow.Author.Tests.{eqb-true, eqb-false}
-use Rattle.table.specs.Layout.{word, part}
+use lib.Dec.{eqb, ltb, leb}
+use borrow.Author.Tests.{eqb-true, eqb-false, ltb-true, ltb-false, leb-true, leb-false}
+use Rattle.layout.specs.Layout.{word, part}
 
 -- only the n bytes from k on may differ
 pub record Only (k n : ℕ) (s s′ : List ℕ) : Type 0 where
@@ -110,3 +110,18 @@ filled-more k n v s s′ x f h e =
     go j l false p =
         let ne : j ≡ n → ⊥ = eqb-false j n p in
         getD-set-other s′ (k + n) (k + j) x 0 (λ q. ne (omega arith)) ∙ f .bytes j (omega (arith, ne))
+
+pub filled-done : {k : ℕ} {v : ℕ → ℕ} {s s′ : List ℕ} (j n : ℕ) → Filled k j v s s′ → j ≤ n → n ≤ j → Filled k n v s s′
+filled-done {k} {v} {s} {s′} j n f a b = let e : j ≡ n = omega arith in rw e at f
+
+-- a byte that a loop over other bytes has left
+pub filled-far : {k n : ℕ} {v : ℕ → ℕ} {s s′ : List ℕ} (j : ℕ) → Filled k n v s s′ → ((i : ℕ) → i < n → j ≡ k + i → ⊥) → getD s′ j 0 ≡ getD s j 0
+filled-far {k} {n} {v} {s} {s′} j f h = go (ltb j k) refl
+  where
+    go : (t : Bool) → ltb j k ≡ t → getD s′ j 0 ≡ getD s j 0
+    go true p = f .only .low j (ltb-true j k p)
+    go false p = f .only .high j (go₂ (leb (k + n) j) refl (ltb-false j k p))
+      where
+        go₂ : (t : Bool) → leb (k + n) j ≡ t → k ≤ j → k + n ≤ j
+        go₂ true q l = leb-true (k + n) j q
+        go₂ false q l = absurd (h (j - k) (omega (arith, leb-false (k + n) j q)) (omega arith))

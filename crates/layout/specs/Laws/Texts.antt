@@ -11,14 +11,14 @@ use borrow.Author.Tests.{ltb-true, ltb-false}
 use lib.Seq.{getD-set-same, getD-set-other, getD-take, getD-drop, ext-getD, take-take, length-take-le}
 use Rattle.locks.specs.Modes.{ModeSet}
 use Rattle.protocol.specs.State.{Marked}
-use Rattle.table.specs.Lists.{modify}
-use Rattle.table.specs.Flat.{second}
-use Rattle.table.specs.Layout.{state-size, cell-at, part, count, slot, cell, decode, Entry, entry, nodes, no-entry, Sized, Layout, Kept}
-use Rattle.table.specs.Fields.{text, with-text}
-use Rattle.table.specs.Laws.Lists.{modify-same}
-use Rattle.table.specs.Laws.Bytes.{Only, only-set, only-wider, only-then, Filled, part-at, part-same, length-part}
-use Rattle.table.specs.Laws.Nodes.{node-at, length-nodes, length-cell, cell-kept}
-use Rattle.table.specs.Laws.Fields.{cell-byte}
+use Rattle.layout.specs.Lists.{modify}
+use Rattle.layout.specs.Flat.{second}
+use Rattle.layout.specs.Layout.{state-size, cell-at, part, count, slot, cell, decode, Entry, entry, nodes, no-entry, Sized, Layout, Kept}
+use Rattle.layout.specs.Fields.{text, with-text}
+use Rattle.layout.specs.Laws.Lists.{modify-same}
+use Rattle.layout.specs.Laws.Bytes.{Only, only-set, only-wider, only-then, Filled, part-at, part-same, length-part}
+use Rattle.layout.specs.Laws.Nodes.{node-at, length-nodes, length-cell, cell-kept}
+use Rattle.layout.specs.Laws.Fields.{cell-byte}
 
 -- the content in a cell's bytes
 abbrev stored : ℕ → List ℕ → List ℕ
@@ -102,7 +102,7 @@ stored-is o c b l e n x f =
     getD-take (length b) (take 32 (drop (6 + 32 * o) c)) j 0 k ∙ getD-take 32 (drop (6 + 32 * o) c) j 0 (omega arith) ∙ getD-drop (6 + 32 * o) c j 0 ∙ f j k))
 
 -- the size x and n bytes by a rule are stored, of which the first are those of b
-pub text-kept : (s s″ : List ℕ) (i o k x n : ℕ) (v : ℕ → ℕ) (b : List ℕ) → k ≡ slot s i → Layout s → i < length (nodes s) → o < 2 →
+text-kept : (s s″ : List ℕ) (i o k x n : ℕ) (v : ℕ → ℕ) (b : List ℕ) → k ≡ slot s i → Layout s → i < length (nodes s) → o < 2 →
     x ≡ length b → length b ≤ n → n ≤ 32 → Filled (cell-at k + 6 + 32 * o) n v (set s (cell-at k + 4 + o) x) s″ →
     ((j : ℕ) → j < length b → v j ≡ getD b j 0) → Kept s s″ (modify i (second (with-text o b)) (nodes s))
 unfolding part
@@ -138,14 +138,21 @@ text-kept s s″ i o k x n v b e h l q a p w f g =
         part-same (cell s k) (cell s″ k) (38 - 32 * o) 32 (u ∙ sym t)
         (λ j c d. sym (cell-byte s″ k j (omega arith)) ∙ behind j (omega arith) (omega arith) (ltb j (6 + 32 * o)) refl (λ z. omega arith) ∙ cell-byte s k j (omega arith))
 
--- the content o of the node stored as its content q
-pub copied-kept : (s s″ : List ℕ) (i o q k x : ℕ) → k ≡ slot s i → Layout s → i < length (nodes s) → o < 2 → q < 2 → (o ≡ q → ⊥) →
-    x ≡ getD s (cell-at k + 4 + o) 0 →
-    Filled (cell-at k + 6 + 32 * q) 32 (λ j. getD (set s (cell-at k + 4 + q) x) (cell-at k + 6 + 32 * o + j) 0) (set s (cell-at k + 4 + q) x) s″ →
-    Kept s s″ (modify i (second (λ a. with-text q (text o a) a)) (nodes s))
-copied-kept s s″ i o q k x e h l a c ne y f =
+-- the same with its places as the code has them: p that of the size, q that of the bytes
+pub stored-kept : (s s″ : List ℕ) (i o k x p q n : ℕ) (v : ℕ → ℕ) (b : List ℕ) → k ≡ slot s i → Filled q n v (set s p x) s″ → p ≡ cell-at k + 4 + o → q ≡ cell-at k + 6 + 32 * o →
+    Layout s → i < length (nodes s) → o < 2 → x ≡ length b → length b ≤ n → n ≤ 32 → ((j : ℕ) → j < length b → v j ≡ getD b j 0) →
+    Kept s s″ (modify i (second (with-text o b)) (nodes s))
+stored-kept s s″ i o k x p q n v b e f y z h l u w c d g =
+    text-kept s s″ i o k x n v b e h l u w c d (subst (λ (m : ℕ). Filled (cell-at k + 6 + 32 * o) n v (set s m x) s″) y (subst (λ (m : ℕ). Filled m n v (set s p x) s″) z f)) g
+
+-- the content o of the node stored as its content o′, from the places p and q
+pub copied-kept : (s s″ : List ℕ) (i o o′ k p q p′ q′ : ℕ) → k ≡ slot s i →
+    Filled q′ 32 (λ j. getD (set s p′ (getD s p 0)) (q + j) 0) (set s p′ (getD s p 0)) s″ →
+    p ≡ cell-at k + 4 + o → q ≡ cell-at k + 6 + 32 * o → p′ ≡ cell-at k + 4 + o′ → q′ ≡ cell-at k + 6 + 32 * o′ →
+    Layout s → i < length (nodes s) → o < 2 → o′ < 2 → Kept s s″ (modify i (second (λ a. with-text o′ (text o a) a)) (nodes s))
+copied-kept s s″ i o o′ k p q p′ q′ e f y z y′ z′ h l a c =
     let b : List ℕ = text o (getD (nodes s) i no-entry .1) in
-    let t = text-kept s s″ i q k x 32 (λ j. getD (set s (cell-at k + 4 + q) x) (cell-at k + 6 + 32 * o + j) 0) b e h l c
-    (y ∙ size-at s i o k e h l a) (size-small s i o k e h l a) (omega arith) f
-    (λ j z. getD-set-other s (cell-at k + 4 + q) (cell-at k + 6 + 32 * o + j) x 0 (λ w. omega arith) ∙ byte-at s i o k e h l a j z) in
-    subst (λ (ns : List Entry). Kept s s″ ns) (modify-same i (second (with-text q b)) (second (λ a. with-text q (text o a) a)) (nodes s) no-entry refl) t
+    let x : getD s p 0 ≡ length b = ap (λ (m : ℕ). getD s m 0) y ∙ size-at s i o k e h l a in
+    let t = stored-kept s s″ i o′ k (getD s p 0) p′ q′ 32 (λ j. getD (set s p′ (getD s p 0)) (q + j) 0) b e f y′ z′ h l c x (size-small s i o k e h l a) (omega arith)
+    (λ j w. getD-set-other s p′ (q + j) (getD s p 0) 0 (λ r. omega (arith, size-small s i o k e h l a)) ∙ ap (λ (m : ℕ). getD s (m + j) 0) z ∙ byte-at s i o k e h l a j w) in
+    subst (λ (ns : List Entry). Kept s s″ ns) (modify-same i (second (with-text o′ b)) (second (λ a. with-text o′ (text o a) a)) (nodes s) no-entry refl) t

@@ -1,14 +1,14 @@
 -- Where the lent bytes hold what: docs/STATE.md. No other crate names an offset.
-use Prim.Native.Nat.{ℕ, _+_, _*_, _-_, _/_, _%_, _^_, _≤_, _<_}
+use Prim.Native.Nat.{ℕ, _+_, _*_, _-_, _≤_, _<_}
 use mathlib.Core.Path.{_≡_}
 use mathlib.Core.Bool.{Bool, true, false, cond}
 use mathlib.Core.List.{List, [], _∷_}
 use lib.ListN.{length, getD, take, drop}
-use lib.Dec.{eqb}
 use Rattle.tree.specs.Text.{bytes}
 use Rattle.locks.specs.Modes.{ModeSet, no-mode, in-word}
+use Rattle.locks.specs.Words.{bit}
 use Rattle.protocol.specs.State.{is-transaction, Marked, unmarked}
-use Rattle.table.specs.Lists.{tabulate}
+use Rattle.layout.specs.Lists.{tabulate}
 
 -- offsets ----------------------------------------------------------------------------
 
@@ -65,7 +65,7 @@ cell s k = part s (cell-at k) 70
 
 -- bit t-1 for each open transaction t
 unfoldable pub is-open : List ℕ → ℕ → Bool
-is-open s t = cond (is-transaction t) (eqb (word s open-at / 2 ^ (t - 1) % 2) 1) false
+is-open s t = cond (is-transaction t) (bit (word s open-at) (t - 1)) false
 
 -- the modes that a transaction was granted on the node of a slot
 unfoldable pub held : List ℕ → ℕ → ℕ → ModeSet

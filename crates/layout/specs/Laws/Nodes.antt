@@ -9,11 +9,11 @@ use lib.Dec.{eqb, ltb}
 use borrow.Author.Tests.{ltb-true, ltb-false, leb-true, eqb-true, eqb-false, eq-eqb, ne-eqb}
 use Rattle.locks.specs.Modes.{ModeSet, no-mode, in-word}
 use Rattle.protocol.specs.State.{is-transaction, Marked}
-use Rattle.table.specs.Lists.{tabulate, modify}
-use Rattle.table.specs.Flat.{second}
-use Rattle.table.specs.Layout.{state-size, open-at, entry-at, cell-at, lock-at, word, part, count, slot, depth, number, cell, is-open, held, decode, Entry, entry, nodes, no-entry, Sized, Layout, Left, Kept}
-use Rattle.table.specs.Laws.Lists.{length-tabulate, getD-tabulate, tabulate-same, length-modify, modify-tabulate}
-use Rattle.table.specs.Laws.Bytes.{Only, word-low, word-high, part-low, part-high, part-same, drop-high, length-part, part-at, part-set}
+use Rattle.layout.specs.Lists.{tabulate, modify}
+use Rattle.layout.specs.Flat.{second}
+use Rattle.layout.specs.Layout.{state-size, open-at, entry-at, cell-at, lock-at, word, part, count, slot, depth, number, cell, is-open, held, decode, Entry, entry, nodes, no-entry, Sized, Layout, Left, Kept}
+use Rattle.layout.specs.Laws.Lists.{length-tabulate, getD-tabulate, tabulate-same, modify-tabulate, map-tabulate}
+use Rattle.layout.specs.Laws.Bytes.{Only, word-low, word-high, part-low, part-high, part-same, drop-high, length-part, part-at, part-set}
 
 pub length-nodes : (s : List ℕ) → length (nodes s) ≡ count s
 unfolding nodes
@@ -55,18 +55,10 @@ module _ {k n : ℕ} {s s′ : List ℕ} (o : Only k n s s′) (low : cell-at 0 
   unfolding entry
   entry-as i h = rw (same-slot i h, same-depth i h, same-number i h)
 
-  -- one law for every change of one node
-  pub kept-of :
-      Layout s → k + n ≤ state-size → (i : ℕ) → i < count s → (g : Marked → Marked) →
-      decode (number s i) (cell s′ (slot s i)) (held s′ (slot s i)) ≡ g (decode (number s i) (cell s (slot s i)) (held s (slot s i))) →
-      ((j : ℕ) → j < count s → (j ≡ i → ⊥) → (cell s′ (slot s j) ≡ cell s (slot s j)) × (held s′ (slot s j) ≡ held s (slot s j))) →
-      Sized (cell s′ (slot s i)) → Kept s s′ (modify i (second g) (nodes s))
-  unfolding nodes entry
-  kept-of h b i l g here there z =
-      let m : count s ≤ 1024 = h .room in
-      let same : (j : ℕ) → j < count s → (j ≡ i → ⊥) → entry s′ j ≡ entry s j = λ j x y. entry-as j (omega arith) ∙ rw (there j x y .0, there j x y .1) in
-      let e : nodes s′ ≡ modify i (second g) (nodes s) =
-      rw same-count (modify-tabulate (count s) i (entry s) (entry s′) (second g) l (entry-as i (omega arith) ∙ rw here) same) in
+  -- one law for every change of nodes
+  pub kept-all : Layout s → k + n ≤ state-size → (ns : List Entry) → tabulate (count s) (entry s′) ≡ ns → ((j : ℕ) → j < count s → Sized (cell s′ (slot s j))) → Kept s s′ ns
+  unfolding nodes
+  kept-all h b ns e z =
       record {
         layout = record {
           size = rw (o .long) (h .size);
@@ -76,18 +68,44 @@ module _ {k n : ℕ} {s s′ : List ℕ} (o : Only k n s s′) (low : cell-at 0 
           many = length-nodes s′;
           slots = λ j x. rw (same-slot j x) (h .slots j x);
           apart = λ p q x y v. h .apart p q x y (sym (same-slot p x) ∙ v ∙ same-slot q y);
-          sizes = λ j x. size-at j (rw same-count at x) (eqb j i) refl;
+          sizes = λ j x. let y : j < count s = rw same-count at x in rw (same-slot j (omega (arith, h .room))) (z j y);
         };
         long = o .long;
         behind = drop-high o state-size b;
         opens = same-open;
         many = length-nodes s′ ∙ same-count ∙ sym (length-nodes s);
-        nodes = e;
+        nodes = rw same-count e;
       }
+
+  -- of one node
+  pub kept-of :
+      Layout s → k + n ≤ state-size → (i : ℕ) → i < count s → (g : Marked → Marked) →
+      decode (number s i) (cell s′ (slot s i)) (held s′ (slot s i)) ≡ g (decode (number s i) (cell s (slot s i)) (held s (slot s i))) →
+      ((j : ℕ) → j < count s → (j ≡ i → ⊥) → (cell s′ (slot s j) ≡ cell s (slot s j)) × (held s′ (slot s j) ≡ held s (slot s j))) →
+      Sized (cell s′ (slot s i)) → Kept s s′ (modify i (second g) (nodes s))
+  unfolding nodes entry
+  kept-of h b i l g here there z =
+      let m : count s ≤ 1024 = h .room in
+      let same : (j : ℕ) → j < count s → (j ≡ i → ⊥) → entry s′ j ≡ entry s j = λ j x y. entry-as j (omega arith) ∙ rw (there j x y .0, there j x y .1) in
+      kept-all h b (modify i (second g) (nodes s))
+      (modify-tabulate (count s) i (entry s) (entry s′) (second g) l (entry-as i (omega arith) ∙ rw here) same)
+      (λ j x. size-at j x (eqb j i) refl)
     where
-      size-at : (j : ℕ) → j < count s → (t : Bool) → eqb j i ≡ t → Sized (cell s′ (slot s′ j))
-      size-at j x true p = rw (same-slot j (omega (arith, h .room)), eqb-true j i p) z
-      size-at j x false p = rw (same-slot j (omega (arith, h .room)), there j x (eqb-false j i p) .0) (h .sizes j x)
+      size-at : (j : ℕ) → j < count s → (t : Bool) → eqb j i ≡ t → Sized (cell s′ (slot s j))
+      size-at j x true p = rw (eqb-true j i p) z
+      size-at j x false p = rw (there j x (eqb-false j i p) .0) (h .sizes j x)
+
+  -- of every node alike
+  pub kept-map :
+      Layout s → k + n ≤ state-size → (g : Marked → Marked) →
+      ((j : ℕ) → j < count s → decode (number s j) (cell s′ (slot s j)) (held s′ (slot s j)) ≡ g (decode (number s j) (cell s (slot s j)) (held s (slot s j)))) →
+      ((j : ℕ) → j < count s → cell s′ (slot s j) ≡ cell s (slot s j)) → Kept s s′ (map (second g) (nodes s))
+  unfolding nodes entry
+  kept-map h b g here same =
+      let m : count s ≤ 1024 = h .room in
+      kept-all h b (map (second g) (nodes s))
+      (map-tabulate (count s) (entry s) (entry s′) (second g) (λ j x. entry-as j (omega arith) ∙ rw (here j x)))
+      (λ j x. rw (same j x) (h .sizes j x))
 
 -- a store to one cell --------------------------------------------------------------------
 

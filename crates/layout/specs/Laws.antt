@@ -4,3 +4,6 @@ pub mod Nodes
 pub mod Fields
 pub mod Texts
 pub mod Locks
+pub mod Bits
+pub mod Opens
+pub mod First
