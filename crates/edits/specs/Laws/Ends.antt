@@ -10,7 +10,9 @@ use borrow.Author.Tests.{lt-ltb, le-ltb, le-leb, lt-leb, leb-true, leb-false, lt
 use Rattle.tree.specs.Forest.{Forest, nil, node, view}
 use Rattle.tree.specs.Laws.Lists.{map-append}
 use Rattle.layout.specs.Flat.{flat, second, prune}
-use Rattle.edits.specs.Rows.{left-out}
+use Rattle.protocol.specs.State.{Tree, seen-by, settled, undone, unmarked, commit-tree, abort-tree, tree-of}
+use Rattle.tree.specs.Document.{Document}
+use Rattle.edits.specs.Rows.{left-out, not-inserted-by}
 
 -- 0 leaves nothing out; a limit leaves out from its own depth on
 pub left-out-zero : (d : ℕ) → left-out 0 d ≡ false
@@ -67,3 +69,22 @@ module _ {A : Type 0} (shown : A → Bool) where
     flat-view d f =
         let u = view-then 0 d f [] refl in
         sym (ap (λ l. map (second g) (prune shown 0 l)) (sym (append-nil (flat d f))) ∙ u .2 ∙ append-nil (flat d (view shown g f)))
+
+-- the ends of a transaction, and what a document is loaded as
+
+pub commit-rows : (t : ℕ) (f : Tree) → flat 0 (commit-tree t f) ≡ map (second (settled t)) (prune (seen-by t) 0 (flat 0 f))
+unfolding commit-tree
+commit-rows t f = flat-view (seen-by t) (settled t) 0 f
+
+pub abort-rows : (t : ℕ) (f : Tree) → flat 0 (abort-tree t f) ≡ map (second (undone t)) (prune (not-inserted-by t) 0 (flat 0 f))
+unfolding abort-tree
+abort-rows t f = flat-view (not-inserted-by t) (undone t) 0 f
+
+prune-all : {A : Type 0} (l : List (ℕ × A)) → prune (λ a. true) 0 l ≡ l
+unfolding prune
+prune-all [] = refl
+prune-all (x ∷ l) = ap (λ k. x ∷ k) (prune-all l)
+
+pub load-rows : (d : Document) → flat 0 (tree-of d) ≡ map (second unmarked) (flat 0 d)
+unfolding tree-of
+load-rows d = flat-view (λ a. true) unmarked 0 d ∙ ap (map (second unmarked)) (prune-all (flat 0 d))
