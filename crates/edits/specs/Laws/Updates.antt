@@ -1,0 +1,33 @@
+-- A change of each node alone, and a change of the node with a number.
+use mathlib.Core.Path.{_≡_, refl, sym, ap, _∙_}
+use Prim.Native.Nat.{ℕ, suc, _<_}
+use mathlib.Core.Bool.{Bool, true, false, cond}
+use mathlib.Core.List.{List, [], _∷_, _++_, map}
+use lib.ListN.{length, getD}
+use lib.Dec.{eqb}
+use Rattle.tree.specs.Forest.{Forest, nil, node, Row, amend}
+use Rattle.tree.specs.Laws.Lists.{map-append, map-same}
+use Rattle.protocol.specs.State.{Marked, Tree, numbered, mark, mark-node}
+use Rattle.layout.specs.Lists.{modify}
+use Rattle.layout.specs.Flat.{flat, second}
+use Rattle.layout.specs.Layout.{Entry, no-entry}
+use Rattle.edits.specs.Rows.{row-number, number-at, Unique}
+use Rattle.edits.specs.Laws.Unique.{by-key-one}
+
+-- a change of each node that looks at the node alone
+pub flat-amend : {A K : Type 0} (key : A → K) (g : A → A) (p : List K) (d : ℕ) (f : Forest A) → flat d (amend key (λ r. g (r .it)) p f) ≡ map (second g) (flat d f)
+unfolding flat amend
+flat-amend key g p d nil = refl
+flat-amend key g p d (node a ks fs) = rw (flat-amend key g (key a ∷ p) (suc d) ks, flat-amend key g p d fs, map-append (second g) (flat (suc d) ks) (flat d fs))
+
+-- a change of the node numbered n: U with what it writes, D with its mark
+pub mark-node-rows : (n : ℕ) (g : Marked → Marked) (f : Tree) (p : ℕ) → Unique (flat 0 f) → p < length (flat 0 f) → number-at (flat 0 f) p ≡ n
+    → flat 0 (mark-node n g f) ≡ modify p (second g) (flat 0 f)
+mark-node-rows n g f p u h e =
+    flat-amend (λ a. a) (λ a. cond (numbered n a) (g a) a) [] 0 f
+    ∙ map-same (second (λ a. cond (numbered n a) (g a) a)) (λ x. cond (eqb (row-number x) n) (second g x) x) (flat 0 f) (λ x m. inside (numbered n (x .1)) x)
+    ∙ by-key-one row-number (second g) n (flat 0 f) p no-entry u h e
+  where
+    inside : (b : Bool) (x : Entry) → second (λ a. cond b (g a) a) x ≡ cond b (second g x) x
+    inside true x = refl
+    inside false x = refl
