@@ -9,10 +9,11 @@ use borrow.Author.Tests.{eqb-true, eq-eqb}
 use Rattle.tree.specs.Lists.{has}
 use Rattle.tree.specs.Document.{Document}
 use Rattle.tree.specs.Steps.{Step, after}
+use Rattle.tree.specs.Laws.Tests.{or-cases}
 use Rattle.locks.specs.Laws.Compatible.{compatible-symmetric}
 use Rattle.commute.specs.Laws.Lines.{Unique}
 use Rattle.commute.specs.Laws.Classes.{Absent}
-use Rattle.commute.specs.Laws.Runs.{Entry, Valid, Run, run-split, run-append, unique-run, Clear, All-clear, Other-numbers, Brings-once}
+use Rattle.commute.specs.Laws.Runs.{Entry, Valid, Run, run-split, run-append, unique-run, Clear, All-clear, Other-numbers, Brings-once, All-absent}
 use Rattle.commute.specs.Laws.Orders.{Permutation, permuted-has, permuted-distinct, permutation-back, to-back, Distinct, distinct-head, distinct-tail, distinct-cons, logs, logs-append, Apart, None-there, rest-not-there, any-order}
 
 -- the transactions a, run one after another in this order on d, give every step its answer and its locks, and leave h
@@ -64,6 +65,61 @@ abort d t a log h s =
         run = g .1;
       },
     )
+
+-- transactions without entries ---------------------------------------------------------------------
+
+-- the log of t is emptied
+abbrev pub emptied : ℕ → (ℕ → List Entry) → ℕ → List Entry
+emptied t log v = cond (eqb v t) [] (log v)
+
+pub in-emptied : (t : ℕ) (log : ℕ → List Entry) (v : ℕ) {y : Entry} → List·Memᴰ y (emptied t log v) → List·Memᴰ y (log v)
+in-emptied t log v {y} m = go (eqb v t) m
+  where
+    go : (e : Bool) → List·Memᴰ y (cond e [] (log v)) → List·Memᴰ y (log v)
+    go true i = absurd (List·Memᴰ·not-nil i)
+    go false i = i
+
+pub apart-emptied : (t : ℕ) (log : ℕ → List Entry) → Apart log → Apart (emptied t log)
+apart-emptied t log s = record { clear = λ u v ne y z i j. s .clear u v ne y z (in-emptied t log u i) (in-emptied t log v j); once = once }
+  where
+    once : (v : ℕ) → Brings-once (emptied t log v)
+    once v = go (eqb v t)
+      where
+        go : (e : Bool) → Brings-once (cond e [] (log v))
+        go true = tt
+        go false = s .once v
+
+logs-emptied : (t : ℕ) (log : ℕ → List Entry) (a : List ℕ) → has t a ≡ false → logs (emptied t log) a ≡ logs log a
+logs-emptied t log [] h = refl
+logs-emptied t log (v ∷ a) h = go (eqb v t) h (λ i. logs-emptied t log a i)
+  where
+    go : (e : Bool) → (e || has t a) ≡ false → (has t a ≡ false → logs (emptied t log) a ≡ logs log a) → cond e [] (log v) ++ logs (emptied t log) a ≡ log v ++ logs log a
+    go true i f = absurd (true≢false i)
+    go false i f = rw (f i)
+
+-- the log of a transaction that is not among them does not matter
+pub forget : (d : Document) (t : ℕ) (a : List ℕ) (log : ℕ → List Entry) (h : Document) → has t a ≡ false → Serial d a log h → Serial d a (emptied t log) h
+forget d t a log h w s = record {
+  unique = s .unique;
+  distinct = s .distinct;
+  apart = apart-emptied t log (s .apart);
+  none-there = λ v i y m. s .none-there v i y (in-emptied t log v m);
+  run = rw (logs-emptied t log a w) (s .run);
+}
+
+-- a transaction with an empty log may stand among them
+pub idle : (d : Document) (t : ℕ) (a : List ℕ) (log : ℕ → List Entry) (h : Document) → has t a ≡ false → log t ≡ [] → Serial d a log h → Serial d (t ∷ a) log h
+idle d t a log h w e s = record {
+  unique = s .unique;
+  distinct = distinct-cons t a w (s .distinct);
+  apart = s .apart;
+  none-there = λ v i. go v (or-cases (eqb t v) (has v a) i);
+  run = rw e (s .run);
+}
+  where
+    go : (v : ℕ) → (eqb t v ≡ true) ⊎ (has v a ≡ true) → All-absent (log v) d
+    go v (inl i) y m = absurd (List·Memᴰ·not-nil (rw (← eqb-true t v i, e) at m))
+    go v (inr i) y m = s .none-there v i y m
 
 -- a granted step ---------------------------------------------------------------------------------
 

@@ -1,0 +1,6 @@
+pub mod NodeAt
+pub mod Up
+pub mod Seen
+pub mod Find
+pub mod Subtree
+pub mod Children
