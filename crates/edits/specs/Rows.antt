@@ -1,17 +1,33 @@
--- What the loops over the rows leave: document order, each node with its depth.
+-- What the loops over the rows leave: the rows are the nodes held in document order, each with its depth.
 use Prim.Native.Nat.{ℕ, zero, suc, _+_, _-_, _<_}
 use mathlib.Core.Bool.{Bool, true, false, cond, not, _&&_}
-use mathlib.Core.List.{List, [], _∷_, _++_, map}
-use lib.ListN.{getD, take, drop}
+use mathlib.Core.List.{List, [], _∷_, _++_, map, List·Memᴰ}
+use lib.ListN.{length}
 use lib.Dec.{eqb, leb, ltb}
-use Rattle.tree.specs.Lists.{distinct}
 use Rattle.locks.specs.Modes.{Mode, union, among}
-use Rattle.locks.specs.Needs.{Need}
+use Rattle.locks.specs.Needs.{Need, Lock}
+use Rattle.protocol.specs.State.{Marked, granted-to}
 use Rattle.layout.specs.Lists.{modify}
 use Rattle.layout.specs.Flat.{second}
-use Rattle.layout.specs.Layout.{Entry, no-entry}
-use mathlib.Core.Path.{_≡_}
-use Rattle.protocol.specs.State.{Marked}
+use Rattle.layout.specs.Layout.{Entry}
+use Rattle.lookup.specs.Places.{item, number-of}
+
+-- the numbers ------------------------------------------------------------------------------
+
+abbrev pub row-number : Entry → ℕ
+row-number x = number-of (x .1)
+
+abbrev pub row-numbers : List Entry → List ℕ
+row-numbers l = map row-number l
+
+abbrev pub number-at : List Entry → ℕ → ℕ
+number-at l i = number-of (item l i)
+
+-- every place is one of the rows
+abbrev pub Inside : List ℕ → List Entry → Type 0
+Inside is l = (i : ℕ) → List·Memᴰ i is → i < length l
+
+-- ends of transactions -----------------------------------------------------------------------
 
 -- a row of this depth is left out: it lies below one that was; `below` is the least depth left out now, 0 for none
 abbrev pub left-out : ℕ → ℕ → Bool
@@ -21,31 +37,7 @@ left-out below depth = ltb 0 below && leb below depth
 abbrev pub not-inserted-by : ℕ → Marked → Bool
 not-inserted-by t a = not (eqb (a .inserter) t)
 
--- the number of a row, and of the row at a place
-abbrev pub row-number : Entry → ℕ
-row-number x = x .1 .now .number
-
-abbrev pub number-at : List Entry → ℕ → ℕ
-number-at l i = row-number (getD l i no-entry)
-
-abbrev pub row-numbers : List Entry → List ℕ
-row-numbers l = map row-number l
-
--- no two rows have one number
-abbrev pub Unique : List Entry → Type 0
-Unique l = distinct (row-numbers l) ≡ true
-
--- the places are below n
-abbrev pub Below : ℕ → List ℕ → Type 0
-Below n [] = Unit {0}
-Below n (i ∷ is) = (i < n) × Below n is
-
--- one change at each place, in order
-unfoldable pub modify-each : {A : Type 0} → List ℕ → (A → A) → List A → List A
-modify-each [] g l = l
-modify-each (i ∷ is) g l = modify-each is g (modify i g l)
-
--- locks ----------------------------------------------------------------------------------
+-- locks ----------------------------------------------------------------------------------------
 
 -- t is granted these modes on a node
 abbrev pub granted-modes : ℕ → List Mode → Marked → Marked
@@ -58,7 +50,16 @@ granted-modes t ms a = record {
   held = λ u. cond (eqb u t) (union (a .held u) (among ms)) (a .held u);
 }
 
--- these on the first place, those on each of the others
+-- t is granted these locks, wherever a row has their numbers
+abbrev pub all-granted : ℕ → List Lock → List Entry → List Entry
+all-granted t ls l = map (second (granted-to t ls)) l
+
+-- one change at each place, in order
+unfoldable pub modify-each : {A : Type 0} → List ℕ → (A → A) → List A → List A
+modify-each [] g l = l
+modify-each (i ∷ is) g l = modify-each is g (modify i g l)
+
+-- the parent's modes on the first place, those above the parent on each of the others
 unfoldable pub granted-up : ℕ → Need → List ℕ → List Entry → List Entry
 granted-up t w [] l = l
 granted-up t w (i ∷ is) l = modify-each is (second (granted-modes t (w .above))) (modify i (second (granted-modes t (w .parent))) l)

@@ -2,7 +2,7 @@
 use mathlib.Core.Path.{_≡_, refl, sym, ap, _∙_, fun-ext}
 use Prim.Native.Nat.{ℕ, zero, suc, _<_}
 use mathlib.Core.Bool.{Bool, true, false, cond, _||_, or-false}
-use mathlib.Core.List.{List, [], _∷_, _++_, map}
+use mathlib.Core.List.{List, [], _∷_, _++_, map, List·Memᴰ, List·Memᴰ·head, List·Memᴰ·tail}
 use native.Mathlib.Omega.{arith}
 use lib.ListN.{length, getD}
 use lib.Dec.{eqb}
@@ -18,7 +18,8 @@ use Rattle.layout.specs.Lists.{modify}
 use Rattle.layout.specs.Flat.{flat, second}
 use Rattle.layout.specs.Layout.{Entry, no-entry}
 use Rattle.layout.specs.Laws.Lists.{length-modify}
-use Rattle.edits.specs.Rows.{row-number, row-numbers, number-at, Unique, Below, modify-each, granted-modes, granted-up, granted-way}
+use Rattle.lookup.specs.Places.{unique}
+use Rattle.edits.specs.Rows.{Inside, all-granted, row-number, row-numbers, number-at, modify-each, granted-modes, granted-up, granted-way}
 use Rattle.edits.specs.Laws.Unique.{Lacks, by-key-none, by-key-one, lacks-at}
 use Rattle.edits.specs.Laws.Updates.{flat-amend, numbers-modify, number-same}
 
@@ -94,17 +95,14 @@ module _ (t : ℕ) where
 
   -- rows -----------------------------------------------------------------------------------
 
-  abbrev all-granted : List Lock → List Entry → List Entry
-  all-granted ls l = map (second (granted-to t ls)) l
-
-  pub grant-rows : (ls : List Lock) (f : Tree) → flat 0 (grant t ls f) ≡ all-granted ls (flat 0 f)
+  pub grant-rows : (ls : List Lock) (f : Tree) → flat 0 (grant t ls f) ≡ all-granted t ls (flat 0 f)
   unfolding grant
   grant-rows ls f = flat-amend (λ a. a) (granted-to t ls) [] 0 f
 
-  rows-append : (ls ks : List Lock) (l : List Entry) → all-granted (ls ++ ks) l ≡ all-granted ks (all-granted ls l)
+  rows-append : (ls ks : List Lock) (l : List Entry) → all-granted t (ls ++ ks) l ≡ all-granted t ks (all-granted t ls l)
   rows-append ls ks l = sym (map-map (second (granted-to t ks)) (second (granted-to t ls)) (second (granted-to t (ls ++ ks))) l (λ x m. ap (λ a. (x .0, a)) (sym (granted-append ls ks (x .1)))))
 
-  rows-each : (ms : List Mode) (q : ℕ) (l : List Entry) → all-granted (each ms q) l ≡ map (λ x. cond (eqb (row-number x) q) (second (granted-modes t ms) x) x) l
+  rows-each : (ms : List Mode) (q : ℕ) (l : List Entry) → all-granted t (each ms q) l ≡ map (λ x. cond (eqb (row-number x) q) (second (granted-modes t ms) x) x) l
   rows-each ms q l = map-same _ _ l (λ x m. ap (λ a. (x .0, a)) (granted-each ms q (x .1)) ∙ inside (numbered q (x .1)) x)
     where
       inside : (b : Bool) (x : Entry) → (x .0, cond b (granted-modes t ms (x .1)) (x .1)) ≡ cond b (second (granted-modes t ms) x) x
@@ -112,11 +110,11 @@ module _ (t : ℕ) where
       inside false x = refl
 
   -- locks on the row at a place, and on a number that no row has
-  pub rows-at : (ms : List Mode) (q : ℕ) (l : List Entry) (i : ℕ) → Unique l → i < length l → number-at l i ≡ q
-      → all-granted (each ms q) l ≡ modify i (second (granted-modes t ms)) l
+  pub rows-at : (ms : List Mode) (q : ℕ) (l : List Entry) (i : ℕ) → unique l ≡ true → i < length l → number-at l i ≡ q
+      → all-granted t (each ms q) l ≡ modify i (second (granted-modes t ms)) l
   rows-at ms q l i u h e = rows-each ms q l ∙ by-key-one row-number (second (granted-modes t ms)) q l i no-entry u h e
 
-  pub rows-absent : (ms : List Mode) (q : ℕ) (l : List Entry) → Lacks row-number q l → all-granted (each ms q) l ≡ l
+  pub rows-absent : (ms : List Mode) (q : ℕ) (l : List Entry) → Lacks row-number q l → all-granted t (each ms q) l ≡ l
   rows-absent ms q l h = rows-each ms q l ∙ by-key-none row-number (second (granted-modes t ms)) q l h
 
   -- of the places, one after another
@@ -126,58 +124,58 @@ module _ (t : ℕ) where
   numbers-same : (l k : List Entry) (is : List ℕ) → row-numbers l ≡ row-numbers k → map (number-at l) is ≡ map (number-at k) is
   numbers-same l k is e = map-same (number-at l) (number-at k) is (λ i m. number-same l k i e)
 
-  below-same : {n m : ℕ} (is : List ℕ) → n ≡ m → Below n is → Below m is
-  below-same is e h = rw (← e) h
+  inside-modify : (g : Entry → Entry) (i : ℕ) (is : List ℕ) (l : List Entry) → Inside is l → Inside is (modify i g l)
+  inside-modify g i is l b j m = rw (length-modify i g l) (b j m)
 
-  rows-nil : (l : List Entry) → all-granted [] l ≡ l
+  rows-nil : (l : List Entry) → all-granted t [] l ≡ l
   rows-nil l = map-self (second (granted-to t [])) l (λ x m. ap (λ a. (x .0, a)) (granted-none (x .1)))
 
-  rows-every-one : (ms : List Mode) (is : List ℕ) (l : List Entry) → Unique l → Below (length l) is
-      → all-granted (every-one ms (map (number-at l) is)) l ≡ modify-each is (second (granted-modes t ms)) l
+  rows-every-one : (ms : List Mode) (is : List ℕ) (l : List Entry) → unique l ≡ true → Inside is l
+      → all-granted t (every-one ms (map (number-at l) is)) l ≡ modify-each is (second (granted-modes t ms)) l
   unfolding modify-each
   rows-every-one ms [] l u b = rows-nil l
   rows-every-one ms (i ∷ is) l u b =
       let k : List Entry = modify i (second (granted-modes t ms)) l in
       let e : row-numbers k ≡ row-numbers l = grant-keeps ms i l in
       rows-append (each ms (number-at l i)) (every-one ms (map (number-at l) is)) l
-      ∙ rw (rows-at ms (number-at l i) l i u (b .0) refl, ← numbers-same k l is e)
-      (rows-every-one ms is k (rw e u) (below-same is (sym (length-modify i (second (granted-modes t ms)) l)) (b .1)))
+      ∙ rw (rows-at ms (number-at l i) l i u (b i (List·Memᴰ·head refl)) refl, ← numbers-same k l is e)
+      (rows-every-one ms is k (rw e u) (inside-modify (second (granted-modes t ms)) i is l (λ j m. b j (List·Memᴰ·tail m))))
 
-  rows-up : (w : Need) (is : List ℕ) (l : List Entry) → Unique l → Below (length l) is → all-granted (up w (map (number-at l) is)) l ≡ granted-up t w is l
+  rows-up : (w : Need) (is : List ℕ) (l : List Entry) → unique l ≡ true → Inside is l → all-granted t (up w (map (number-at l) is)) l ≡ granted-up t w is l
   unfolding granted-up
   rows-up w [] l u b = rows-nil l
   rows-up w (i ∷ is) l u b =
       let k : List Entry = modify i (second (granted-modes t (w .parent))) l in
       let e : row-numbers k ≡ row-numbers l = grant-keeps (w .parent) i l in
       rows-append (each (w .parent) (number-at l i)) (every-one (w .above) (map (number-at l) is)) l
-      ∙ rw (rows-at (w .parent) (number-at l i) l i u (b .0) refl, ← numbers-same k l is e)
-      (rows-every-one (w .above) is k (rw e u) (below-same is (sym (length-modify i (second (granted-modes t (w .parent))) l)) (b .1)))
+      ∙ rw (rows-at (w .parent) (number-at l i) l i u (b i (List·Memᴰ·head refl)) refl, ← numbers-same k l is e)
+      (rows-every-one (w .above) is k (rw e u) (inside-modify (second (granted-modes t (w .parent))) i is l (λ j m. b j (List·Memᴰ·tail m))))
 
-  rows-new : (ms : List Mode) (qs : List ℕ) (l : List Entry) → any (λ q. has q (row-numbers l)) qs ≡ false → all-granted (every-one ms qs) l ≡ l
+  rows-new : (ms : List Mode) (qs : List ℕ) (l : List Entry) → any (λ q. has q (row-numbers l)) qs ≡ false → all-granted t (every-one ms qs) l ≡ l
   rows-new ms [] l h = rows-nil l
   rows-new ms (q ∷ qs) l h =
       rows-append (each ms q) (every-one ms qs) l
       ∙ rw (rows-absent ms q l (or-left _ _ h)) (rows-new ms qs l (or-right (has q (row-numbers l)) _ h))
 
-  numbers-granted : (ls : List Lock) (l : List Entry) → row-numbers (all-granted ls l) ≡ row-numbers l
+  numbers-granted : (ls : List Lock) (l : List Entry) → row-numbers (all-granted t ls l) ≡ row-numbers l
   numbers-granted ls l = map-map row-number (second (granted-to t ls)) row-number l (λ x m. refl)
 
   -- THE LAW: the locks of a step, along the way up
-  module _ (s : Step) (l : List Entry) (i : ℕ) (is : List ℕ) (u : Unique l) (h : i < length l) (e : number-at l i ≡ target s) (b : Below (length l) is)
+  module _ (s : Step) (l : List Entry) (i : ℕ) (is : List ℕ) (u : unique l ≡ true) (h : i < length l) (e : number-at l i ≡ target s) (b : Inside is l)
       (new : any (λ q. has q (row-numbers l)) (brings s) ≡ false) where
-    pub rows-locks : all-granted (locks s (map (number-at l) is)) l ≡ granted-way t (need s) i is l
+    pub rows-locks : all-granted t (locks s (map (number-at l) is)) l ≡ granted-way t (need s) i is l
     unfolding locks granted-way
     rows-locks =
         let w : Need = need s in
         let ns : List ℕ = map (number-at l) is in
         let k : List Entry = modify i (second (granted-modes t (w .node))) l in
         let f : row-numbers k ≡ row-numbers l = grant-keeps (w .node) i l in
-        let v : all-granted (up w ns) k ≡ granted-up t w is k =
-        rw (← numbers-same k l is f) (rows-up w is k (rw f u) (below-same is (sym (length-modify i (second (granted-modes t (w .node))) l)) b)) in
+        let v : all-granted t (up w ns) k ≡ granted-up t w is k =
+        rw (← numbers-same k l is f) (rows-up w is k (rw f u) (inside-modify (second (granted-modes t (w .node))) i is l b)) in
         rows-append (each (w .node) (target s)) (up w ns ++ every-one (w .new) (brings s)) l
-        ∙ ap (all-granted (up w ns ++ every-one (w .new) (brings s))) (rows-at (w .node) (target s) l i u h e)
+        ∙ ap (all-granted t (up w ns ++ every-one (w .new) (brings s))) (rows-at (w .node) (target s) l i u h e)
         ∙ rows-append (up w ns) (every-one (w .new) (brings s)) k
-        ∙ rows-new (w .new) (brings s) (all-granted (up w ns) k) (rw (numbers-granted (up w ns) k, f) new)
+        ∙ rows-new (w .new) (brings s) (all-granted t (up w ns) k) (rw (numbers-granted (up w ns) k, f) new)
         ∙ v
 
   -- the new node of an insertion: only the locks on its own number

@@ -11,7 +11,8 @@ use Rattle.protocol.specs.State.{Marked, Tree, numbered, mark, mark-node}
 use Rattle.layout.specs.Lists.{modify}
 use Rattle.layout.specs.Flat.{flat, second}
 use Rattle.layout.specs.Layout.{Entry, no-entry}
-use Rattle.edits.specs.Rows.{row-number, row-numbers, number-at, Unique}
+use Rattle.lookup.specs.Places.{unique}
+use Rattle.edits.specs.Rows.{row-number, row-numbers, number-at}
 use Rattle.edits.specs.Laws.Unique.{by-key-one}
 
 -- a change of each node that looks at the node alone
@@ -32,7 +33,7 @@ pub number-same : (l k : List Entry) (i : ℕ) → row-numbers l ≡ row-numbers
 number-same l k i e = sym (List·getD-map row-number l i no-entry) ∙ ap (λ (ns : List ℕ). getD ns i (row-number no-entry)) e ∙ List·getD-map row-number k i no-entry
 
 -- a change of the node numbered n: U with what it writes, D with its mark
-pub mark-node-rows : (n : ℕ) (g : Marked → Marked) (f : Tree) (p : ℕ) → Unique (flat 0 f) → p < length (flat 0 f) → number-at (flat 0 f) p ≡ n
+pub mark-node-rows : (n : ℕ) (g : Marked → Marked) (f : Tree) (p : ℕ) → unique (flat 0 f) ≡ true → p < length (flat 0 f) → number-at (flat 0 f) p ≡ n
     → flat 0 (mark-node n g f) ≡ modify p (second g) (flat 0 f)
 mark-node-rows n g f p u h e =
     flat-amend (λ a. a) (λ a. cond (numbered n a) (g a) a) [] 0 f
