@@ -1,14 +1,16 @@
 -- The subtree of a row of a forest, with the rows before and behind it; an edit that reaches only into it.
 use mathlib.Core.Path.{_≡_, refl, sym, ap, _∙_}
-use Prim.Native.Nat.{ℕ, zero, suc, _+_}
+use Prim.Native.Nat.{ℕ, zero, suc, _+_, _≤_}
 use mathlib.Core.Bool.{Bool, true, false, cond, _||_}
-use mathlib.Core.List.{List, [], _∷_, _++_, map, append-assoc}
+use mathlib.Core.List.{List, [], _∷_, _++_, map, append-assoc, append-nil}
+use native.Mathlib.Omega.{arith}
 use Rattle.tree.specs.Lists.{any}
 use Rattle.tree.specs.Forest.{Forest, nil, node, Row, row, amend, place, put}
 use Rattle.tree.specs.Laws.Tests.{or-left, or-right}
 use Rattle.tree.specs.Laws.Rows.{In, self, inner, later}
 use Rattle.layout.specs.Flat.{flat}
-use Rattle.lookup.specs.Laws.NodeAt.{nodes-of, none-first, none-second}
+use Rattle.lookup.specs.Places.{below}
+use Rattle.lookup.specs.Laws.NodeAt.{below-none, nodes-of, none-first, none-second}
 
 within : {X : Type 0} (b l z w : List X) (y : X) → (b ++ (y ∷ (l ++ z))) ++ w ≡ b ++ (y ∷ (l ++ (z ++ w)))
 within b l z w y = append-assoc b (y ∷ (l ++ z)) w ∙ ap (λ k. b ++ (y ∷ k)) (append-assoc l z w)
@@ -49,6 +51,24 @@ module _ {A : Type 0} where
   split d {r} (inner {a = a} {fs = fs} m) =
       ap (λ k. (d, a) ∷ k) (ap (λ k. k ++ flat d fs) (split (suc d) m) ∙ within (before (suc d) m) (flat (suc (depth-of (suc d) m)) (kids m)) (behind (suc d) m) (flat d fs) _)
   split d (later {a = a} {ks = ks} m) = ap (λ k. (d, a) ∷ k) (ap (λ k. flat (suc d) ks ++ k) (split d m) ∙ sym (append-assoc (flat (suc d) ks) (before d m) _))
+
+  deep : (d : ℕ) {r : Row A A} {p : List A} {f : Forest A} (m : RowOf r p f) → d ≤ depth-of d m
+  unfolding depth-of
+  deep d (self e) = omega arith
+  deep d (inner m) = omega (arith, deep (suc d) m)
+  deep d (later m) = deep d m
+
+  -- no row behind the subtree lies below the row
+  stops-then : (d e : ℕ) {r : Row A A} {p : List A} {f : Forest A} (m : RowOf r p f) (t : List (ℕ × A)) → depth-of d m ≤ e → below e t ≡ [] → below e (behind d m ++ t) ≡ []
+  unfolding depth-of behind
+  stops-then d e (self {fs = fs} q) t h k = below-none e d fs t h k
+  stops-then d e (inner {fs = fs} m) t h k =
+      rw (append-assoc (behind (suc d) m) (flat d fs) t) (stops-then (suc d) e m (flat d fs ++ t) h (below-none e d fs t (omega (arith, deep (suc d) m)) k))
+  stops-then d e (later m) t h k = stops-then d e m t h k
+
+  pub stops : (d : ℕ) {r : Row A A} {p : List A} {f : Forest A} (m : RowOf r p f) → below (depth-of d m) (behind d m) ≡ []
+  unfolding below
+  stops d m = ap (below (depth-of d m)) (sym (append-nil (behind d m))) ∙ stops-then d (depth-of d m) m [] (omega arith) refl
 
   -- no row of the forest, nor above it, has a node that passes
   abbrev Nowhere : (A → Bool) → List (ℕ × A) → Type 0

@@ -49,6 +49,14 @@ module _ {A : Type 0} (key : A → ℕ) where
   lacks-at n (x ∷ l) zero d h k e = eqb-false (key x) n (or-left _ _ h) e
   lacks-at n (x ∷ l) (suc i) d h k e = lacks-at n l i d (or-right (eqb (key x) n) _ h) (omega arith) e
 
+  -- two places with one key are one place
+  pub place-one : (l : List A) (i j : ℕ) (d : A) → Distinct l → i < length l → j < length l → key (getD l i d) ≡ key (getD l j d) → i ≡ j
+  place-one [] i j d u h k e = absurd (omega arith)
+  place-one (x ∷ l) zero zero d u h k e = refl
+  place-one (x ∷ l) zero (suc j) d u h k e = absurd (lacks-at (key x) l j d (distinct-head x l u .0) (omega arith) (sym e))
+  place-one (x ∷ l) (suc i) zero d u h k e = absurd (lacks-at (key x) l i d (distinct-head x l u .0) (omega arith) e)
+  place-one (x ∷ l) (suc i) (suc j) d u h k e = ap suc (place-one l i j d (distinct-head x l u .1) (omega arith) (omega arith) e)
+
   -- the one with a key, by what stands before and behind it
   pub distinct-split : (l : List A) (x : A) (k : List A) → Distinct (l ++ x ∷ k) → Lacks (key x) l × Lacks (key x) k
   distinct-split [] x k h = (refl, distinct-head x k h .0)
