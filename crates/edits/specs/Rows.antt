@@ -2,15 +2,16 @@
 use Prim.Native.Nat.{ℕ, zero, suc, _+_, _-_, _<_}
 use mathlib.Core.Bool.{Bool, true, false, cond, not, _&&_}
 use mathlib.Core.List.{List, [], _∷_, _++_, map, List·Memᴰ}
-use lib.ListN.{length}
+use lib.ListN.{length, getD, take, drop}
 use lib.Dec.{eqb, leb, ltb}
+use Rattle.tree.specs.Steps.{is-named}
 use Rattle.locks.specs.Modes.{Mode, union, among}
 use Rattle.locks.specs.Needs.{Need, Lock}
-use Rattle.protocol.specs.State.{Marked, granted-to}
+use Rattle.protocol.specs.State.{Marked, seen-by, written-by, granted-to}
 use Rattle.layout.specs.Lists.{modify}
 use Rattle.layout.specs.Flat.{second}
-use Rattle.layout.specs.Layout.{Entry}
-use Rattle.lookup.specs.Places.{item, number-of}
+use Rattle.layout.specs.Layout.{Entry, no-entry}
+use Rattle.lookup.specs.Places.{depth, item, number-of}
 
 -- the numbers ------------------------------------------------------------------------------
 
@@ -67,3 +68,23 @@ granted-up t w (i ∷ is) l = modify-each is (second (granted-modes t (w .above)
 -- the locks of a step on the node at i, whose proper ancestors stand at the places is, the parent first
 unfoldable pub granted-way : ℕ → Need → ℕ → List ℕ → List Entry → List Entry
 granted-way t w i is l = granted-up t w is (modify i (second (granted-modes t (w .node))) l)
+
+-- a change below a node ------------------------------------------------------------------------
+
+-- of the rows behind a node at depth top: those below it that are shown are changed by g, not those below one that is not shown, until one
+-- that is not below the node; hidden is the least depth passed over now, 0 for none
+unfoldable pub changed-below : {A : Type 0} → (A → Bool) → (A → A) → ℕ → ℕ → List (ℕ × A) → List (ℕ × A)
+changed-below shown g top hidden [] = []
+changed-below shown g top hidden (x ∷ xs) =
+    cond (ltb top (x .0))
+    (cond (left-out hidden (x .0)) (x ∷ changed-below shown g top hidden xs)
+    (cond (shown (x .1)) (second g x ∷ changed-below shown g top 0 xs) (x ∷ changed-below shown g top (suc (x .0)) xs)))
+    (x ∷ xs)
+
+-- an element named a is named b by t
+abbrev pub renamed-by : ℕ → List ℕ → List ℕ → Marked → Marked
+renamed-by t a b x = cond (is-named a (x .now)) (written-by t b x) x
+
+-- UU of t on the node at p
+unfoldable pub renamed-rows : ℕ → List ℕ → List ℕ → ℕ → List Entry → List Entry
+renamed-rows t a b p l = take p l ++ (second (renamed-by t a b) (getD l p no-entry) ∷ changed-below (seen-by t) (renamed-by t a b) (depth l p) 0 (drop (suc p) l))
