@@ -88,3 +88,17 @@ renamed-by t a b x = cond (is-named a (x .now)) (written-by t b x) x
 -- UU of t on the node at p
 unfoldable pub renamed-rows : ℕ → List ℕ → List ℕ → ℕ → List Entry → List Entry
 renamed-rows t a b p l = take p l ++ (second (renamed-by t a b) (getD l p no-entry) ∷ changed-below (seen-by t) (renamed-by t a b) (depth l p) 0 (drop (suc p) l))
+
+-- a new child -------------------------------------------------------------------------------------
+
+-- of the rows behind a node at depth top: how many stand before a new child that is put right behind the j-th of its children that count, or
+-- before all for j = 0, or behind all where there are fewer
+unfoldable pub before-new : {A : Type 0} → (A → Bool) → ℕ → ℕ → List (ℕ × A) → ℕ
+before-new counts top j [] = 0
+before-new counts top j (x ∷ xs) =
+    cond (ltb (suc top) (x .0)) (suc (before-new counts top j xs))
+    (cond (eqb (x .0) (suc top) && ltb 0 j) (suc (before-new counts top (cond (counts (x .1)) (j - 1) j) xs)) 0)
+
+-- the place of a new k-th child of the node at p, of the children that t sees
+unfoldable pub new-place : ℕ → ℕ → ℕ → List Entry → ℕ
+new-place t k p l = suc p + before-new (seen-by t) (depth l p) (k - 1) (drop (suc p) l)

@@ -25,6 +25,7 @@ use Rattle.edits.specs.Laws.Subtree.{RowOf, kids, depth-of, before, behi
 -- the row at a place with its proper ancestors: what stands before and behind its subtree, and that no other row has its number
 pub record RowAt (f : Tree) (p : ℕ) : Type 0 where
   pub standing : RowOf (row (item (flat 0 f) p) (ups (flat 0 f) p)) [] f
+  pub place : length (before 0 standing) ≡ p
   pub deep : depth-of 0 standing ≡ depth (flat 0 f) p
   pub rows-before : take p (flat 0 f) ≡ before 0 standing
   pub rows-behind : drop (suc p) (flat 0 f) ≡ flat (suc (depth-of 0 standing)) (kids standing) ++ behind 0 standing
@@ -60,6 +61,7 @@ around-row f p u h m =
     let g : any (numbered n) (nodes-of z) ≡ false = sym (has-nodes n z) ∙ a .1 in
     record {
       standing = m;
+      place = c;
       deep = sym (ap (λ v. v .0) y);
       rows-before = ap (take p) e ∙ take-at b (x ∷ z) p c;
       rows-behind = ap (drop (suc p)) e ∙ ap (λ v. drop v (b ++ (x ∷ z))) d ∙ drop-append-add b (x ∷ z) 1;
