@@ -5,9 +5,9 @@ use mathlib.Core.Bool.{Bool, true, false, cond, _&&_}
 use mathlib.Core.List.{List, [], _∷_, _++_, map, append-assoc}
 use native.Mathlib.Omega.{arith}
 use lib.ListN.{length, getD, take, drop, length-append}
-use lib.Seq.{take-append-add, drop-append-add, append-snoc}
+use lib.Seq.{append-snoc}
 use lib.Dec.{eqb, ltb}
-use borrow.Author.Tests.{lt-ltb, le-ltb, ltb-false, eq-eqb, ne-eqb}
+use borrow.Author.Tests.{lt-ltb, le-ltb, eq-eqb, ne-eqb}
 use Rattle.tree.specs.Forest.{Forest, nil, node, Row, row, place, put}
 use Rattle.protocol.specs.State.{Marked, Tree, numbered, seen-by}
 use Rattle.layout.specs.Lists.{insert}
@@ -15,15 +15,9 @@ use Rattle.layout.specs.Flat.{flat}
 use Rattle.layout.specs.Layout.{Entry, no-entry}
 use Rattle.lookup.specs.Places.{depth, item, unique, ups, below}
 use Rattle.edits.specs.Rows.{number-at, before-new, new-place}
-use Rattle.edits.specs.Laws.Subtree.{RowOf, kids, depth-of, before, behind, split, stops, put-within}
+use Rattle.edits.specs.Laws.Lists.{insert-append}
+use Rattle.edits.specs.Laws.Subtree.{RowOf, kids, depth-of, before, behind, split, stops, not-below, put-within}
 use Rattle.edits.specs.Laws.RowAt.{RowAt, row-at}
-
-pub insert-append : {A : Type 0} (u v : List A) (i : ℕ) (x : A) → insert (length u + i) x (u ++ v) ≡ u ++ insert i x v
-unfolding insert
-insert-append u v i x = rw (take-append-add u v i, drop-append-add u v i) (append-assoc u (take i v) (x ∷ drop i v))
-
-cons-nil : {A : Type 0} {x : A} {l : List A} → x ∷ l ≡ [] → ⊥
-cons-nil e = let z : _≡_ {A = ℕ} 1 0 = cc in omega arith
 
 module _ {A : Type 0} (counts : A → Bool) (top : ℕ) where
   -- rows deeper than children are passed by
@@ -41,16 +35,11 @@ module _ {A : Type 0} (counts : A → Bool) (top : ℕ) where
 
   -- behind the subtree nothing is passed by
   new-stop : (j : ℕ) (t : List (ℕ × A)) → below top t ≡ [] → before-new counts top j t ≡ 0
-  unfolding before-new below
+  unfolding before-new
   new-stop j [] h = refl
-  new-stop j (x ∷ t) h = go (ltb top (x .0)) refl h
-    where
-      go : (b : Bool) → ltb top (x .0) ≡ b → cond b (x ∷ below top t) [] ≡ []
-          → cond (ltb (suc top) (x .0)) (suc (before-new counts top j t)) (cond (eqb (x .0) (suc top) && ltb 0 j) (suc (before-new counts top (cond (counts (x .1)) (j - 1) j) t)) 0) ≡ 0
-      go true e k = absurd (cons-nil k)
-      go false e k =
-          let o : x .0 ≤ top = ltb-false top (x .0) e in
-          rw (le-ltb (suc top) (x .0) (omega arith), ne-eqb (x .0) (suc top) (λ q. omega arith))
+  new-stop j (x ∷ t) h =
+      let o : x .0 ≤ top = not-below top x t h in
+      rw (le-ltb (suc top) (x .0) (omega arith), ne-eqb (x .0) (suc top) (λ q. omega arith))
 
   -- no child is counted
   new-first : (ks : Forest A) (t : List (ℕ × A)) → below top t ≡ [] → before-new counts top 0 (flat (suc top) ks ++ t) ≡ 0

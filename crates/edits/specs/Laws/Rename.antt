@@ -18,11 +18,8 @@ use Rattle.layout.specs.Layout.{Entry, no-entry}
 use Rattle.lookup.specs.Places.{depth, item, unique, ups, seen-at, below}
 use Rattle.edits.specs.Rows.{number-at, left-out, changed-below, renamed-by, renamed-rows}
 use Rattle.edits.specs.Laws.Ends.{left-out-high, left-out-low, left-out-up}
-use Rattle.edits.specs.Laws.Subtree.{RowOf, kids, depth-of, before, behind, stops, amend-within}
+use Rattle.edits.specs.Laws.Subtree.{RowOf, kids, depth-of, before, behind, stops, not-below, amend-within}
 use Rattle.edits.specs.Laws.RowAt.{RowAt, row-at}
-
-cons-nil : {A : Type 0} {x : A} {l : List A} → x ∷ l ≡ [] → ⊥
-cons-nil e = let z : _≡_ {A = ℕ} 1 0 = cc in omega arith
 
 module _ {A : Type 0} (shown : A → Bool) (g : A → A) where
   -- a change of the rows that are shown with all their ancestors
@@ -72,8 +69,7 @@ module _ {A : Type 0} (shown : A → Bool) (g : A → A) where
             let w = v (x .0) (left-out-up (x .0) d (x .1)) in
             (w .0, w .1, rw (s, x .2, w .2, append-assoc (flat (suc d) (amend (λ a. a) if-shown (a ∷ up) ks)) (flat d (amend (λ a. a) if-shown up fs)) (changed-below shown g top (w .0) t)))
         go false e u v =
-            let w = v (suc d) (left-out-high (suc d) d (omega arith)) in
-            (
+            let w = v (suc d) (left-out-high (suc d) d (omega arith)) in (
               w .0,
               w .1,
               rw (
@@ -86,15 +82,9 @@ module _ {A : Type 0} (shown : A → Bool) (g : A → A) where
 
     -- it ends with the subtree
     changed-stop : (hidden : ℕ) (t : List (ℕ × A)) → below top t ≡ [] → changed-below shown g top hidden t ≡ t
-    unfolding changed-below below
+    unfolding changed-below
     changed-stop hidden [] h = refl
-    changed-stop hidden (x ∷ t) h = go (ltb top (x .0)) h
-      where
-        go : (b : Bool) → cond b (x ∷ below top t) [] ≡ []
-            → cond b (cond (left-out hidden (x .0)) (x ∷ changed-below shown g top hidden t) (cond (shown (x .1)) (second g x ∷ changed-below shown g top 0 t) (x ∷ changed-below shown g top (suc (x .0)) t))) (x ∷ t)
-            ≡ x ∷ t
-        go true e = absurd (cons-nil e)
-        go false e = refl
+    changed-stop hidden (x ∷ t) h = rw (le-ltb top (x .0) (not-below top x t h))
 
     pub changed-subtree : (up : List A) (ks : Forest A) (t : List (ℕ × A)) → every shown up ≡ true → below top t ≡ []
         → flat (suc top) (amend (λ a. a) if-shown up ks) ++ t ≡ changed-below shown g top 0 (flat (suc top) ks ++ t)

@@ -4,6 +4,8 @@ use Prim.Native.Nat.{ℕ, zero, suc, _+_, _≤_}
 use mathlib.Core.Bool.{Bool, true, false, cond, _||_}
 use mathlib.Core.List.{List, [], _∷_, _++_, map, append-assoc, append-nil}
 use native.Mathlib.Omega.{arith}
+use lib.Dec.{ltb}
+use borrow.Author.Tests.{ltb-false}
 use Rattle.tree.specs.Lists.{any}
 use Rattle.tree.specs.Forest.{Forest, nil, node, Row, row, amend, place, put}
 use Rattle.tree.specs.Laws.Tests.{or-left, or-right}
@@ -69,6 +71,15 @@ module _ {A : Type 0} where
   pub stops : (d : ℕ) {r : Row A A} {p : List A} {f : Forest A} (m : RowOf r p f) → below (depth-of d m) (behind d m) ≡ []
   unfolding below
   stops d m = ap (below (depth-of d m)) (sym (append-nil (behind d m))) ∙ stops-then d (depth-of d m) m [] (omega arith) refl
+
+  -- the first row behind
+  pub not-below : (top : ℕ) (x : ℕ × A) (t : List (ℕ × A)) → below top (x ∷ t) ≡ [] → x .0 ≤ top
+  unfolding below
+  not-below top x t h = go (ltb top (x .0)) refl h
+    where
+      go : (b : Bool) → ltb top (x .0) ≡ b → cond b (x ∷ below top t) [] ≡ [] → x .0 ≤ top
+      go true e k = absurd (let z : _≡_ {A = ℕ} 1 0 = cc in omega arith)
+      go false e k = ltb-false top (x .0) e
 
   -- no row of the forest, nor above it, has a node that passes
   abbrev Nowhere : (A → Bool) → List (ℕ × A) → Type 0
