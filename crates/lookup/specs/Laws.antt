@@ -4,3 +4,5 @@ pub mod Seen
 pub mod Find
 pub mod Subtree
 pub mod Children
+pub mod Waiting
+pub mod Judgement

@@ -1,18 +1,13 @@
 // The lent bytes: where they hold the nodes, the locks and the open transactions (docs/STATE.md). Contracts speak of `nodes` alone.
 ghost use mathlib.Core.Path.{_≡_};
-ghost use mathlib.Core.Bool.{true, false, not, _&&_, _||_};
-ghost use mathlib.Core.List.{[], map, _++_};
-ghost use Prim.Native.Nat.{ℕ, _+_, _-_, _*_, _^_, _<_, _≤_};
-ghost use lib.ListN.{length, getD, set, drop};
+ghost use Prim.Native.Nat.{_<_, _≤_};
+ghost use lib.ListN.{length, getD};
 ghost use lib.Dec.{eqb};
-ghost use lib.Bits.{bitXor};
-ghost use Rattle.locks.specs.Modes.{in-word};
-ghost use Rattle.locks.specs.Words.{bit};
 ghost use Rattle.protocol.specs.State.{deleted-by};
 ghost use Rattle.layout.specs.Lists.{modify, first};
 ghost use Rattle.layout.specs.Flat.{second};
-ghost use Rattle.layout.specs.Layout.{word, slot, is-open, lock-at, nodes, no-entry, Layout, Left, Kept};
-ghost use Rattle.layout.specs.Fields.{field, with-field, with-kind, with-writer, with-inserter, text, with-now, saved, restored, with-modes, released};
+ghost use Rattle.layout.specs.Layout.{slot, nodes, no-entry, Layout, Kept};
+ghost use Rattle.layout.specs.Fields.{field, with-field, with-kind, with-writer, with-inserter, text, with-now, saved, restored};
 
 // The bytes that a state takes; those behind are never touched.
 pub const SIZE: usize = 110608;
@@ -24,8 +19,6 @@ const ENTRY: usize = 6;
 const CELLS: usize = 6160;
 
 const CELL: usize = 70;
-
-const LOCKS: usize = 77840;
 
 // How many nodes are held.
 pub fn count(s: &[u8]) -> usize
@@ -131,8 +124,6 @@ pub fn set_deleter(s: &mut [u8], i: usize, v: u8)
 
 // Bytes of the state -----------------------------------------------------------------
 
-// Contents -------------------------------------------------------------------------------
-
 // The length of a content of the node at i: o is 0 for the one now, 1 for the committed one.
 pub fn size(s: &[u8], i: usize, o: usize) -> usize
     requires { ⌜ (Layout (now s)) × (i < length (nodes (now s))) × (o < 2) ⌝ }
@@ -176,64 +167,6 @@ pub fn restore_content(s: &mut [u8], i: usize)
     let c = CELLS + CELL * slot(s, i);
     s[c + 4] = s[c + 5];
     layout::copy_32(s, c + 38, c + 6);
-}
-
-// Locks ----------------------------------------------------------------------------------
-
-// The modes that transaction t was granted on the node at i, as a word.
-pub fn lock(s: &[u8], t: usize, i: usize) -> u16
-    requires { ⌜ (Layout (now s)) × (1 ≤ t) × (t ≤ 16) × (i < length (nodes (now s))) ⌝ }
-    ensures { λ r. ⌜ in-word r ≡ getD (nodes (now (s .entry))) i no-entry .1 .held t ⌝ }
-{
-    layout::word(s, LOCKS + 2048 * (t - 1) + 2 * slot(s, i))
-}
-
-pub fn set_lock(s: &mut [u8], t: usize, i: usize, w: u16)
-    requires { ⌜ (Layout (now s)) × (1 ≤ t) × (t ≤ 16) × (i < length (nodes (now s))) ⌝ }
-    ensures { λ r. ⌜ Kept (now (s .entry)) (now (s .exit)) (modify i (second (with-modes t w)) (nodes (now (s .entry)))) ⌝ }
-{
-    let k = slot(s, i);
-    layout::set_word(s, LOCKS + 2048 * (t - 1) + 2 * k, w);
-}
-
-// Transaction t holds nothing.
-pub fn release(s: &mut [u8], t: usize)
-    requires { ⌜ (Layout (now s)) × (1 ≤ t) × (t ≤ 16) ⌝ }
-    ensures { λ r. ⌜ Kept (now (s .entry)) (now (s .exit)) (map (second (released t)) (nodes (now (s .entry)))) ⌝ }
-{
-    layout::clear(s, LOCKS + 2048 * (t - 1), 2048);
-}
-
-// Open transactions ------------------------------------------------------------------------
-
-fn power(m: usize) -> u16
-    requires { ⌜ m < 16 ⌝ }
-    ensures { λ r. ⌜ r ≡ 2 ^ m ⌝ }
-{
-    1 << m
-}
-
-pub fn is_open(s: &[u8], t: usize) -> bool
-    requires { ⌜ (Layout (now s)) × (1 ≤ t) × (t ≤ 16) ⌝ }
-    ensures { λ r. ⌜ r ≡ is-open (now (s .entry)) t ⌝ }
-{
-    (layout::word(s, 8) >> (t - 1)) % 2 == 1
-}
-
-pub fn open(s: &mut [u8], t: usize)
-    requires { ⌜ (Layout (now s)) × (1 ≤ t) × (t ≤ 16) × (is-open (now s) t ≡ false) ⌝ }
-    ensures { λ r. ⌜ Left (now (s .entry)) (now (s .exit)) (λ u. eqb u t || is-open (now (s .entry)) u) (nodes (now (s .entry))) ⌝ }
-{
-    let w = layout::word(s, 8);
-    layout::set_word(s, 8, w ^ power(t - 1));
-}
-
-pub fn close(s: &mut [u8], t: usize)
-    requires { ⌜ (Layout (now s)) × (1 ≤ t) × (t ≤ 16) × (is-open (now s) t ≡ true) ⌝ }
-    ensures { λ r. ⌜ Left (now (s .entry)) (now (s .exit)) (λ u. not (eqb u t) && is-open (now (s .entry)) u) (nodes (now (s .entry))) ⌝ }
-{
-    let w = layout::word(s, 8);
-    layout::set_word(s, 8, w ^ power(t - 1));
 }
 
 // The place of the node numbered n, or the count.

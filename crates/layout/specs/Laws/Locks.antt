@@ -12,6 +12,9 @@ use Rattle.protocol.specs.State.{is-transaction, Marked, none-of}
 use Rattle.layout.specs.Lists.{tabulate, modify}
 use Rattle.layout.specs.Flat.{second}
 use Rattle.layout.specs.Layout.{state-size, cell-at, lock-at, word, part, count, slot, number, cell, held, decode, Entry, entry, nodes, no-entry, Sized, Layout, Kept}
+use borrow.Author.Count.{below-more}
+use lib.Seq.{getD-set-same, getD-set-other}
+use Rattle.layout.specs.Transaction.{Loaded}
 use Rattle.layout.specs.Fields.{with-modes, released}
 use Rattle.layout.specs.Laws.Bytes.{Filled, Only, only-wider, only-word, put-word, word-put, word-low, word-high, part-low}
 use Rattle.layout.specs.Laws.Nodes.{node-at, length-nodes, kept-of, kept-map}
@@ -148,3 +151,13 @@ module _ (s s′ : List ℕ) (t p₀ : ℕ) (f : Filled p₀ 2048 (λ j. 0) s s�
       let same : (j : ℕ) → j < count s → cell s′ (slot s j) ≡ cell s (slot s j) = λ j x. part-low (f .only) (cell-at (slot s j)) 70 (omega (arith, in-range j x)) in
       kept-map (f .only) (omega arith) h (omega arith) (released t)
       (λ j x. rw (released-held (slot s j) (in-range j x), same j x)) same
+
+-- the words of t by slots
+pub loaded-of : (s : List ℕ) (t : ℕ) (modes : List ℕ) → Layout s → 1 ≤ t → t ≤ 16 → ((k : ℕ) → k < 1024 → getD modes k 0 ≡ word s (lock-at t k)) → Loaded s t modes
+loaded-of s t modes h a b f = record {
+  held = λ i l. rw (f (slot s i) (h .slots i (omega (arith, length-nodes s, h .room)))) (held-at s t i (slot s i) refl a b l);
+}
+
+pub loaded-more : (f : ℕ → ℕ) (l : List ℕ) (i v : ℕ) → i < length l → ((k : ℕ) → k < i → getD l k 0 ≡ f k) → v ≡ f i → (k : ℕ) → k < i + 1 → getD (set l i v) k 0 ≡ f k
+loaded-more f l i v h all here =
+    below-more (λ (k : ℕ). getD (set l i v) k 0 ≡ f k) i (λ k lt. getD-set-other l i k v 0 (λ e. omega arith) ∙ all k lt) (getD-set-same l i v 0 h ∙ here)

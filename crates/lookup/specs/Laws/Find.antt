@@ -16,6 +16,7 @@ use Rattle.tree.specs.Laws.Lists.{any-map, map-append, map-map, eqb-flip}
 use Rattle.protocol.specs.State.{Marked, Tree, nodes, numbered, number-held, seen-by, callers-document}
 use Rattle.layout.specs.Lists.{first}
 use Rattle.layout.specs.Flat.{flat}
+use Rattle.layout.specs.Laws.First.{first-passes}
 use Rattle.layout.specs.Layout.{Entry, no-entry}
 use Rattle.lookup.specs.Places.{item, items, number-of, unique, place-of, ups, numbers-above, seen-at}
 use Rattle.lookup.specs.Laws.NodeAt.{any-append, nodes-of, lines-of, NodeAt, node-at, none-first, none-second}
@@ -64,12 +65,16 @@ any-first t (x ∷ l) = go (t x) (any-first t l)
 pub held-place : (m : ℕ) (f : Tree) → number-held m f ≡ ltb (place-of m (flat 0 f)) (length (flat 0 f))
 held-place m f = ap (any (numbered m)) (nodes-held f) ∙ any-map (numbered m) (λ x. x .1) (flat 0 f) ∙ any-first (λ (x : Entry). numbered m (x .1)) (flat 0 f)
 
+-- what a search by number finds
+pub found-number : (n : ℕ) (l : List Entry) → place-of n l < length l → number-of (item l (place-of n l)) ≡ n
+found-number n l h = eqb-true (number-of (item l (place-of n l))) n (first-passes (λ (x : Entry). numbered n (x .1)) l no-entry h)
+
 -- apart ------------------------------------------------------------------------------------
 
 has-items : (n : ℕ) (l : List Entry) → has n (map (λ x. number-of (x .1)) l) ≡ any (numbered n) (items l)
 has-items n l = any-map (λ q. eqb q n) (λ (x : Entry). number-of (x .1)) l ∙ sym (any-map (numbered n) (λ (x : Entry). x .1) l)
 
-unique-head : (x : Entry) (l : List Entry) → unique (x ∷ l) ≡ true → (any (numbered (number-of (x .1))) (items l) ≡ false) × (unique l ≡ true)
+pub unique-head : (x : Entry) (l : List Entry) → unique (x ∷ l) ≡ true → (any (numbered (number-of (x .1))) (items l) ≡ false) × (unique l ≡ true)
 unique-head x l h = go (has (number-of (x .1)) (map (λ x. number-of (x .1)) l)) (has-items (number-of (x .1)) l) h
   where
     go : (b : Bool) → b ≡ any (numbered (number-of (x .1))) (items l) → cond b false (unique l) ≡ true → (any (numbered (number-of (x .1))) (items l) ≡ false) × (unique l ≡ true)

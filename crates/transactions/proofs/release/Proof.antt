@@ -1,8 +1,8 @@
 use native.Mathlib.Omega.{arith}
 use Rattle.layout.specs.Laws.Locks.{released-kept}
 use borrow.Author.Needs.{needs}
-use Rattle.table.proofs.release.Statement.{statement}
-use Rattle.table.proofs.release.Tie as tie
+use Rattle.transactions.proofs.release.Statement.{statement}
+use Rattle.transactions.proofs.release.Tie as tie
 
 sub-clear : tie.Need-sub-clear
 sub-clear c = search needs

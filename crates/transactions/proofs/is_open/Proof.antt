@@ -3,8 +3,8 @@ use Rattle.locks.specs.Words.{bit}
 use Rattle.layout.specs.Laws.Locks.{is-transaction-of}
 use native.Mathlib.Omega.{arith}
 use borrow.Author.Needs.{needs}
-use Rattle.table.proofs.is_open.Statement.{statement}
-use Rattle.table.proofs.is_open.Tie as tie
+use Rattle.transactions.proofs.is_open.Statement.{statement}
+use Rattle.transactions.proofs.is_open.Tie as tie
 
 word-requires : tie.Need-word-requires
 word-requires c κs = search needs

@@ -1,8 +1,8 @@
 use native.Mathlib.Omega.{arith}
-use Rattle.layout.specs.Laws.Opens.{closed-left}
+use Rattle.layout.specs.Laws.Opens.{opened-left}
 use borrow.Author.Needs.{needs}
-use Rattle.table.proofs.close.Statement.{statement}
-use Rattle.table.proofs.close.Tie as tie
+use Rattle.transactions.proofs.open.Statement.{statement}
+use Rattle.transactions.proofs.open.Tie as tie
 
 word-requires : tie.Need-word-requires
 word-requires c κs = search needs
@@ -20,9 +20,9 @@ same-length : tie.Need-same-length
 same-length c = search needs
 
 returns : tie.Need-returns
-returns c = closed-left _ _ _ _ _ (c .before .before .set-word .ensures) (c .before .before .before .before .before .word .ensures) (c .before .before .before .power .ensures) (search needs) (search needs) (search needs) (search needs)
+returns c = opened-left _ _ _ _ _ (c .before .before .set-word .ensures) (c .before .before .before .before .before .word .ensures) (c .before .before .before .power .ensures) (search needs) (search needs) (search needs) (search needs)
 
-pub close-spec : {M : Type 1} → statement M
-close-spec =
+pub open-spec : {M : Type 1} → statement M
+open-spec =
     tie.close
     (tie.spec word-requires sub-power power-requires set-word-requires same-length returns)

@@ -4,8 +4,8 @@ use Prim.Native.Nat.{ℕ, zero, suc, _+_, _-_, _*_, _≤_, _<_}
 use lib.ListN.{length, getD, drop}
 use Rattle.layout.specs.Laws.Locks.{lock-kept}
 use borrow.Author.Needs.{needs}
-use Rattle.table.proofs.set_lock.Statement.{statement}
-use Rattle.table.proofs.set_lock.Tie as tie
+use Rattle.transactions.proofs.set_lock.Statement.{statement}
+use Rattle.transactions.proofs.set_lock.Tie as tie
 
 slot-requires : tie.Need-slot-requires
 slot-requires c κs = search needs

@@ -4,8 +4,8 @@ use Prim.Native.Nat.{ℕ, zero, suc, _+_, _-_, _*_, _≤_, _<_}
 use lib.ListN.{length, getD, drop}
 use Rattle.layout.specs.Laws.Locks.{held-at}
 use borrow.Author.Needs.{needs}
-use Rattle.table.proofs.lock.Statement.{statement}
-use Rattle.table.proofs.lock.Tie as tie
+use Rattle.transactions.proofs.lock.Statement.{statement}
+use Rattle.transactions.proofs.lock.Tie as tie
 
 sub-word : tie.Need-sub-word
 sub-word c = search needs

@@ -3,8 +3,8 @@ use mathlib.Core.Path.{_∙_}
 use lib.Pow.{shl-exact}
 use lib.Dec.{lit<}
 use borrow.Author.Needs.{needs}
-use Rattle.table.proofs.power.Statement.{statement}
-use Rattle.table.proofs.power.Tie as tie
+use Rattle.transactions.proofs.power.Statement.{statement}
+use Rattle.transactions.proofs.power.Tie as tie
 
 cast-result : tie.Need-cast-result
 cast-result c = search needs
