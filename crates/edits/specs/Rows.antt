@@ -1,17 +1,20 @@
 -- What the loops over the rows leave: the rows are the nodes held in document order, each with its depth.
+use mathlib.Core.Path.{_≡_}
 use Prim.Native.Nat.{ℕ, zero, suc, _+_, _-_, _<_}
 use mathlib.Core.Bool.{Bool, true, false, cond, not, _&&_}
 use mathlib.Core.List.{List, [], _∷_, _++_, map, List·Memᴰ}
 use lib.ListN.{length, getD, take, drop}
 use lib.Dec.{eqb, leb, ltb}
-use Rattle.tree.specs.Steps.{is-named}
+use Rattle.tree.specs.Lists.{any}
+use Rattle.tree.specs.Document.{Node}
+use Rattle.tree.specs.Steps.{Step, T, C, R, U, D, I, TT, RR, UU, is-named}
 use Rattle.locks.specs.Modes.{Mode, union, among}
-use Rattle.locks.specs.Needs.{Need, Lock}
-use Rattle.protocol.specs.State.{Marked, seen-by, written-by, granted-to}
-use Rattle.layout.specs.Lists.{modify}
+use Rattle.locks.specs.Needs.{Need, need, Lock}
+use Rattle.protocol.specs.State.{Marked, numbered, seen-by, written-by, deleted-by, inserted-by, granted-to}
+use Rattle.layout.specs.Lists.{modify, insert}
 use Rattle.layout.specs.Flat.{second}
 use Rattle.layout.specs.Layout.{Entry, no-entry}
-use Rattle.lookup.specs.Places.{depth, item, number-of}
+use Rattle.lookup.specs.Places.{depth, item, items, number-of, above-places}
 
 -- the numbers ------------------------------------------------------------------------------
 
@@ -23,6 +26,10 @@ row-numbers l = map row-number l
 
 abbrev pub number-at : List Entry → ℕ → ℕ
 number-at l i = number-of (item l i)
+
+-- no row has this number
+abbrev pub Lacks : ℕ → List Entry → Type 0
+Lacks n l = any (numbered n) (items l) ≡ false
 
 -- every place is one of the rows
 abbrev pub Inside : List ℕ → List Entry → Type 0
@@ -102,3 +109,22 @@ before-new counts top j (x ∷ xs) =
 -- the place of a new k-th child of the node at p, of the children that t sees
 unfoldable pub new-place : ℕ → ℕ → ℕ → List Entry → ℕ
 new-place t k p l = suc p + before-new (seen-by t) (depth l p) (k - 1) (drop (suc p) l)
+
+-- a granted step ------------------------------------------------------------------------------------
+
+-- what a step of t on the node at p leaves: l are the rows before, g those with the step's locks granted
+abbrev pub acted : ℕ → Step → ℕ → List Entry → List Entry → List Entry
+acted t (T n) p l g = g
+acted t (C n k) p l g = g
+acted t (R n) p l g = g
+acted t (U n b) p l g = modify p (second (written-by t b)) g
+acted t (D n) p l g = modify p (second (deleted-by t)) g
+acted t (I m kind b n k) p l g =
+    insert (new-place t k p l) (suc (depth l p), granted-modes t (need (I m kind b n k) .new) (inserted-by t (record { number = m; kind = kind; content = b }))) g
+acted t (TT n) p l g = g
+acted t (RR n) p l g = g
+acted t (UU n a b) p l g = renamed-rows t a b p g
+
+-- the locks along the way up first, then the step
+unfoldable pub stepped : ℕ → Step → ℕ → List Entry → List Entry
+stepped t s p l = acted t s p l (granted-way t (need s) p (above-places l p) l)

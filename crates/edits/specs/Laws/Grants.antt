@@ -18,9 +18,9 @@ use Rattle.layout.specs.Lists.{modify}
 use Rattle.layout.specs.Flat.{flat, second}
 use Rattle.layout.specs.Layout.{Entry, no-entry}
 use Rattle.layout.specs.Laws.Lists.{length-modify}
-use Rattle.lookup.specs.Places.{unique}
-use Rattle.edits.specs.Rows.{Inside, all-granted, row-number, row-numbers, number-at, modify-each, granted-modes, granted-up, granted-way}
-use Rattle.edits.specs.Laws.Unique.{Lacks, by-key-none, by-key-one, lacks-at}
+use Rattle.lookup.specs.Places.{items, unique}
+use Rattle.edits.specs.Rows.{Lacks, Inside, all-granted, row-number, row-numbers, number-at, modify-each, granted-modes, granted-up, granted-way}
+use Rattle.edits.specs.Laws.Unique.{same-numbers, by-number, by-number-none, by-number-one}
 use Rattle.edits.specs.Laws.Updates.{flat-amend, numbers-modify, number-same}
 
 -- sets of modes --------------------------------------------------------------------------
@@ -102,7 +102,7 @@ module _ (t : ℕ) where
   rows-append : (ls ks : List Lock) (l : List Entry) → all-granted t (ls ++ ks) l ≡ all-granted t ks (all-granted t ls l)
   rows-append ls ks l = sym (map-map (second (granted-to t ks)) (second (granted-to t ls)) (second (granted-to t (ls ++ ks))) l (λ x m. ap (λ a. (x .0, a)) (sym (granted-append ls ks (x .1)))))
 
-  rows-each : (ms : List Mode) (q : ℕ) (l : List Entry) → all-granted t (each ms q) l ≡ map (λ x. cond (eqb (row-number x) q) (second (granted-modes t ms) x) x) l
+  rows-each : (ms : List Mode) (q : ℕ) (l : List Entry) → all-granted t (each ms q) l ≡ map (by-number (second (granted-modes t ms)) q) l
   rows-each ms q l = map-same _ _ l (λ x m. ap (λ a. (x .0, a)) (granted-each ms q (x .1)) ∙ inside (numbered q (x .1)) x)
     where
       inside : (b : Bool) (x : Entry) → (x .0, cond b (granted-modes t ms (x .1)) (x .1)) ≡ cond b (second (granted-modes t ms) x) x
@@ -112,10 +112,10 @@ module _ (t : ℕ) where
   -- locks on the row at a place, and on a number that no row has
   pub rows-at : (ms : List Mode) (q : ℕ) (l : List Entry) (i : ℕ) → unique l ≡ true → i < length l → number-at l i ≡ q
       → all-granted t (each ms q) l ≡ modify i (second (granted-modes t ms)) l
-  rows-at ms q l i u h e = rows-each ms q l ∙ by-key-one row-number (second (granted-modes t ms)) q l i no-entry u h e
+  rows-at ms q l i u h e = rows-each ms q l ∙ by-number-one (second (granted-modes t ms)) q l i u h e
 
-  pub rows-absent : (ms : List Mode) (q : ℕ) (l : List Entry) → Lacks row-number q l → all-granted t (each ms q) l ≡ l
-  rows-absent ms q l h = rows-each ms q l ∙ by-key-none row-number (second (granted-modes t ms)) q l h
+  pub rows-absent : (ms : List Mode) (q : ℕ) (l : List Entry) → Lacks q l → all-granted t (each ms q) l ≡ l
+  rows-absent ms q l h = rows-each ms q l ∙ by-number-none (second (granted-modes t ms)) q l h
 
   -- of the places, one after another
   grant-keeps : (ms : List Mode) (i : ℕ) (l : List Entry) → row-numbers (modify i (second (granted-modes t ms)) l) ≡ row-numbers l
@@ -151,18 +151,18 @@ module _ (t : ℕ) where
       ∙ rw (rows-at (w .parent) (number-at l i) l i u (b i (List·Memᴰ·head refl)) refl, ← numbers-same k l is e)
       (rows-every-one (w .above) is k (rw e u) (inside-modify (second (granted-modes t (w .parent))) i is l (λ j m. b j (List·Memᴰ·tail m))))
 
-  rows-new : (ms : List Mode) (qs : List ℕ) (l : List Entry) → any (λ q. has q (row-numbers l)) qs ≡ false → all-granted t (every-one ms qs) l ≡ l
+  rows-new : (ms : List Mode) (qs : List ℕ) (l : List Entry) → any (λ q. any (numbered q) (items l)) qs ≡ false → all-granted t (every-one ms qs) l ≡ l
   rows-new ms [] l h = rows-nil l
   rows-new ms (q ∷ qs) l h =
       rows-append (each ms q) (every-one ms qs) l
-      ∙ rw (rows-absent ms q l (or-left _ _ h)) (rows-new ms qs l (or-right (has q (row-numbers l)) _ h))
+      ∙ rw (rows-absent ms q l (or-left _ _ h)) (rows-new ms qs l (or-right (any (numbered q) (items l)) _ h))
 
   numbers-granted : (ls : List Lock) (l : List Entry) → row-numbers (all-granted t ls l) ≡ row-numbers l
   numbers-granted ls l = map-map row-number (second (granted-to t ls)) row-number l (λ x m. refl)
 
   -- THE LAW: the locks of a step, along the way up
   module _ (s : Step) (l : List Entry) (i : ℕ) (is : List ℕ) (u : unique l ≡ true) (h : i < length l) (e : number-at l i ≡ target s) (b : Inside is l)
-      (new : any (λ q. has q (row-numbers l)) (brings s) ≡ false) where
+      (new : any (λ q. any (numbered q) (items l)) (brings s) ≡ false) where
     pub rows-locks : all-granted t (locks s (map (number-at l) is)) l ≡ granted-way t (need s) i is l
     unfolding locks granted-way
     rows-locks =
@@ -175,7 +175,7 @@ module _ (t : ℕ) where
         rows-append (each (w .node) (target s)) (up w ns ++ every-one (w .new) (brings s)) l
         ∙ ap (all-granted t (up w ns ++ every-one (w .new) (brings s))) (rows-at (w .node) (target s) l i u h e)
         ∙ rows-append (up w ns) (every-one (w .new) (brings s)) k
-        ∙ rows-new (w .new) (brings s) (all-granted t (up w ns) k) (rw (numbers-granted (up w ns) k, f) new)
+        ∙ rows-new (w .new) (brings s) (all-granted t (up w ns) k) (ap (λ (z : ℕ → Bool). any z (brings s)) (fun-ext (same-numbers (all-granted t (up w ns) k) l (numbers-granted (up w ns) k ∙ f))) ∙ new)
         ∙ v
 
   -- the new node of an insertion: only the locks on its own number

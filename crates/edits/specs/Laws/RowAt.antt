@@ -5,11 +5,10 @@ use mathlib.Core.Bool.{Bool, true, false}
 use mathlib.Core.List.{List, [], _∷_, _++_, map, append-nil, List·Memᴰ, List·Memᴰ·head}
 use native.Mathlib.Omega.{arith}
 use lib.ListN.{length, getD, take, drop, length-append}
-use lib.Dec.{eqb}
 use lib.Seq.{take-at, getD-at, drop-append-add}
-use Rattle.tree.specs.Lists.{any, has, keep}
+use Rattle.tree.specs.Lists.{any, keep}
 use Rattle.tree.specs.Forest.{Forest, Row, row}
-use Rattle.tree.specs.Laws.Lists.{in-keep, keep-in, any-map}
+use Rattle.tree.specs.Laws.Lists.{in-keep, keep-in}
 use Rattle.tree.specs.Laws.Rows.{of-rows}
 use Rattle.protocol.specs.State.{Marked, Tree, numbered}
 use Rattle.layout.specs.Flat.{flat}
@@ -17,9 +16,9 @@ use Rattle.layout.specs.Layout.{Entry, no-entry}
 use Rattle.lookup.specs.Places.{depth, item, number-of, unique, ups}
 use Rattle.lookup.specs.Laws.NodeAt.{nodes-of, lines-of, none-first, none-second}
 use Rattle.lookup.specs.Laws.Up.{item-at, ups-at}
-use Rattle.lookup.specs.Laws.Find.{Holder, holder}
-use Rattle.edits.specs.Rows.{row-number, row-numbers, number-at}
-use Rattle.edits.specs.Laws.Unique.{place-one, distinct-split}
+use Rattle.lookup.specs.Laws.Find.{Holder, holder, alone}
+use Rattle.edits.specs.Rows.{row-number, number-at}
+use Rattle.edits.specs.Laws.Unique.{place-one}
 use Rattle.edits.specs.Laws.Subtree.{RowOf, kids, depth-of, before, behind, split}
 
 -- the row at a place with its proper ancestors: what stands before and behind its subtree, and that no other row has its number
@@ -42,9 +41,6 @@ row-of {f} {n} {p} o =
     let i = in-keep (λ r. numbered n (r .it)) (lines-of [] f) {a = row (c .it) (c .above ++ [])} (rw (← e) at m) in
     rw (item-at c, ups-at c, ← append-nil (c .above)) (of-rows (λ a. a) _ [] f (i .0))
 
-has-nodes : (n : ℕ) (l : List Entry) → has n (row-numbers l) ≡ any (numbered n) (nodes-of l)
-has-nodes n l = any-map (λ q. eqb q n) row-number l ∙ sym (any-map (numbered n) (λ (x : Entry). x .1) l)
-
 around-row : (f : Tree) (p : ℕ) → unique (flat 0 f) ≡ true → p < length (flat 0 f) → RowOf (row (item (flat 0 f) p) (ups (flat 0 f) p)) [] f → RowAt f p
 around-row f p u h m =
     let n : ℕ = number-at (flat 0 f) p in
@@ -54,20 +50,19 @@ around-row f p u h m =
     let e : flat 0 f ≡ b ++ (x ∷ z) = split 0 m in
     let i : getD (flat 0 f) (length b) no-entry ≡ x = ap (λ l. getD l (length b) no-entry) e ∙ getD-at b x z no-entry (length b) refl in
     let k : length b < length (flat 0 f) = omega (arith, ap length e, length-append b (x ∷ z)) in
-    let c : length b ≡ p = place-one row-number (flat 0 f) (length b) p no-entry u k h (ap row-number i) in
+    let c : length b ≡ p = place-one (flat 0 f) (length b) p u k h (ap row-number i) in
     let y : getD (flat 0 f) p no-entry ≡ x = ap (λ v. getD (flat 0 f) v no-entry) (sym c) ∙ i in
     let d : suc p ≡ length b + 1 = omega arith in
-    let a = distinct-split row-number b x z (ap unique (sym e) ∙ u) in
-    let g : any (numbered n) (nodes-of z) ≡ false = sym (has-nodes n z) ∙ a .1 in
+    let a = alone b x z (ap unique (sym e) ∙ u) in
     record {
       standing = m;
       place = c;
       deep = sym (ap (λ v. v .0) y);
       rows-before = ap (take p) e ∙ take-at b (x ∷ z) p c;
       rows-behind = ap (drop (suc p)) e ∙ ap (λ v. drop v (b ++ (x ∷ z))) d ∙ drop-append-add b (x ∷ z) 1;
-      none-before = sym (has-nodes n b) ∙ a .0;
-      none-below = none-first (numbered n) (flat (suc (depth-of 0 m)) (kids m)) (behind 0 m) g;
-      none-behind = none-second (numbered n) (flat (suc (depth-of 0 m)) (kids m)) (behind 0 m) g;
+      none-before = a .0;
+      none-below = none-first (numbered n) (flat (suc (depth-of 0 m)) (kids m)) (behind 0 m) (a .1);
+      none-behind = none-second (numbered n) (flat (suc (depth-of 0 m)) (kids m)) (behind 0 m) (a .1);
     }
 
 pub row-at : (f : Tree) (p : ℕ) → unique (flat 0 f) ≡ true → p < length (flat 0 f) → RowAt f p

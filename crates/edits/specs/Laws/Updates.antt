@@ -13,7 +13,7 @@ use Rattle.layout.specs.Flat.{flat, second}
 use Rattle.layout.specs.Layout.{Entry, no-entry}
 use Rattle.lookup.specs.Places.{unique}
 use Rattle.edits.specs.Rows.{row-number, row-numbers, number-at}
-use Rattle.edits.specs.Laws.Unique.{by-key-one}
+use Rattle.edits.specs.Laws.Unique.{by-number, by-number-one}
 
 -- a change of each node that looks at the node alone
 pub flat-amend : {A K : Type 0} (key : A → K) (g : A → A) (p : List K) (d : ℕ) (f : Forest A) → flat d (amend key (λ r. g (r .it)) p f) ≡ map (second g) (flat d f)
@@ -37,8 +37,8 @@ pub mark-node-rows : (n : ℕ) (g : Marked → Marked) (f : Tree) (p : ℕ) → 
     → flat 0 (mark-node n g f) ≡ modify p (second g) (flat 0 f)
 mark-node-rows n g f p u h e =
     flat-amend (λ a. a) (λ a. cond (numbered n a) (g a) a) [] 0 f
-    ∙ map-same (second (λ a. cond (numbered n a) (g a) a)) (λ x. cond (eqb (row-number x) n) (second g x) x) (flat 0 f) (λ x m. inside (numbered n (x .1)) x)
-    ∙ by-key-one row-number (second g) n (flat 0 f) p no-entry u h e
+    ∙ map-same (second (λ a. cond (numbered n a) (g a) a)) (by-number (second g) n) (flat 0 f) (λ x m. inside (numbered n (x .1)) x)
+    ∙ by-number-one (second g) n (flat 0 f) p u h e
   where
     inside : (b : Bool) (x : Entry) → second (λ a. cond b (g a) a) x ≡ cond b (second g x) x
     inside true x = refl
