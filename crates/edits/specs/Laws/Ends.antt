@@ -8,7 +8,7 @@ use lib.ListN.{length, getD, take, drop}
 use lib.Dec.{eqb, leb, ltb}
 use borrow.Author.Tests.{lt-ltb, le-ltb, le-leb, lt-leb, leb-true, leb-false, ltb-true, ltb-false}
 use Rattle.tree.specs.Forest.{Forest, nil, node, view}
-use Rattle.tree.specs.Laws.Lists.{map-append}
+use Rattle.tree.specs.Laws.Tests.{and-left, and-right}
 use Rattle.layout.specs.Flat.{flat, second, prune}
 use Rattle.protocol.specs.State.{Tree, seen-by, settled, undone, unmarked, commit-tree, abort-tree, tree-of}
 use Rattle.tree.specs.Document.{Document}
@@ -31,6 +31,21 @@ left-out-up (suc below) d h = go (leb (suc below) d) refl
     go : (b : Bool) → leb (suc below) d ≡ b → (ltb 0 (suc below) && b) ≡ false
     go true e = absurd (true≢false (sym (left-out-low (suc below) (suc d) (omega arith) (omega (arith, leb-true (suc below) d e))) ∙ h))
     go false e = and-false (ltb 0 (suc below))
+
+-- the same as a loop tests it
+pub left-out-open : (below d : ℕ) → (0 < below → d < below) → left-out below d ≡ false
+left-out-open zero d h = refl
+left-out-open (suc below) d h = left-out-high (suc below) d (h (omega arith))
+
+pub open-left-out : (below d : ℕ) → left-out below d ≡ false → 0 < below → d < below
+open-left-out below d h k = go (leb below d) refl
+  where
+    go : (b : Bool) → leb below d ≡ b → d < below
+    go true e = absurd (true≢false (sym (left-out-low below d k (leb-true below d e)) ∙ h))
+    go false e = leb-false below d e
+
+pub left-out-parts : (below d : ℕ) → left-out below d ≡ true → (0 < below) × (below ≤ d)
+left-out-parts below d h = (ltb-true 0 below (and-left _ _ h), leb-true below d (and-right (ltb 0 below) _ h))
 
 module _ {A : Type 0} (shown : A → Bool) where
   -- what is left out goes whole
