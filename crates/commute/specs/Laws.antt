@@ -10,3 +10,5 @@ pub mod Absence
 pub mod Runs
 pub mod Orders
 pub mod Serial
+pub mod Rules
+pub mod Legal

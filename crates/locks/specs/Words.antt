@@ -4,8 +4,9 @@ use mathlib.Core.Bool.{Bool, true, false, cond, _&&_, _||_}
 use mathlib.Core.List.{List, [], _∷_, map}
 use lib.ListN.{getD}
 use lib.Dec.{eqb}
+use Rattle.tree.specs.Lists.{any}
 use Rattle.tree.specs.Steps.{Step, T, C, R, U, D, I, TT, RR, UU}
-use Rattle.locks.specs.Modes.{Mode, modes, index, clash}
+use Rattle.locks.specs.Modes.{Mode, modes, index, clash, in-word}
 use Rattle.locks.specs.Needs.{Need, need}
 use Rattle.locks.specs.declared.NeedWords.{NeedWords}
 use Rattle.locks.specs.declared.StepName.{StepName}
@@ -39,6 +40,10 @@ meets w a = some-place (λ b. bit w b && clash-at a b) 12 0
 -- the modes that clash with some mode of the word w, as a word
 unfoldable pub mask-of : ℕ → ℕ
 mask-of w = word (meets w) 12 0
+
+-- some mode is in both
+unfoldable pub in-common : ℕ → ℕ → Bool
+in-common v w = any (λ a. in-word v a && in-word w a) modes
 
 -- a list of modes as a word
 unfoldable pub word-of : List Mode → ℕ

@@ -3,178 +3,27 @@ ghost use mathlib.Core.Path.{_≡_};
 ghost use mathlib.Core.Bool.{cond, _&&_};
 ghost use Prim.Native.Nat.{_+_, _*_, _^_, _<_};
 ghost use lib.Bits.{bitOr};
-ghost use Rattle.locks.specs.Words.{clash-at, bit, meets, mask-of, need-words};
+ghost use Rattle.locks.specs.Words.{clash-at, bit, in-common, meets, mask-of, need-words};
 
-// Mode against mode, in the order LT LC LR LU LW LTT LRR LUU LIR LIU LIW LICW; true is a clash.
+// The signs of the table: a clash or none.
+const YES: bool = true;
+
+const NO: bool = false;
+
+// Mode against mode, in the order LT LC LR LU LW LTT LRR LUU LIR LIU LIW LICW.
 const CLASH: [[bool; 12]; 12] = [
-    [
-        false,
-        false,
-        false,
-        false,
-        true,
-        false,
-        false,
-        false,
-        false,
-        false,
-        false,
-        false,
-    ],
-    [
-        false,
-        false,
-        false,
-        false,
-        true,
-        false,
-        false,
-        false,
-        false,
-        false,
-        false,
-        true,
-    ],
-    [
-        false,
-        false,
-        false,
-        true,
-        true,
-        false,
-        false,
-        true,
-        false,
-        false,
-        false,
-        false,
-    ],
-    [
-        false,
-        false,
-        true,
-        true,
-        true,
-        false,
-        true,
-        true,
-        false,
-        false,
-        false,
-        false,
-    ],
-    [
-        true,
-        true,
-        true,
-        true,
-        true,
-        true,
-        true,
-        true,
-        true,
-        true,
-        true,
-        true,
-    ],
-    [
-        false,
-        false,
-        false,
-        false,
-        true,
-        false,
-        false,
-        false,
-        false,
-        false,
-        true,
-        true,
-    ],
-    [
-        false,
-        false,
-        false,
-        true,
-        true,
-        false,
-        false,
-        true,
-        false,
-        true,
-        true,
-        true,
-    ],
-    [
-        false,
-        false,
-        true,
-        true,
-        true,
-        false,
-        true,
-        true,
-        true,
-        true,
-        true,
-        true,
-    ],
-    [
-        false,
-        false,
-        false,
-        false,
-        true,
-        false,
-        false,
-        true,
-        false,
-        false,
-        false,
-        false,
-    ],
-    [
-        false,
-        false,
-        false,
-        false,
-        true,
-        false,
-        true,
-        true,
-        false,
-        false,
-        false,
-        false,
-    ],
-    [
-        false,
-        false,
-        false,
-        false,
-        true,
-        true,
-        true,
-        true,
-        false,
-        false,
-        false,
-        false,
-    ],
-    [
-        false,
-        true,
-        false,
-        false,
-        true,
-        true,
-        true,
-        true,
-        false,
-        false,
-        false,
-        false,
-    ],
+    [NO, NO, NO, NO, YES, NO, NO, NO, NO, NO, NO, NO],
+    [NO, NO, NO, NO, YES, NO, NO, NO, NO, NO, NO, YES],
+    [NO, NO, NO, YES, YES, NO, NO, YES, NO, NO, NO, NO],
+    [NO, NO, YES, YES, YES, NO, YES, YES, NO, NO, NO, NO],
+    [YES, YES, YES, YES, YES, YES, YES, YES, YES, YES, YES, YES],
+    [NO, NO, NO, NO, YES, NO, NO, NO, NO, NO, YES, YES],
+    [NO, NO, NO, YES, YES, NO, NO, YES, NO, YES, YES, YES],
+    [NO, NO, YES, YES, YES, NO, YES, YES, YES, YES, YES, YES],
+    [NO, NO, NO, NO, YES, NO, NO, YES, NO, NO, NO, NO],
+    [NO, NO, NO, NO, YES, NO, YES, YES, NO, NO, NO, NO],
+    [NO, NO, NO, NO, YES, YES, YES, YES, NO, NO, NO, NO],
+    [NO, YES, NO, NO, YES, YES, YES, YES, NO, NO, NO, NO],
 ];
 
 // Whether the modes at two places of the table clash.
@@ -205,6 +54,14 @@ pub fn union(v: u16, w: u16) -> u16
     ensures { λ r. ⌜ r ≡ bitOr v w ⌝ }
 {
     v | w
+}
+
+// Whether two sets have a mode in common; the second has no bit that is no mode.
+pub fn share(v: u16, w: u16) -> bool
+    requires { ⌜ w < 4096 ⌝ }
+    ensures { λ r. ⌜ r ≡ in-common v w ⌝ }
+{
+    v & w != 0
 }
 
 // Whether a set has the mode at a place, and that one clashes with another.

@@ -1,6 +1,5 @@
 -- The lines P1 to P9 of document 01, "Examples on one tree", as one table, and what the definitions give for it.
 use Prim.Native.Nat.{ℕ}
-use Prim.Native.String.{String}
 use mathlib.Core.Path.{_≡_, refl}
 use mathlib.Core.Bool.{Bool, true, false}
 use mathlib.Core.List.{List, [], _∷_, _++_, map}
@@ -10,24 +9,13 @@ use Rattle.tree.specs.Forest.{nil, node, rows, amend, view, place, put}
 use Rattle.tree.specs.Content.{name-start, name-byte, text-byte, is-name, is-text, allowed, takes, attributes-first, children-rule, insert-at}
 use Rattle.tree.specs.Document.{Document, node-0-alone, lines, select, ruled, legal}
 use Rattle.tree.specs.Steps.{Step, T, C, R, U, D, I, TT, RR, placed, done, kind-parent, child-is, content-is, numbers-are, cells-are, plain-document}
+use Rattle.tree.specs.Examples.{tree-E}
 use Rattle.locks.specs.Modes.{clash}
 use Rattle.locks.specs.Needs.{locks}
 use Rattle.protocol.specs.State.{State, start-state, nodes, callers-document, document-of, grant, commit-tree, abort-tree, tree-of}
 use Rattle.protocol.specs.Lent.{first-lent, second-lent}
 use Rattle.protocol.specs.Calls.{loadable, stands-for, Call, start, load, begin, abort, step, Outcome, granted, waits, refused, wait-set, judged, next}
 use Rattle.protocol.specs.History.{Event, history, state-after, ledger, plain, pending}
-
-abbrev a-node : ℕ → ℕ → String → Document → Document → Document
-a-node n kind content children following = node (record { number = n; kind = kind; content = bytes content }) children following
-
--- tree E: <lift rope="2"><speed>6</speed><ramp/></lift>
-unfoldable pub tree-E : Document
-tree-E = a-node 0 1 ""
-    (a-node 1 2 "lift"
-    (a-node 2 3 "rope" (a-node 3 4 "2" nil nil)
-    (a-node 4 2 "speed" (a-node 5 4 "6" nil nil)
-    (a-node 6 2 "ramp" nil nil)))
-    nil) nil
 
 pub E-loadable : loadable tree-E ≡ true
 unfolding tree-E loadable legal ruled lines rows name-start name-byte text-byte is-name is-text allowed takes attributes-first children-rule

@@ -4,3 +4,4 @@ pub mod Calls
 pub mod Answers
 pub mod History
 pub mod Examples
+pub mod Mistakes

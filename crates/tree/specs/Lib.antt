@@ -5,4 +5,5 @@ pub mod Content
 pub mod Document
 pub mod Steps
 pub mod Classes
+pub mod Examples
 pub mod Laws

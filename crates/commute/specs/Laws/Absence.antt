@@ -1,17 +1,16 @@
 -- The numbers that steps bring in: where they are not, and when two steps bring in different ones.
-use mathlib.Core.Path.{_≡_, refl, sym, ap, _∙_}
+use mathlib.Core.Path.{_≡_, refl, ap, _∙_}
 use Prim.Native.Nat.{ℕ}
-use mathlib.Core.Bool.{Bool, true, false, true≢false, or-false}
+use mathlib.Core.Bool.{true, false}
 use mathlib.Core.List.{List, [], _∷_}
-use lib.Dec.{eqb}
 use borrow.Author.Tests.{eqb-true}
 use Rattle.tree.specs.Lists.{has}
 use Rattle.tree.specs.Document.{Document, is, here, some?}
-use Rattle.tree.specs.Steps.{Step, I, target, brings, after}
+use Rattle.tree.specs.Steps.{Step, brings, after}
 use Rattle.tree.specs.Laws.Tests.{or-left, refuted}
 use Rattle.locks.specs.Modes.{LW, clash}
-use Rattle.locks.specs.Needs.{Lock, need, locks}
-use Rattle.locks.specs.Laws.Compatible.{Compatible, All-locked, new-locked, off-new, not-both}
+use Rattle.locks.specs.Needs.{locks}
+use Rattle.locks.specs.Laws.Compatible.{Compatible, All-locked, new-locked, not-both}
 use Rattle.commute.specs.Laws.Lines.{not-here}
 use Rattle.commute.specs.Laws.Views.{itself, within-by-number, rewrite-shapes, shapes-some, remove-whole, insert-whole}
 use Rattle.commute.specs.Laws.Classes.{Class, reading, rewriting, removing, inserting, class, touched, written, after-rewriting, new-need}

@@ -1,17 +1,16 @@
 -- Where two nodes of a document stand, and which lines are near the one and not the other.
 use mathlib.Core.Path.{_≡_, refl, sym, ap, _∙_}
 use Prim.Native.Nat.{ℕ}
-use mathlib.Core.Bool.{Bool, true, false, _&&_, _||_, false≢true, true≢false}
+use mathlib.Core.Bool.{Bool, true, false, _||_, false≢true, true≢false}
 use mathlib.Core.List.{List, [], _∷_}
 use mathlib.Core.Logic.{_⊎_, inl, inr}
 use lib.Dec.{eqb}
-use borrow.Author.Tests.{eqb-true, eq-eqb, ne-eqb}
+use borrow.Author.Tests.{eqb-true, eq-eqb}
 use Rattle.tree.specs.Lists.{has, leads}
-use Rattle.tree.specs.Forest.{Row, row}
-use Rattle.tree.specs.Document.{Node, Document, Line, is, child, under, here, at}
+use Rattle.tree.specs.Document.{Document, Line, is, child, under, here, at}
 use Rattle.tree.specs.Laws.Tests.{refuted}
 use Rattle.tree.specs.Laws.Rows.{line, parent-row, nested, Nested}
-use Rattle.commute.specs.Laws.Lines.{number, Of, Unique, at-line, at-only}
+use Rattle.commute.specs.Laws.Lines.{number, Of, Unique, at-only}
 use Rattle.commute.specs.Laws.Views.{Reach, itself, children, subtree, within}
 
 -- the proper ancestors of n

@@ -1,11 +1,11 @@
 -- The steps by what they do to the document, and what the table of clashes keeps apart.
-use mathlib.Core.Path.{_≡_, refl, sym, ap, _∙_}
+use mathlib.Core.Path.{_≡_, refl}
 use Prim.Native.Nat.{ℕ}
-use mathlib.Core.Bool.{Bool, true, false, cond, not, _&&_, _||_, false≢true, true≢false}
+use mathlib.Core.Bool.{Bool, true, false, _&&_, false≢true}
 use mathlib.Core.List.{List, [], _∷_}
-use Rattle.tree.specs.Lists.{any, has}
-use Rattle.tree.specs.Document.{Node, Document, Line, is, under, here, at}
-use Rattle.tree.specs.Steps.{Step, T, C, R, U, D, I, TT, RR, UU, target, brings, fits, after, named, rewrite, misfit}
+use Rattle.tree.specs.Lists.{has}
+use Rattle.tree.specs.Document.{Document, Line, is, under, here, at}
+use Rattle.tree.specs.Steps.{Step, T, C, R, U, D, I, TT, RR, UU, target, brings, after, named, rewrite}
 use Rattle.locks.specs.Modes.{LW, clash}
 use Rattle.locks.specs.Needs.{Need, need}
 use Rattle.locks.specs.Laws.Compatible.{clashing, excludes}

@@ -1,13 +1,11 @@
 -- Two steps whose locks do not clash: in either order both fit, answer and need the same, and leave the same document.
 use mathlib.Core.Path.{_≡_, refl, sym, ap, _∙_}
 use Prim.Native.Nat.{ℕ}
-use mathlib.Core.Bool.{Bool, true, false, not, _&&_, _||_, false≢true, true≢false}
+use mathlib.Core.Bool.{Bool, true, false}
 use mathlib.Core.List.{List, [], _∷_}
 use mathlib.Core.Logic.{_⊎_, inl, inr}
-use lib.Dec.{eqb}
 use borrow.Author.Tests.{eq-eqb}
-use Rattle.tree.specs.Lists.{has, leads}
-use Rattle.tree.specs.Forest.{Row, row}
+use Rattle.tree.specs.Forest.{row}
 use Rattle.tree.specs.Document.{Node, Document, Line, is, here, at, some?, first}
 use Rattle.tree.specs.Steps.{Step, D, I, target, fits, after, remove, rewrite}
 use Rattle.tree.specs.Laws.Tests.{or-left}
@@ -15,7 +13,7 @@ use Rattle.tree.specs.Laws.Lists.{eqb-flip}
 use Rattle.locks.specs.Modes.{LW}
 use Rattle.locks.specs.Needs.{needs, locks}
 use Rattle.locks.specs.Laws.Compatible.{Compatible, compatible-symmetric, new-locked, off-path}
-use Rattle.commute.specs.Laws.Lines.{Of, Unique, at-line, line-here, in-remove, insert}
+use Rattle.commute.specs.Laws.Lines.{Of, Unique, at-line, line-here, in-remove}
 use Rattle.commute.specs.Laws.Views.{itself, within, reach, within-by-number, Same, rewrite-shapes, insert-whole, shapes-some, shapes-above}
 use Rattle.commute.specs.Laws.Classes.{Rewriting, Class, reading, rewriting, removing, inserting, class, touched, written, after-rewriting, touched-within, write, all-off-LW, Absent}
 use Rattle.commute.specs.Laws.Apart.{path, path-of}

@@ -7,7 +7,7 @@ use mathlib.Core.Logic.{_⊎_, inl, inr}
 use lib.Dec.{eqb}
 use borrow.Author.Tests.{eqb-true}
 use Rattle.tree.specs.Lists.{leads}
-use Rattle.tree.specs.Forest.{Row, row}
+use Rattle.tree.specs.Forest.{row}
 use Rattle.tree.specs.Document.{Node, Document, Line}
 use Rattle.tree.specs.Steps.{remove, rewrite}
 use Rattle.tree.specs.Laws.Tests.{refuted}

@@ -1,22 +1,21 @@
 -- A step leaves what another sees, if their locks do not clash.
 use mathlib.Core.Path.{_≡_, refl, sym, ap, _∙_}
 use Prim.Native.Nat.{ℕ}
-use mathlib.Core.Bool.{Bool, true, false, cond, not, _&&_, _||_, false≢true, true≢false}
+use mathlib.Core.Bool.{Bool, true, false, cond, not, _&&_, false≢true, true≢false}
 use mathlib.Core.List.{List, [], _∷_}
-use mathlib.Core.Logic.{_⊎_, inl, inr}
 use lib.Dec.{eqb}
-use borrow.Author.Tests.{eqb-true, eqb-false, eq-eqb, ne-eqb, not-true}
-use Rattle.tree.specs.Lists.{any, has, leads}
-use Rattle.tree.specs.Forest.{Row, row}
-use Rattle.tree.specs.Document.{Node, Document, Line, is, under, here, at, some?}
+use borrow.Author.Tests.{eqb-true, eq-eqb, ne-eqb, not-true}
+use Rattle.tree.specs.Lists.{any, has}
+use Rattle.tree.specs.Forest.{row}
+use Rattle.tree.specs.Document.{Node, Document, Line, is, here, some?}
 use Rattle.tree.specs.Steps.{Step, T, C, R, U, D, I, TT, RR, UU, target, brings, fits, misfit, misplaced, after, remove, rewrite}
-use Rattle.tree.specs.Laws.Tests.{and-left, and-right, or-left, or-right, refuted}
+use Rattle.tree.specs.Laws.Tests.{and-left, and-right, or-left, refuted}
 use Rattle.tree.specs.Laws.Lists.{at-any, has-in, eqb-flip}
 use Rattle.locks.specs.Modes.{LW, clash}
-use Rattle.locks.specs.Needs.{need, needs, locks}
-use Rattle.locks.specs.Laws.Compatible.{Compatible, compatible-symmetric, All-locked, clashing, excludes, node-locked, new-locked, off-node, off-parent, off-path, off-new}
-use Rattle.commute.specs.Laws.Lines.{Of, Unique, at-line, line-here, not-here, insert}
-use Rattle.commute.specs.Laws.Views.{Reach, itself, children, subtree, within, reach, reads, within-by-number, Shapes, Whole, whole-shapes, Views, Same, views-same, rewrite-shapes}
+use Rattle.locks.specs.Needs.{need, needs}
+use Rattle.locks.specs.Laws.Compatible.{Compatible, compatible-symmetric, excludes, node-locked, new-locked, off-node, off-parent, off-path, off-new}
+use Rattle.commute.specs.Laws.Lines.{Of, Unique, not-here, insert}
+use Rattle.commute.specs.Laws.Views.{Reach, itself, children, subtree, within, reach, within-by-number, Whole, whole-shapes, Views, Same, views-same, rewrite-shapes}
 use Rattle.commute.specs.Laws.Views.{rewrite-whole, remove-whole, insert-whole, shapes-some}
 use Rattle.commute.specs.Laws.Classes.{Rewriting, Class, reading, rewriting, removing, inserting, class, touched, written, after-rewriting, touched-within, Contents, reads-contents}
 use Rattle.commute.specs.Laws.Classes.{all-off-LW, bars-removal, removal-barred, bars-insertion, insertion-barred, bars-writing, writing-barred, Absent, new-need}

@@ -1,24 +1,27 @@
 -- The lines of a plain document, before and after each of the three edits.
-use mathlib.Core.Path.{_≡_, refl, sym, ap, _∙_}
-use Prim.Native.Nat.{ℕ, zero, suc, _+_, _≤_}
-use mathlib.Core.Bool.{Bool, true, false, cond, not, _&&_, _||_, false≢true, true≢false, or-true}
-use mathlib.Core.List.{List, [], _∷_, _++_, map, List·Memᴰ, List·Memᴰ·head, List·Memᴰ·tail, List·Memᴰ·not-nil}
+use mathlib.Core.Path.{_≡_, refl, sym, _∙_}
+use Prim.Native.Nat.{ℕ}
+use mathlib.Core.Bool.{Bool, true, false, cond, not, false≢true, true≢false}
+use mathlib.Core.List.{List, [], _∷_, map, List·Memᴰ, List·Memᴰ·head, List·Memᴰ·not-nil}
 use mathlib.Core.Logic.{_⊎_, inl, inr}
 use lib.Dec.{eqb}
-use borrow.Author.Tests.{eqb-true, eqb-false, eq-eqb, ne-eqb, not-true}
-use Rattle.tree.specs.Lists.{every, has, leads, keep, distinct}
-use Rattle.tree.specs.Forest.{Forest, Row, row, rows, amend, view, put}
-use Rattle.tree.specs.Document.{Node, Document, Line, lines, is, child, under, select, first, some?, here, at, numbers}
+use borrow.Author.Tests.{eqb-true, eq-eqb, not-true}
+use Rattle.tree.specs.Lists.{keep, distinct}
+use Rattle.tree.specs.Forest.{row, rows, put}
+use Rattle.tree.specs.Document.{Node, Document, Line, lines, is, under, select, first, some?, here, at, numbers}
 use Rattle.tree.specs.Steps.{with-content, rewrite, remove}
-use Rattle.tree.specs.Laws.Lists.{every-not, keep-same, keep-keep, keep-all, keep-map, keep-in, in-keep, map-map, map-self}
+use Rattle.tree.specs.Laws.Lists.{every-not, keep-same, keep-in, in-keep}
 use Rattle.tree.specs.Laws.Rows.{In, to-rows, of-rows}
 use Rattle.tree.specs.Laws.Amend.{rows-amend-same, in-amend-same}
 use Rattle.tree.specs.Laws.View.{rows-rest}
-use Rattle.tree.specs.Laws.Put.{put-kept, in-put, New}
+use Rattle.tree.specs.Laws.Put.{in-put, New}
 use Rattle.tree.specs.Laws.Distinct.{distinct-one}
 
 abbrev pub number : Node → ℕ
 number a = a .number
+
+abbrev pub line-number : Line → ℕ
+line-number r = r .it .number
 
 -- r is a line of d
 abbrev pub Of : Line → Document → Type 0
@@ -58,7 +61,7 @@ abbrev pub Unique : Document → Type 0
 Unique d = distinct (numbers (lines d)) ≡ true
 
 pub one-line : (d : Document) → Unique d → (r s : Line) → Of r d → Of s d → r .it .number ≡ s .it .number → r ≡ s
-one-line d u r s i j e = distinct-one (λ (x : Line). x .it .number) (lines d) u (to-lines d i) (to-lines d j) e
+one-line d u r s i j e = distinct-one line-number (lines d) u (to-lines d i) (to-lines d j) e
 
 pub at-only : (d : Document) → Unique d → (n : ℕ) → here n d ≡ true → (r : Line) → Of r d → r .it .number ≡ n → r ≡ at n d
 at-only d u n h r m e = one-line d u r (at n d) m (at-line n d h .0) (e ∙ sym (at-line n d h .1))

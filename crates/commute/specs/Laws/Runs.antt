@@ -1,17 +1,17 @@
 -- Logs of granted steps, and runs of them by the plain rules. Logs whose locks do not clash may be run in either order.
 use mathlib.Core.Path.{_≡_, refl, sym, ap, ap₂, _∙_}
 use Prim.Native.Nat.{ℕ}
-use mathlib.Core.Bool.{Bool, true, false, true≢false}
+use mathlib.Core.Bool.{true, false}
 use mathlib.Core.List.{List, [], _∷_, _++_, map, List·Memᴰ, List·Memᴰ·head, List·Memᴰ·tail, List·Memᴰ·not-nil}
 use Rattle.tree.specs.Lists.{has}
 use Rattle.tree.specs.Document.{Document, at}
 use Rattle.tree.specs.Steps.{Step, target, brings, Value, answer, fits, after, plain-answer, plain-after, plain-document, plain-answers}
-use Rattle.locks.specs.Needs.{Lock, needs, locks}
+use Rattle.locks.specs.Needs.{Lock, needs}
 use Rattle.locks.specs.Laws.Compatible.{Compatible}
 use Rattle.commute.specs.Laws.Lines.{Unique}
 use Rattle.commute.specs.Laws.Views.{Same}
 use Rattle.commute.specs.Laws.Classes.{Absent}
-use Rattle.commute.specs.Laws.Diamond.{Swapped, swap}
+use Rattle.commute.specs.Laws.Diamond.{swap}
 use Rattle.commute.specs.Laws.Uniqueness.{unique-after}
 use Rattle.commute.specs.Laws.Absence.{absent-after, brings-apart}
 

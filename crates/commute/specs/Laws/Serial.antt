@@ -1,20 +1,21 @@
 -- Transactions run one after another, in any order; a granted step, commit and abort.
-use mathlib.Core.Path.{_≡_, refl, sym, ap, _∙_}
+use mathlib.Core.Path.{_≡_, refl, sym, _∙_}
 use Prim.Native.Nat.{ℕ}
-use mathlib.Core.Bool.{Bool, true, false, cond, _||_, false≢true, true≢false, or-true}
+use mathlib.Core.Bool.{Bool, true, false, cond, _||_, true≢false, or-true}
 use mathlib.Core.List.{List, [], _∷_, _++_, append-nil, List·Memᴰ, List·Memᴰ·head, List·Memᴰ·tail, List·Memᴰ·not-nil, List·Memᴰ·append-cases, List·Memᴰ·eq-of-singleton}
 use mathlib.Core.Logic.{_⊎_, inl, inr}
 use lib.Dec.{eqb}
 use borrow.Author.Tests.{eqb-true, eq-eqb}
 use Rattle.tree.specs.Lists.{has}
 use Rattle.tree.specs.Document.{Document}
-use Rattle.tree.specs.Steps.{Step, after}
+use Rattle.tree.specs.Steps.{after}
 use Rattle.tree.specs.Laws.Tests.{or-cases}
 use Rattle.locks.specs.Laws.Compatible.{compatible-symmetric}
 use Rattle.commute.specs.Laws.Lines.{Unique}
 use Rattle.commute.specs.Laws.Classes.{Absent}
 use Rattle.commute.specs.Laws.Runs.{Entry, Valid, Run, run-split, run-append, unique-run, Clear, All-clear, Other-numbers, Brings-once, All-absent}
-use Rattle.commute.specs.Laws.Orders.{Permutation, permuted-has, permuted-distinct, permutation-back, to-back, Distinct, distinct-head, distinct-tail, distinct-cons, logs, logs-append, Apart, None-there, rest-not-there, any-order}
+use Rattle.commute.specs.Laws.Orders.{Permutation, permuted-has, permuted-distinct, permutation-back, to-back, Distinct, distinct-head}
+use Rattle.commute.specs.Laws.Orders.{distinct-tail, distinct-cons, logs, logs-append, Apart, None-there, rest-not-there, any-order}
 
 -- the transactions a, run one after another in this order on d, give every step its answer and its locks, and leave h
 pub record Serial (d : Document) (a : List ℕ) (log : ℕ → List Entry) (h : Document) : Type 0 where

@@ -1,25 +1,22 @@
 -- A step that fits leaves no two nodes with one number.
-use mathlib.Core.Path.{_≡_, refl, sym, ap, _∙_}
+use mathlib.Core.Path.{_≡_, refl}
 use Prim.Native.Nat.{ℕ, _+_, _≤_}
-use mathlib.Core.Bool.{Bool, true, false, cond, not, false≢true, true≢false}
-use mathlib.Core.List.{List, [], _∷_, map}
+use mathlib.Core.Bool.{Bool, true, false, not, true≢false}
+use mathlib.Core.List.{List, [], _∷_}
 use lib.ListN.{length}
 use lib.Dec.{eqb}
 use native.Mathlib.Omega.{arith}
 use borrow.Author.Tests.{eqb-true, eq-eqb}
-use Rattle.tree.specs.Lists.{has, keep, distinct}
-use Rattle.tree.specs.Forest.{Row, row}
+use Rattle.tree.specs.Lists.{keep}
+use Rattle.tree.specs.Forest.{row}
 use Rattle.tree.specs.Document.{Node, Document, Line, lines, is, under, select, here, some?, numbers}
-use Rattle.tree.specs.Steps.{Step, I, D, fits, after, remove, rewrite}
+use Rattle.tree.specs.Steps.{Step, I, fits, after, remove, rewrite}
 use Rattle.tree.specs.Laws.Lists.{map-map, count}
 use Rattle.tree.specs.Laws.Put.{put-kept, put-count}
 use Rattle.tree.specs.Laws.Distinct.{distinct-count, count-distinct, distinct-keep}
-use Rattle.commute.specs.Laws.Lines.{number, Of, Unique, rewritten, rewritten-number, lines-rewrite, lines-remove, insert}
+use Rattle.commute.specs.Laws.Lines.{number, line-number, Unique, rewritten, rewritten-number, lines-rewrite, lines-remove, insert}
 use Rattle.commute.specs.Laws.Classes.{Class, reading, rewriting, removing, inserting, class, touched, written, after-rewriting}
 use Rattle.commute.specs.Laws.Kept.{fits-absent}
-
-abbrev line-number : Line → ℕ
-line-number r = r .it .number
 
 pub numbers-rewrite : (t : Line → Bool) (b : List ℕ) (d : Document) → numbers (lines (rewrite t b d)) ≡ numbers (lines d)
 numbers-rewrite t b d = rw (lines-rewrite t b d) (map-map line-number (λ r. row (rewritten t b r) (r .above)) line-number (lines d) (λ r m. rewritten-number t b r))

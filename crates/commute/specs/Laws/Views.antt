@@ -1,14 +1,14 @@
 -- What a step sees of a document, and what an edit leaves of that.
 use mathlib.Core.Path.{_≡_, refl, sym, ap, _∙_}
 use Prim.Native.Nat.{ℕ, zero, suc}
-use mathlib.Core.Bool.{Bool, true, false, cond, not, _&&_, _||_, false≢true, true≢false}
-use mathlib.Core.List.{List, [], _∷_, _++_, map, List·Memᴰ}
+use mathlib.Core.Bool.{Bool, true, false, not}
+use mathlib.Core.List.{List, [], _∷_, map, List·Memᴰ}
 use lib.Dec.{eqb}
 use borrow.Author.Tests.{eqb-true}
-use Rattle.tree.specs.Lists.{any, has, leads, keep}
-use Rattle.tree.specs.Forest.{Row, row, rows, put}
-use Rattle.tree.specs.Document.{Node, Document, Line, lines, is, child, under, select, first, some?, here, at, numbers, kinds}
-use Rattle.tree.specs.Steps.{Step, T, C, R, U, D, I, TT, RR, UU, target, brings, fits, answer, after, kth, numbers-are, with-content, rewrite, remove, misfit, misplaced}
+use Rattle.tree.specs.Lists.{has, keep}
+use Rattle.tree.specs.Forest.{row}
+use Rattle.tree.specs.Document.{Node, Document, Line, lines, is, child, under, select, first, some?, here}
+use Rattle.tree.specs.Steps.{Step, T, C, R, U, D, I, TT, RR, UU, target, brings, fits, answer, kth, numbers-are, with-content, rewrite, remove, misfit, misplaced}
 use Rattle.tree.specs.Laws.Lists.{any-same, in-has, keep-keep, keep-all, keep-map, in-keep, map-map, map-self}
 use Rattle.tree.specs.Laws.Put.{put-kept}
 use Rattle.locks.specs.Needs.{needs, locks}

@@ -6,14 +6,10 @@ use lib.Pow.{shl-exact}
 use borrow.Author.Needs.{needs}
 use Rattle.locks.proofs.add.Statement.{statement}
 use Rattle.locks.proofs.add.Tie as tie
-use Rattle.locks.proofs.add.Reads as reads
-use Rattle.locks.proofs.add.Lts as lts
 
--- src/lib.rt:201:10
 shl-result : tie.Need-shl-result
 shl-result c = search needs
 
--- src/lib.rt:197:1
 returns : tie.Need-returns
 returns c = ap (bitOr (c .args .w)) (shl-exact 1 (c .args .m) 16 (lit< tt) (omega arith) ∙ omega arith)
 

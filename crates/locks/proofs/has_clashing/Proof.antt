@@ -1,26 +1,17 @@
-use native.Mathlib.Omega.{arith}
-use mathlib.Core.Path.{sym, ap, _∙_}
+use mathlib.Core.Path.{sym, _∙_}
 use borrow.Author.Needs.{needs}
 use Rattle.locks.proofs.has_clashing.Statement.{statement}
 use Rattle.locks.proofs.has_clashing.Tie as tie
-use Rattle.locks.proofs.has_clashing.Reads as reads
-use Rattle.locks.proofs.has_clashing.Lts as lts
-use Rattle.locks.proofs.clash.Reads as clash-reads
-use Rattle.locks.proofs.has.Reads as has-reads
 
--- src/lib.rt:215:8
 has-requires : tie.Need-has-requires
 has-requires c κs = search needs
 
--- src/lib.rt:216:9
 clash-requires : tie.Need-clash-requires
 clash-requires c κs = search needs
 
--- src/lib.rt:216:9
 returns : tie.Need-returns
 returns c = c .clash .ensures ∙ rw (sym (c .before .before .has .ensures) ∙ c .before .if1 .taken)
 
--- src/lib.rt:211:1
 returns-2 : tie.Need-returns-2
 returns-2 c = rw (sym (c .before .has .ensures) ∙ c .if1 .left)
 

@@ -1,16 +1,11 @@
 use borrow.Author.Needs.{needs}
 use native.Mathlib.Omega.{arith}
-use Prim.Native.Nat.{ℕ, _-_, _≤_, _<_}
-use mathlib.Core.Path.{_≡_, refl, sym, ap, _∙_}
-use mathlib.Core.Bool.{cond}
+use Prim.Native.Nat.{ℕ, _-_, _≤_}
+use mathlib.Core.Path.{_≡_, sym, ap, _∙_}
 use Rattle.locks.specs.Words.{word, meets, mask-of}
 use Rattle.locks.specs.Laws.Words.{word-turn, word-none, word-below}
 use Rattle.locks.proofs.mask.Statement.{statement}
 use Rattle.locks.proofs.mask.Tie as tie
-use Rattle.locks.proofs.mask.Reads as reads
-use Rattle.locks.proofs.mask.Lts as lts
-use Rattle.locks.proofs.bit_below.Reads as bit-below-reads
-use Rattle.locks.proofs.clashes_with.Reads as clashes-with-reads
 
 abbrev Inv-loop : tie.InvT-loop
 Inv-loop w m₀ a₀ m a = (a ≤ 12) × (m ≡ word (meets w) (12 - a) a)
@@ -18,34 +13,27 @@ Inv-loop w m₀ a₀ m a = (a ≤ 12) × (m ≡ word (meets w) (12 - a) a)
 abbrev μ-loop : tie.MeasureT-loop
 μ-loop w m₀ a₀ m a = a
 
--- src/lib.rt:253:5
 loop-holds : tie.Need-loop-holds Inv-loop μ-loop
 loop-holds c = (search needs, sym (word-none _ 12))
 
--- src/lib.rt:254:9
 sub-a : tie.Need-sub-a Inv-loop μ-loop
 sub-a c = search needs
 
--- src/lib.rt:255:26
 clashes-with-requires : tie.Need-clashes-with-requires Inv-loop μ-loop
 clashes-with-requires c κs = search needs
 
--- src/lib.rt:255:9
 bit-below-requires : tie.Need-bit-below-requires Inv-loop μ-loop
 bit-below-requires c κs = omega (arith, word-below (meets (c .before .before .before .args .w)) (c .before .before .loop .a), c .before .before .loop .inv .1)
 
--- src/lib.rt:253:5
 loop-less : tie.Need-loop-less Inv-loop μ-loop
 loop-less c = search needs
 
--- src/lib.rt:253:5
 loop-again : tie.Need-loop-again Inv-loop μ-loop
 loop-again c =
     let l = c .before .before .before .loop in
     let w = c .before .before .before .before .args .w in
     (search needs, c .bit-below .ensures ∙ rw (c .before .clashes-with .ensures, l .inv .1) (sym (word-turn (meets w) 12 (l .a) (search needs) (search needs))))
 
--- src/lib.rt:248:1
 returns : tie.Need-returns Inv-loop μ-loop
 unfolding mask-of
 returns c =

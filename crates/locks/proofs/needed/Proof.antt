@@ -1,130 +1,98 @@
-use native.Mathlib.Omega.{arith}
 use mathlib.Core.Path.{sym, ap, _∙_}
 use Rattle.locks.specs.Words.{word-of, need-words}
 use borrow.Author.Needs.{needs}
 use Rattle.locks.proofs.needed.Statement.{statement}
 use Rattle.locks.proofs.needed.Tie as tie
-use Rattle.locks.proofs.needed.Reads as reads
-use Rattle.locks.proofs.needed.Lts as lts
-use Rattle.locks.proofs.on_above.Reads as on-above-reads
 
--- src/lib.rt:320:24
 enum-told : tie.Need-enum-told
 enum-told c = search needs
 
--- src/lib.rt:320:24
 on-above-requires : tie.Need-on-above-requires
 on-above-requires c κs = search needs
 
--- src/lib.rt:321:24
 enum-told-2 : tie.Need-enum-told-2
 enum-told-2 c = search needs
 
--- src/lib.rt:321:24
 on-above-requires-2 : tie.Need-on-above-requires-2
 on-above-requires-2 c κs = search needs
 
--- src/lib.rt:322:24
 enum-told-3 : tie.Need-enum-told-3
 enum-told-3 c = search needs
 
--- src/lib.rt:322:24
 on-above-requires-3 : tie.Need-on-above-requires-3
 on-above-requires-3 c κs = search needs
 
--- src/lib.rt:323:24
 enum-told-4 : tie.Need-enum-told-4
 enum-told-4 c = search needs
 
--- src/lib.rt:323:24
 on-above-requires-4 : tie.Need-on-above-requires-4
 on-above-requires-4 c κs = search needs
 
--- src/lib.rt:324:24
 enum-told-5 : tie.Need-enum-told-5
 enum-told-5 c = search needs
 
--- src/lib.rt:331:19
 enum-told-6 : tie.Need-enum-told-6
 enum-told-6 c = search needs
 
--- src/lib.rt:331:19
 add-t3 : tie.Need-add-t3
 add-t3 c = search needs
 
--- src/lib.rt:332:21
 add-t4 : tie.Need-add-t4
 add-t4 c = search needs
 
--- src/lib.rt:333:20
 add-t5 : tie.Need-add-t5
 add-t5 c = search needs
 
--- src/lib.rt:336:25
 enum-told-7 : tie.Need-enum-told-7
 enum-told-7 c = search needs
 
--- src/lib.rt:336:25
 on-above-requires-5 : tie.Need-on-above-requires-5
 on-above-requires-5 c κs = search needs
 
--- src/lib.rt:337:25
 enum-told-8 : tie.Need-enum-told-8
 enum-told-8 c = search needs
 
--- src/lib.rt:337:25
 on-above-requires-6 : tie.Need-on-above-requires-6
 on-above-requires-6 c κs = search needs
 
--- src/lib.rt:338:25
 enum-told-9 : tie.Need-enum-told-9
 enum-told-9 c = search needs
 
--- src/lib.rt:338:25
 on-above-requires-7 : tie.Need-on-above-requires-7
 on-above-requires-7 c κs = search needs
 
--- src/lib.rt:316:1
 returns : tie.Need-returns
 unfolding need-words word-of
 returns c = c .on-above .ensures ∙ ap need-words (sym (c .before .enum-told .given .1))
 
--- src/lib.rt:316:1
 returns-2 : tie.Need-returns-2
 unfolding need-words word-of
 returns-2 c = c .on-above2 .ensures ∙ ap need-words (sym (c .before .enum-told2 .given .1))
 
--- src/lib.rt:316:1
 returns-3 : tie.Need-returns-3
 unfolding need-words word-of
 returns-3 c = c .on-above3 .ensures ∙ ap need-words (sym (c .before .enum-told3 .given .1))
 
--- src/lib.rt:316:1
 returns-4 : tie.Need-returns-4
 unfolding need-words word-of
 returns-4 c = c .on-above4 .ensures ∙ ap need-words (sym (c .before .enum-told4 .given .1))
 
--- src/lib.rt:316:1
 returns-5 : tie.Need-returns-5
 unfolding need-words word-of
 returns-5 c = ap need-words (sym (c .enum-told5 .given .1))
 
--- src/lib.rt:316:1
 returns-6 : tie.Need-returns-6
 unfolding need-words word-of
 returns-6 c = ap need-words (sym (c .enum-told6 .given .1))
 
--- src/lib.rt:316:1
 returns-7 : tie.Need-returns-7
 unfolding need-words word-of
 returns-7 c = c .on-above5 .ensures ∙ ap need-words (sym (c .before .enum-told7 .given .1))
 
--- src/lib.rt:316:1
 returns-8 : tie.Need-returns-8
 unfolding need-words word-of
 returns-8 c = c .on-above6 .ensures ∙ ap need-words (sym (c .before .enum-told8 .given .1))
 
--- src/lib.rt:316:1
 returns-9 : tie.Need-returns-9
 unfolding need-words word-of
 returns-9 c = c .on-above7 .ensures ∙ ap need-words (sym (c .before .enum-told9 .given .1))

@@ -10,9 +10,11 @@ use lib.Dec.{eqb}
 use lib.ListN.{getD}
 use borrow.Author.Tests.{eqb-true, eqb-false, eq-eqb, ne-eqb}
 use Rattle.tree.specs.Lists.{any, every}
+use Rattle.tree.specs.Laws.Tests.{and-left, and-right}
 use Rattle.tree.specs.Steps.{Step, T, C, R, U, D, I, TT, RR, UU}
 use Rattle.locks.specs.Modes.{Mode, LT, LC, LR, LU, LW, LTT, LRR, LUU, LIR, LIU, LIW, LICW, modes, index, clash, ModeSet, among, union, against, in-word}
 use Rattle.locks.specs.Needs.{Need, need}
+use Rattle.locks.specs.Laws.Clash.{every-mode}
 use Rattle.locks.specs.Words.{clash-table, clash-at, bit, word, some-place, meets, mask-of, word-of}
 
 -- what holds at each place of the table holds for each mode
@@ -43,10 +45,6 @@ index-below LIR = omega arith
 index-below LIU = omega arith
 index-below LIW = omega arith
 index-below LICW = omega arith
-
-both : (a b : Bool) → (a && b) ≡ true → (a ≡ true) × (b ≡ true)
-both true b h = (refl, h)
-both false b h = absurd (false≢true h)
 
 beq-eq : (a b : Bool) → Bool·beq a b ≡ true → a ≡ b
 beq-eq true true h = refl
@@ -123,14 +121,6 @@ in-union v w a =
 sets-same : List Mode → Bool
 sets-same l = every (λ a. Bool·beq (in-word (word-of l) a) (among l a)) modes
 
-every-mode : (t : Mode → Bool) → every t modes ≡ true → (a : Mode) → t a ≡ true
-every-mode t h a = sym (at-index t true a) ∙ go modes (index a) h
-  where
-    go : (l : List Mode) (i : ℕ) → every t l ≡ true → getD (map t l) i true ≡ true
-    go [] i e = refl
-    go (x ∷ l) zero e = both (t x) (every t l) e .0
-    go (x ∷ l) (suc i) e = go l i (both (t x) (every t l) e .1)
-
 word-of-list : (l : List Mode) → sets-same l ≡ true → (a : Mode) → in-word (word-of l) a ≡ among l a
 unfolding sets-same
 word-of-list l h a = beq-eq _ _ (every-mode (λ a. Bool·beq (in-word (word-of l) a) (among l a)) h a)
@@ -148,10 +138,11 @@ all-same w = sets-same (w .node) && sets-same (w .parent) && sets-same (w .above
 same-sets : (w : Need) → all-same w ≡ true → SameSets w
 unfolding all-same
 same-sets w h =
-    let p = both (sets-same (w .node) && sets-same (w .parent) && sets-same (w .above)) (sets-same (w .new)) h in
-    let q = both (sets-same (w .node) && sets-same (w .parent)) (sets-same (w .above)) (p .0) in
-    let r = both (sets-same (w .node)) (sets-same (w .parent)) (q .0) in
-    record { node = word-of-list (w .node) (r .0); parent = word-of-list (w .parent) (r .1); above = word-of-list (w .above) (q .1); new = word-of-list (w .new) (p .1) }
+    let abc = sets-same (w .node) && sets-same (w .parent) && sets-same (w .above) in
+    let ab = sets-same (w .node) && sets-same (w .parent) in
+    let p = and-left abc (sets-same (w .new)) h in
+    let q = and-left ab (sets-same (w .above)) p in
+    record { node = word-of-list (w .node) (and-left _ _ q); parent = word-of-list (w .parent) (and-right (sets-same (w .node)) _ q); above = word-of-list (w .above) (and-right ab _ p); new = word-of-list (w .new) (and-right abc _ h) }
 
 pub need-sets : (s : Step) → SameSets (need s)
 unfolding all-same sets-same word-of

@@ -1,48 +1,35 @@
-use native.Mathlib.Omega.{arith}
-use mathlib.Core.Path.{_≡_, sym, ap, _∙_}
+use mathlib.Core.Path.{_∙_}
 use borrow.Author.Tests.{eq-eqb, ne-eqb}
 use Rattle.tree.specs.Content.{allowed}
 use borrow.Author.Needs.{needs}
 use Rattle.tree.proofs.allowed.Statement.{statement}
 use Rattle.tree.proofs.allowed.Tie as tie
-use Rattle.tree.proofs.allowed.Reads as reads
-use Rattle.tree.proofs.allowed.Lts as lts
-use Rattle.tree.proofs.is_name.Reads as is-name-reads
-use Rattle.tree.proofs.is_text.Reads as is-text-reads
 
--- src/lib.rt:84:9
 returns : tie.Need-returns
 unfolding allowed
 returns c = rw (eq-eqb _ _ (c .if1 .taken))
 
--- src/lib.rt:87:9
 is-name-requires : tie.Need-is-name-requires
 is-name-requires c κs = search needs
 
--- src/lib.rt:87:9
 returns-2 : tie.Need-returns-2
 unfolding allowed
 returns-2 c = c .is-name .ensures ∙ rw (ne-eqb _ _ (c .before .before .if1 .left), eq-eqb _ _ (c .before .if2 .taken))
 
--- src/lib.rt:90:9
 is-name-requires-2 : tie.Need-is-name-requires-2
 is-name-requires-2 c κs = search needs
 
--- src/lib.rt:90:9
 returns-3 : tie.Need-returns-3
 unfolding allowed
 returns-3 c = c .is-name2 .ensures ∙ rw (ne-eqb _ _ (c .before .before .before .if1 .left), ne-eqb _ _ (c .before .before .if2 .left), eq-eqb _ _ (c .before .if3 .taken))
 
--- src/lib.rt:93:9
 is-text-requires : tie.Need-is-text-requires
 is-text-requires c κs = search needs
 
--- src/lib.rt:93:9
 returns-4 : tie.Need-returns-4
 unfolding allowed
 returns-4 c = c .is-text .ensures ∙ rw (ne-eqb _ _ (c .before .before .before .before .if1 .left), ne-eqb _ _ (c .before .before .before .if2 .left), ne-eqb _ _ (c .before .before .if3 .left), eq-eqb _ _ (c .before .if4 .taken))
 
--- src/lib.rt:80:1
 returns-5 : tie.Need-returns-5
 unfolding allowed
 returns-5 c = rw (ne-eqb _ _ (c .before .before .before .if1 .left), ne-eqb _ _ (c .before .before .if2 .left), ne-eqb _ _ (c .before .if3 .left), ne-eqb _ _ (c .if4 .left))

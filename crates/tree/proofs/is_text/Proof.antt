@@ -1,26 +1,18 @@
-use native.Mathlib.Omega.{arith}
-use mathlib.Core.Path.{_≡_, sym, ap, _∙_}
+use mathlib.Core.Path.{sym, _∙_}
 use Rattle.tree.proofs.Table.{text-empty, text-long, text-is}
 use borrow.Author.Needs.{needs}
 use Rattle.tree.proofs.is_text.Statement.{statement}
 use Rattle.tree.proofs.is_text.Tie as tie
-use Rattle.tree.proofs.is_text.Reads as reads
-use Rattle.tree.proofs.is_text.Lts as lts
-use Rattle.tree.proofs.all_in.Reads as all-in-reads
 
--- src/lib.rt:71:9
 returns : tie.Need-returns
 returns c = sym (text-empty _ (c .if1 .taken))
 
--- src/lib.rt:74:9
 returns-2 : tie.Need-returns-2
 returns-2 c = sym (text-long _ (c .if2 .taken))
 
--- src/lib.rt:76:5
 all-in-requires : tie.Need-all-in-requires
 all-in-requires c κs = search needs
 
--- src/lib.rt:67:1
 returns-3 : tie.Need-returns-3
 returns-3 c = c .all-in .ensures ∙ sym (text-is _ (c .before .before .if1 .left) (c .before .if2 .left))
 

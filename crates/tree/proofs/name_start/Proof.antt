@@ -1,19 +1,12 @@
-use native.Mathlib.Omega.{arith}
-use mathlib.Core.Path.{_≡_, sym, ap, _∙_}
 use Rattle.tree.specs.Classes.{in-class}
 use Rattle.tree.proofs.Table.{starts-name}
 use borrow.Author.Needs.{needs}
 use Rattle.tree.proofs.name_start.Statement.{statement}
 use Rattle.tree.proofs.name_start.Tie as tie
-use Rattle.tree.proofs.name_start.Reads as reads
-use Rattle.tree.proofs.name_start.Lts as lts
-use Rattle.tree.proofs.class.Reads as class-reads
 
--- src/lib.rt:278:5
 class-requires : tie.Need-class-requires
 class-requires c κs = search needs
 
--- src/lib.rt:275:1
 returns : tie.Need-returns
 unfolding in-class
 returns c = rw (c .class .ensures) (starts-name (c .before .args .x))

@@ -1,33 +1,24 @@
-use borrow.Author.Needs.{needs}
-use native.Mathlib.Omega.{arith}
 use borrow.Author.Tests.{eq-eqb, ne-eqb, le-leb, lt-leb}
 use Rattle.tree.specs.Content.{takes}
 use Rattle.tree.proofs.takes.Statement.{statement}
 use Rattle.tree.proofs.takes.Tie as tie
-use Rattle.tree.proofs.takes.Reads as reads
-use Rattle.tree.proofs.takes.Lts as lts
 
--- src/lib.rt:359:9
 returns : tie.Need-returns
 unfolding takes
 returns c = rw (eq-eqb _ _ (c .if1 .taken))
 
--- src/lib.rt:363:13
 returns-2 : tie.Need-returns-2
 unfolding takes
 returns-2 c = rw (ne-eqb _ _ (c .before .before .if1 .left), eq-eqb _ _ (c .before .if2 .taken), lt-leb _ _ (c .if3 .taken))
 
--- src/lib.rt:365:9
 returns-3 : tie.Need-returns-3
 unfolding takes
 returns-3 c = rw (ne-eqb _ _ (c .before .before .if1 .left), eq-eqb _ _ (c .before .if2 .taken), le-leb _ _ (c .if3 .left))
 
--- src/lib.rt:368:9
 returns-4 : tie.Need-returns-4
 unfolding takes
 returns-4 c = rw (ne-eqb _ _ (c .before .before .if1 .left), ne-eqb _ _ (c .before .if2 .left), eq-eqb _ _ (c .if4 .taken))
 
--- src/lib.rt:355:1
 returns-5 : tie.Need-returns-5
 unfolding takes
 returns-5 c = rw (ne-eqb _ _ (c .before .before .if1 .left), ne-eqb _ _ (c .before .if2 .left), ne-eqb _ _ (c .if4 .left))

@@ -1,18 +1,17 @@
 -- Lists whose elements have distinct numbers.
 use mathlib.Core.Path.{_≡_, refl, sym, ap, _∙_}
-use Prim.Native.Nat.{ℕ, zero, suc, _+_, _≤_}
-use mathlib.Core.Bool.{Bool, true, false, cond, not, _&&_, _||_, false≢true, true≢false}
+use Prim.Native.Nat.{ℕ, _+_, _≤_}
+use mathlib.Core.Bool.{Bool, true, false, cond, false≢true, true≢false}
 use mathlib.Core.List.{List, [], _∷_, _++_, map, List·Memᴰ, List·Memᴰ·head, List·Memᴰ·tail, List·Memᴰ·not-nil}
-use mathlib.Core.Logic.{_⊎_, inl, inr}
 use lib.Dec.{eqb}
 use native.Mathlib.Omega.{arith}
 use borrow.Author.Tests.{eqb-true, eq-eqb}
-use Rattle.tree.specs.Lists.{any, has, keep, distinct}
+use Rattle.tree.specs.Lists.{has, keep, distinct}
 use Rattle.tree.specs.Laws.Tests.{refuted}
-use Rattle.tree.specs.Laws.Lists.{in-has, any-map, at-any, any-at, map-in, in-keep, keep-none, count, count-cons, count-some}
+use Rattle.tree.specs.Laws.Lists.{in-has, any-map, any-at, map-in, in-keep, keep-none, count, count-cons, count-append, count-some}
 
 module _ {A : Type 0} (number : A → ℕ) where
-  head-new : (x : A) (l : List A) → distinct (map number (x ∷ l)) ≡ true → (has (number x) (map number l) ≡ false) × (distinct (map number l) ≡ true)
+  pub head-new : (x : A) (l : List A) → distinct (map number (x ∷ l)) ≡ true → (has (number x) (map number l) ≡ false) × (distinct (map number l) ≡ true)
   head-new x l h = go (has (number x) (map number l)) h
     where
       go : (t : Bool) → cond t false (distinct (map number l)) ≡ true → (t ≡ false) × (distinct (map number l) ≡ true)
@@ -24,6 +23,10 @@ module _ {A : Type 0} (number : A → ℕ) where
 
   not-in : (x a : A) (l : List A) → has (number x) (map number l) ≡ false → List·Memᴰ a l → number a ≡ number x → ⊥
   not-in x a l h m e = true≢false (sym (in-has (number x) (map number l) (rw (← e) (map-in number m))) ∙ h)
+
+  -- the first element's number is not among the others'
+  pub head-apart : (x : A) (l : List A) → distinct (map number (x ∷ l)) ≡ true → {a : A} → List·Memᴰ a l → number a ≡ number x → ⊥
+  head-apart x l h {a} m e = not-in x a l (head-new x l h .0) m e
 
   -- equal numbers, one element
   pub distinct-one : (l : List A) → distinct (map number l) ≡ true → {a b : A} → List·Memᴰ a l → List·Memᴰ b l → number a ≡ number b → a ≡ b
@@ -76,3 +79,15 @@ module _ {A : Type 0} (number : A → ℕ) where
       go : (b : Bool) → distinct (map number (keep t l)) ≡ true → distinct (map number (cond b (x ∷ keep t l) (keep t l))) ≡ true
       go true e = new-head x (keep t l) (refuted _ still-new) e
       go false e = e
+
+  -- of two lists, one behind the other
+  pub distinct-left : (l k : List A) → distinct (map number (l ++ k)) ≡ true → distinct (map number l) ≡ true
+  distinct-left l k h = count-distinct l (λ n. let i : count (numbered n) l + count (numbered n) k ≤ 1 = rw (count-append (numbered n) l k) at (distinct-count (l ++ k) h n) in omega arith)
+
+  pub distinct-right : (l k : List A) → distinct (map number (l ++ k)) ≡ true → distinct (map number k) ≡ true
+  distinct-right l k h = count-distinct k (λ n. let i : count (numbered n) l + count (numbered n) k ≤ 1 = rw (count-append (numbered n) l k) at (distinct-count (l ++ k) h n) in omega arith)
+
+  pub distinct-apart : (l k : List A) → distinct (map number (l ++ k)) ≡ true → {a b : A} → List·Memᴰ a l → List·Memᴰ b k → number a ≡ number b → ⊥
+  distinct-apart l k h {a} {b} i j e =
+      let c : count (numbered (number a)) l + count (numbered (number a)) k ≤ 1 = rw (count-append (numbered (number a)) l k) at (distinct-count (l ++ k) h (number a)) in
+      omega (arith, count-some (numbered (number a)) l i (eq-eqb (number a) (number a) refl), count-some (numbered (number a)) k j (eq-eqb (number b) (number a) (sym e)))

@@ -1,11 +1,11 @@
 -- `put`: the rows that are kept and those that are new, and the order of an insertion and another edit.
 use mathlib.Core.Path.{_≡_, refl, sym, ap, _∙_}
 use Prim.Native.Nat.{ℕ, zero, suc, _+_}
-use mathlib.Core.Bool.{Bool, true, false, cond, not, _&&_, false≢true, true≢false}
-use mathlib.Core.List.{List, [], _∷_, _++_, map, List·Memᴰ}
+use mathlib.Core.Bool.{Bool, true, false, cond, _&&_, true≢false}
+use mathlib.Core.List.{List, [], _∷_, _++_}
 use mathlib.Core.Logic.{_⊎_, inl, inr}
 use native.Mathlib.Omega.{arith}
-use Rattle.tree.specs.Lists.{every, keep}
+use Rattle.tree.specs.Lists.{keep}
 use Rattle.tree.specs.Forest.{Forest, nil, node, Row, row, rows, amend, view, place, put}
 use Rattle.tree.specs.Laws.Lists.{keep-append, count, count-nil, count-cons, count-append}
 use Rattle.tree.specs.Laws.Rows.{In, self, inner, later, line, not-in-nil}
