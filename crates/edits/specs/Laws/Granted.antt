@@ -1,14 +1,13 @@
 -- A granted step, on the rows: its locks along the way up, then what it does.
 use mathlib.Core.Path.{_≡_, refl, sym, ap, _∙_}
-use Prim.Native.Nat.{ℕ, zero, suc, _+_, _-_, _<_}
-use mathlib.Core.Bool.{Bool, true, false, cond, _&&_, _||_, true≢false}
-use mathlib.Core.List.{List, [], _∷_, _++_, map, List·Memᴰ, List·Memᴰ·head, List·Memᴰ·tail}
+use Prim.Native.Nat.{ℕ, zero, suc, _<_}
+use mathlib.Core.Bool.{Bool, true, false, cond}
+use mathlib.Core.List.{List, [], _∷_, _++_, map, List·Memᴰ·head, List·Memᴰ·tail}
 use native.Mathlib.Omega.{arith}
 use lib.ListN.{length, getD, take, drop}
-use lib.Dec.{eqb, ltb}
+use lib.Dec.{ltb}
 use borrow.Author.Tests.{ne-eqb}
 use Rattle.tree.specs.Lists.{any, has}
-use Rattle.tree.specs.Document.{Node}
 use Rattle.tree.specs.Steps.{Step, T, C, R, U, D, I, TT, RR, UU, target, brings, is-named}
 use Rattle.tree.specs.Laws.Tests.{or-left}
 use Rattle.tree.specs.Laws.Lists.{map-map, map-append}
@@ -20,7 +19,7 @@ use Rattle.layout.specs.Layout.{Entry, no-entry}
 use Rattle.lookup.specs.Places.{depth, item, items, number-of, unique, above-places, ups, numbers-above, seen-at}
 use Rattle.lookup.specs.Laws.Up.{climb-before}
 use Rattle.lookup.specs.Laws.Find.{nodes-held}
-use Rattle.edits.specs.Rows.{Lacks, row-numbers, number-at, Inside, left-out, all-granted, granted-up, granted-modes, changed-below, renamed-by, renamed-rows, new-place, acted, stepped}
+use Rattle.edits.specs.Rows.{Lacks, number-at, Inside, left-out, all-granted, granted-up, changed-below, renamed-by, renamed-rows, new-place, stepped}
 use Rattle.edits.specs.Laws.Unique.{lacks-at}
 use Rattle.edits.specs.Laws.Lists.{map-modify, map-insert, map-take, map-drop}
 use Rattle.edits.specs.Laws.Updates.{mark-node-rows}
