@@ -7,10 +7,10 @@ use native.Mathlib.Omega.{arith}
 use lib.ListN.{length, getD, take, drop, length-append}
 use lib.Seq.{take-at, getD-at, drop-append-add}
 use Rattle.tree.specs.Lists.{any, keep}
-use Rattle.tree.specs.Forest.{row}
+use Rattle.tree.specs.Forest.{Row, row}
 use Rattle.tree.specs.Laws.Lists.{in-keep, keep-in}
 use Rattle.tree.specs.Laws.Rows.{of-rows}
-use Rattle.protocol.specs.State.{Tree, numbered}
+use Rattle.protocol.specs.State.{Marked, Tree, numbered}
 use Rattle.layout.specs.Flat.{flat}
 use Rattle.layout.specs.Layout.{Entry, no-entry}
 use Rattle.lookup.specs.Places.{depth, item, unique, ups}
@@ -37,8 +37,9 @@ unfolding keep
 row-of {f} {n} {p} o =
     let c = o .place in
     let e = c .keeps (numbered n) (λ r. numbered n (r .it)) (λ r e. rw e) [] refl (o .before) (o .behind) in
-    let m = keep-in (λ r. numbered n (r .it)) (row (c .it) (c .above ++ []) ∷ lines-of (c .it ∷ (c .above ++ [])) (c .children)) {a = row (c .it) (c .above ++ [])} (List·Memᴰ·head refl) (o .number) in
-    let i = in-keep (λ r. numbered n (r .it)) (lines-of [] f) {a = row (c .it) (c .above ++ [])} (rw (← e) at m) in
+    let r : Row Marked Marked = row (c .it) (c .above ++ []) in
+    let m = keep-in (λ r. numbered n (r .it)) (r ∷ lines-of (c .it ∷ (c .above ++ [])) (c .children)) {a = r} (List·Memᴰ·head refl) (o .number) in
+    let i = in-keep (λ r. numbered n (r .it)) (lines-of [] f) {a = r} (rw (← e) at m) in
     rw (item-at c, ups-at c, ← append-nil (c .above)) (of-rows (λ a. a) _ [] f (i .0))
 
 around-row : (f : Tree) (p : ℕ) → unique (flat 0 f) ≡ true → p < length (flat 0 f) → RowOf (row (item (flat 0 f) p) (ups (flat 0 f) p)) [] f → RowAt f p
