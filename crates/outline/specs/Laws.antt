@@ -2,3 +2,4 @@ pub mod Lists
 pub mod Entries
 pub mod Insert
 pub mod Prune
+pub mod Flat
