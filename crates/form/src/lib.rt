@@ -85,11 +85,12 @@ fn apart(s: &[u8], o: usize, n: usize, limit: usize) -> bool
         if w >= limit {
             return false;
         }
-        let old = seen[w % 1024];
+        let k = w % 1024;
+        let old = seen[k];
         if has_bit(old, w / 1024) {
             return false;
         }
-        seen[w % 1024] = old ^ power(w / 1024);
+        seen[k] = old ^ power(w / 1024);
         i += 1;
     }
     true
