@@ -1,0 +1,58 @@
+use Rattle.layout.specs.Laws.Bytes.{filled-done, filled-far}
+use borrow.Author.Needs.{needs}
+use native.Mathlib.Omega.{arith}
+use mathlib.Core.Path.{_≡_, refl, sym, ap, _∙_}
+use Prim.Native.Nat.{ℕ, zero, suc, _+_, _-_, _*_, _≤_, _<_}
+use lib.ListN.{length, getD, drop}
+use Rattle.layout.specs.Laws.Bytes.{Filled, filled-none, filled-more}
+use Rattle.layout.proofs.store.Statement.{statement}
+use Rattle.layout.proofs.store.Tie as tie
+
+abbrev Inv-loop : tie.InvT-loop
+Inv-loop s₀ k b j₀ s j = (j ≤ length b) × Filled k j (λ i. getD b i 0) s₀ s
+
+abbrev μ-loop : tie.MeasureT-loop
+μ-loop s₀ k b j₀ s j = length b - j
+
+loop-holds : tie.Need-loop-holds Inv-loop μ-loop
+loop-holds c = (search needs, filled-none _ _ _)
+
+shared-slice-read-s : tie.Need-shared-slice-read-s Inv-loop μ-loop
+shared-slice-read-s c = search needs
+
+add-s : tie.Need-add-s Inv-loop μ-loop
+add-s c = search needs
+
+slice-write-s : tie.Need-slice-write-s Inv-loop μ-loop
+slice-write-s c = search needs
+
+add-j : tie.Need-add-j Inv-loop μ-loop
+add-j c = search needs
+
+loop-less : tie.Need-loop-less Inv-loop μ-loop
+loop-less c = search needs
+
+loop-again : tie.Need-loop-again Inv-loop μ-loop
+loop-again c = (search needs, filled-more _ _ _ _ _ _ (c .before .before .loop .inv .1) (search needs) refl)
+
+same-length : tie.Need-same-length Inv-loop μ-loop
+same-length c = search needs
+
+returns : tie.Need-returns Inv-loop μ-loop
+returns c = filled-done _ _ (c .before .loop .inv .1) (search needs) (search needs)
+
+pub store-spec : {M : Type 1} → statement M
+store-spec =
+    tie.close
+    (tie.spec
+    Inv-loop
+    μ-loop
+    loop-holds
+    shared-slice-read-s
+    add-s
+    slice-write-s
+    add-j
+    loop-less
+    loop-again
+    same-length
+    returns)

@@ -1,0 +1,66 @@
+-- The bytes of a cell that stand for themselves, read and stored.
+use mathlib.Core.Path.{_≡_, refl, sym, ap, ap₂, _∙_, fun-ext, subst}
+use Prim.Native.Nat.{ℕ, zero, suc, _+_, _*_, _-_, _/_, _%_, _^_, _≤_, _<_}
+use mathlib.Core.Bool.{Bool, true, false, cond}
+use mathlib.Core.List.{List, [], _∷_, _++_, map}
+use native.Mathlib.Omega.{arith}
+use lib.ListN.{length, getD, take, drop, set}
+use lib.Seq.{drop-set-lt, getD-set-other}
+use lib.Dec.{eqb, ltb}
+use borrow.Author.Tests.{ltb-true, ltb-false, leb-true, eqb-true, eqb-false, eq-eqb, ne-eqb}
+use Rattle.locks.specs.Modes.{ModeSet, no-mode, in-word}
+use Rattle.protocol.specs.State.{is-transaction, Marked}
+use Rattle.layout.specs.Lists.{modify}
+use Rattle.layout.specs.Flat.{second}
+use Rattle.layout.specs.Layout.{state-size, entry-at, cell-at, word, part, count, slot, depth, number, cell, held, decode, Entry, entry, nodes, no-entry, Sized, Layout, Kept}
+use Rattle.layout.specs.Fields.{field, with-field}
+use Rattle.layout.specs.Laws.Lists.{getD-set-eqb}
+use Rattle.layout.specs.Laws.Bytes.{Only, only-set, only-wider, part-at, part-set}
+use Rattle.layout.specs.Laws.Nodes.{node-at, length-nodes, length-cell, cell-kept}
+
+-- a byte of the cell of the node at place i
+pub cell-byte : (s : List ℕ) (k o : ℕ) → o < 70 → getD s (cell-at k + o) 0 ≡ getD (cell s k) o 0
+unfolding cell
+cell-byte s k o h = sym (part-at s (cell-at k) 70 o h)
+
+-- an outline entry's words
+pub depth-at : (s : List ℕ) (i : ℕ) → i < length (nodes s) → word s (entry-at i + 2) ≡ getD (nodes s) i no-entry .0
+unfolding depth entry
+depth-at s i h = rw (node-at s i (omega (arith, length-nodes s)))
+
+pub number-at : (s : List ℕ) (i : ℕ) → i < length (nodes s) → word s (entry-at i + 4) ≡ getD (nodes s) i no-entry .1 .now .number
+unfolding number entry decode
+number-at s i h = rw (node-at s i (omega (arith, length-nodes s)))
+
+-- k is the slot of the node at place i
+pub field-at : (s : List ℕ) (i o k : ℕ) → k ≡ slot s i → i < length (nodes s) → o < 4 → getD s (cell-at k + o) 0 ≡ field o (getD (nodes s) i no-entry .1)
+unfolding entry decode
+field-at s i o k e h l = rw (e, node-at s i (omega (arith, length-nodes s)), cell-byte s (slot s i) o (omega arith)) (go o l)
+  where
+    go : (o : ℕ) → o < 4 → getD (cell s (slot s i)) o 0 ≡ field o (entry s i .1)
+    go zero l = refl
+    go (suc zero) l = refl
+    go (suc (suc zero)) l = refl
+    go (suc (suc (suc zero))) l = refl
+    go (suc (suc (suc (suc o)))) l = absurd (omega arith)
+
+decode-field : (o v m : ℕ) (c : List ℕ) (h : ℕ → ModeSet) → o < 4 → length c ≡ 70 → decode m (set c o v) h ≡ with-field o v (decode m c h)
+unfolding decode
+decode-field o v m c h l e =
+    let k : o < length c = omega arith in
+    rw (drop-set-lt 6 c o v (omega arith), drop-set-lt 38 c o v (omega arith), getD-set-other c o 4 v 0 (λ q. omega arith), getD-set-other c o 5 v 0 (λ q. omega arith))
+    (simp getD-set-eqb)
+
+sized-field : (o v : ℕ) (c : List ℕ) → o < 4 → Sized c → Sized (set c o v)
+sized-field o v c l z = record {
+  now = rw (getD-set-other c o 4 v 0 (λ q. omega arith)) (z .now);
+  before = rw (getD-set-other c o 5 v 0 (λ q. omega arith)) (z .before);
+}
+
+-- the one law of the four
+pub field-kept : (s : List ℕ) (i o v k : ℕ) → k ≡ slot s i → Layout s → i < length (nodes s) → o < 4 → Kept s (set s (cell-at k + o) v) (modify i (second (with-field o v)) (nodes s))
+unfolding cell
+field-kept s i o v k e h l b =
+    let p : cell (set s (cell-at k + o) v) k ≡ set (cell s k) o v = part-set s (cell-at k) 70 o v (omega arith) in
+    cell-kept {k = k} (only-wider (cell-at k) 70 (only-set s (cell-at k + o) v) (omega arith) (omega arith)) h i (sym e) (omega (arith, length-nodes s)) (with-field o v)
+    (λ m g q z. rw p (decode-field o v m (cell s k) g b q)) (λ z. rw p (sized-field o v (cell s k) b z))

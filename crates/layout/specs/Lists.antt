@@ -1,0 +1,26 @@
+-- Lists by place: one element changed, one put in, and those of a rule.
+use Prim.Native.Nat.{ℕ, zero, suc}
+use mathlib.Core.Bool.{Bool, cond}
+use mathlib.Core.List.{List, [], _∷_, _++_}
+use lib.ListN.{take, drop}
+
+module _ {A : Type 0} where
+  -- the first n of a rule: f 0, f 1, ..
+  unfoldable pub tabulate : ℕ → (ℕ → A) → List A
+  tabulate zero f = []
+  tabulate (suc n) f = f 0 ∷ tabulate n (λ i. f (suc i))
+
+  -- the element at place i by f; the others stay
+  unfoldable pub modify : ℕ → (A → A) → List A → List A
+  modify i f [] = []
+  modify zero f (x ∷ xs) = f x ∷ xs
+  modify (suc i) f (x ∷ xs) = x ∷ modify i f xs
+
+  -- x at place i; those from i on stand one place later
+  unfoldable pub insert : ℕ → A → List A → List A
+  insert i x l = take i l ++ (x ∷ drop i l)
+
+  -- the place of the first that passes, or the length
+  unfoldable pub first : (A → Bool) → List A → ℕ
+  first t [] = 0
+  first t (x ∷ xs) = cond (t x) 0 (suc (first t xs))

@@ -1,0 +1,57 @@
+use borrow.Author.Needs.{needs}
+use native.Mathlib.Omega.{arith}
+use mathlib.Core.Path.{_≡_, refl, sym, ap, _∙_}
+use Prim.Native.Nat.{ℕ, zero, suc, _+_, _-_, _*_, _≤_, _<_}
+use lib.ListN.{length, getD, drop}
+use borrow.Author.Tests.{eq-eqb, ne-eqb}
+use Rattle.layout.specs.Lists.{first}
+use Rattle.layout.specs.Layout.{nodes, no-entry}
+use Rattle.layout.specs.Laws.First.{first-found, first-passed, first-none}
+use lib.Dec.{eqb}
+use Rattle.table.proofs.find.Statement.{statement}
+use Rattle.table.proofs.find.Tie as tie
+
+abbrev Inv-loop : tie.InvT-loop
+Inv-loop s n m i₀ i = (i ≤ length (nodes s)) × (first (λ x. eqb (x .1 .now .number) n) (nodes s) ≡ i + first (λ x. eqb (x .1 .now .number) n) (drop i (nodes s)))
+
+abbrev μ-loop : tie.MeasureT-loop
+μ-loop s n m i₀ i = length (nodes s) - i
+
+count-requires : tie.Need-count-requires Inv-loop μ-loop
+count-requires c κs = search needs
+
+loop-holds : tie.Need-loop-holds Inv-loop μ-loop
+loop-holds c = search needs
+
+number-requires : tie.Need-number-requires Inv-loop μ-loop
+number-requires c κs = search needs
+
+returns : tie.Need-returns Inv-loop μ-loop
+returns c = first-found _ _ _ no-entry (c .before .before .before .loop .inv .1) (search needs) (eq-eqb _ _ (sym (c .before .number .ensures) ∙ c .if1 .taken))
+
+add-i : tie.Need-add-i Inv-loop μ-loop
+add-i c = search needs
+
+loop-less : tie.Need-loop-less Inv-loop μ-loop
+loop-less c = search needs
+
+loop-again : tie.Need-loop-again Inv-loop μ-loop
+loop-again c = (search needs, first-passed (λ x. eqb (x .1 .now .number) _) _ _ no-entry (c .before .before .before .loop .inv .1) (search needs) (ne-eqb _ _ (λ e. c .if1 .left (c .before .number .ensures ∙ e))))
+
+returns-2 : tie.Need-returns-2 Inv-loop μ-loop
+returns-2 c = first-none _ _ _ no-entry (c .before .loop .inv .1) (search needs)
+
+pub find-spec : {M : Type 1} → statement M
+find-spec =
+    tie.close
+    (tie.spec
+    Inv-loop
+    μ-loop
+    count-requires
+    loop-holds
+    number-requires
+    returns
+    add-i
+    loop-less
+    loop-again
+    returns-2)

@@ -1,0 +1,186 @@
+// The lent bytes: where they hold the nodes, the locks and the open transactions (docs/STATE.md). Contracts speak of `nodes` alone.
+ghost use mathlib.Core.Path.{_≡_};
+ghost use Prim.Native.Nat.{_<_, _≤_};
+ghost use lib.ListN.{length, getD};
+ghost use lib.Dec.{eqb};
+ghost use Rattle.protocol.specs.State.{deleted-by};
+ghost use Rattle.layout.specs.Lists.{modify, first};
+ghost use Rattle.layout.specs.Flat.{second};
+ghost use Rattle.layout.specs.Layout.{slot, nodes, no-entry, Layout, Kept};
+ghost use Rattle.layout.specs.Fields.{field, with-field, with-kind, with-writer, with-inserter, text, with-now, saved, restored};
+
+// The bytes that a state takes; those behind are never touched.
+pub const SIZE: usize = 110608;
+
+const OUTLINE: usize = 16;
+
+const ENTRY: usize = 6;
+
+const CELLS: usize = 6160;
+
+const CELL: usize = 70;
+
+// How many nodes are held.
+pub fn count(s: &[u8]) -> usize
+    requires { ⌜ Layout (now s) ⌝ }
+    ensures { λ r. ⌜ r ≡ length (nodes (now (s .entry))) ⌝ }
+{
+    layout::word(s, 10) as usize
+}
+
+// The slot of the outline's entry at place i, used or free.
+pub fn slot(s: &[u8], i: usize) -> usize
+    requires { ⌜ (Layout (now s)) × (i < 1024) ⌝ }
+    ensures { λ r. ⌜ (r ≡ slot (now (s .entry)) i) × (r < 1024) ⌝ }
+{
+    layout::word(s, OUTLINE + ENTRY * i) as usize
+}
+
+pub fn depth(s: &[u8], i: usize) -> u16
+    requires { ⌜ (Layout (now s)) × (i < length (nodes (now s))) ⌝ }
+    ensures { λ r. ⌜ r ≡ getD (nodes (now (s .entry))) i no-entry .0 ⌝ }
+{
+    layout::word(s, OUTLINE + ENTRY * i + 2)
+}
+
+pub fn number(s: &[u8], i: usize) -> u16
+    requires { ⌜ (Layout (now s)) × (i < length (nodes (now s))) ⌝ }
+    ensures { λ r. ⌜ r ≡ getD (nodes (now (s .entry))) i no-entry .1 .now .number ⌝ }
+{
+    layout::word(s, OUTLINE + ENTRY * i + 4)
+}
+
+// Byte o of the cell of the node at i: 0 kind, 1 writer, 2 inserter, 3 deleter.
+pub fn field(s: &[u8], i: usize, o: usize) -> u8
+    requires { ⌜ (Layout (now s)) × (i < length (nodes (now s))) × (o < 4) ⌝ }
+    ensures { λ r. ⌜ r ≡ field o (getD (nodes (now (s .entry))) i no-entry .1) ⌝ }
+{
+    s[CELLS + CELL * slot(s, i) + o]
+}
+
+pub fn kind(s: &[u8], i: usize) -> u8
+    requires { ⌜ (Layout (now s)) × (i < length (nodes (now s))) ⌝ }
+    ensures { λ r. ⌜ r ≡ getD (nodes (now (s .entry))) i no-entry .1 .now .kind ⌝ }
+{
+    field(s, i, 0)
+}
+
+pub fn writer(s: &[u8], i: usize) -> u8
+    requires { ⌜ (Layout (now s)) × (i < length (nodes (now s))) ⌝ }
+    ensures { λ r. ⌜ r ≡ getD (nodes (now (s .entry))) i no-entry .1 .writer ⌝ }
+{
+    field(s, i, 1)
+}
+
+pub fn inserter(s: &[u8], i: usize) -> u8
+    requires { ⌜ (Layout (now s)) × (i < length (nodes (now s))) ⌝ }
+    ensures { λ r. ⌜ r ≡ getD (nodes (now (s .entry))) i no-entry .1 .inserter ⌝ }
+{
+    field(s, i, 2)
+}
+
+pub fn deleter(s: &[u8], i: usize) -> u8
+    requires { ⌜ (Layout (now s)) × (i < length (nodes (now s))) ⌝ }
+    ensures { λ r. ⌜ r ≡ getD (nodes (now (s .entry))) i no-entry .1 .deleter ⌝ }
+{
+    field(s, i, 3)
+}
+
+pub fn set_field(s: &mut [u8], i: usize, o: usize, v: u8)
+    requires { ⌜ (Layout (now s)) × (i < length (nodes (now s))) × (o < 4) ⌝ }
+    ensures { λ r. ⌜ Kept (now (s .entry)) (now (s .exit)) (modify i (second (with-field o v)) (nodes (now (s .entry)))) ⌝ }
+{
+    let k = slot(s, i);
+    s[CELLS + CELL * k + o] = v;
+}
+
+pub fn set_kind(s: &mut [u8], i: usize, v: u8)
+    requires { ⌜ (Layout (now s)) × (i < length (nodes (now s))) ⌝ }
+    ensures { λ r. ⌜ Kept (now (s .entry)) (now (s .exit)) (modify i (second (with-kind v)) (nodes (now (s .entry)))) ⌝ }
+{
+    set_field(s, i, 0, v);
+}
+
+pub fn set_writer(s: &mut [u8], i: usize, v: u8)
+    requires { ⌜ (Layout (now s)) × (i < length (nodes (now s))) ⌝ }
+    ensures { λ r. ⌜ Kept (now (s .entry)) (now (s .exit)) (modify i (second (with-writer v)) (nodes (now (s .entry)))) ⌝ }
+{
+    set_field(s, i, 1, v);
+}
+
+pub fn set_inserter(s: &mut [u8], i: usize, v: u8)
+    requires { ⌜ (Layout (now s)) × (i < length (nodes (now s))) ⌝ }
+    ensures { λ r. ⌜ Kept (now (s .entry)) (now (s .exit)) (modify i (second (with-inserter v)) (nodes (now (s .entry)))) ⌝ }
+{
+    set_field(s, i, 2, v);
+}
+
+pub fn set_deleter(s: &mut [u8], i: usize, v: u8)
+    requires { ⌜ (Layout (now s)) × (i < length (nodes (now s))) ⌝ }
+    ensures { λ r. ⌜ Kept (now (s .entry)) (now (s .exit)) (modify i (second (deleted-by v)) (nodes (now (s .entry)))) ⌝ }
+{
+    set_field(s, i, 3, v);
+}
+
+// Bytes of the state -----------------------------------------------------------------
+
+// The length of a content of the node at i: o is 0 for the one now, 1 for the committed one.
+pub fn size(s: &[u8], i: usize, o: usize) -> usize
+    requires { ⌜ (Layout (now s)) × (i < length (nodes (now s))) × (o < 2) ⌝ }
+    ensures { λ r. ⌜ (r ≡ length (text o (getD (nodes (now (s .entry))) i no-entry .1))) × (r ≤ 32) ⌝ }
+{
+    s[CELLS + CELL * slot(s, i) + 4 + o] as usize
+}
+
+// Byte j of a content of the node at i.
+pub fn content(s: &[u8], i: usize, o: usize, j: usize) -> u8
+    requires { ⌜ (Layout (now s)) × (i < length (nodes (now s))) × (o < 2) × (j < length (text o (getD (nodes (now s)) i no-entry .1))) ⌝ }
+    ensures { λ r. ⌜ r ≡ getD (text o (getD (nodes (now (s .entry))) i no-entry .1)) j 0 ⌝ }
+{
+    s[CELLS + CELL * slot(s, i) + 6 + 32 * o + j]
+}
+
+pub fn set_content(s: &mut [u8], i: usize, b: &[u8])
+    requires { ⌜ (Layout (now s)) × (i < length (nodes (now s))) × (length (now b) ≤ 32) ⌝ }
+    ensures { λ r. ⌜ Kept (now (s .entry)) (now (s .exit)) (modify i (second (with-now (now (b .entry)))) (nodes (now (s .entry)))) ⌝ }
+{
+    let k = slot(s, i);
+    s[CELLS + CELL * k + 4] = b.len() as u8;
+    layout::store(s, CELLS + CELL * k + 6, b);
+}
+
+// The content now is kept as the committed one.
+pub fn save_content(s: &mut [u8], i: usize)
+    requires { ⌜ (Layout (now s)) × (i < length (nodes (now s))) ⌝ }
+    ensures { λ r. ⌜ Kept (now (s .entry)) (now (s .exit)) (modify i (second saved) (nodes (now (s .entry)))) ⌝ }
+{
+    let c = CELLS + CELL * slot(s, i);
+    s[c + 5] = s[c + 4];
+    layout::copy_32(s, c + 6, c + 38);
+}
+
+// The committed content is the content again.
+pub fn restore_content(s: &mut [u8], i: usize)
+    requires { ⌜ (Layout (now s)) × (i < length (nodes (now s))) ⌝ }
+    ensures { λ r. ⌜ Kept (now (s .entry)) (now (s .exit)) (modify i (second restored) (nodes (now (s .entry)))) ⌝ }
+{
+    let c = CELLS + CELL * slot(s, i);
+    s[c + 4] = s[c + 5];
+    layout::copy_32(s, c + 38, c + 6);
+}
+
+// The place of the node numbered n, or the count.
+pub fn find(s: &[u8], n: u16) -> usize
+    requires { ⌜ Layout (now s) ⌝ }
+    ensures { λ r. ⌜ r ≡ first (λ x. eqb (x .1 .now .number) n) (nodes (now (s .entry))) ⌝ }
+{
+    let m = count(s);
+    let mut i: usize = 0;
+    while i < m {
+        if number(s, i) == n {
+            return i;
+        }
+        i += 1;
+    }
+    i
+}

@@ -1,0 +1,28 @@
+use native.Mathlib.Omega.{arith}
+use Rattle.layout.specs.Laws.Opens.{opened-left}
+use borrow.Author.Needs.{needs}
+use Rattle.transactions.proofs.open.Statement.{statement}
+use Rattle.transactions.proofs.open.Tie as tie
+
+word-requires : tie.Need-word-requires
+word-requires c κs = search needs
+
+sub-power : tie.Need-sub-power
+sub-power c = search needs
+
+power-requires : tie.Need-power-requires
+power-requires c κs = search needs
+
+set-word-requires : tie.Need-set-word-requires
+set-word-requires c κs = search needs
+
+same-length : tie.Need-same-length
+same-length c = search needs
+
+returns : tie.Need-returns
+returns c = opened-left _ _ _ _ _ (c .before .before .set-word .ensures) (c .before .before .before .before .before .word .ensures) (c .before .before .before .power .ensures) (search needs) (search needs) (search needs) (search needs)
+
+pub open-spec : {M : Type 1} → statement M
+open-spec =
+    tie.close
+    (tie.spec word-requires sub-power power-requires set-word-requires same-length returns)
