@@ -1,0 +1,101 @@
+-- A step that finds its node at a place of the rows: all that it is judged by and answers, in terms of rows.
+use mathlib.Core.Path.{_≡_}
+use Prim.Native.Nat.{ℕ, zero, suc}
+use mathlib.Core.Bool.{Bool, true, false, cond, not, _&&_, _||_}
+use mathlib.Core.List.{List, [], _∷_, map}
+use lib.ListN.{length}
+use lib.Dec.{eqb, ltb, leb}
+use Rattle.tree.specs.Lists.{any, keep}
+use Rattle.tree.specs.Forest.{row}
+use Rattle.tree.specs.Content.{document-kind, is-name, allowed, takes}
+use Rattle.tree.specs.Document.{Node, Document, here, at}
+use Rattle.tree.specs.Steps.{Step, T, C, R, U, D, I, TT, RR, UU, target, brings, misfit, misplaced, placed, answer, parent, is-named}
+use Rattle.tree.specs.Steps.{Value, done, kind-parent, child-is, none, content-is, numbers-are, cells-are, how-many}
+use Rattle.locks.specs.Modes.{Mode, against}
+use Rattle.locks.specs.Needs.{Need, need, locks, needs}
+use Rattle.locks.specs.Words.{word}
+use Rattle.protocol.specs.State.{Marked, State, number-held, callers-document}
+use Rattle.protocol.specs.Calls.{node-limit, wait-set, table-full}
+use Rattle.layout.specs.Layout.{Entry}
+use Rattle.lookup.specs.Places.{item, number-of, place-of, ups, numbers-above, children, subtree}
+
+-- causes 8 and 9 of a step on this node; 0 where neither applies
+abbrev pub misfit-on : Step → Node → ℕ
+misfit-on (T n) a = 0
+misfit-on (C n k) a = 0
+misfit-on (R n) a = cond (eqb (a .kind) document-kind) 8 0
+misfit-on (U n b) a = cond (eqb (a .kind) document-kind) 8 (cond (allowed (a .kind) b) 0 9)
+misfit-on (D n) a = cond (eqb (a .kind) document-kind) 8 0
+misfit-on (I m kind b n k) a = cond (takes (a .kind) kind) (cond (allowed kind b) 0 9) 8
+misfit-on (TT n) a = 0
+misfit-on (RR n) a = 0
+misfit-on (UU n a b) x = cond (is-name a && is-name b) 0 9
+
+-- cause 11 of a step on a node of this kind, with these children that the caller sees
+abbrev pub misplaced-on : Step → ℕ → List Marked → Bool
+misplaced-on (T n) kind cs = false
+misplaced-on (C n k) kind cs = false
+misplaced-on (R n) kind cs = false
+misplaced-on (U n b) kind cs = false
+misplaced-on (D n) kind cs = false
+misplaced-on (I m new b n k) kind cs = not (placed kind new k (map (λ c. c .now .kind) cs))
+misplaced-on (TT n) kind cs = false
+misplaced-on (RR n) kind cs = false
+misplaced-on (UU n a b) kind cs = false
+
+-- the k-th of these children, k from 1
+unfoldable pub kth-child : ℕ → List Marked → Value
+kth-child k [] = none
+kth-child zero (c ∷ cs) = none
+kth-child (suc zero) (c ∷ cs) = child-is (c .now .number) (c .now .kind)
+kth-child (suc (suc k)) (c ∷ cs) = kth-child (suc k) cs
+
+-- the answer of a step of t that finds its node at place p
+abbrev pub answer-at : Step → ℕ → List Entry → ℕ → Value
+answer-at (T n) t l p = kind-parent (item l p .now .kind) (parent (numbers-above l p))
+answer-at (C n k) t l p = kth-child k (children t l p)
+answer-at (R n) t l p = content-is (item l p .now .content)
+answer-at (U n b) t l p = done
+answer-at (D n) t l p = done
+answer-at (I m kind b n k) t l p = done
+answer-at (TT n) t l p = numbers-are (map number-of (subtree t l p))
+answer-at (RR n) t l p = cells-are (map (λ a. (number-of a, a .now .content)) (subtree t l p))
+answer-at (UU n a b) t l p = how-many (length (keep (λ x. is-named a (x .now)) (subtree t l p)))
+
+-- waiting ----------------------------------------------------------------------------
+
+-- u holds, on this node, a mode that clashes with one of these
+abbrev pub blocks-node : List Mode → ℕ → Marked → Bool
+blocks-node ms u a = any (against (a .held u)) ms
+
+-- the same along the way up: ms on the first node, then ms′ on the next, and ms″ on all others
+unfoldable pub blocks-way : List Mode → List Mode → List Mode → ℕ → List Marked → Bool
+blocks-way ms ms′ ms″ u [] = false
+blocks-way ms ms′ ms″ u (a ∷ way) = blocks-node ms u a || blocks-way ms′ ms″ ms″ u way
+
+-- another open transaction, which holds such a mode on the node or above it
+abbrev pub blocks-at : ℕ → Need → (ℕ → Bool) → List Marked → ℕ → Bool
+blocks-at t w is-open way u = is-open u && not (eqb u t) && blocks-way (w .node) (w .parent) (w .above) u way
+
+-- the set of those: bit t-1 for transaction t
+unfoldable pub wait-word : ℕ → Need → (ℕ → Bool) → List Marked → ℕ
+wait-word t w is-open way = word (λ i. blocks-at t w is-open way (suc i)) 16 0
+
+-- the record ---------------------------------------------------------------------------
+
+-- a step of t whose node stands at place p of the rows l of the state's tree, seen by t
+pub record Found (l : List Entry) (t : ℕ) (s : Step) (M : State) (p : ℕ) : Type 0 where
+  pub is-here : here (target s) (callers-document t (M .tree)) ≡ true
+  pub line : at (target s) (callers-document t (M .tree)) ≡ row (item l p .now) (numbers-above l p)
+  pub lock-list : needs s (callers-document t (M .tree)) ≡ locks s (numbers-above l p)
+  -- causes 7, 8, 9
+  pub misfits : misfit s (callers-document t (M .tree)) ≡ misfit-on s (item l p .now)
+  -- cause 10
+  pub held : any (λ m. number-held m (M .tree)) (brings s) ≡ any (λ m. ltb (place-of m l) (length l)) (brings s)
+  pub waits : any (λ m. number-held m (M .tree)) (brings s) ≡ false
+      → wait-set t (needs s (callers-document t (M .tree))) M ≡ wait-word t (need s) (M .is-open) (item l p ∷ ups l p)
+  -- cause 11
+  pub misplaces : misplaced s (callers-document t (M .tree)) ≡ misplaced-on s (item l p .now .kind) (children t l p)
+  -- cause 12
+  pub full : table-full s (M .tree) ≡ any (λ m. leb node-limit (length l)) (brings s)
+  pub answers : answer s (callers-document t (M .tree)) ≡ answer-at s t l p

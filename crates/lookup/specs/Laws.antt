@@ -1,0 +1,3 @@
+pub mod NodeAt
+pub mod Up
+pub mod Seen
