@@ -176,10 +176,10 @@ module _ {A : Type 0} where
     ancestors = λ t. c .ancestors ((d, a) ∷ t) ∙ rw (lt-ltb d (suc d) (omega arith), append-assoc (c .above) (a ∷ []) (back d t));
     earlier = λ q e. any-append q (c .above) (a ∷ []) ∙ rw (c .earlier q (or-right (q a) _ e), or-left (q a) _ e);
     keeps = λ q k o up u b e.
-    keep-parts k a up ks fs (fails q k o a up (or-left (q a) _ b) u)
-    ∙ rw (keep-nowhere q k o d up fs u (none-second q (c .behind) (flat d fs) e), append-nil (keep k (lines-of (a ∷ up) ks)))
-    (c .keeps q k o (a ∷ up) (rw (or-left (q a) _ b, u)) (or-right (q a) _ b) (none-first q (c .behind) (flat d fs) e)
-    ∙ ap (λ z. keep k (row (c .it) z ∷ lines-of (c .it ∷ z) (c .kids))) (sym (append-assoc (c .above) (a ∷ []) up)));
+        keep-parts k a up ks fs (fails q k o a up (or-left (q a) _ b) u)
+        ∙ rw (keep-nowhere q k o d up fs u (none-second q (c .behind) (flat d fs) e), append-nil (keep k (lines-of (a ∷ up) ks)))
+        (c .keeps q k o (a ∷ up) (rw (or-left (q a) _ b, u)) (or-right (q a) _ b) (none-first q (c .behind) (flat d fs) e)
+        ∙ ap (λ z. keep k (row (c .it) z ∷ lines-of (c .it ∷ z) (c .kids))) (sym (append-assoc (c .above) (a ∷ []) up)));
   }
 
   at-later : (d : ℕ) (a : A) (ks fs : Forest A) (i : ℕ) → NodeAt d fs i → NodeAt d (node a ks fs) (suc (length (flat (suc d) ks) + i))
@@ -198,11 +198,11 @@ module _ {A : Type 0} where
     ancestors = λ t. rw (reverse-append (flat (suc d) ks) (c .before) ((d, a) ∷ t), c .ancestors (reverseAux (flat (suc d) ks) ((d, a) ∷ t)), back-skip d (suc d) ks ((d, a) ∷ t) (omega arith), le-ltb d d (omega arith));
     earlier = λ q e. c .earlier q (none-second q (flat (suc d) ks) (c .before) (or-right (q a) _ e));
     keeps = λ q k o up u b e.
-    let i : any q (nodes-of (flat (suc d) ks ++ c .before)) ≡ false = or-right (q a) _ b in
-    let j : q a ≡ false = or-left (q a) _ b in
-    keep-parts k a up ks fs (fails q k o a up j u)
-    ∙ rw (keep-nowhere q k o (suc d) (a ∷ up) ks (rw (j, u)) (none-first q (flat (suc d) ks) (c .before) i))
-    (c .keeps q k o up u (none-second q (flat (suc d) ks) (c .before) i) e);
+        let i : any q (nodes-of (flat (suc d) ks ++ c .before)) ≡ false = or-right (q a) _ b in
+        let j : q a ≡ false = or-left (q a) _ b in
+        keep-parts k a up ks fs (fails q k o a up j u)
+        ∙ rw (keep-nowhere q k o (suc d) (a ∷ up) ks (rw (j, u)) (none-first q (flat (suc d) ks) (c .before) i))
+        (c .keeps q k o up u (none-second q (flat (suc d) ks) (c .before) i) e);
   }
 
   pub node-at : (d : ℕ) (f : Forest A) (i : ℕ) → i < length (flat d f) → NodeAt d f i
