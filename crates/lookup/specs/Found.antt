@@ -14,8 +14,9 @@ use Rattle.tree.specs.Steps.{Value, done, kind-parent, child-is, none, content-
 use Rattle.locks.specs.Modes.{Mode, against}
 use Rattle.locks.specs.Needs.{Need, need, locks, needs}
 use Rattle.locks.specs.Words.{word}
-use Rattle.protocol.specs.State.{Marked, State, number-held, callers-document}
-use Rattle.protocol.specs.Calls.{node-limit, wait-set, table-full}
+use Rattle.protocol.specs.State.{Marked, State, number-held, callers-document, with-tree, act, grant}
+use Rattle.protocol.specs.Lent.{Room, has-room}
+use Rattle.protocol.specs.Calls.{node-limit, wait-set, table-full, Next, unchanged, becomes, refused, waits}
 use Rattle.layout.specs.Layout.{Entry}
 use Rattle.lookup.specs.Places.{item, number-of, place-of, ups, numbers-above, children, subtree}
 
@@ -92,10 +93,21 @@ pub record Found (l : List Entry) (t : ℕ) (s : Step) (M : State) (p : ℕ) : T
   pub misfits : misfit s (callers-document t (M .tree)) ≡ misfit-on s (item l p .now)
   -- cause 10
   pub held : any (λ m. number-held m (M .tree)) (brings s) ≡ any (λ m. ltb (place-of m l) (length l)) (brings s)
-  pub waits : any (λ m. number-held m (M .tree)) (brings s) ≡ false
+  pub wait : any (λ m. number-held m (M .tree)) (brings s) ≡ false
       → wait-set t (needs s (callers-document t (M .tree))) M ≡ wait-word t (need s) (M .is-open) (item l p ∷ ups l p)
   -- cause 11
   pub misplaces : misplaced s (callers-document t (M .tree)) ≡ misplaced-on s (item l p .now .kind) (children t l p)
   -- cause 12
   pub full : table-full s (M .tree) ≡ any (λ m. leb node-limit (length l)) (brings s)
   pub answers : answer s (callers-document t (M .tree)) ≡ answer-at s t l p
+
+-- the whole judgement: 8, 9, 10, wait, 11, 12, 13, then granted
+unfoldable pub judged-at : ℕ → Step → Room → State → List Entry → ℕ → Next
+judged-at t s room M l p =
+    cond (not (eqb (misfit-on s (item l p .now)) 0)) (unchanged (refused (misfit-on s (item l p .now))) M)
+    (cond (any (λ m. ltb (place-of m l) (length l)) (brings s)) (unchanged (refused 10) M)
+    (cond (not (eqb (wait-word t (need s) (M .is-open) (item l p ∷ ups l p)) 0)) (unchanged (waits (wait-word t (need s) (M .is-open) (item l p ∷ ups l p))) M)
+    (cond (misplaced-on s (item l p .now .kind) (children t l p)) (unchanged (refused 11) M)
+    (cond (any (λ m. leb node-limit (length l)) (brings s)) (unchanged (refused 12) M)
+    (cond (not (has-room (answer-at s t l p) room)) (unchanged (refused 13) M)
+    (becomes (answer-at s t l p) (with-tree M (grant t (locks s (numbers-above l p)) (act t s (M .tree))))))))))

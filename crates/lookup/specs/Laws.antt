@@ -1,3 +1,8 @@
 pub mod NodeAt
 pub mod Up
 pub mod Seen
+pub mod Find
+pub mod Subtree
+pub mod Children
+pub mod Waiting
+pub mod Judgement

@@ -30,3 +30,8 @@ select-seen T t f =
     ap (keep T) (lines-seen t f)
     ∙ keep-map T (λ r. T (plain r)) plain (keep (seen-line t) (lines-of [] f)) (λ r m. refl)
     ∙ ap (map plain) (keep-keep (λ r. T (plain r)) (seen-line t) (lines-of [] f))
+
+-- the nodes of those lines
+pub plain-nodes : (l : List (Row Marked Marked)) → map (λ r. r .it) (map plain l) ≡ map (λ a. a .now) (map (λ r. r .it) l)
+plain-nodes [] = refl
+plain-nodes (r ∷ l) = rw (plain-nodes l)

@@ -1,18 +1,18 @@
 -- The way up from a place: its turns as a loop makes them, and that it meets the proper ancestors.
 use mathlib.Core.Path.{_≡_, refl, sym, ap, _∙_}
 use Prim.Native.Nat.{ℕ, zero, suc, _+_, _-_, _≤_, _<_}
-use mathlib.Core.Bool.{Bool, true, false, cond}
+use mathlib.Core.Bool.{Bool, true, false, cond, _&&_}
 use mathlib.Core.List.{List, [], _∷_, _++_, map, reverseAux, append-nil, List·Memᴰ, List·Memᴰ·head, List·Memᴰ·tail, List·Memᴰ·not-nil}
 use native.Mathlib.Omega.{arith}
 use lib.ListN.{length, getD, take, drop, length-append}
 use lib.Seq.{take-at, getD-at, drop-append-add}
 use lib.Dec.{ltb}
 use borrow.Author.Tests.{lt-ltb, le-ltb}
-use Rattle.tree.specs.Forest.{Forest}
-use Rattle.protocol.specs.State.{Marked, Tree}
+use Rattle.tree.specs.Lists.{every}
+use Rattle.protocol.specs.State.{Marked, Tree, seen-by}
 use Rattle.layout.specs.Flat.{flat}
 use Rattle.layout.specs.Layout.{Entry, no-entry}
-use Rattle.lookup.specs.Places.{depth, item, climb, above-places, ups}
+use Rattle.lookup.specs.Places.{depth, item, climb, above-places, ups, seen-at}
 use Rattle.lookup.specs.Laws.NodeAt.{NodeAt, back}
 
 -- the turns --------------------------------------------------------------------------
@@ -48,6 +48,32 @@ module _ (l : List Entry) (e i : ℕ) (h : 0 < i) where
 pub ups-top : (l : List Entry) (i : ℕ) → map (item l) (climb l 0 i) ≡ []
 ups-top l i = ap (map (item l)) (climb-top l i)
 
+-- none of the nodes on the way up was deleted by t
+abbrev pub seen-up : ℕ → List Entry → ℕ → ℕ → Bool
+seen-up t l e i = every (seen-by t) (map (item l) (climb l e i))
+
+module _ (t : ℕ) (l : List Entry) (e i : ℕ) (h : 0 < i) where
+  pub seen-up-deleted : depth l (i - 1) < e → seen-by t (item l (i - 1)) ≡ false → seen-up t l e i ≡ false
+  seen-up-deleted k s = ap (every (seen-by t)) (ups-found l e i h k) ∙ rw s
+
+  pub seen-up-found : depth l (i - 1) < e → seen-by t (item l (i - 1)) ≡ true → seen-up t l e i ≡ seen-up t l (depth l (i - 1)) (i - 1)
+  seen-up-found k s = ap (every (seen-by t)) (ups-found l e i h k) ∙ rw s
+
+  pub seen-up-passed : e ≤ depth l (i - 1) → seen-up t l e i ≡ seen-up t l e (i - 1)
+  seen-up-passed k = ap (every (seen-by t)) (ups-passed l e i h k)
+
+pub seen-up-top : (t : ℕ) (l : List Entry) (i : ℕ) → seen-up t l 0 i ≡ true
+seen-up-top t l i = ap (every (seen-by t)) (ups-top l i)
+
+pub seen-up-start : (t : ℕ) (l : List Entry) (e : ℕ) → seen-up t l e 0 ≡ true
+unfolding climb
+seen-up-start t l e = refl
+
+-- the node at p and the way up from it
+pub seen-at-up : (t : ℕ) (l : List Entry) (p : ℕ) → seen-at t l p ≡ (seen-by t (item l p) && seen-up t l (depth l p) p)
+unfolding ups above-places
+seen-at-up t l p = refl
+
 -- the loop's places are earlier ones
 pub climb-before : (l : List Entry) (e i : ℕ) {q : ℕ} → List·Memᴰ q (climb l e i) → q < i
 unfolding climb
@@ -82,8 +108,14 @@ climb-back l e (suc i) h = rw (reverse-take l [] i (omega arith)) (go (ltb (dept
 
 -- what stands at a place of the rows of a tree
 module _ {f : Tree} {p : ℕ} (c : NodeAt 0 f p) where
-  pub entry-at : getD (flat 0 f) p no-entry ≡ (c .depth, c .it)
+  entry-at : getD (flat 0 f) p no-entry ≡ (c .depth, c .it)
   entry-at = ap (λ l. getD l p no-entry) (c .split) ∙ getD-at (c .before) (c .depth, c .it) _ no-entry p (c .count)
+
+  pub depth-at : depth (flat 0 f) p ≡ c .depth
+  depth-at = ap (λ x. x .0) entry-at
+
+  pub item-at : item (flat 0 f) p ≡ c .it
+  item-at = ap (λ x. x .1) entry-at
 
   pub inside : p < length (flat 0 f)
   inside = rw (c .split, length-append (c .before)) (omega (arith, c .count))
@@ -91,10 +123,9 @@ module _ {f : Tree} {p : ℕ} (c : NodeAt 0 f p) where
   pub ups-at : ups (flat 0 f) p ≡ c .above
   unfolding ups above-places back
   ups-at =
-      let e : depth (flat 0 f) p ≡ c .depth = ap (λ x. x .0) entry-at in
       let b : take p (flat 0 f) ≡ c .before = ap (take p) (c .split) ∙ take-at (c .before) _ p (c .count) in
       let k : p ≤ length (flat 0 f) = omega (arith, inside) in
-      rw e (climb-back (flat 0 f) (c .depth) p k ∙ ap (λ l. back (c .depth) (reverseAux l [])) b ∙ c .ancestors [] ∙ append-nil (c .above))
+      rw depth-at (climb-back (flat 0 f) (c .depth) p k ∙ ap (λ l. back (c .depth) (reverseAux l [])) b ∙ c .ancestors [] ∙ append-nil (c .above))
 
   pub rows-behind : drop (suc p) (flat 0 f) ≡ flat (suc (c .depth)) (c .kids) ++ c .behind
   rows-behind =
