@@ -8,7 +8,7 @@ use lib.Dec.{eqb, ltb, leb}
 use Rattle.tree.specs.Lists.{any, keep}
 use Rattle.tree.specs.Forest.{row}
 use Rattle.tree.specs.Content.{document-kind, is-name, allowed, takes}
-use Rattle.tree.specs.Document.{Node, Document, here, at}
+use Rattle.tree.specs.Document.{Node, here, at}
 use Rattle.tree.specs.Steps.{Step, T, C, R, U, D, I, TT, RR, UU, target, brings, misfit, misplaced, placed, answer, parent, is-named}
 use Rattle.tree.specs.Steps.{Value, done, kind-parent, child-is, none, content-is, numbers-are, cells-are, how-many}
 use Rattle.locks.specs.Modes.{Mode, against}

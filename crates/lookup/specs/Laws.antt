@@ -5,4 +5,6 @@ pub mod Find
 pub mod Subtree
 pub mod Children
 pub mod Waiting
+pub mod Masks
+pub mod Placing
 pub mod Judgement

@@ -1,24 +1,24 @@
 -- The children of a place: their turns as a loop makes them, and that they give the lines of the children that the caller sees.
-use mathlib.Core.Path.{_≡_, refl, sym, ap, _∙_}
-use Prim.Native.Nat.{ℕ, zero, suc, _+_, _-_, _≤_, _<_}
-use mathlib.Core.Bool.{Bool, true, false, cond, not, _&&_, _||_, and-false, or-true}
+use mathlib.Core.Path.{_≡_, refl, ap, _∙_}
+use Prim.Native.Nat.{ℕ, suc, _+_, _-_, _≤_, _<_}
+use mathlib.Core.Bool.{Bool, true, false, cond, not, _&&_, and-false, or-true}
 use mathlib.Core.List.{List, [], _∷_, _++_, map, append-nil}
 use native.Mathlib.Omega.{arith}
-use lib.ListN.{length, getD, drop}
+use lib.ListN.{length, drop}
 use lib.Dec.{eqb}
 use borrow.Author.Tests.{eq-eqb, ne-eqb}
 use Rattle.tree.specs.Lists.{any, every, leads, keep}
-use Rattle.tree.specs.Forest.{Forest, nil, node, Row, row, rows}
-use Rattle.tree.specs.Document.{Line, child, select}
+use Rattle.tree.specs.Forest.{nil, node, Row, row, rows}
+use Rattle.tree.specs.Document.{child, select}
 use Rattle.tree.specs.Steps.{child-is, none}
 use Rattle.tree.specs.Laws.Tests.{or-left, or-right}
-use Rattle.tree.specs.Laws.Lists.{map-append, keep-append}
+use Rattle.tree.specs.Laws.Lists.{keep-append}
 use Rattle.protocol.specs.State.{Marked, Tree, numbered, seen-by, callers-document}
 use Rattle.layout.specs.Flat.{flat}
-use Rattle.layout.specs.Layout.{Entry, no-entry}
+use Rattle.layout.specs.Layout.{Entry}
 use Rattle.lookup.specs.Places.{depth, item, items, number-of, below, child-seen, children-from, children, seen-at}
 use Rattle.lookup.specs.Found.{kth-child}
-use Rattle.lookup.specs.Laws.NodeAt.{nodes-of, lines-of, NodeAt, none-first, none-second}
+use Rattle.lookup.specs.Laws.NodeAt.{nodes-of, lines-of, none-first, none-second}
 use Rattle.lookup.specs.Laws.Up.{depth-at, item-at, ups-at}
 use Rattle.lookup.specs.Laws.Seen.{plain, seen-line, select-seen, plain-nodes}
 use Rattle.lookup.specs.Laws.Find.{Holder}
@@ -128,7 +128,7 @@ module _ {f : Tree} {n p : ℕ} (o : Holder f n p) where
   leading (a ∷ up) h = rw h
 
   -- the rows of the children
-  rows-child : keep (is-child n) (lines-of [] f) ≡ keep (is-child n) (lines-of (o .place .it ∷ o .place .above) (o .place .kids))
+  rows-child : keep (is-child n) (lines-of [] f) ≡ keep (is-child n) (lines-of (o .place .it ∷ o .place .above) (o .place .children))
   unfolding keep
   rows-child =
       let c = o .place in
@@ -141,6 +141,6 @@ module _ {f : Tree} {n p : ℕ} (o : Holder f n p) where
   child-lines t s =
       let c = o .place in
       let v : every (seen-by t) (c .it ∷ c .above) ≡ true = rw (item-at c, ups-at c) at s in
-      let e : map (λ x. x .it) (keep (seen-line t) (keep (is-child n) (lines-of (c .it ∷ c .above) (c .kids)))) ≡ items (keep (child-seen t (c .depth)) (flat (suc (c .depth)) (c .kids))) =
-      top-children t n (c .depth) (c .it ∷ c .above) (c .kids) (o .number) v (o .kids) in
-      rw (select-seen (child n) t f, rows-child, rows-below o, depth-at c, ← e) (plain-nodes (keep (seen-line t) (keep (is-child n) (lines-of (c .it ∷ c .above) (c .kids)))))
+      let e : map (λ x. x .it) (keep (seen-line t) (keep (is-child n) (lines-of (c .it ∷ c .above) (c .children)))) ≡ items (keep (child-seen t (c .depth)) (flat (suc (c .depth)) (c .children))) =
+      top-children t n (c .depth) (c .it ∷ c .above) (c .children) (o .number) v (o .children) in
+      rw (select-seen (child n) t f, rows-child, rows-below o, depth-at c, ← e) (plain-nodes (keep (seen-line t) (keep (is-child n) (lines-of (c .it ∷ c .above) (c .children)))))

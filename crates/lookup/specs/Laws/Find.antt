@@ -1,12 +1,12 @@
 -- A number and its place: where no number is held twice, the node numbered n is the one at its place.
 use mathlib.Core.Path.{_≡_, refl, sym, ap, _∙_}
-use Prim.Native.Nat.{ℕ, zero, suc, _≤_, _<_}
-use mathlib.Core.Bool.{Bool, true, false, cond, not, _&&_, _||_, false≢true}
+use Prim.Native.Nat.{ℕ, suc, _<_}
+use mathlib.Core.Bool.{Bool, true, false, cond, _||_, false≢true}
 use mathlib.Core.List.{List, [], _∷_, _++_, map, append-nil}
 use native.Mathlib.Omega.{arith}
-use lib.ListN.{length, getD, length-map}
+use lib.ListN.{length, length-map}
 use lib.Dec.{eqb, ltb, leb·suc-suc}
-use borrow.Author.Tests.{eqb-true, eq-eqb, lt-ltb, le-ltb}
+use borrow.Author.Tests.{eqb-true, eq-eqb, lt-ltb}
 use Rattle.tree.specs.Lists.{any, every, has, keep, distinct}
 use Rattle.tree.specs.Forest.{Forest, nil, node, Row, row, rows}
 use Rattle.tree.specs.Document as document
@@ -18,8 +18,8 @@ use Rattle.layout.specs.Lists.{first}
 use Rattle.layout.specs.Flat.{flat}
 use Rattle.layout.specs.Laws.First.{first-passes}
 use Rattle.layout.specs.Layout.{Entry, no-entry}
-use Rattle.lookup.specs.Places.{item, items, number-of, unique, place-of, ups, numbers-above, seen-at}
-use Rattle.lookup.specs.Laws.NodeAt.{any-append, nodes-of, lines-of, NodeAt, node-at, none-first, none-second}
+use Rattle.lookup.specs.Places.{item, items, number-of, unique, place-of, numbers-above, seen-at}
+use Rattle.lookup.specs.Laws.NodeAt.{nodes-of, lines-of, NodeAt, node-at, none-first, none-second}
 use Rattle.lookup.specs.Laws.Up.{item-at, ups-at}
 use Rattle.lookup.specs.Laws.Seen.{plain, seen-line, select-seen}
 
@@ -99,21 +99,21 @@ pub record Holder (f : Tree) (n p : ℕ) : Type 0 where
   pub place : NodeAt 0 f p
   pub number : numbered n (place .it) ≡ true
   pub before : any (numbered n) (nodes-of (place .before)) ≡ false
-  pub kids : any (numbered n) (nodes-of (flat (suc (place .depth)) (place .kids))) ≡ false
+  pub children : any (numbered n) (nodes-of (flat (suc (place .depth)) (place .children))) ≡ false
   pub behind : any (numbered n) (nodes-of (place .behind)) ≡ false
 
 pub holder : (f : Tree) (n p : ℕ) → unique (flat 0 f) ≡ true → p < length (flat 0 f) → number-of (item (flat 0 f) p) ≡ n → Holder f n p
 holder f n p u h e =
     let c = node-at 0 f p h in
     let x : number-of (c .it) ≡ n = sym (ap number-of (item-at c)) ∙ e in
-    let a = alone (c .before) (c .depth, c .it) (flat (suc (c .depth)) (c .kids) ++ c .behind) (sym (ap unique (c .split)) ∙ u) in
-    let k : any (numbered n) (nodes-of (flat (suc (c .depth)) (c .kids) ++ c .behind)) ≡ false = rw x at (a .1) in
+    let a = alone (c .before) (c .depth, c .it) (flat (suc (c .depth)) (c .children) ++ c .behind) (sym (ap unique (c .split)) ∙ u) in
+    let k : any (numbered n) (nodes-of (flat (suc (c .depth)) (c .children) ++ c .behind)) ≡ false = rw x at (a .1) in
     record {
       place = c;
       number = eq-eqb (number-of (c .it)) n x;
       before = rw x at (a .0);
-      kids = none-first (numbered n) (flat (suc (c .depth)) (c .kids)) (c .behind) k;
-      behind = none-second (numbered n) (flat (suc (c .depth)) (c .kids)) (c .behind) k;
+      children = none-first (numbered n) (flat (suc (c .depth)) (c .children)) (c .behind) k;
+      behind = none-second (numbered n) (flat (suc (c .depth)) (c .children)) (c .behind) k;
     }
 
 -- no node in the forest has the number
@@ -133,7 +133,7 @@ module _ {f : Tree} {n p : ℕ} (o : Holder f n p) where
   rows-numbered =
       let c = o .place in
       c .keeps (numbered n) (λ r. numbered n (r .it)) (λ r e. rw e) [] refl (o .before) (o .behind)
-      ∙ rw (o .number, none-numbered n (suc (c .depth)) (c .it ∷ (c .above ++ [])) (c .kids) (o .kids), append-nil (c .above))
+      ∙ rw (o .number, none-numbered n (suc (c .depth)) (c .it ∷ (c .above ++ [])) (c .children) (o .children), append-nil (c .above))
 
   module _ (t : ℕ) where
     lines-numbered : select (is n) (callers-document t f) ≡ cond (seen-at t (flat 0 f) p) (row (item (flat 0 f) p .now) (numbers-above (flat 0 f) p) ∷ []) []

@@ -1,25 +1,24 @@
 -- What a step is judged by and answers, where its node stands at a place of the rows: the record `Found`; and where it has none.
 use mathlib.Core.Path.{_≡_, refl, sym, ap, _∙_}
 use Prim.Native.Nat.{ℕ, zero, suc, _≤_, _<_}
-use mathlib.Core.Bool.{Bool, true, false, cond, not}
+use mathlib.Core.Bool.{Bool, true, false}
 use mathlib.Core.List.{List, [], _∷_, map}
 use native.Mathlib.Omega.{arith}
 use lib.ListN.{length, length-map}
-use lib.Dec.{eqb, ltb, leb}
+use lib.Dec.{ltb, leb}
 use borrow.Author.Tests.{le-ltb}
 use Rattle.tree.specs.Lists.{any, keep}
 use Rattle.tree.specs.Forest.{row}
 use Rattle.tree.specs.Document.{Node, Document, Line, here, at, child, under, select}
-use Rattle.tree.specs.Steps.{Step, T, C, R, U, D, I, TT, RR, UU, target, brings, misfit, misplaced, placed, answer, kth, named, is-named}
-use Rattle.tree.specs.Steps.{Value, done, kind-parent, child-is, none, content-is, numbers-are, cells-are, how-many}
+use Rattle.tree.specs.Steps.{Step, T, C, R, U, D, I, TT, RR, UU, target, brings, misfit, misplaced, answer, kth, is-named}
+use Rattle.tree.specs.Steps.{none, numbers-are, cells-are, how-many}
 use Rattle.tree.specs.Laws.Lists.{map-map, any-same, keep-map}
-use Rattle.locks.specs.Needs.{locks}
-use Rattle.protocol.specs.State.{Marked, Tree, State, number-held, callers-document}
+use Rattle.protocol.specs.State.{Marked, State, number-held, callers-document}
 use Rattle.protocol.specs.Lent.{Room}
-use Rattle.protocol.specs.Calls.{node-limit, table-full, unchanged, refused, judged}
+use Rattle.protocol.specs.Calls.{node-limit, unchanged, refused, judged}
 use Rattle.layout.specs.Flat.{flat}
 use Rattle.layout.specs.Layout.{Entry}
-use Rattle.lookup.specs.Places.{item, number-of, unique, place-of, ups, numbers-above, seen-at, children, subtree}
+use Rattle.lookup.specs.Places.{item, number-of, unique, place-of, numbers-above, seen-at, children, subtree}
 use Rattle.lookup.specs.Found.{misfit-on, misplaced-on, kth-child, answer-at, Found, judged-at}
 use Rattle.lookup.specs.Laws.Find.{Holder, holder, held-place, count-held, here-nowhere, here-at, line-at}
 use Rattle.lookup.specs.Laws.Children.{child-lines}
@@ -124,7 +123,7 @@ module _ (l : List Entry) (t : ℕ) (s : Step) (M : State) (rows : l ≡ flat 0 
         let o = at-place in
         let here-is : here (target s) (callers-document t (M .tree)) ≡ true = here-at o t ∙ x in
         let line-is : at (target s) (callers-document t (M .tree)) ≡ row (item l p .now) (numbers-above l p) = rw rows (line-at o t x) in
-        let kids-are : Same (select (child (target s)) (callers-document t (M .tree))) (children t l p) = rw rows (child-lines o t x) in
+        let children-are : Same (select (child (target s)) (callers-document t (M .tree))) (children t l p) = rw rows (child-lines o t x) in
         let all-are : Same (select (under (target s)) (callers-document t (M .tree))) (subtree t l p) = rw rows (subtree-lines o t x) in
         record {
           is-here = here-is;
@@ -133,9 +132,9 @@ module _ (l : List Entry) (t : ℕ) (s : Step) (M : State) (rows : l ≡ flat 0 
           misfits = misfit-here s (callers-document t (M .tree)) (item l p .now) (numbers-above l p) here-is line-is;
           held = any-same (λ m. number-held m (M .tree)) (λ m. ltb (place-of m l) (length l)) (brings s) (λ m i. held-place m (M .tree) ∙ rw (← rows));
           wait = λ b. rw line-is (wait-set-at t s M l p (sym rows) u h n b);
-          misplaces = misplaced-here s (callers-document t (M .tree)) (item l p .now) (numbers-above l p) (children t l p) line-is kids-are;
+          misplaces = misplaced-here s (callers-document t (M .tree)) (item l p .now) (numbers-above l p) (children t l p) line-is children-are;
           full = ap (λ z. any (λ m. leb node-limit z) (brings s)) (count-held (M .tree) ∙ ap length (sym rows));
-          answers = answer-here s t l p (callers-document t (M .tree)) line-is kids-are all-are;
+          answers = answer-here s t l p (callers-document t (M .tree)) line-is children-are all-are;
         }
 
 -- the whole judgement ---------------------------------------------------------------------------

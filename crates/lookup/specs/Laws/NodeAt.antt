@@ -4,7 +4,7 @@ use Prim.Native.Nat.{ℕ, zero, suc, _+_, _-_, _≤_, _<_}
 use mathlib.Core.Bool.{Bool, true, false, cond, _||_, false≢true}
 use mathlib.Core.List.{List, [], _∷_, _++_, map, reverseAux, append-assoc, append-nil}
 use native.Mathlib.Omega.{arith}
-use lib.ListN.{length, getD, take, drop, length-append}
+use lib.ListN.{length, length-append}
 use lib.Dec.{ltb}
 use borrow.Author.Tests.{ltb-true, ltb-false, lt-ltb, le-ltb}
 use Rattle.tree.specs.Lists.{any, keep}
@@ -53,7 +53,14 @@ module _ {A : Type 0} where
   pub below-flat : (e d : ℕ) (f : Forest A) (r : List (ℕ × A)) → e < d → below e (flat d f ++ r) ≡ flat d f ++ below e r
   unfolding flat below
   below-flat e d nil r h = refl
-  below-flat e d (node a ks fs) r h = rw (append-assoc (flat (suc d) ks) (flat d fs) r, below-flat e (suc d) ks (flat d fs ++ r) (omega arith), below-flat e d fs r h, lt-ltb e d h, append-assoc (flat (suc d) ks) (flat d fs) (below e r))
+  below-flat e d (node a ks fs) r h =
+      rw (
+        append-assoc (flat (suc d) ks) (flat d fs) r,
+        below-flat e (suc d) ks (flat d fs ++ r) (omega arith),
+        below-flat e d fs r h,
+        lt-ltb e d h,
+        append-assoc (flat (suc d) ks) (flat d fs) (below e r),
+      )
 
   -- rows that are not below, or none, before such rows
   pub below-none : (e d : ℕ) (f : Forest A) (r : List (ℕ × A)) → d ≤ e → below e r ≡ [] → below e (flat d f ++ r) ≡ []
@@ -108,53 +115,52 @@ module _ {A : Type 0} where
         keep-nowhere q k o d up fs u (none-second q (flat (suc d) ks) (flat d fs) j),
       )
 
-  -- the node at a place ------------------------------------------------------------------
-
   -- what a test keeps of a node's subtree and of the siblings that follow, where the node itself fails
   keep-parts : (k : Row A A → Bool) (a : A) (up : List A) (ks fs : Forest A) → k (row a up) ≡ false
       → keep k (lines-of up (node a ks fs)) ≡ keep k (lines-of (a ∷ up) ks) ++ keep k (lines-of up fs)
   unfolding rows keep
   keep-parts k a up ks fs h = rw h (keep-append k (lines-of (a ∷ up) ks) (lines-of up fs))
 
+  -- the node at a place ------------------------------------------------------------------
+
+  -- at place i of the rows of f, whose topmost nodes have depth d
   pub record NodeAt (d : ℕ) (f : Forest A) (i : ℕ) : Type 0 where
     pub depth : ℕ
     pub it : A
-    pub kids : Forest A
+    pub children : Forest A
     pub above : List A
     pub before : List (ℕ × A)
     pub behind : List (ℕ × A)
-    pub split : flat d f ≡ before ++ ((depth, it) ∷ (flat (suc depth) kids ++ behind))
+    pub split : flat d f ≡ before ++ ((depth, it) ∷ (flat (suc depth) children ++ behind))
     pub count : length before ≡ i
     pub deep : d ≤ depth
+    -- what is behind begins with no row below the node
     pub stops : below depth behind ≡ []
+    -- the way up from the node leads to its proper ancestors
     pub ancestors : (t : List (ℕ × A)) → back depth (reverseAux before t) ≡ above ++ back d t
     -- the ancestors stand before
     pub earlier : (q : A → Bool) → any q (nodes-of before) ≡ false → any q above ≡ false
     -- of a test that only rows on the node's line or below it pass, what is kept is in the subtree
     pub keeps : (q : A → Bool) (k : Row A A → Bool) → Only q k → (up : List A) → any q up ≡ false → any q (nodes-of before) ≡ false → any q (nodes-of behind) ≡ false
-        → keep k (lines-of up f) ≡ keep k (row it (above ++ up) ∷ lines-of (it ∷ (above ++ up)) kids)
+        → keep k (lines-of up f) ≡ keep k (row it (above ++ up) ∷ lines-of (it ∷ (above ++ up)) children)
 
-  below-empty : (e : ℕ) → below {A = A} e [] ≡ []
+  below-shallow : (e d : ℕ) (f : Forest A) → d ≤ e → below e (flat d f) ≡ []
   unfolding below
-  below-empty e = refl
-
-  below-self : (d : ℕ) (f : Forest A) → below d (flat d f) ≡ []
-  unfolding below
-  below-self d f = ap (below d) (sym (append-nil (flat d f))) ∙ below-none d d f [] (omega arith) refl
+  below-shallow e d f h = ap (below e) (sym (append-nil (flat d f))) ∙ below-none e d f [] h refl
 
   at-self : (d : ℕ) (a : A) (ks fs : Forest A) → NodeAt d (node a ks fs) 0
   unfolding flat rows keep
   at-self d a ks fs = record {
     depth = d;
     it = a;
-    kids = ks;
+    children = ks;
     above = [];
     before = [];
     behind = flat d fs;
     split = refl;
     count = refl;
     deep = omega arith;
-    stops = below-self d fs;
+    stops = below-shallow d d fs (omega arith);
     ancestors = λ t. refl;
     earlier = λ q e. refl;
     keeps = λ q k o up u b c. ap (λ l. cond (k (row a up)) (row a up ∷ l) l) (keep-append k (lines-of (a ∷ up) ks) (lines-of up fs) ∙ rw (keep-nowhere q k o d up fs u c) (append-nil _));
@@ -165,21 +171,23 @@ module _ {A : Type 0} where
   at-inner d a ks fs i c = record {
     depth = c .depth;
     it = c .it;
-    kids = c .kids;
+    children = c .children;
     above = c .above ++ (a ∷ []);
     before = (d, a) ∷ c .before;
     behind = c .behind ++ flat d fs;
-    split = ap (λ l. (d, a) ∷ l) (ap (λ l. l ++ flat d fs) (c .split) ∙ append-assoc (c .before) _ (flat d fs) ∙ ap (λ l. c .before ++ ((c .depth, c .it) ∷ l)) (append-assoc (flat (suc (c .depth)) (c .kids)) (c .behind) (flat d fs)));
+    split = ap (λ l. (d, a) ∷ l)
+        (ap (λ l. l ++ flat d fs) (c .split) ∙ append-assoc (c .before) _ (flat d fs)
+        ∙ ap (λ l. c .before ++ ((c .depth, c .it) ∷ l)) (append-assoc (flat (suc (c .depth)) (c .children)) (c .behind) (flat d fs)));
     count = ap suc (c .count);
     deep = omega (arith, c .deep);
-    stops = below-append (c .depth) (c .behind) (flat d fs) (c .stops) (ap (below (c .depth)) (sym (append-nil (flat d fs))) ∙ below-none (c .depth) d fs [] (omega (arith, c .deep)) (below-empty (c .depth)));
+    stops = below-append (c .depth) (c .behind) (flat d fs) (c .stops) (below-shallow (c .depth) d fs (omega (arith, c .deep)));
     ancestors = λ t. c .ancestors ((d, a) ∷ t) ∙ rw (lt-ltb d (suc d) (omega arith), append-assoc (c .above) (a ∷ []) (back d t));
     earlier = λ q e. any-append q (c .above) (a ∷ []) ∙ rw (c .earlier q (or-right (q a) _ e), or-left (q a) _ e);
     keeps = λ q k o up u b e.
         keep-parts k a up ks fs (fails q k o a up (or-left (q a) _ b) u)
         ∙ rw (keep-nowhere q k o d up fs u (none-second q (c .behind) (flat d fs) e), append-nil (keep k (lines-of (a ∷ up) ks)))
         (c .keeps q k o (a ∷ up) (rw (or-left (q a) _ b, u)) (or-right (q a) _ b) (none-first q (c .behind) (flat d fs) e)
-        ∙ ap (λ z. keep k (row (c .it) z ∷ lines-of (c .it ∷ z) (c .kids))) (sym (append-assoc (c .above) (a ∷ []) up)));
+        ∙ ap (λ z. keep k (row (c .it) z ∷ lines-of (c .it ∷ z) (c .children))) (sym (append-assoc (c .above) (a ∷ []) up)));
   }
 
   at-later : (d : ℕ) (a : A) (ks fs : Forest A) (i : ℕ) → NodeAt d fs i → NodeAt d (node a ks fs) (suc (length (flat (suc d) ks) + i))
@@ -187,7 +195,7 @@ module _ {A : Type 0} where
   at-later d a ks fs i c = record {
     depth = c .depth;
     it = c .it;
-    kids = c .kids;
+    children = c .children;
     above = c .above;
     before = (d, a) ∷ (flat (suc d) ks ++ c .before);
     behind = c .behind;
@@ -195,7 +203,12 @@ module _ {A : Type 0} where
     count = ap suc (length-append (flat (suc d) ks) (c .before) ∙ ap (λ n. length (flat (suc d) ks) + n) (c .count));
     deep = c .deep;
     stops = c .stops;
-    ancestors = λ t. rw (reverse-append (flat (suc d) ks) (c .before) ((d, a) ∷ t), c .ancestors (reverseAux (flat (suc d) ks) ((d, a) ∷ t)), back-skip d (suc d) ks ((d, a) ∷ t) (omega arith), le-ltb d d (omega arith));
+    ancestors = λ t. rw (
+      reverse-append (flat (suc d) ks) (c .before) ((d, a) ∷ t),
+      c .ancestors (reverseAux (flat (suc d) ks) ((d, a) ∷ t)),
+      back-skip d (suc d) ks ((d, a) ∷ t) (omega arith),
+      le-ltb d d (omega arith),
+    );
     earlier = λ q e. c .earlier q (none-second q (flat (suc d) ks) (c .before) (or-right (q a) _ e));
     keeps = λ q k o up u b e.
         let i : any q (nodes-of (flat (suc d) ks ++ c .before)) ≡ false = or-right (q a) _ b in

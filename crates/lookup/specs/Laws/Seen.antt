@@ -1,7 +1,7 @@
 -- The caller's document by the rows of the tree: the lines of what it sees.
-use mathlib.Core.Path.{_≡_, refl, sym, ap, _∙_}
+use mathlib.Core.Path.{_≡_, refl, ap, _∙_}
 use Prim.Native.Nat.{ℕ}
-use mathlib.Core.Bool.{Bool, true, false}
+use mathlib.Core.Bool.{Bool}
 use mathlib.Core.List.{List, [], _∷_, map}
 use Rattle.tree.specs.Lists.{every, keep}
 use Rattle.tree.specs.Forest.{Row, row, rows}

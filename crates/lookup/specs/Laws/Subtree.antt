@@ -1,6 +1,6 @@
 -- The subtree of a place: its turns as a loop makes them, and that it gives the lines below a node that the caller sees.
 use mathlib.Core.Path.{_≡_, refl, sym, ap, _∙_}
-use Prim.Native.Nat.{ℕ, zero, suc, _+_, _-_, _≤_, _<_}
+use Prim.Native.Nat.{ℕ, zero, suc, _+_, _≤_, _<_}
 use mathlib.Core.Bool.{Bool, true, false, cond, not, _&&_, _||_, and-false, or-true}
 use mathlib.Core.List.{List, [], _∷_, _++_, map, append-assoc, append-nil, List·Memᴰ}
 use native.Mathlib.Omega.{arith}
@@ -10,16 +10,16 @@ use lib.ListN.{length, getD, drop, drop-of-length-le}
 use lib.Seq.{drop-cons}
 use lib.Dec.{eqb, leb, ltb}
 use borrow.Author.Tests.{lt-ltb, le-ltb, le-leb, lt-leb, ltb-false}
-use Rattle.tree.specs.Lists.{any, every, has, keep}
+use Rattle.tree.specs.Lists.{any, every, keep}
 use Rattle.tree.specs.Forest.{Forest, nil, node, Row, row, rows}
-use Rattle.tree.specs.Document.{Line, under, select}
-use Rattle.tree.specs.Laws.Lists.{any-map, map-append, map-map, keep-append, keep-all, keep-none}
+use Rattle.tree.specs.Document.{under, select}
+use Rattle.tree.specs.Laws.Lists.{any-map, map-append, keep-append, keep-all, keep-none}
 use Rattle.tree.specs.Laws.Rows.{of-rows, every-below, any-below}
 use Rattle.protocol.specs.State.{Marked, Tree, numbered, seen-by, callers-document}
 use Rattle.layout.specs.Flat.{flat, prune}
 use Rattle.layout.specs.Layout.{Entry, no-entry}
 use Rattle.lookup.specs.Places.{depth, item, items, number-of, below, seen-from, subtree, subtree-end, seen-at}
-use Rattle.lookup.specs.Laws.NodeAt.{nodes-of, lines-of, NodeAt, below-flat, below-none}
+use Rattle.lookup.specs.Laws.NodeAt.{nodes-of, lines-of, below-flat, below-none}
 use Rattle.lookup.specs.Laws.Up.{depth-at, item-at, ups-at, rows-behind}
 use Rattle.lookup.specs.Laws.Seen.{plain, seen-line, select-seen, plain-nodes}
 use Rattle.lookup.specs.Laws.Find.{Holder}
@@ -169,22 +169,22 @@ under-line n r = ap (λ b. numbered n (r .it) || b) (any-map (λ q. eqb q n) num
 
 module _ {f : Tree} {n p : ℕ} (o : Holder f n p) where
   -- the rows below the place
-  pub rows-below : below (depth (flat 0 f) p) (drop (suc p) (flat 0 f)) ≡ flat (suc (o .place .depth)) (o .place .kids)
+  pub rows-below : below (depth (flat 0 f) p) (drop (suc p) (flat 0 f)) ≡ flat (suc (o .place .depth)) (o .place .children)
   rows-below =
       let c = o .place in
-      rw (depth-at c, rows-behind c, below-flat (c .depth) (suc (c .depth)) (c .kids) (c .behind) (omega arith), c .stops) (append-nil (flat (suc (c .depth)) (c .kids)))
+      rw (depth-at c, rows-behind c, below-flat (c .depth) (suc (c .depth)) (c .children) (c .behind) (omega arith), c .stops) (append-nil (flat (suc (c .depth)) (c .children)))
 
-  rows-under : keep (λ r. under n (plain r)) (lines-of [] f) ≡ row (o .place .it) (o .place .above) ∷ lines-of (o .place .it ∷ o .place .above) (o .place .kids)
+  rows-under : keep (λ r. under n (plain r)) (lines-of [] f) ≡ row (o .place .it) (o .place .above) ∷ lines-of (o .place .it ∷ o .place .above) (o .place .children)
   unfolding keep
   rows-under =
       let c = o .place in
       c .keeps (numbered n) (λ r. under n (plain r)) (λ r e. sym (under-line n r) ∙ e) [] refl (o .before) (o .behind)
-      ∙ rw (append-nil (c .above), o .number, keep-all (λ r. under n (plain r)) (lines-of (c .it ∷ c .above) (c .kids)) inner-rows)
+      ∙ rw (append-nil (c .above), o .number, keep-all (λ r. under n (plain r)) (lines-of (c .it ∷ c .above) (c .children)) inner-rows)
     where
-      inner-rows : (r : Row Marked Marked) → List·Memᴰ r (lines-of (o .place .it ∷ o .place .above) (o .place .kids)) → under n (plain r) ≡ true
+      inner-rows : (r : Row Marked Marked) → List·Memᴰ r (lines-of (o .place .it ∷ o .place .above) (o .place .children)) → under n (plain r) ≡ true
       inner-rows r m =
           under-line n r
-          ∙ rw (any-below (λ a. a) (numbered n) (rw (o .number)) (of-rows (λ a. a) r (o .place .it ∷ o .place .above) (o .place .kids) m)) (or-true (numbered n (r .it)))
+          ∙ rw (any-below (λ a. a) (numbered n) (rw (o .number)) (of-rows (λ a. a) r (o .place .it ∷ o .place .above) (o .place .children) m)) (or-true (numbered n (r .it)))
 
   -- n and all below it that t sees, in document order
   pub subtree-lines : (t : ℕ) → seen-at t (flat 0 f) p ≡ true → map (λ r. r .it) (select (under n) (callers-document t f)) ≡ map (λ a. a .now) (subtree t (flat 0 f) p)
@@ -192,6 +192,6 @@ module _ {f : Tree} {n p : ℕ} (o : Holder f n p) where
   subtree-lines t s =
       let c = o .place in
       let v : every (seen-by t) (c .it ∷ c .above) ≡ true = rw (item-at c, ups-at c) at s in
-      let e : map (λ x. x .it) (keep (seen-line t) (lines-of (c .it ∷ c .above) (c .kids))) ≡ items (prune (seen-by t) 0 (flat (suc (c .depth)) (c .kids))) =
-      shown-forest (seen-by t) (c .it ∷ c .above) (suc (c .depth)) (c .kids) v in
-      rw (select-seen (under n) t f, rows-under, v, item-at c, rows-below, ← e) (ap (λ l. c .it .now ∷ l) (plain-nodes (keep (seen-line t) (lines-of (c .it ∷ c .above) (c .kids)))))
+      let e : map (λ x. x .it) (keep (seen-line t) (lines-of (c .it ∷ c .above) (c .children))) ≡ items (prune (seen-by t) 0 (flat (suc (c .depth)) (c .children))) =
+      shown-forest (seen-by t) (c .it ∷ c .above) (suc (c .depth)) (c .children) v in
+      rw (select-seen (under n) t f, rows-under, v, item-at c, rows-below, ← e) (ap (λ l. c .it .now ∷ l) (plain-nodes (keep (seen-line t) (lines-of (c .it ∷ c .above) (c .children)))))

@@ -1,5 +1,5 @@
 -- The way up from a place: its turns as a loop makes them, and that it meets the proper ancestors.
-use mathlib.Core.Path.{_≡_, refl, sym, ap, _∙_}
+use mathlib.Core.Path.{_≡_, refl, ap, _∙_}
 use Prim.Native.Nat.{ℕ, zero, suc, _+_, _-_, _≤_, _<_}
 use mathlib.Core.Bool.{Bool, true, false, cond, _&&_}
 use mathlib.Core.List.{List, [], _∷_, _++_, map, reverseAux, append-nil, List·Memᴰ, List·Memᴰ·head, List·Memᴰ·tail, List·Memᴰ·not-nil}
@@ -9,7 +9,7 @@ use lib.Seq.{take-at, getD-at, drop-append-add}
 use lib.Dec.{ltb}
 use borrow.Author.Tests.{lt-ltb, le-ltb}
 use Rattle.tree.specs.Lists.{every}
-use Rattle.protocol.specs.State.{Marked, Tree, seen-by}
+use Rattle.protocol.specs.State.{Tree, seen-by}
 use Rattle.layout.specs.Flat.{flat}
 use Rattle.layout.specs.Layout.{Entry, no-entry}
 use Rattle.lookup.specs.Places.{depth, item, climb, above-places, ups, seen-at}
@@ -127,7 +127,7 @@ module _ {f : Tree} {p : ℕ} (c : NodeAt 0 f p) where
       let k : p ≤ length (flat 0 f) = omega (arith, inside) in
       rw depth-at (climb-back (flat 0 f) (c .depth) p k ∙ ap (λ l. back (c .depth) (reverseAux l [])) b ∙ c .ancestors [] ∙ append-nil (c .above))
 
-  pub rows-behind : drop (suc p) (flat 0 f) ≡ flat (suc (c .depth)) (c .kids) ++ c .behind
+  pub rows-behind : drop (suc p) (flat 0 f) ≡ flat (suc (c .depth)) (c .children) ++ c .behind
   rows-behind =
       let e : suc p ≡ length (c .before) + 1 = omega (arith, c .count) in
-      ap (drop (suc p)) (c .split) ∙ ap (λ n. drop n (c .before ++ ((c .depth, c .it) ∷ (flat (suc (c .depth)) (c .kids) ++ c .behind)))) e ∙ drop-append-add (c .before) _ 1
+      ap (drop (suc p)) (c .split) ∙ ap (λ n. drop n (c .before ++ ((c .depth, c .it) ∷ (flat (suc (c .depth)) (c .children) ++ c .behind)))) e ∙ drop-append-add (c .before) _ 1

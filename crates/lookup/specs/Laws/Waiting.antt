@@ -5,22 +5,22 @@ use mathlib.Core.Bool.{Bool, true, false, cond, not, _&&_, _||_}
 use mathlib.Core.List.{List, [], _∷_, _++_, map, List·Memᴰ, List·Memᴰ·head, List·Memᴰ·tail}
 use native.Mathlib.Omega.{arith}
 use native.Mathlib.Nat.{pow-succ'}
-use lib.ListN.{length, getD}
+use lib.ListN.{length}
 use lib.Dec.{eqb}
 use borrow.Author.Tests.{eq-eqb}
 use Rattle.tree.specs.Lists.{any}
 use Rattle.tree.specs.Steps.{Step, target, brings}
-use Rattle.tree.specs.Laws.Tests.{or-left, or-right, or-swap}
+use Rattle.tree.specs.Laws.Tests.{or-left, or-right}
 use Rattle.tree.specs.Laws.Lists.{any-map, any-same, eqb-flip}
 use Rattle.locks.specs.Modes.{Mode, against}
 use Rattle.locks.specs.Needs.{Need, need, Lock, each, every-one, up, locks}
 use Rattle.locks.specs.Words.{word}
-use Rattle.protocol.specs.State.{Marked, Tree, State, transactions, nodes, numbered, number-held}
+use Rattle.protocol.specs.State.{Marked, State, transactions, nodes, numbered, number-held}
 use Rattle.protocol.specs.Calls.{clashes, blocks, sum-of-bits, wait-set}
 use Rattle.layout.specs.Flat.{flat}
-use Rattle.layout.specs.Layout.{Entry, no-entry}
+use Rattle.layout.specs.Layout.{Entry}
 use Rattle.lookup.specs.Places.{depth, item, items, number-of, unique, climb, above-places, ups, numbers-above}
-use Rattle.lookup.specs.Found.{blocks-node, blocks-way, blocks-at, wait-word}
+use Rattle.lookup.specs.Found.{blocks-node, blocks-way, wait-word}
 use Rattle.lookup.specs.Laws.NodeAt.{any-append}
 use Rattle.lookup.specs.Laws.Up.{climb-before, ups-found, ups-passed, ups-top}
 use Rattle.lookup.specs.Laws.Find.{nodes-held, unique-head}
@@ -48,15 +48,15 @@ way-start ms ms′ ms″ u l p = refl
 
 -- tests of two lists in either order ---------------------------------------------------
 
-or-false : (b : Bool) → (b || false) ≡ b
+pub or-false : (b : Bool) → (b || false) ≡ b
 or-false true = refl
 or-false false = refl
 
-any-never : {A : Type 0} (l : List A) → any (λ a. false) l ≡ false
+pub any-never : {A : Type 0} (l : List A) → any (λ a. false) l ≡ false
 any-never [] = refl
 any-never (x ∷ l) = any-never l
 
-any-or : {A : Type 0} (t s : A → Bool) (l : List A) → any (λ a. t a || s a) l ≡ (any t l || any s l)
+pub any-or : {A : Type 0} (t s : A → Bool) (l : List A) → any (λ a. t a || s a) l ≡ (any t l || any s l)
 any-or t s [] = refl
 any-or t s (x ∷ l) = rw (any-or t s l) (go (t x) (s x) (any t l) (any s l))
   where
@@ -66,7 +66,7 @@ any-or t s (x ∷ l) = rw (any-or t s l) (go (t x) (s x) (any t l) (any s l))
     go false true false d = refl
     go false false c d = refl
 
-any-any : {A B : Type 0} (t : A → B → Bool) (l : List A) (k : List B) → any (λ a. any (t a) k) l ≡ any (λ b. any (λ a. t a b) l) k
+pub any-any : {A B : Type 0} (t : A → B → Bool) (l : List A) (k : List B) → any (λ a. any (t a) k) l ≡ any (λ b. any (λ a. t a b) l) k
 any-any t [] k = sym (any-never k)
 any-any t (x ∷ l) k = rw (any-any t l k) (sym (any-or (t x) (λ b. any (λ a. t a b) l) k))
 
