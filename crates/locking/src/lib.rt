@@ -6,10 +6,13 @@ ghost use Prim.Native.Nat.{_<_, _≤_};
 ghost use lib.ListN.{length};
 ghost use Rattle.locks.specs.Needs.{need};
 ghost use Rattle.locks.specs.Words.{step-named};
-ghost use Rattle.layout.specs.Layout.{nodes, is-open, Layout};
+ghost use Rattle.layout.specs.Lists.{modify};
+ghost use Rattle.layout.specs.Flat.{second};
+ghost use Rattle.layout.specs.Layout.{nodes, is-open, Layout, Kept};
 ghost use Rattle.lookup.specs.Found.{wait-word};
-ghost use Rattle.locking.specs.Way.{Inside, Climbed, way-nodes};
+ghost use Rattle.locking.specs.Way.{way-places, way-nodes, Inside, Climbed};
 ghost use Rattle.locking.specs.Waits.{word-at, masks-of, SmallWords, touches-from, blocks-by};
+ghost use Rattle.locking.specs.Grants.{with-more, granted-along};
 
 // A node and its proper ancestors, the parent first, each by its place in document order.
 pub struct Way {
@@ -111,4 +114,27 @@ pub fn waits(s: &[u8], t: usize, step: StepName, way: Way) -> u16
         u -= 1;
     }
     set
+}
+
+// Transaction t is granted the modes of a set on the node at i.
+fn add(s: &mut [u8], t: usize, i: usize, w: u16)
+    requires { ⌜ (Layout (now s)) × (1 ≤ t) × (t ≤ 16) × (i < length (nodes (now s))) ⌝ }
+    ensures { λ r. ⌜ Kept (now (s .entry)) (now (s .exit)) (modify i (second (with-more t w)) (nodes (now (s .entry)))) ⌝ }
+{
+    let v = transactions::lock(s, t, i);
+    transactions::set_lock(s, t, i, locks::union(v, w));
+}
+
+// Transaction t is granted what a step needs on the way.
+pub fn grant(s: &mut [u8], t: usize, step: StepName, way: Way)
+    requires { ⌜ (Layout (now s)) × (1 ≤ t) × (t ≤ 16) × Inside (nodes (now s)) way ⌝ }
+    ensures { λ r. ⌜ Kept (now (s .entry)) (now (s .exit)) (granted-along t (need (step-named step)) (way-places way) (nodes (now (s .entry)))) ⌝ }
+{
+    let need = locks::needed(step);
+    let count = way.count;
+    let mut j: usize = 0;
+    while j < count {
+        add(s, t, way.places[j] as usize, word_at(need, j));
+        j += 1;
+    }
 }
