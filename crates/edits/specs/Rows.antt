@@ -8,7 +8,7 @@ use lib.Dec.{eqb, leb, ltb}
 use Rattle.tree.specs.Lists.{any}
 use Rattle.tree.specs.Document.{Node}
 use Rattle.tree.specs.Steps.{Step, T, C, R, U, D, I, TT, RR, UU, is-named}
-use Rattle.locks.specs.Modes.{Mode, union, among}
+use Rattle.locks.specs.Modes.{Mode, ModeSet, union, among}
 use Rattle.locks.specs.Needs.{Need, need, Lock}
 use Rattle.protocol.specs.State.{Marked, numbered, seen-by, written-by, deleted-by, inserted-by, granted-to}
 use Rattle.layout.specs.Lists.{modify, insert}
@@ -47,34 +47,26 @@ not-inserted-by t a = not (eqb (a .inserter) t)
 
 -- locks ----------------------------------------------------------------------------------------
 
+-- a node with other sets of modes
+abbrev pub with-held : Marked → (ℕ → ModeSet) → Marked
+with-held a h = record { now = a .now; before = a .before; writer = a .writer; inserter = a .inserter; deleter = a .deleter; held = h }
+
 -- t is granted these modes on a node
 abbrev pub granted-modes : ℕ → List Mode → Marked → Marked
-granted-modes t ms a = record {
-  now = a .now;
-  before = a .before;
-  writer = a .writer;
-  inserter = a .inserter;
-  deleter = a .deleter;
-  held = λ u. cond (eqb u t) (union (a .held u) (among ms)) (a .held u);
-}
+granted-modes t ms a = with-held a (λ u. cond (eqb u t) (union (a .held u) (among ms)) (a .held u))
 
 -- t is granted these locks, wherever a row has their numbers
 abbrev pub all-granted : ℕ → List Lock → List Entry → List Entry
 all-granted t ls l = map (second (granted-to t ls)) l
 
--- one change at each place, in order
-unfoldable pub modify-each : {A : Type 0} → List ℕ → (A → A) → List A → List A
-modify-each [] g l = l
-modify-each (i ∷ is) g l = modify-each is g (modify i g l)
+-- along places: t is granted ms at the first, ms′ at the next, and ms″ at all others
+unfoldable pub granted-along : ℕ → List Mode → List Mode → List Mode → List ℕ → List Entry → List Entry
+granted-along t ms ms′ ms″ [] l = l
+granted-along t ms ms′ ms″ (i ∷ is) l = granted-along t ms′ ms″ ms″ is (modify i (second (granted-modes t ms)) l)
 
--- the parent's modes on the first place, those above the parent on each of the others
-unfoldable pub granted-up : ℕ → Need → List ℕ → List Entry → List Entry
-granted-up t w [] l = l
-granted-up t w (i ∷ is) l = modify-each is (second (granted-modes t (w .above))) (modify i (second (granted-modes t (w .parent))) l)
-
--- the locks of a step on the node at i, whose proper ancestors stand at the places is, the parent first
-unfoldable pub granted-way : ℕ → Need → ℕ → List ℕ → List Entry → List Entry
-granted-way t w i is l = granted-up t w is (modify i (second (granted-modes t (w .node))) l)
+-- along the way up from p
+abbrev pub granted-up : ℕ → Need → ℕ → List Entry → List Entry
+granted-up t w p l = granted-along t (w .node) (w .parent) (w .above) (p ∷ above-places l p) l
 
 -- a change below a node ------------------------------------------------------------------------
 
@@ -127,4 +119,4 @@ acted t (UU n a b) p l g = renamed-rows t a b p g
 
 -- the locks along the way up first, then the step
 unfoldable pub stepped : ℕ → Step → ℕ → List Entry → List Entry
-stepped t s p l = acted t s p l (granted-way t (need s) p (above-places l p) l)
+stepped t s p l = acted t s p l (granted-up t (need s) p l)

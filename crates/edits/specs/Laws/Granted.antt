@@ -20,7 +20,7 @@ use Rattle.layout.specs.Layout.{Entry, no-entry}
 use Rattle.lookup.specs.Places.{depth, item, items, number-of, unique, above-places, ups, numbers-above, seen-at}
 use Rattle.lookup.specs.Laws.Up.{climb-before}
 use Rattle.lookup.specs.Laws.Find.{nodes-held}
-use Rattle.edits.specs.Rows.{Lacks, row-numbers, number-at, Inside, left-out, all-granted, granted-way, granted-modes, changed-below, renamed-by, renamed-rows, new-place, acted, stepped}
+use Rattle.edits.specs.Rows.{Lacks, row-numbers, number-at, Inside, left-out, all-granted, granted-up, granted-modes, changed-below, renamed-by, renamed-rows, new-place, acted, stepped}
 use Rattle.edits.specs.Laws.Unique.{lacks-at}
 use Rattle.edits.specs.Laws.Lists.{map-modify, map-insert, map-take, map-drop}
 use Rattle.edits.specs.Laws.Updates.{mark-node-rows}
@@ -73,9 +73,10 @@ module _ (t : ℕ) (ls : List Lock) where
       ∙ (λ j. map-take (second (granted-to t ls)) p l j ++ ((d j, head j) ∷ tail j))
 
 -- the places above are places
-pub above-inside : (l : List Entry) (p : ℕ) → p < length l → Inside (above-places l p) l
+pub above-inside : (l : List Entry) (p : ℕ) → p < length l → Inside (p ∷ above-places l p) l
 unfolding above-places
-above-inside l p h i m = let k : i < p = climb-before l (depth l p) p m in omega arith
+above-inside l p h i (List·Memᴰ·head e) = rw e h
+above-inside l p h i (List·Memᴰ·tail m) = let k : i < p = climb-before l (depth l p) p m in omega arith
 
 numbers-at-places : (l : List Entry) (p : ℕ) → numbers-above l p ≡ map (number-at l) (above-places l p)
 unfolding ups
@@ -96,16 +97,16 @@ module _ (t : ℕ) (f : Tree) (p : ℕ) (u : unique (flat 0 f) ≡ true) (h : p 
     none-held : any (λ q. any (numbered q) (items (flat 0 f))) (brings s) ≡ false
     none-held = ap (λ (ns : List Marked). any (λ q. any (numbered q) ns) (brings s)) (sym (nodes-held f)) ∙ new
 
-    way : all-granted t lock-list (flat 0 f) ≡ granted-way t (need s) p (above-places (flat 0 f) p) (flat 0 f)
+    way : all-granted t lock-list (flat 0 f) ≡ granted-up t (need s) p (flat 0 f)
     way =
         ap (λ (ns : List ℕ). all-granted t (locks s ns) (flat 0 f)) (numbers-at-places (flat 0 f) p)
-        ∙ rows-locks t s (flat 0 f) p (above-places (flat 0 f) p) u h e (above-inside (flat 0 f) p h) none-held
+        ∙ rows-locks t s (flat 0 f) p (above-places (flat 0 f) p) u e (above-inside (flat 0 f) p h) none-held
 
-    reads : flat 0 (grant t lock-list f) ≡ granted-way t (need s) p (above-places (flat 0 f) p) (flat 0 f)
+    reads : flat 0 (grant t lock-list f) ≡ granted-up t (need s) p (flat 0 f)
     reads = grant-rows t lock-list f ∙ way
 
     marks : (g : Marked → Marked) → ((a : Marked) → granted-to t lock-list (g a) ≡ g (granted-to t lock-list a))
-        → flat 0 (grant t lock-list (mark-node (target s) g f)) ≡ modify p (second g) (granted-way t (need s) p (above-places (flat 0 f) p) (flat 0 f))
+        → flat 0 (grant t lock-list (mark-node (target s) g f)) ≡ modify p (second g) (granted-up t (need s) p (flat 0 f))
     marks g swap =
         grant-rows t lock-list (mark-node (target s) g f)
         ∙ ap (all-granted t lock-list) (mark-node-rows (target s) g f p u h e)
@@ -127,7 +128,7 @@ module _ (t : ℕ) (f : Tree) (p : ℕ) (u : unique (flat 0 f) ≡ true) (h : p 
       let ls : List Lock = lock-list w e new in
       let z : Lacks m (flat 0 f) = or-left _ _ (none-held w e new) in
       let o : has m (n ∷ numbers-above (flat 0 f) p) ≡ false =
-      rw (ne-eqb n m (λ q. lacks-at m (flat 0 f) p z h (e ∙ q)), numbers-at-places (flat 0 f) p) (lacks-places m (flat 0 f) (above-places (flat 0 f) p) z (above-inside (flat 0 f) p h)) in
+      rw (ne-eqb n m (λ q. lacks-at m (flat 0 f) p z h (e ∙ q)), numbers-at-places (flat 0 f) p) (lacks-places m (flat 0 f) (above-places (flat 0 f) p) z (λ i o. above-inside (flat 0 f) p h i (List·Memᴰ·tail o))) in
       grant-rows t ls (act t w f)
       ∙ ap (all-granted t ls) (insert-rows t n k x f p u h e)
       ∙ map-insert (second (granted-to t ls)) (new-place t k p (flat 0 f)) (suc (depth (flat 0 f) p), x) (flat 0 f)

@@ -2,24 +2,28 @@
 use mathlib.Core.Path.{_≡_, refl, sym, ap, _∙_, fun-ext}
 use Prim.Native.Nat.{ℕ, zero, suc, _<_}
 use mathlib.Core.Bool.{Bool, true, false, cond, _||_, or-false}
-use mathlib.Core.List.{List, [], _∷_, _++_, map, List·Memᴰ, List·Memᴰ·head, List·Memᴰ·tail}
+use mathlib.Core.List.{List, [], _∷_, _++_, map, append-assoc, List·Memᴰ, List·Memᴰ·head, List·Memᴰ·tail}
 use native.Mathlib.Omega.{arith}
 use lib.ListN.{length, getD}
+use lib.Bits.{bitOr}
 use lib.Dec.{eqb}
 use borrow.Author.Tests.{eqb-true, eqb-false, eq-eqb, ne-eqb}
 use Rattle.tree.specs.Lists.{any, has, distinct}
-use Rattle.tree.specs.Laws.Lists.{map-map, map-same, map-self}
+use Rattle.tree.specs.Laws.Lists.{map-map, map-same, map-self, eqb-flip}
 use Rattle.tree.specs.Laws.Tests.{or-left, or-right}
 use Rattle.tree.specs.Steps.{Step, target, brings}
-use Rattle.locks.specs.Modes.{Mode, ModeSet, no-mode, same-mode, among, union}
+use Rattle.locks.specs.Modes.{Mode, ModeSet, no-mode, same-mode, among, union, in-word}
 use Rattle.locks.specs.Needs.{Need, need, Lock, each, every-one, up, locks}
+use Rattle.locks.specs.Words.{word-of}
+use Rattle.locks.specs.Laws.Sets.{in-union}
 use Rattle.protocol.specs.State.{Marked, Tree, numbered, modes-on, granted-to, grant}
 use Rattle.layout.specs.Lists.{modify}
 use Rattle.layout.specs.Flat.{flat, second}
+use Rattle.layout.specs.Fields.{with-modes}
 use Rattle.layout.specs.Layout.{Entry, no-entry}
 use Rattle.layout.specs.Laws.Lists.{length-modify}
 use Rattle.lookup.specs.Places.{items, unique}
-use Rattle.edits.specs.Rows.{Lacks, Inside, all-granted, row-number, row-numbers, number-at, modify-each, granted-modes, granted-up, granted-way}
+use Rattle.edits.specs.Rows.{Lacks, Inside, with-held, all-granted, row-number, row-numbers, number-at, granted-modes, granted-along}
 use Rattle.edits.specs.Laws.Unique.{same-numbers, by-number, by-number-none, by-number-one}
 use Rattle.edits.specs.Laws.Updates.{flat-amend, numbers-modify, number-same}
 
@@ -52,11 +56,30 @@ modes-each (x ∷ ms) q n m = go (eqb q n) (modes-each ms q n m)
     go true e = rw (e, or-false (same-mode m x))
     go false e = e
 
--- one node -------------------------------------------------------------------------------
+-- locks ------------------------------------------------------------------------------------
 
--- a node with other sets of modes
-abbrev with-held : Marked → (ℕ → ModeSet) → Marked
-with-held a h = record { now = a .now; before = a .before; writer = a .writer; inserter = a .inserter; deleter = a .deleter; held = h }
+-- ms on the first number, ms′ on the next, and ms″ on all others
+abbrev locks-along : List Mode → List Mode → List Mode → List ℕ → List Lock
+locks-along ms ms′ ms″ [] = []
+locks-along ms ms′ ms″ (q ∷ qs) = each ms q ++ locks-along ms′ ms″ ms″ qs
+
+along-one : (ms : List Mode) (qs : List ℕ) → every-one ms qs ≡ locks-along ms ms ms qs
+along-one ms [] = refl
+along-one ms (q ∷ qs) = ap (λ ls. each ms q ++ ls) (along-one ms qs)
+
+along-up : (w : Need) (qs : List ℕ) → up w qs ≡ locks-along (w .parent) (w .above) (w .above) qs
+along-up w [] = refl
+along-up w (q ∷ qs) = ap (λ ls. each (w .parent) q ++ ls) (along-one (w .above) qs)
+
+locks-way : (s : Step) (ns : List ℕ) (n : ℕ) → target s ≡ n
+    → locks s ns ≡ locks-along (need s .node) (need s .parent) (need s .above) (n ∷ ns) ++ every-one (need s .new) (brings s)
+unfolding locks
+locks-way s ns n e =
+    ap (λ ls. each (need s .node) (target s) ++ (ls ++ every-one (need s .new) (brings s))) (along-up (need s) ns)
+    ∙ sym (append-assoc (each (need s .node) (target s)) (locks-along (need s .parent) (need s .above) (need s .above) ns) (every-one (need s .new) (brings s)))
+    ∙ ap (λ q. (each (need s .node) q ++ locks-along (need s .parent) (need s .above) (need s .above) ns) ++ every-one (need s .new) (brings s)) e
+
+-- one node -------------------------------------------------------------------------------
 
 same-held : (a : Marked) (h k : ℕ → ModeSet) → ((u : ℕ) (m : Mode) → h u m ≡ k u m) → with-held a h ≡ with-held a k
 same-held a h k e = ap (with-held a) (fun-ext (λ u. fun-ext (λ m. e u m)))
@@ -117,97 +140,74 @@ module _ (t : ℕ) where
   pub rows-absent : (ms : List Mode) (q : ℕ) (l : List Entry) → Lacks q l → all-granted t (each ms q) l ≡ l
   rows-absent ms q l h = rows-each ms q l ∙ by-number-none (second (granted-modes t ms)) q l h
 
-  -- of the places, one after another
-  grant-keeps : (ms : List Mode) (i : ℕ) (l : List Entry) → row-numbers (modify i (second (granted-modes t ms)) l) ≡ row-numbers l
-  grant-keeps ms i l = numbers-modify (granted-modes t ms) (λ a. refl) i l
-
-  numbers-same : (l k : List Entry) (is : List ℕ) → row-numbers l ≡ row-numbers k → map (number-at l) is ≡ map (number-at k) is
-  numbers-same l k is e = map-same (number-at l) (number-at k) is (λ i m. number-same l k i e)
-
-  inside-modify : (g : Entry → Entry) (i : ℕ) (is : List ℕ) (l : List Entry) → Inside is l → Inside is (modify i g l)
-  inside-modify g i is l b j m = rw (length-modify i g l) (b j m)
-
   rows-nil : (l : List Entry) → all-granted t [] l ≡ l
   rows-nil l = map-self (second (granted-to t [])) l (λ x m. ap (λ a. (x .0, a)) (granted-none (x .1)))
 
-  rows-every-one : (ms : List Mode) (is : List ℕ) (l : List Entry) → unique l ≡ true → Inside is l
-      → all-granted t (every-one ms (map (number-at l) is)) l ≡ modify-each is (second (granted-modes t ms)) l
-  unfolding modify-each
-  rows-every-one ms [] l u b = rows-nil l
-  rows-every-one ms (i ∷ is) l u b =
+  -- along the places, one after another
+  rows-along : (ms ms′ ms″ : List Mode) (is : List ℕ) (l : List Entry) → unique l ≡ true → Inside is l
+      → all-granted t (locks-along ms ms′ ms″ (map (number-at l) is)) l ≡ granted-along t ms ms′ ms″ is l
+  unfolding granted-along
+  rows-along ms ms′ ms″ [] l u b = rows-nil l
+  rows-along ms ms′ ms″ (i ∷ is) l u b =
       let k : List Entry = modify i (second (granted-modes t ms)) l in
-      let e : row-numbers k ≡ row-numbers l = grant-keeps ms i l in
-      rows-append (each ms (number-at l i)) (every-one ms (map (number-at l) is)) l
-      ∙ rw (rows-at ms (number-at l i) l i u (b i (List·Memᴰ·head refl)) refl, ← numbers-same k l is e)
-      (rows-every-one ms is k (rw e u) (inside-modify (second (granted-modes t ms)) i is l (λ j m. b j (List·Memᴰ·tail m))))
+      let e : row-numbers k ≡ row-numbers l = numbers-modify (granted-modes t ms) (λ a. refl) i l in
+      let same : map (number-at l) is ≡ map (number-at k) is = map-same (number-at l) (number-at k) is (λ j m. number-same l k j (sym e)) in
+      rows-append (each ms (number-at l i)) (locks-along ms′ ms″ ms″ (map (number-at l) is)) l
+      ∙ ap (all-granted t (locks-along ms′ ms″ ms″ (map (number-at l) is))) (rows-at ms (number-at l i) l i u (b i (List·Memᴰ·head refl)) refl)
+      ∙ ap (λ (ns : List ℕ). all-granted t (locks-along ms′ ms″ ms″ ns) k) same
+      ∙ rows-along ms′ ms″ ms″ is k (ap distinct e ∙ u) (λ j m. rw (length-modify i (second (granted-modes t ms)) l) (b j (List·Memᴰ·tail m)))
 
-  rows-up : (w : Need) (is : List ℕ) (l : List Entry) → unique l ≡ true → Inside is l → all-granted t (up w (map (number-at l) is)) l ≡ granted-up t w is l
-  unfolding granted-up
-  rows-up w [] l u b = rows-nil l
-  rows-up w (i ∷ is) l u b =
-      let k : List Entry = modify i (second (granted-modes t (w .parent))) l in
-      let e : row-numbers k ≡ row-numbers l = grant-keeps (w .parent) i l in
-      rows-append (each (w .parent) (number-at l i)) (every-one (w .above) (map (number-at l) is)) l
-      ∙ rw (rows-at (w .parent) (number-at l i) l i u (b i (List·Memᴰ·head refl)) refl, ← numbers-same k l is e)
-      (rows-every-one (w .above) is k (rw e u) (inside-modify (second (granted-modes t (w .parent))) i is l (λ j m. b j (List·Memᴰ·tail m))))
-
+  -- on numbers that no row has
   rows-new : (ms : List Mode) (qs : List ℕ) (l : List Entry) → any (λ q. any (numbered q) (items l)) qs ≡ false → all-granted t (every-one ms qs) l ≡ l
   rows-new ms [] l h = rows-nil l
   rows-new ms (q ∷ qs) l h =
       rows-append (each ms q) (every-one ms qs) l
       ∙ rw (rows-absent ms q l (or-left _ _ h)) (rows-new ms qs l (or-right (any (numbered q) (items l)) _ h))
 
-  numbers-granted : (ls : List Lock) (l : List Entry) → row-numbers (all-granted t ls l) ≡ row-numbers l
-  numbers-granted ls l = map-map row-number (second (granted-to t ls)) row-number l (λ x m. refl)
-
-  -- THE LAW: the locks of a step, along the way up
-  module _ (s : Step) (l : List Entry) (i : ℕ) (is : List ℕ) (u : unique l ≡ true) (h : i < length l) (e : number-at l i ≡ target s) (b : Inside is l)
+  -- THE LAW: the locks of a step, along the places of the node and its proper ancestors
+  module _ (s : Step) (l : List Entry) (i : ℕ) (is : List ℕ) (u : unique l ≡ true) (e : number-at l i ≡ target s) (b : Inside (i ∷ is) l)
       (new : any (λ q. any (numbered q) (items l)) (brings s) ≡ false) where
-    pub rows-locks : all-granted t (locks s (map (number-at l) is)) l ≡ granted-way t (need s) i is l
-    unfolding locks granted-way
+    pub rows-locks : all-granted t (locks s (map (number-at l) is)) l ≡ granted-along t (need s .node) (need s .parent) (need s .above) (i ∷ is) l
     rows-locks =
         let w : Need = need s in
-        let ns : List ℕ = map (number-at l) is in
-        let k : List Entry = modify i (second (granted-modes t (w .node))) l in
-        let f : row-numbers k ≡ row-numbers l = grant-keeps (w .node) i l in
-        let v : all-granted t (up w ns) k ≡ granted-up t w is k =
-        rw (← numbers-same k l is f) (rows-up w is k (rw f u) (inside-modify (second (granted-modes t (w .node))) i is l b)) in
-        rows-append (each (w .node) (target s)) (up w ns ++ every-one (w .new) (brings s)) l
-        ∙ ap (all-granted t (up w ns ++ every-one (w .new) (brings s))) (rows-at (w .node) (target s) l i u h e)
-        ∙ rows-append (up w ns) (every-one (w .new) (brings s)) k
-        ∙ rows-new (w .new) (brings s) (all-granted t (up w ns) k) (ap (λ (z : ℕ → Bool). any z (brings s)) (fun-ext (same-numbers (all-granted t (up w ns) k) l (numbers-granted (up w ns) k ∙ f))) ∙ new)
-        ∙ v
+        let ks : List Lock = locks-along (w .node) (w .parent) (w .above) (map (number-at l) (i ∷ is)) in
+        let f : row-numbers (all-granted t ks l) ≡ row-numbers l = map-map row-number (second (granted-to t ks)) row-number l (λ x m. refl) in
+        ap (λ (ls : List Lock). all-granted t ls l) (locks-way s (map (number-at l) is) (number-at l i) (sym e))
+        ∙ rows-append ks (every-one (w .new) (brings s)) l
+        ∙ rows-new (w .new) (brings s) (all-granted t ks l) (ap (λ (z : ℕ → Bool). any z (brings s)) (fun-ext (same-numbers (all-granted t ks l) l f)) ∙ new)
+        ∙ rows-along (w .node) (w .parent) (w .above) (i ∷ is) l u b
 
   -- the new node of an insertion: only the locks on its own number
-  granted-absent : (ms : List Mode) (q : ℕ) (a : Marked) → (q ≡ a .now .number → ⊥) → granted-to t (each ms q) a ≡ a
-  granted-absent ms q a h = granted-each ms q a ∙ rw (ne-eqb (a .now .number) q (λ e. h (sym e)))
-
-  granted-absent-all : (ms : List Mode) (qs : List ℕ) (a : Marked) → has (a .now .number) qs ≡ false → granted-to t (every-one ms qs) a ≡ a
-  granted-absent-all ms [] a h = granted-none a
-  granted-absent-all ms (q ∷ qs) a h =
-      granted-append (each ms q) (every-one ms qs) a
-      ∙ ap (granted-to t (every-one ms qs)) (granted-absent ms q a (eqb-false q (a .now .number) (or-left _ _ h)))
-      ∙ granted-absent-all ms qs a (or-right (eqb q (a .now .number)) _ h)
-
-  granted-absent-up : (w : Need) (qs : List ℕ) (a : Marked) → has (a .now .number) qs ≡ false → granted-to t (up w qs) a ≡ a
-  granted-absent-up w [] a h = granted-none a
-  granted-absent-up w (q ∷ qs) a h =
-      granted-append (each (w .parent) q) (every-one (w .above) qs) a
-      ∙ ap (granted-to t (every-one (w .above) qs)) (granted-absent (w .parent) q a (eqb-false q (a .now .number) (or-left _ _ h)))
-      ∙ granted-absent-all (w .above) qs a (or-right (eqb q (a .now .number)) _ h)
+  granted-absent : (ms ms′ ms″ : List Mode) (qs : List ℕ) (a : Marked) → has (a .now .number) qs ≡ false → granted-to t (locks-along ms ms′ ms″ qs) a ≡ a
+  granted-absent ms ms′ ms″ [] a h = granted-none a
+  granted-absent ms ms′ ms″ (q ∷ qs) a h =
+      let none : granted-to t (each ms q) a ≡ a = granted-each ms q a ∙ rw (eqb-flip q (a .now .number) (or-left _ _ h)) in
+      granted-append (each ms q) (locks-along ms′ ms″ ms″ qs) a
+      ∙ ap (granted-to t (locks-along ms′ ms″ ms″ qs)) none
+      ∙ granted-absent ms′ ms″ ms″ qs a (or-right (eqb q (a .now .number)) _ h)
 
   pub granted-new : (s : Step) (ns : List ℕ) (a : Marked) → brings s ≡ a .now .number ∷ [] → has (a .now .number) (target s ∷ ns) ≡ false
       → granted-to t (locks s ns) a ≡ granted-modes t (need s .new) a
-  unfolding locks
   granted-new s ns a e h =
       let w : Need = need s in
       let m : ℕ = a .now .number in
-      granted-append (each (w .node) (target s)) (up w ns ++ every-one (w .new) (brings s)) a
-      ∙ ap (granted-to t (up w ns ++ every-one (w .new) (brings s))) (granted-absent (w .node) (target s) a (eqb-false (target s) m (or-left _ _ h)))
-      ∙ granted-append (up w ns) (every-one (w .new) (brings s)) a
-      ∙ ap (granted-to t (every-one (w .new) (brings s))) (granted-absent-up w ns a (or-right (eqb (target s) m) _ h))
+      let ks : List Lock = locks-along (w .node) (w .parent) (w .above) (target s ∷ ns) in
+      ap (λ (ls : List Lock). granted-to t ls a) (locks-way s ns (target s) refl)
+      ∙ granted-append ks (every-one (w .new) (brings s)) a
+      ∙ ap (granted-to t (every-one (w .new) (brings s))) (granted-absent (w .node) (w .parent) (w .above) (target s ∷ ns) a h)
       ∙ ap (λ (qs : List ℕ). granted-to t (every-one (w .new) qs) a) e
       ∙ granted-append (each (w .new) m) [] a
       ∙ granted-none (granted-to t (each (w .new) m) a)
       ∙ granted-each (w .new) m a
       ∙ rw (eq-eqb m m refl)
+
+-- a lock word with a list of modes more
+pub granted-word : (t v : ℕ) (ms : List Mode) (a : Marked) → in-word v ≡ a .held t → ((m : Mode) → in-word (word-of ms) m ≡ among ms m)
+    → with-modes t (bitOr v (word-of ms)) a ≡ granted-modes t ms a
+granted-word t v ms a e w = same-held a _ _ (λ u m. go u m (eqb u t) refl)
+  where
+    go : (u : ℕ) (m : Mode) (b : Bool) → eqb u t ≡ b → cond b (in-word (bitOr v (word-of ms))) (a .held u) m ≡ cond b (union (a .held u) (among ms)) (a .held u) m
+    go u m true q =
+        let h : in-word v m ≡ a .held u m = ap (λ (p : ModeSet). p m) (e ∙ ap (a .held) (sym (eqb-true u t q))) in
+        in-union v (word-of ms) m ∙ (λ j. h j || w m j)
+    go u m false q = refl

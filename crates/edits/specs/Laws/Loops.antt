@@ -10,11 +10,17 @@ use lib.ListN.{length, getD, take, drop, drop-of-length-le, take-append-drop}
 use lib.Seq.{drop-cons, take-suc, append-snoc, take-all}
 use lib.Dec.{eqb, ltb}
 use borrow.Author.Tests.{lt-ltb, le-ltb, eq-eqb, ne-eqb}
+use Rattle.tree.specs.Lists.{keep}
+use Rattle.tree.specs.Steps.{is-named}
+use Rattle.protocol.specs.State.{Marked, seen-by}
 use Rattle.layout.specs.Lists.{modify}
 use Rattle.layout.specs.Flat.{second}
-use Rattle.layout.specs.Laws.Lists.{length-modify}
+use Rattle.layout.specs.Layout.{Entry, no-entry}
+use Rattle.lookup.specs.Places.{depth, item, seen-from, subtree}
+use Rattle.lookup.specs.Laws.Subtree.{seen-hidden, seen-deleted, seen-found, seen-left, seen-end}
+use Rattle.edits.specs.Laws.Ends.{left-out-parts, open-left-out}
 use Rattle.edits.specs.Laws.Lists.{take-modify, drop-modify}
-use Rattle.edits.specs.Rows.{left-out, changed-below, before-new}
+use Rattle.edits.specs.Rows.{left-out, changed-below, renamed-by, renamed-rows, before-new, new-place}
 
 -- rows changed below a node at depth top: of l the first i are done, those from i on are yet to do; w is what is wanted ----------
 
@@ -101,3 +107,58 @@ module _ {A : Type 0} (counts : A → Bool) (top : ℕ) (q : ℕ) where
 
         pub placed-other : counts (getD l i x .1) ≡ false → Placing l (i + 1) j
         placed-other c = v ∙ rw (child, c) (omega arith)
+
+-- the answer of UU: total elements are wanted, hits were met before i ----------------------------------------------------------------
+
+module _ (t : ℕ) (a : List ℕ) (e total : ℕ) where
+  abbrev pub Counting : List Entry → ℕ → ℕ → ℕ → Type 0
+  Counting l i hidden hits = total ≡ hits + length (keep (λ x. is-named a (x .now)) (seen-from t hidden e (drop i l)))
+
+  module _ (l : List Entry) (i hidden hits : ℕ) (v : Counting l i hidden hits) where
+    pub counted-end : length l ≤ i → total ≡ hits
+    unfolding keep
+    counted-end h = v ∙ rw (seen-end l e i t hidden h) (omega arith)
+
+    module _ (h : i < length l) where
+      pub counted-out : depth l i ≤ e → total ≡ hits
+      unfolding keep
+      counted-out k = v ∙ rw (seen-left l e i t hidden h k) (omega arith)
+
+      module _ (k : e < depth l i) where
+        pub counted-hidden : left-out hidden (depth l i) ≡ true → Counting l (i + 1) hidden hits
+        counted-hidden o = let m = left-out-parts hidden (depth l i) o in v ∙ rw (seen-hidden l e i t hidden h k (m .0) (m .1))
+
+        module _ (o : left-out hidden (depth l i) ≡ false) where
+          pub counted-unseen : seen-by t (item l i) ≡ false → Counting l (i + 1) (depth l i + 1) hits
+          counted-unseen s = v ∙ rw (seen-deleted l e i t hidden h k (open-left-out hidden (depth l i) o) s, add-one (depth l i))
+
+          pub counted-other : seen-by t (item l i) ≡ true → is-named a (item l i .now) ≡ false → Counting l (i + 1) 0 hits
+          unfolding keep
+          counted-other s n = v ∙ rw (seen-found l e i t hidden h k (open-left-out hidden (depth l i) o) s, n)
+
+          -- an element so named is counted, and may be changed
+          pub counted-hit : (g : Entry → Entry) → seen-by t (item l i) ≡ true → is-named a (item l i .now) ≡ true → Counting (modify i g l) (i + 1) 0 (hits + 1)
+          unfolding keep
+          counted-hit g s n =
+              v ∙ rw (seen-found l e i t hidden h k (open-left-out hidden (depth l i) o) s, n, add-one i, drop-modify i g l) (omega arith)
+
+-- the starts: the node at p is looked at first -------------------------------------------------------------------------------------
+
+module _ (t p : ℕ) (l : List Entry) where
+  pub placed-start : (k : ℕ) → Placing (seen-by t) (depth l p) (new-place t k p l) l (p + 1) (k - 1)
+  unfolding new-place
+  placed-start k = rw (add-one p)
+
+  module _ (a : List ℕ) where
+    pub changed-start : (b : List ℕ) → p < length l
+        → Changing (seen-by t) (renamed-by t a b) (depth l p) (renamed-rows t a b p l) (modify p (second (renamed-by t a b)) l) (p + 1) 0
+    unfolding renamed-rows
+    changed-start b h = rw (add-one p, take-modify p (second (renamed-by t a b)) l no-entry h, drop-modify p (second (renamed-by t a b)) l, append-snoc)
+
+    pub counted-start : (g : Entry → Entry) → Counting t a (depth l p) (length (keep (λ x. is-named a (x .now)) (subtree t l p))) (modify p g l) (p + 1) 0 (cond (is-named a (item l p .now)) 1 0)
+    unfolding keep
+    counted-start g = rw (add-one p, drop-modify p g l) (go (is-named a (item l p .now)) (keep (λ x. is-named a (x .now)) (seen-from t 0 (depth l p) (drop (suc p) l))))
+      where
+        go : (c : Bool) (ks : List Marked) → length (cond c (item l p ∷ ks) ks) ≡ cond c 1 0 + length ks
+        go true ks = omega arith
+        go false ks = omega arith

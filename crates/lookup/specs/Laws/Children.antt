@@ -143,4 +143,4 @@ module _ {f : Tree} {n p : ℕ} (o : Holder f n p) where
       let v : every (seen-by t) (c .it ∷ c .above) ≡ true = rw (item-at c, ups-at c) at s in
       let e : map (λ x. x .it) (keep (seen-line t) (keep (is-child n) (lines-of (c .it ∷ c .above) (c .children)))) ≡ items (keep (child-seen t (c .depth)) (flat (suc (c .depth)) (c .children))) =
       top-children t n (c .depth) (c .it ∷ c .above) (c .children) (o .number) v (o .children) in
-      rw (select-seen (child n) t f, rows-child, rows-below o, depth-at c, ← e) (plain-nodes (keep (seen-line t) (keep (is-child n) (lines-of (c .it ∷ c .above) (c .children)))))
+      rw (select-seen (child n) t f, rows-child, rows-below c, depth-at c, ← e) (plain-nodes (keep (seen-line t) (keep (is-child n) (lines-of (c .it ∷ c .above) (c .children)))))

@@ -19,7 +19,7 @@ use Rattle.protocol.specs.State.{Marked, Tree, numbered, seen-by, callers-docum
 use Rattle.layout.specs.Flat.{flat, prune}
 use Rattle.layout.specs.Layout.{Entry, no-entry}
 use Rattle.lookup.specs.Places.{depth, item, items, number-of, below, seen-from, subtree, subtree-end, seen-at}
-use Rattle.lookup.specs.Laws.NodeAt.{nodes-of, lines-of, below-flat, below-none}
+use Rattle.lookup.specs.Laws.NodeAt.{nodes-of, lines-of, NodeAt, below-flat, below-none}
 use Rattle.lookup.specs.Laws.Up.{depth-at, item-at, ups-at, rows-behind}
 use Rattle.lookup.specs.Laws.Seen.{plain, seen-line, select-seen, plain-nodes}
 use Rattle.lookup.specs.Laws.Find.{Holder}
@@ -167,13 +167,18 @@ shown-forest shown up d f u =
 under-line : (n : ℕ) (r : Row Marked Marked) → under n (plain r) ≡ any (numbered n) (r .it ∷ r .above)
 under-line n r = ap (λ b. numbered n (r .it) || b) (any-map (λ q. eqb q n) number-of (r .above))
 
-module _ {f : Tree} {n p : ℕ} (o : Holder f n p) where
+module _ {f : Tree} {p : ℕ} (c : NodeAt 0 f p) where
   -- the rows below the place
-  pub rows-below : below (depth (flat 0 f) p) (drop (suc p) (flat 0 f)) ≡ flat (suc (o .place .depth)) (o .place .children)
+  pub rows-below : below (depth (flat 0 f) p) (drop (suc p) (flat 0 f)) ≡ flat (suc (c .depth)) (c .children)
   rows-below =
-      let c = o .place in
-      rw (depth-at c, rows-behind c, below-flat (c .depth) (suc (c .depth)) (c .children) (c .behind) (omega arith), c .stops) (append-nil (flat (suc (c .depth)) (c .children)))
+      rw (depth-at c, rows-behind c, below-flat (c .depth) (suc (c .depth)) (c .children) (c .behind) (omega arith), c .stops)
+      (append-nil (flat (suc (c .depth)) (c .children)))
 
+  pub end-at : subtree-end (flat 0 f) p ≡ suc p + length (flat (suc (c .depth)) (c .children))
+  unfolding subtree-end
+  end-at = ap (λ l. suc p + length l) rows-below
+
+module _ {f : Tree} {n p : ℕ} (o : Holder f n p) where
   rows-under : keep (λ r. under n (plain r)) (lines-of [] f) ≡ row (o .place .it) (o .place .above) ∷ lines-of (o .place .it ∷ o .place .above) (o .place .children)
   unfolding keep
   rows-under =
@@ -194,4 +199,4 @@ module _ {f : Tree} {n p : ℕ} (o : Holder f n p) where
       let v : every (seen-by t) (c .it ∷ c .above) ≡ true = rw (item-at c, ups-at c) at s in
       let e : map (λ x. x .it) (keep (seen-line t) (lines-of (c .it ∷ c .above) (c .children))) ≡ items (prune (seen-by t) 0 (flat (suc (c .depth)) (c .children))) =
       shown-forest (seen-by t) (c .it ∷ c .above) (suc (c .depth)) (c .children) v in
-      rw (select-seen (under n) t f, rows-under, v, item-at c, rows-below, ← e) (ap (λ l. c .it .now ∷ l) (plain-nodes (keep (seen-line t) (lines-of (c .it ∷ c .above) (c .children)))))
+      rw (select-seen (under n) t f, rows-under, v, item-at c, rows-below c, ← e) (ap (λ l. c .it .now ∷ l) (plain-nodes (keep (seen-line t) (lines-of (c .it ∷ c .above) (c .children)))))
