@@ -12,7 +12,7 @@ ghost use Rattle.layout.specs.Layout.{nodes, is-open, Layout, Kept};
 ghost use Rattle.lookup.specs.Found.{wait-word};
 ghost use Rattle.locking.specs.Way.{way-places, way-nodes, Inside, Climbed};
 ghost use Rattle.locking.specs.Waits.{word-at, masks-of, SmallWords, touches-from, blocks-by};
-ghost use Rattle.locking.specs.Grants.{with-more, granted-along};
+ghost use Rattle.locking.specs.Grants.{with-more, granted-on};
 
 // A node and its proper ancestors, the parent first, each by its place in document order.
 pub struct Way {
@@ -128,7 +128,7 @@ fn add(s: &mut [u8], t: usize, i: usize, w: u16)
 // Transaction t is granted what a step needs on the way.
 pub fn grant(s: &mut [u8], t: usize, step: StepName, way: Way)
     requires { ⌜ (Layout (now s)) × (1 ≤ t) × (t ≤ 16) × Inside (nodes (now s)) way ⌝ }
-    ensures { λ r. ⌜ Kept (now (s .entry)) (now (s .exit)) (granted-along t (need (step-named step)) (way-places way) (nodes (now (s .entry)))) ⌝ }
+    ensures { λ r. ⌜ Kept (now (s .entry)) (now (s .exit)) (granted-on t (need (step-named step)) (way-places way) (nodes (now (s .entry)))) ⌝ }
 {
     let need = locks::needed(step);
     let count = way.count;

@@ -37,7 +37,7 @@ unfolding keep
 row-of {f} {n} {p} o =
     let c = o .place in
     let e = c .keeps (numbered n) (λ r. numbered n (r .it)) (λ r e. rw e) [] refl (o .before) (o .behind) in
-    let m = keep-in (λ r. numbered n (r .it)) (row (c .it) (c .above ++ []) ∷ lines-of (c .it ∷ (c .above ++ [])) (c .kids)) {a = row (c .it) (c .above ++ [])} (List·Memᴰ·head refl) (o .number) in
+    let m = keep-in (λ r. numbered n (r .it)) (row (c .it) (c .above ++ []) ∷ lines-of (c .it ∷ (c .above ++ [])) (c .children)) {a = row (c .it) (c .above ++ [])} (List·Memᴰ·head refl) (o .number) in
     let i = in-keep (λ r. numbered n (r .it)) (lines-of [] f) {a = row (c .it) (c .above ++ [])} (rw (← e) at m) in
     rw (item-at c, ups-at c, ← append-nil (c .above)) (of-rows (λ a. a) _ [] f (i .0))
 

@@ -23,17 +23,13 @@ use Rattle.layout.specs.Fields.{with-modes}
 use Rattle.layout.specs.Laws.Lists.{modify-same}
 use Rattle.layout.specs.Laws.Kept.{kept-same, kept-then, kept-as}
 use Rattle.lookup.specs.Places.{item}
-use Rattle.edits.specs.Rows.{granted-modes, modify-each, granted-up, granted-way}
+use Rattle.edits.specs.Rows.{with-held, granted-modes, granted-along}
 use Rattle.locking.specs.declared.Way.{Way}
 use Rattle.locking.specs.Way.{way-places, Inside}
 use Rattle.locking.specs.Waits.{word-at}
-use Rattle.locking.specs.Grants.{with-more, granted-from, granted-along}
+use Rattle.locking.specs.Grants.{with-more, granted-from, granted-on}
 
 -- one node ---------------------------------------------------------------------------
-
--- a node with other sets of modes
-abbrev with-held : Marked → (ℕ → ModeSet) → Marked
-with-held a h = record { now = a .now; before = a .before; writer = a .writer; inserter = a .inserter; deleter = a .deleter; held = h }
 
 -- the union of the word that stands for what t holds, and of the new one
 more-modes : (t v w : ℕ) (a : Marked) → in-word v ≡ a .held t → with-modes t (bitOr v w) a ≡ with-more t w a
@@ -52,20 +48,22 @@ add-kept {s} t i v w x e f k =
 
 module _ (t : ℕ) (w : Need) (e : SameSets w) where
   same-modes : (ms : List Mode) → ((m : Mode) → in-word (word-of ms) m ≡ among ms m) → with-more t (word-of ms) ≡ granted-modes t ms
-  same-modes ms h = let f : in-word (word-of ms) ≡ among ms = fun-ext h in ap (λ (p : ModeSet) (a : Marked). with-held a (λ u. cond (eqb u t) (union (a .held u) p) (a .held u))) f
+  same-modes ms h = let f : in-word (word-of ms) ≡ among ms = fun-ext h in
+      let g : ModeSet → Marked → Marked = λ p a. with-held a (λ u. cond (eqb u t) (union (a .held u) p) (a .held u)) in
+      ap g f
 
-  above-words : (j : ℕ) (is : List ℕ) (l : List Entry) → granted-from t (words w) (suc (suc j)) is l ≡ modify-each is (second (granted-modes t (w .above))) l
-  unfolding granted-from modify-each
+  above-words : (j : ℕ) (is : List ℕ) (l : List Entry) → granted-from t (words w) (suc (suc j)) is l ≡ granted-along t (w .above) (w .above) (w .above) is l
+  unfolding granted-from granted-along
   above-words j [] l = refl
   above-words j (i ∷ is) l = rw (same-modes (w .above) (e .above)) (above-words (suc j) is (modify i (second (granted-modes t (w .above))) l))
 
-  up-words : (is : List ℕ) (l : List Entry) → granted-from t (words w) 1 is l ≡ granted-up t w is l
-  unfolding granted-from granted-up
+  up-words : (is : List ℕ) (l : List Entry) → granted-from t (words w) 1 is l ≡ granted-along t (w .parent) (w .above) (w .above) is l
+  unfolding granted-from granted-along
   up-words [] l = refl
   up-words (i ∷ is) l = rw (same-modes (w .parent) (e .parent)) (above-words 0 is (modify i (second (granted-modes t (w .parent))) l))
 
-  pub along-words : (is : List ℕ) (l : List Entry) → granted-from t (words w) 0 is l ≡ granted-along t w is l
-  unfolding granted-from granted-along granted-way
+  pub along-words : (is : List ℕ) (l : List Entry) → granted-from t (words w) 0 is l ≡ granted-along t (w .node) (w .parent) (w .above) is l
+  unfolding granted-from granted-along
   along-words [] l = refl
   along-words (i ∷ is) l = rw (same-modes (w .node) (e .node)) (up-words is (modify i (second (granted-modes t (w .node))) l))
 
@@ -96,10 +94,10 @@ module _ {s s′ : List ℕ} {t : ℕ} {m : NeedWords} {w : Way} {j : ℕ} (h : 
   granting-turn {s″} v k e a =
       let i = getD (w .places) j 0 in
       let n : Kept s s″ (modify i (second (with-more t v)) (nodes s′)) = kept-then (nodes s′) (modify i (second (with-more t v))) (c .kept) a in
-      record { kept = kept-as _ _ (sym (a .nodes)) n; rest = c .rest ∙ rw (places-cons k, add-one j, ← e, ← a .nodes) }
+      record { kept = kept-as _ _ (sym (a .nodes)) n; rest = c .rest ∙ rw (places-cons k, add-one j, a .nodes, e) }
 
-  pub granting-done : (v : Need) → SameSets v → m ≡ words v → w .count ≤ j → Kept s s′ (granted-along t v (way-places w) (nodes s))
-  unfolding granted-from
+  pub granting-done : (v : Need) → SameSets v → m ≡ words v → w .count ≤ j → Kept s s′ (granted-on t v (way-places w) (nodes s))
+  unfolding granted-from granted-on
   granting-done v same e k =
       let z : drop j (way-places w) ≡ [] = drop-of-length-le (way-places w) {i = j} (omega (arith, length-places)) in
       kept-as _ _ (sym (sym (along-words t v same (way-places w) (nodes s)) ∙ rw (← e) (c .rest ∙ rw z))) (c .kept)
