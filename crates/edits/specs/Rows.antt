@@ -1,12 +1,11 @@
 -- What the loops over the rows leave: the rows are the nodes held in document order, each with its depth.
 use mathlib.Core.Path.{_≡_}
-use Prim.Native.Nat.{ℕ, zero, suc, _+_, _-_, _<_}
-use mathlib.Core.Bool.{Bool, true, false, cond, not, _&&_}
+use Prim.Native.Nat.{ℕ, suc, _+_, _-_, _<_}
+use mathlib.Core.Bool.{Bool, false, cond, not, _&&_}
 use mathlib.Core.List.{List, [], _∷_, _++_, map, List·Memᴰ}
 use lib.ListN.{length, getD, take, drop}
 use lib.Dec.{eqb, leb, ltb}
 use Rattle.tree.specs.Lists.{any}
-use Rattle.tree.specs.Document.{Node}
 use Rattle.tree.specs.Steps.{Step, T, C, R, U, D, I, TT, RR, UU, is-named}
 use Rattle.locks.specs.Modes.{Mode, ModeSet, union, among}
 use Rattle.locks.specs.Needs.{Need, need, Lock}

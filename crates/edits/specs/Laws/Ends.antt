@@ -1,12 +1,11 @@
 -- A view of a tree is one pass over its rows: commit, abort and the tree of a document are such passes.
 use mathlib.Core.Path.{_≡_, refl, sym, ap, _∙_, fun-ext}
-use Prim.Native.Nat.{ℕ, zero, suc, _+_, _≤_, _<_}
-use mathlib.Core.Bool.{Bool, true, false, cond, not, _&&_, and-false, true≢false}
+use Prim.Native.Nat.{ℕ, zero, suc, _≤_, _<_}
+use mathlib.Core.Bool.{Bool, true, false, cond, _&&_, and-false, true≢false}
 use mathlib.Core.List.{List, [], _∷_, _++_, map, append-assoc, append-nil}
 use native.Mathlib.Omega.{arith}
-use lib.ListN.{length, getD, take, drop}
 use lib.Dec.{eqb, leb, ltb}
-use borrow.Author.Tests.{lt-ltb, le-ltb, le-leb, lt-leb, leb-true, leb-false, ltb-true, ltb-false}
+use borrow.Author.Tests.{lt-ltb, le-leb, lt-leb, leb-true, leb-false, ltb-true}
 use Rattle.tree.specs.Forest.{Forest, nil, node, view}
 use Rattle.tree.specs.Laws.Tests.{and-left, and-right}
 use Rattle.layout.specs.Flat.{flat, second, prune}
@@ -115,7 +114,8 @@ prune-map : {A : Type 0} (shown : A → Bool) (h : A → A) → ((a : A) → sho
 unfolding prune
 prune-map {A} shown h same below [] = refl
 prune-map {A} shown h same below (x ∷ l) =
-    rw (same (x .1)) (go (left-out below (x .0)) (shown (x .1)) (prune shown below l) (prune shown 0 l) (prune shown (suc (x .0)) l) (prune-map shown h same below l) (prune-map shown h same 0 l) (prune-map shown h same (suc (x .0)) l))
+    rw (same (x .1)) (go (left-out below (x .0)) (shown (x .1)) (prune shown below l) (prune shown 0 l) (prune shown (suc (x .0)) l)
+    (prune-map shown h same below l) (prune-map shown h same 0 l) (prune-map shown h same (suc (x .0)) l))
   where
     go : (b c : Bool) (u v w : List (ℕ × A)) {u′ v′ w′ : List (ℕ × A)} → u′ ≡ map (second h) u → v′ ≡ map (second h) v → w′ ≡ map (second h) w
         → cond b u′ (cond c (second h x ∷ v′) w′) ≡ map (second h) (cond b u (cond c (x ∷ v) w))

@@ -1,14 +1,13 @@
 -- A granted step, on the rows: its locks along the way up, then what it does.
 use mathlib.Core.Path.{_≡_, refl, sym, ap, _∙_}
-use Prim.Native.Nat.{ℕ, zero, suc, _+_, _-_, _<_}
-use mathlib.Core.Bool.{Bool, true, false, cond, _&&_, _||_, true≢false}
-use mathlib.Core.List.{List, [], _∷_, _++_, map, List·Memᴰ, List·Memᴰ·head, List·Memᴰ·tail}
+use Prim.Native.Nat.{ℕ, zero, suc, _<_}
+use mathlib.Core.Bool.{Bool, true, false, cond}
+use mathlib.Core.List.{List, [], _∷_, _++_, map, List·Memᴰ·head, List·Memᴰ·tail}
 use native.Mathlib.Omega.{arith}
 use lib.ListN.{length, getD, take, drop}
-use lib.Dec.{eqb, ltb}
+use lib.Dec.{ltb}
 use borrow.Author.Tests.{ne-eqb}
 use Rattle.tree.specs.Lists.{any, has}
-use Rattle.tree.specs.Document.{Node}
 use Rattle.tree.specs.Steps.{Step, T, C, R, U, D, I, TT, RR, UU, target, brings, is-named}
 use Rattle.tree.specs.Laws.Tests.{or-left}
 use Rattle.tree.specs.Laws.Lists.{map-map, map-append}
@@ -20,7 +19,7 @@ use Rattle.layout.specs.Layout.{Entry, no-entry}
 use Rattle.lookup.specs.Places.{depth, item, items, number-of, unique, above-places, ups, numbers-above, seen-at}
 use Rattle.lookup.specs.Laws.Up.{climb-before}
 use Rattle.lookup.specs.Laws.Find.{nodes-held}
-use Rattle.edits.specs.Rows.{Lacks, row-numbers, number-at, Inside, left-out, all-granted, granted-up, granted-modes, changed-below, renamed-by, renamed-rows, new-place, acted, stepped}
+use Rattle.edits.specs.Rows.{Lacks, number-at, Inside, left-out, all-granted, granted-up, changed-below, renamed-by, renamed-rows, new-place, stepped}
 use Rattle.edits.specs.Laws.Unique.{lacks-at}
 use Rattle.edits.specs.Laws.Lists.{map-modify, map-insert, map-take, map-drop}
 use Rattle.edits.specs.Laws.Updates.{mark-node-rows}
@@ -34,7 +33,9 @@ module _ {A : Type 0} (shown : A → Bool) (g h : A → A) (same : (a : A) → s
   unfolding changed-below
   changed-map top hidden [] = refl
   changed-map top hidden (x ∷ l) =
-      rw (same (x .1)) (go (ltb top (x .0)) (left-out hidden (x .0)) (shown (x .1)) (changed-below shown g top hidden l) (changed-below shown g top 0 l) (changed-below shown g top (suc (x .0)) l) (changed-map top hidden l) (changed-map top 0 l) (changed-map top (suc (x .0)) l))
+      rw (same (x .1)) (go (ltb top (x .0)) (left-out hidden (x .0)) (shown (x .1))
+      (changed-below shown g top hidden l) (changed-below shown g top 0 l) (changed-below shown g top (suc (x .0)) l)
+      (changed-map top hidden l) (changed-map top 0 l) (changed-map top (suc (x .0)) l))
     where
       go : (b c e : Bool) (u v w : List (ℕ × A)) {u′ v′ w′ : List (ℕ × A)} → map (second h) u ≡ u′ → map (second h) v ≡ v′ → map (second h) w ≡ w′
           → map (second h) (cond b (cond c (x ∷ u) (cond e (second g x ∷ v) (x ∷ w))) (x ∷ l))
@@ -128,7 +129,8 @@ module _ (t : ℕ) (f : Tree) (p : ℕ) (u : unique (flat 0 f) ≡ true) (h : p 
       let ls : List Lock = lock-list w e new in
       let z : Lacks m (flat 0 f) = or-left _ _ (none-held w e new) in
       let o : has m (n ∷ numbers-above (flat 0 f) p) ≡ false =
-      rw (ne-eqb n m (λ q. lacks-at m (flat 0 f) p z h (e ∙ q)), numbers-at-places (flat 0 f) p) (lacks-places m (flat 0 f) (above-places (flat 0 f) p) z (λ i o. above-inside (flat 0 f) p h i (List·Memᴰ·tail o))) in
+      rw (ne-eqb n m (λ q. lacks-at m (flat 0 f) p z h (e ∙ q)), numbers-at-places (flat 0 f) p)
+      (lacks-places m (flat 0 f) (above-places (flat 0 f) p) z (λ i o. above-inside (flat 0 f) p h i (List·Memᴰ·tail o))) in
       grant-rows t ls (act t w f)
       ∙ ap (all-granted t ls) (insert-rows t n k x f p u h e)
       ∙ map-insert (second (granted-to t ls)) (new-place t k p (flat 0 f)) (suc (depth (flat 0 f) p), x) (flat 0 f)

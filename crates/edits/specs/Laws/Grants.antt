@@ -1,10 +1,9 @@
 -- The locks of a step, granted along the way up from a place.
 use mathlib.Core.Path.{_≡_, refl, sym, ap, _∙_, fun-ext}
-use Prim.Native.Nat.{ℕ, zero, suc, _<_}
+use Prim.Native.Nat.{ℕ, _<_}
 use mathlib.Core.Bool.{Bool, true, false, cond, _||_, or-false}
-use mathlib.Core.List.{List, [], _∷_, _++_, map, append-assoc, List·Memᴰ, List·Memᴰ·head, List·Memᴰ·tail}
-use native.Mathlib.Omega.{arith}
-use lib.ListN.{length, getD}
+use mathlib.Core.List.{List, [], _∷_, _++_, map, append-assoc, List·Memᴰ·head, List·Memᴰ·tail}
+use lib.ListN.{length}
 use lib.Bits.{bitOr}
 use lib.Dec.{eqb}
 use borrow.Author.Tests.{eqb-true, eqb-false, eq-eqb, ne-eqb}
@@ -20,7 +19,7 @@ use Rattle.protocol.specs.State.{Marked, Tree, numbered, modes-on, granted-to, 
 use Rattle.layout.specs.Lists.{modify}
 use Rattle.layout.specs.Flat.{flat, second}
 use Rattle.layout.specs.Fields.{with-modes}
-use Rattle.layout.specs.Layout.{Entry, no-entry}
+use Rattle.layout.specs.Layout.{Entry}
 use Rattle.layout.specs.Laws.Lists.{length-modify}
 use Rattle.lookup.specs.Places.{items, unique}
 use Rattle.edits.specs.Rows.{Lacks, Inside, with-held, all-granted, row-number, row-numbers, number-at, granted-modes, granted-along}

@@ -2,22 +2,22 @@
 use mathlib.Core.Path.{_≡_, refl, sym, ap, _∙_}
 use Prim.Native.Nat.{ℕ, zero, suc, _+_, _-_, _≤_, _<_}
 use mathlib.Core.Bool.{Bool, true, false, cond, _&&_}
-use mathlib.Core.List.{List, [], _∷_, _++_, map, append-assoc}
+use mathlib.Core.List.{List, [], _∷_, _++_, append-assoc}
 use native.Mathlib.Omega.{arith}
-use lib.ListN.{length, getD, take, drop, length-append}
+use lib.ListN.{length, length-append}
 use lib.Seq.{append-snoc}
 use lib.Dec.{eqb, ltb}
 use borrow.Author.Tests.{lt-ltb, le-ltb, eq-eqb, ne-eqb}
-use Rattle.tree.specs.Forest.{Forest, nil, node, Row, row, place, put}
+use Rattle.tree.specs.Forest.{Forest, nil, node, place, put}
 use Rattle.protocol.specs.State.{Marked, Tree, numbered, seen-by}
 use Rattle.layout.specs.Lists.{insert}
 use Rattle.layout.specs.Flat.{flat}
-use Rattle.layout.specs.Layout.{Entry, no-entry}
-use Rattle.lookup.specs.Places.{depth, item, unique, ups, below}
+use Rattle.layout.specs.Layout.{Entry}
+use Rattle.lookup.specs.Places.{depth, item, unique, below}
 use Rattle.edits.specs.Rows.{number-at, before-new, new-place}
 use Rattle.edits.specs.Laws.Lists.{insert-append}
-use Rattle.edits.specs.Laws.Subtree.{RowOf, kids, depth-of, before, behind, split, stops, not-below, put-within}
-use Rattle.edits.specs.Laws.RowAt.{RowAt, row-at}
+use Rattle.edits.specs.Laws.Subtree.{children, depth-of, before, behind, split, stops, not-below, put-within}
+use Rattle.edits.specs.Laws.RowAt.{row-at}
 
 module _ {A : Type 0} (counts : A → Bool) (top : ℕ) where
   -- rows deeper than children are passed by
@@ -112,13 +112,13 @@ insert-rows t n k new f p u h e =
     let m = c .standing in
     let b = before 0 m in
     let x : Entry = (depth-of 0 m, item (flat 0 f) p) in
-    let r = flat (suc (depth-of 0 m)) (kids m) ++ behind 0 m in
+    let r = flat (suc (depth-of 0 m)) (children m) ++ behind 0 m in
     let i : ℕ = before-new (seen-by t) (depth-of 0 m) (k - 1) r in
     let y : Entry = (suc (depth-of 0 m), new) in
     let z : length (b ++ (x ∷ [])) ≡ suc p = length-append b (x ∷ []) ∙ omega (arith, c .place) in
     let q : numbered n (item (flat 0 f) p) ≡ true = eq-eqb (number-at (flat 0 f) p) n e in
     put-within (numbered n) (seen-by t) k new 0 m q (rw e at (c .none-below)) (rw e at (c .none-before)) (rw e at (c .none-behind))
-    ∙ ap (λ l. b ++ (x ∷ l)) (place-rows (seen-by t) (depth-of 0 m) k new (kids m) (behind 0 m) (stops 0 m))
+    ∙ ap (λ l. b ++ (x ∷ l)) (place-rows (seen-by t) (depth-of 0 m) k new (children m) (behind 0 m) (stops 0 m))
     ∙ sym (append-snoc b x (insert i y r))
     ∙ sym (insert-append (b ++ (x ∷ [])) r i y)
     ∙ (λ j. insert (z j + before-new (seen-by t) (c .deep j) (k - 1) (sym (c .rows-behind) j)) (suc (c .deep j), new) ((append-snoc b x r ∙ sym (split 0 m)) j))

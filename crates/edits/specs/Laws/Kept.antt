@@ -1,17 +1,15 @@
 -- No edit gives two rows one number.
 use mathlib.Core.Path.{_≡_, refl, sym, ap, _∙_}
-use Prim.Native.Nat.{ℕ, zero, suc, _<_}
+use Prim.Native.Nat.{ℕ, suc, _<_}
 use mathlib.Core.Bool.{Bool, true, false, cond, _&&_}
 use mathlib.Core.List.{List, [], _∷_, _++_, map}
-use native.Mathlib.Omega.{arith}
 use lib.ListN.{length, take, drop, take-append-drop}
 use lib.Dec.{eqb}
-use borrow.Author.Tests.{ne-eqb, eqb-false}
-use Rattle.tree.specs.Lists.{any, has, distinct}
-use Rattle.tree.specs.Forest.{Forest, nil, node, Row, row, rows, amend, put}
-use Rattle.tree.specs.Document.{Node, Document, lines, numbers, rooted, ruled, legal}
+use Rattle.tree.specs.Lists.{any, distinct}
+use Rattle.tree.specs.Forest.{nil, node, Row, row, rows, amend}
+use Rattle.tree.specs.Document.{Node, Document, lines, rooted, ruled, legal}
 use Rattle.tree.specs.Steps.{Step, T, C, R, U, D, I, TT, RR, UU, target, brings}
-use Rattle.tree.specs.Laws.Tests.{or-left, or-right, and-right, refuted}
+use Rattle.tree.specs.Laws.Tests.{or-left, or-right, and-right}
 use Rattle.tree.specs.Laws.Lists.{map-append, map-map, eqb-flip}
 use Rattle.protocol.specs.State.{Marked, Tree, numbered, number-held, seen-by, settled, undone, unmarked, inserted-by, renamed, written-by, grant, act, commit-tree, abort-tree, tree-of}
 use Rattle.locks.specs.Needs.{Lock}

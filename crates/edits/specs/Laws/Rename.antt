@@ -1,25 +1,23 @@
 -- UU: each element of the subtree that the caller sees, changed in one pass over the rows of the subtree.
 use mathlib.Core.Path.{_≡_, refl, sym, ap, _∙_}
-use Prim.Native.Nat.{ℕ, zero, suc, _+_, _≤_, _<_}
-use mathlib.Core.Bool.{Bool, true, false, cond, _&&_, _||_, or-true, and-false}
-use mathlib.Core.List.{List, [], _∷_, _++_, map, append-assoc}
+use Prim.Native.Nat.{ℕ, suc, _≤_, _<_}
+use mathlib.Core.Bool.{Bool, true, false, cond, _&&_, or-true, and-false}
+use mathlib.Core.List.{List, [], _∷_, _++_, append-assoc}
 use native.Mathlib.Omega.{arith}
-use lib.ListN.{length, getD, take, drop}
-use lib.Dec.{ltb}
+use lib.ListN.{length, drop}
 use borrow.Author.Tests.{lt-ltb, le-ltb, eq-eqb}
 use Rattle.tree.specs.Lists.{any, every}
 use Rattle.tree.specs.Forest.{Forest, nil, node, Row, row, amend}
 use Rattle.tree.specs.Steps.{UU, is-named}
 use Rattle.tree.specs.Laws.Amend.{amend-agree}
-use Rattle.tree.specs.Laws.Rows.{In, any-below}
+use Rattle.tree.specs.Laws.Rows.{any-below}
 use Rattle.protocol.specs.State.{Marked, Tree, numbered, seen-by, written-by, renamed, act}
-use Rattle.layout.specs.Flat.{flat, second}
-use Rattle.layout.specs.Layout.{Entry, no-entry}
+use Rattle.layout.specs.Flat.{flat}
 use Rattle.lookup.specs.Places.{depth, item, unique, ups, seen-at, below}
 use Rattle.edits.specs.Rows.{number-at, left-out, changed-below, renamed-by, renamed-rows}
 use Rattle.edits.specs.Laws.Ends.{left-out-high, left-out-low, left-out-up}
-use Rattle.edits.specs.Laws.Subtree.{RowOf, kids, depth-of, before, behind, stops, not-below, amend-within}
-use Rattle.edits.specs.Laws.RowAt.{RowAt, row-at}
+use Rattle.edits.specs.Laws.Subtree.{children, depth-of, behind, stops, not-below, amend-within}
+use Rattle.edits.specs.Laws.RowAt.{row-at}
 
 module _ {A : Type 0} (shown : A → Bool) (g : A → A) where
   -- a change of the rows that are shown with all their ancestors
@@ -62,7 +60,8 @@ module _ {A : Type 0} (shown : A → Bool) (g : A → A) where
 
         go : (b : Bool) → shown a ≡ b → (shown a ≡ true → Then 0 (suc d) (a ∷ up) ks (flat (suc d) ks ++ (flat d fs ++ t)) (flat d fs ++ t))
             → ((m : ℕ) → left-out m d ≡ false → Then m d up fs (flat d fs ++ t) t)
-            → (m : ℕ) × (left-out m d ≡ false) × (cond b ((d, g a) ∷ changed-below shown g top 0 (flat (suc d) ks ++ (flat d fs ++ t))) ((d, a) ∷ changed-below shown g top (suc d) (flat (suc d) ks ++ (flat d fs ++ t)))
+            → (m : ℕ) × (left-out m d ≡ false)
+            × (cond b ((d, g a) ∷ changed-below shown g top 0 (flat (suc d) ks ++ (flat d fs ++ t))) ((d, a) ∷ changed-below shown g top (suc d) (flat (suc d) ks ++ (flat d fs ++ t)))
             ≡ (d, cond (b && every shown up) (g a) a) ∷ (flat (suc d) (amend (λ a. a) if-shown (a ∷ up) ks) ++ flat d (amend (λ a. a) if-shown up fs)) ++ changed-below shown g top m t)
         go true e u v =
             let x = u e in
@@ -122,13 +121,16 @@ module _ (t n : ℕ) (a b : List ℕ) where
       let c = row-at f p u h in
       let m = c .standing in
       let r : Row Marked Marked = row (item (flat 0 f) p) (ups (flat 0 f) p) in
-      let i : any (numbered n) (r .it ∷ r .above) ≡ true = rw (eq-eqb (number-at (flat 0 f) p) n e) in
-      let low : flat (suc (depth-of 0 m)) (amend (λ a. a) by-line (r .it ∷ r .above) (kids m)) ≡ flat (suc (depth-of 0 m)) (amend (λ a. a) (if-shown (seen-by t) (renamed-by t a b)) (r .it ∷ r .above) (kids m)) =
-      ap (flat (suc (depth-of 0 m))) (amend-agree (λ a. a) by-line (if-shown (seen-by t) (renamed-by t a b)) (r .it ∷ r .above) (kids m) (λ v o. inside v (rw (any-below (λ a. a) (numbered n) i o) (or-true (numbered n (v .it)))))) in
-      let head : by-line r ≡ renamed-by t a b (r .it) = inside r i ∙ rw s in
-      let tail : flat (suc (depth-of 0 m)) (amend (λ a. a) by-line (r .it ∷ r .above) (kids m)) ++ behind 0 m ≡ changed-below (seen-by t) (renamed-by t a b) (depth (flat 0 f) p) 0 (drop (suc p) (flat 0 f)) =
-      ap (λ l. l ++ behind 0 m) low
-      ∙ changed-subtree (seen-by t) (renamed-by t a b) (depth-of 0 m) (r .it ∷ r .above) (kids m) (behind 0 m) s (stops 0 m)
-      ∙ (λ j. changed-below (seen-by t) (renamed-by t a b) (c .deep j) 0 (sym (c .rows-behind) j)) in
+      let up : List Marked = r .it ∷ r .above in
+      let g : Marked → Marked = renamed-by t a b in
+      let i : any (numbered n) up ≡ true = rw (eq-eqb (number-at (flat 0 f) p) n e) in
+      let low : amend (λ a. a) by-line up (children m) ≡ amend (λ a. a) (if-shown (seen-by t) g) up (children m) =
+      amend-agree (λ a. a) by-line (if-shown (seen-by t) g) up (children m) (λ v o. inside v (rw (any-below (λ a. a) (numbered n) i o) (or-true (numbered n (v .it))))) in
+      let head : by-line r ≡ g (r .it) = inside r i ∙ rw s in
+      let tail : flat (suc (depth-of 0 m)) (amend (λ a. a) by-line up (children m)) ++ behind 0 m
+      ≡ changed-below (seen-by t) g (depth (flat 0 f) p) 0 (drop (suc p) (flat 0 f)) =
+      ap (λ k. flat (suc (depth-of 0 m)) k ++ behind 0 m) low
+      ∙ changed-subtree (seen-by t) g (depth-of 0 m) up (children m) (behind 0 m) s (stops 0 m)
+      ∙ (λ j. changed-below (seen-by t) g (c .deep j) 0 (sym (c .rows-behind) j)) in
       amend-within (numbered n) by-line outside 0 m refl (rw e at (c .none-before)) (rw e at (c .none-behind))
       ∙ (λ j. sym (c .rows-before) j ++ ((c .deep j, head j) ∷ tail j))

@@ -1,8 +1,8 @@
 -- The subtree of a row of a forest, with the rows before and behind it; an edit that reaches only into it.
 use mathlib.Core.Path.{_≡_, refl, sym, ap, _∙_}
-use Prim.Native.Nat.{ℕ, zero, suc, _+_, _≤_}
-use mathlib.Core.Bool.{Bool, true, false, cond, _||_}
-use mathlib.Core.List.{List, [], _∷_, _++_, map, append-assoc, append-nil}
+use Prim.Native.Nat.{ℕ, suc, _≤_}
+use mathlib.Core.Bool.{Bool, true, false, cond}
+use mathlib.Core.List.{List, [], _∷_, _++_, append-assoc, append-nil}
 use native.Mathlib.Omega.{arith}
 use lib.Dec.{ltb}
 use borrow.Author.Tests.{ltb-false}
@@ -23,10 +23,10 @@ module _ {A : Type 0} where
   RowOf r p f = In (λ a. a) r p f
 
   -- what is below it, its depth in a forest at depth d, and the rows before it and behind its subtree
-  unfoldable pub kids : {r : Row A A} {p : List A} {f : Forest A} → RowOf r p f → Forest A
-  kids (self {ks = ks} e) = ks
-  kids (inner m) = kids m
-  kids (later m) = kids m
+  unfoldable pub children : {r : Row A A} {p : List A} {f : Forest A} → RowOf r p f → Forest A
+  children (self {ks = ks} e) = ks
+  children (inner m) = children m
+  children (later m) = children m
 
   unfoldable pub depth-of : ℕ → {r : Row A A} {p : List A} {f : Forest A} → RowOf r p f → ℕ
   depth-of d (self e) = d
@@ -47,11 +47,11 @@ module _ {A : Type 0} where
   abbrev around : (d : ℕ) {r : Row A A} {p : List A} {f : Forest A} → RowOf r p f → A → List (ℕ × A) → List (ℕ × A)
   around d m a l = before d m ++ ((depth-of d m, a) ∷ (l ++ behind d m))
 
-  pub split : (d : ℕ) {r : Row A A} {p : List A} {f : Forest A} (m : RowOf r p f) → flat d f ≡ around d m (r .it) (flat (suc (depth-of d m)) (kids m))
-  unfolding flat kids depth-of before behind
+  pub split : (d : ℕ) {r : Row A A} {p : List A} {f : Forest A} (m : RowOf r p f) → flat d f ≡ around d m (r .it) (flat (suc (depth-of d m)) (children m))
+  unfolding flat children depth-of before behind
   split d (self e) = rw e
   split d {r} (inner {a = a} {fs = fs} m) =
-      ap (λ k. (d, a) ∷ k) (ap (λ k. k ++ flat d fs) (split (suc d) m) ∙ within (before (suc d) m) (flat (suc (depth-of (suc d) m)) (kids m)) (behind (suc d) m) (flat d fs) _)
+      ap (λ k. (d, a) ∷ k) (ap (λ k. k ++ flat d fs) (split (suc d) m) ∙ within (before (suc d) m) (flat (suc (depth-of (suc d) m)) (children m)) (behind (suc d) m) (flat d fs) _)
   split d (later {a = a} {ks = ks} m) = ap (λ k. (d, a) ∷ k) (ap (λ k. flat (suc d) ks ++ k) (split d m) ∙ sym (append-assoc (flat (suc d) ks) (before d m) _))
 
   deep : (d : ℕ) {r : Row A A} {p : List A} {f : Forest A} (m : RowOf r p f) → d ≤ depth-of d m
@@ -101,14 +101,14 @@ module _ {A : Type 0} where
 
     -- it reaches only into the subtree of r, if q passes none above, before and behind
     pub amend-within : (d : ℕ) {r : Row A A} {up : List A} {f : Forest A} (m : RowOf r up f) → any q up ≡ false → Nowhere q (before d m) → Nowhere q (behind d m)
-        → flat d (amend (λ a. a) g up f) ≡ around d m (g r) (flat (suc (depth-of d m)) (amend (λ a. a) g (r .it ∷ r .above) (kids m)))
-    unfolding amend flat kids depth-of before behind
+        → flat d (amend (λ a. a) g up f) ≡ around d m (g r) (flat (suc (depth-of d m)) (amend (λ a. a) g (r .it ∷ r .above) (children m)))
+    unfolding amend flat children depth-of before behind
     amend-within d {r} {up} (self {fs = fs} e) u b z = rw (e, amend-nowhere d up fs u z)
     amend-within d {r} {up} (inner {a = a} {fs = fs} m) u b z =
         let i : q a ≡ false = or-left (q a) _ b in
         rw (only (row a up) (rw (i, u)), amend-nowhere d up fs u (none-second q (behind (suc d) m) (flat d fs) z))
         (ap (λ k. (d, a) ∷ k) (ap (λ k. k ++ flat d fs) (amend-within (suc d) m (rw (i, u)) (or-right (q a) _ b) (none-first q (behind (suc d) m) (flat d fs) z))
-        ∙ within (before (suc d) m) (flat (suc (depth-of (suc d) m)) (amend (λ a. a) g (r .it ∷ r .above) (kids m))) (behind (suc d) m) (flat d fs) _))
+        ∙ within (before (suc d) m) (flat (suc (depth-of (suc d) m)) (amend (λ a. a) g (r .it ∷ r .above) (children m))) (behind (suc d) m) (flat d fs) _))
     amend-within d {r} {up} (later {a = a} {ks = ks} m) u b z =
         let i : q a ≡ false = or-left (q a) _ b in
         let j : Nowhere q (flat (suc d) ks ++ before d m) = or-right (q a) _ b in
@@ -125,17 +125,17 @@ module _ {A : Type 0} where
         let j : Nowhere q (flat (suc d) ks ++ flat d fs) = or-right (q a) _ h in
         rw (or-left (q a) _ h, put-nowhere (suc d) ks (none-first q (flat (suc d) ks) (flat d fs) j), put-nowhere d fs (none-second q (flat (suc d) ks) (flat d fs) j))
 
-    pub put-within : (d : ℕ) {r : Row A A} {up : List A} {f : Forest A} (m : RowOf r up f) → q (r .it) ≡ true → Nowhere q (flat (suc (depth-of d m)) (kids m))
+    pub put-within : (d : ℕ) {r : Row A A} {up : List A} {f : Forest A} (m : RowOf r up f) → q (r .it) ≡ true → Nowhere q (flat (suc (depth-of d m)) (children m))
         → Nowhere q (before d m) → Nowhere q (behind d m)
-        → flat d (put q counts k new f) ≡ around d m (r .it) (flat (suc (depth-of d m)) (place counts k new (kids m)))
-    unfolding put flat kids depth-of before behind
+        → flat d (put q counts k new f) ≡ around d m (r .it) (flat (suc (depth-of d m)) (place counts k new (children m)))
+    unfolding put flat children depth-of before behind
     put-within d {r} (self {a = a} {ks = ks} {fs = fs} e) t h b z =
         let i : q a ≡ true = rw e at t in
         rw (i, put-nowhere (suc d) ks h, put-nowhere d fs z, e)
     put-within d {r} (inner {a = a} {fs = fs} m) t h b z =
         rw (or-left (q a) _ b, put-nowhere d fs (none-second q (behind (suc d) m) (flat d fs) z))
         (ap (λ l. (d, a) ∷ l) (ap (λ l. l ++ flat d fs) (put-within (suc d) m t h (or-right (q a) _ b) (none-first q (behind (suc d) m) (flat d fs) z))
-        ∙ within (before (suc d) m) (flat (suc (depth-of (suc d) m)) (place counts k new (kids m))) (behind (suc d) m) (flat d fs) _))
+        ∙ within (before (suc d) m) (flat (suc (depth-of (suc d) m)) (place counts k new (children m))) (behind (suc d) m) (flat d fs) _))
     put-within d {r} (later {a = a} {ks = ks} m) t h b z =
         let j : Nowhere q (flat (suc d) ks ++ before d m) = or-right (q a) _ b in
         rw (or-left (q a) _ b, put-nowhere (suc d) ks (none-first q (flat (suc d) ks) (before d m) j))

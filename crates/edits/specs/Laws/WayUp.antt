@@ -1,17 +1,13 @@
 -- The loop that grants a step's locks along the way up, turn by turn: it changes the rows that it goes over.
 use mathlib.Core.Path.{_≡_, refl, sym, ap, _∙_}
-use Prim.Native.Nat.{ℕ, zero, suc, _+_, _-_, _≤_, _<_}
-use mathlib.Core.Bool.{Bool, cond}
-use mathlib.Core.List.{List, [], _∷_, map}
-use native.Mathlib.Omega.{arith}
-use lib.ListN.{length, getD, List·getD-map}
-use lib.Dec.{ltb}
+use Prim.Native.Nat.{ℕ, zero, suc, _-_, _≤_, _<_}
+use mathlib.Core.List.{List, [], _∷_}
 use Rattle.locks.specs.Modes.{Mode}
 use Rattle.locks.specs.Needs.{Need}
 use Rattle.protocol.specs.State.{Marked}
 use Rattle.layout.specs.Lists.{modify}
 use Rattle.layout.specs.Flat.{second}
-use Rattle.layout.specs.Layout.{Entry, no-entry}
+use Rattle.layout.specs.Layout.{Entry}
 use Rattle.lookup.specs.Places.{depth, climb, above-places}
 use Rattle.lookup.specs.Laws.Up.{climb-found, climb-passed, climb-start, climb-top}
 use Rattle.edits.specs.Rows.{granted-modes, granted-along, granted-up}
