@@ -1,0 +1,4 @@
+pub mod Outcomes
+pub mod Admission
+pub mod Marks
+pub mod Calls

@@ -1,0 +1,4 @@
+pub mod Contract
+pub mod Admission
+pub mod Ends
+pub mod Laws

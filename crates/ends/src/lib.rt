@@ -1,0 +1,104 @@
+// The ends of transactions: commit and abort.
+ghost use mathlib.Core.List.{map};
+ghost use Prim.Native.Nat.{_<_};
+ghost use lib.ListN.{length};
+ghost use Rattle.protocol.specs.State.{seen-by, settled, undone};
+ghost use Rattle.layout.specs.Lists.{modify};
+ghost use Rattle.layout.specs.Flat.{second};
+ghost use Rattle.layout.specs.Layout.{nodes, Layout, Kept};
+ghost use Rattle.edits.specs.Rows.{not-inserted-by};
+ghost use Rattle.ends.specs.Admission.{Opened};
+ghost use Rattle.ends.specs.Ends.{without-mark, rewritten, settled-marks, undone-marks, Ended};
+
+const WRITER: usize = 1;
+
+const INSERTER: usize = 2;
+
+const DELETER: usize = 3;
+
+// Mark o of the node at i, where it is t's, is nobody's.
+fn clear_mark(s: &mut [u8], i: usize, o: usize, t: u8)
+    requires { ⌜ (Layout (now s)) × (i < length (nodes (now s))) × (o < 4) ⌝ }
+    ensures { λ r. ⌜ Kept (now (s .entry)) (now (s .exit)) (modify i (second (without-mark o t)) (nodes (now (s .entry)))) ⌝ }
+{
+    if table::field(s, i, o) == t {
+        table::set_field(s, i, o, 0);
+    }
+}
+
+// What t wrote and inserted of the node at i is everybody's.
+fn settle_node(s: &mut [u8], i: usize, t: u8)
+    requires { ⌜ (Layout (now s)) × (i < length (nodes (now s))) ⌝ }
+    ensures { λ r. ⌜ Kept (now (s .entry)) (now (s .exit)) (modify i (second (settled-marks t)) (nodes (now (s .entry)))) ⌝ }
+{
+    clear_mark(s, i, WRITER, t);
+    clear_mark(s, i, INSERTER, t);
+}
+
+// The same of all nodes.
+fn settle(s: &mut [u8], t: u8)
+    requires { ⌜ Layout (now s) ⌝ }
+    ensures { λ r. ⌜ Kept (now (s .entry)) (now (s .exit)) (map (second (settled-marks t)) (nodes (now (s .entry)))) ⌝ }
+{
+    let m = table::count(s);
+    let mut i: usize = 0;
+    while i < m {
+        settle_node(s, i, t);
+        i += 1;
+    }
+}
+
+// What t deleted goes, with all below it; what else it did stays; its locks go.
+pub fn commit_open(s: &mut [u8], t: u8)
+    requires { ⌜ Opened (now s) t ⌝ }
+    ensures { λ r. ⌜ Ended (seen-by t) (settled t) t (now (s .entry)) (now (s .exit)) ⌝ }
+{
+    outline::prune(s, DELETER, t);
+    settle(s, t);
+    transactions::release(s, t as usize);
+    transactions::close(s, t as usize);
+}
+
+// The node at i has its committed content again, where t wrote it.
+fn rewrite(s: &mut [u8], i: usize, t: u8)
+    requires { ⌜ (Layout (now s)) × (i < length (nodes (now s))) ⌝ }
+    ensures { λ r. ⌜ Kept (now (s .entry)) (now (s .exit)) (modify i (second (rewritten t)) (nodes (now (s .entry)))) ⌝ }
+{
+    if table::writer(s, i) == t {
+        table::restore_content(s, i);
+    }
+}
+
+// What t wrote and deleted of the node at i is as before.
+fn undo_node(s: &mut [u8], i: usize, t: u8)
+    requires { ⌜ (Layout (now s)) × (i < length (nodes (now s))) ⌝ }
+    ensures { λ r. ⌜ Kept (now (s .entry)) (now (s .exit)) (modify i (second (undone-marks t)) (nodes (now (s .entry)))) ⌝ }
+{
+    rewrite(s, i, t);
+    clear_mark(s, i, WRITER, t);
+    clear_mark(s, i, DELETER, t);
+}
+
+// The same of all nodes.
+fn undo(s: &mut [u8], t: u8)
+    requires { ⌜ Layout (now s) ⌝ }
+    ensures { λ r. ⌜ Kept (now (s .entry)) (now (s .exit)) (map (second (undone-marks t)) (nodes (now (s .entry)))) ⌝ }
+{
+    let m = table::count(s);
+    let mut i: usize = 0;
+    while i < m {
+        undo_node(s, i, t);
+        i += 1;
+    }
+}
+
+// What t inserted goes, with all below it; what else it did is undone; its locks go.
+pub fn abort_open(s: &mut [u8], t: u8)
+    requires { ⌜ Opened (now s) t ⌝ }
+    ensures { λ r. ⌜ Ended (not-inserted-by t) (undone t) t (now (s .entry)) (now (s .exit)) ⌝ }
+{
+    outline::prune(s, INSERTER, t);
+    undo(s, t);
+    transactions::release(s, t as usize);
+    transactions::close(s, t as usize);
+}
