@@ -1,13 +1,16 @@
-// The ends of transactions: commit and abort.
+// The beginning and the ends of transactions: begin, commit and abort.
+use protocol::Answer;
 ghost use mathlib.Core.List.{map};
 ghost use Prim.Native.Nat.{_<_};
 ghost use lib.ListN.{length};
 ghost use Rattle.protocol.specs.State.{seen-by, settled, undone};
+ghost use Rattle.protocol.specs.Calls.{begin, commit, abort};
 ghost use Rattle.layout.specs.Lists.{modify};
 ghost use Rattle.layout.specs.Flat.{second};
 ghost use Rattle.layout.specs.Layout.{nodes, Layout, Kept};
 ghost use Rattle.edits.specs.Rows.{not-inserted-by};
-ghost use Rattle.ends.specs.Admission.{Opened};
+ghost use Rattle.ends.specs.Contract.{Performed};
+ghost use Rattle.ends.specs.Admission.{Opened, Caller};
 ghost use Rattle.ends.specs.Ends.{without-mark, rewritten, settled-marks, undone-marks, Ended};
 
 const WRITER: usize = 1;
@@ -15,6 +18,45 @@ const WRITER: usize = 1;
 const INSERTER: usize = 2;
 
 const DELETER: usize = 3;
+
+// The cause 13, 1 or 3 of a call of transaction t, or 0.
+pub fn caller(s: &[u8], t: u32) -> u8
+    ensures { λ r. ⌜ Caller (now (s .entry)) t r ⌝ }
+{
+    if !form::formed(s) {
+        return 13;
+    }
+    if t == 0 {
+        return 1;
+    }
+    if 16 < t {
+        return 1;
+    }
+    if !transactions::is_open(s, t as usize) {
+        return 3;
+    }
+    0
+}
+
+// Begin of t.
+pub fn begin(s: &mut [u8], t: u32) -> Answer
+    ensures { λ r. ⌜ Performed (now (s .entry)) (now (s .exit)) r (begin t) ⌝ }
+{
+    if !form::formed(s) {
+        return Answer::Refused(13);
+    }
+    if t == 0 {
+        return Answer::Refused(1);
+    }
+    if 16 < t {
+        return Answer::Refused(1);
+    }
+    if transactions::is_open(s, t as usize) {
+        return Answer::Refused(2);
+    }
+    transactions::open(s, t as usize);
+    Answer::Done
+}
 
 // Mark o of the node at i, where it is t's, is nobody's.
 fn clear_mark(s: &mut [u8], i: usize, o: usize, t: u8)
@@ -49,7 +91,7 @@ fn settle(s: &mut [u8], t: u8)
 }
 
 // What t deleted goes, with all below it; what else it did stays; its locks go.
-pub fn commit_open(s: &mut [u8], t: u8)
+fn commit_open(s: &mut [u8], t: u8)
     requires { ⌜ Opened (now s) t ⌝ }
     ensures { λ r. ⌜ Ended (seen-by t) (settled t) t (now (s .entry)) (now (s .exit)) ⌝ }
 {
@@ -57,6 +99,18 @@ pub fn commit_open(s: &mut [u8], t: u8)
     settle(s, t);
     transactions::release(s, t as usize);
     transactions::close(s, t as usize);
+}
+
+// Commit of t: "commit makes changes lasting".
+pub fn commit(s: &mut [u8], t: u32) -> Answer
+    ensures { λ r. ⌜ Performed (now (s .entry)) (now (s .exit)) r (commit t) ⌝ }
+{
+    let cause = caller(s, t);
+    if cause != 0 {
+        return Answer::Refused(cause);
+    }
+    commit_open(s, t as u8);
+    Answer::Done
 }
 
 // The node at i has its committed content again, where t wrote it.
@@ -93,7 +147,7 @@ fn undo(s: &mut [u8], t: u8)
 }
 
 // What t inserted goes, with all below it; what else it did is undone; its locks go.
-pub fn abort_open(s: &mut [u8], t: u8)
+fn abort_open(s: &mut [u8], t: u8)
     requires { ⌜ Opened (now s) t ⌝ }
     ensures { λ r. ⌜ Ended (not-inserted-by t) (undone t) t (now (s .entry)) (now (s .exit)) ⌝ }
 {
@@ -101,4 +155,16 @@ pub fn abort_open(s: &mut [u8], t: u8)
     undo(s, t);
     transactions::release(s, t as usize);
     transactions::close(s, t as usize);
+}
+
+// Abort of t: "abort removes them".
+pub fn abort(s: &mut [u8], t: u32) -> Answer
+    ensures { λ r. ⌜ Performed (now (s .entry)) (now (s .exit)) r (abort t) ⌝ }
+{
+    let cause = caller(s, t);
+    if cause != 0 {
+        return Answer::Refused(cause);
+    }
+    abort_open(s, t as u8);
+    Answer::Done
 }
