@@ -1,4 +1,2 @@
-pub mod Outcomes
-pub mod Admission
 pub mod Marks
 pub mod Calls

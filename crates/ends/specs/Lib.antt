@@ -1,4 +1,2 @@
-pub mod Contract
-pub mod Admission
 pub mod Ends
 pub mod Laws

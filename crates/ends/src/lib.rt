@@ -9,8 +9,8 @@ ghost use Rattle.layout.specs.Lists.{modify};
 ghost use Rattle.layout.specs.Flat.{second};
 ghost use Rattle.layout.specs.Layout.{nodes, Layout, Kept};
 ghost use Rattle.edits.specs.Rows.{not-inserted-by};
-ghost use Rattle.ends.specs.Contract.{Performed};
-ghost use Rattle.ends.specs.Admission.{Opened, Caller};
+ghost use Rattle.engine.specs.Contract.{Performed};
+ghost use Rattle.engine.specs.Admission.{Opened, Caller};
 ghost use Rattle.ends.specs.Ends.{without-mark, rewritten, settled-marks, undone-marks, Ended};
 
 const WRITER: usize = 1;
@@ -20,7 +20,7 @@ const INSERTER: usize = 2;
 const DELETER: usize = 3;
 
 // The cause 13, 1 or 3 of a call of transaction t, or 0.
-pub fn caller(s: &[u8], t: u32) -> u8
+fn caller(s: &[u8], t: u32) -> u8
     ensures { λ r. ⌜ Caller (now (s .entry)) t r ⌝ }
 {
     if !form::formed(s) {

@@ -4,7 +4,7 @@ use mathlib.Core.Path.{_≡_, refl, sym, ap, _∙_}
 use borrow.Author.Tests.{not-true, not-false}
 use Rattle.form.specs.Laws.Holds.{form-layout}
 use Rattle.ends.specs.Laws.Calls.{begin-zero, begin-high, begin-open, begin-done}
-use Rattle.ends.specs.Laws.Outcomes.{performed-unformed}
+use Rattle.engine.specs.Laws.Outcomes.{performed-unformed}
 use Rattle.ends.proofs.begin.Statement.{statement}
 use Rattle.ends.proofs.begin.Tie as tie
 

@@ -3,7 +3,7 @@ use mathlib.Core.Path.{_≡_, refl, sym, ap, _∙_}
 use native.Mathlib.Omega.{arith}
 use borrow.Author.Tests.{not-true, not-false}
 use Rattle.form.specs.Laws.Holds.{form-layout}
-use Rattle.ends.specs.Laws.Admission.{caller-unformed, caller-zero, caller-high, caller-shut, caller-open}
+use Rattle.engine.specs.Laws.Admission.{caller-unformed, caller-zero, caller-high, caller-shut, caller-open}
 use borrow.Author.Needs.{needs}
 use Rattle.ends.proofs.caller.Statement.{statement}
 use Rattle.ends.proofs.caller.Tie as tie

@@ -23,11 +23,11 @@ use Rattle.outline.specs.Outline.{not-marked}
 use Rattle.edits.specs.Rows.{not-inserted-by}
 use Rattle.edits.specs.Laws.Ends.{commit-rows, abort-rows}
 use Rattle.edits.specs.Laws.Kept.{unique-commit, unique-abort}
-use Rattle.ends.specs.Contract.{Performed}
-use Rattle.ends.specs.Admission.{Opened, Barred}
+use Rattle.engine.specs.Contract.{Performed}
+use Rattle.engine.specs.Admission.{Opened, Barred}
 use Rattle.ends.specs.Ends.{Ended}
-use Rattle.ends.specs.Laws.Outcomes.{Stays, Grants, performed-stays, performed-grants}
-use Rattle.ends.specs.Laws.Admission.{open-next}
+use Rattle.engine.specs.Laws.Outcomes.{Stays, Grants, performed-stays, performed-grants}
+use Rattle.engine.specs.Laws.Admission.{open-next}
 
 -- the document is nobody's insertion or deletion, so that no end takes it out -------------------
 
