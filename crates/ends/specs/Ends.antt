@@ -6,7 +6,7 @@ use lib.Dec.{eqb}
 use Rattle.protocol.specs.State.{Marked, unless}
 use Rattle.layout.specs.Fields.{field, with-field, with-now}
 use Rattle.layout.specs.Flat.{second, prune}
-use Rattle.layout.specs.Layout.{is-open, nodes, Left}
+use Rattle.layout.specs.Layout.{is-open, Entry, nodes, Left}
 
 -- mark o (1 writer, 2 inserter, 3 deleter) of t is nobody's
 abbrev pub without-mark : ℕ → ℕ → Marked → Marked
@@ -30,6 +30,10 @@ map-first zero g l = l
 map-first (suc i) g [] = []
 map-first (suc i) g (x ∷ l) = g x ∷ map-first i g l
 
+-- what closing t leaves: these nodes, and the others open as they were
+abbrev pub Closed : ℕ → List ℕ → List ℕ → List Entry → Type 0
+Closed t s s′ ns = Left s s′ (λ u. not (eqb u t) && is-open s u) ns
+
 -- what an end of t leaves: the nodes that are shown, each by g, and t closed
 abbrev pub Ended : (Marked → Bool) → (Marked → Marked) → ℕ → List ℕ → List ℕ → Type 0
-Ended shown g t s s′ = Left s s′ (λ u. not (eqb u t) && is-open s u) (map (second g) (prune shown 0 (nodes s)))
+Ended shown g t s s′ = Closed t s s′ (map (second g) (prune shown 0 (nodes s)))

@@ -1,17 +1,20 @@
 // The beginning and the ends of transactions: begin, commit and abort.
 use protocol::Answer;
+ghost use mathlib.Core.Path.{_≡_};
+ghost use mathlib.Core.Bool.{true};
 ghost use mathlib.Core.List.{map};
-ghost use Prim.Native.Nat.{_<_};
+ghost use Prim.Native.Nat.{_<_, _≤_};
 ghost use lib.ListN.{length};
 ghost use Rattle.protocol.specs.State.{seen-by, settled, undone};
 ghost use Rattle.protocol.specs.Calls.{begin, commit, abort};
 ghost use Rattle.layout.specs.Lists.{modify};
 ghost use Rattle.layout.specs.Flat.{second};
-ghost use Rattle.layout.specs.Layout.{nodes, Layout, Kept};
+ghost use Rattle.layout.specs.Layout.{is-open, nodes, Layout, Kept};
+ghost use Rattle.layout.specs.Fields.{released};
 ghost use Rattle.edits.specs.Rows.{not-inserted-by};
 ghost use Rattle.engine.specs.Contract.{Performed};
 ghost use Rattle.engine.specs.Admission.{Opened, Caller};
-ghost use Rattle.ends.specs.Ends.{without-mark, rewritten, settled-marks, undone-marks, Ended};
+ghost use Rattle.ends.specs.Ends.{without-mark, rewritten, settled-marks, undone-marks, Closed, Ended};
 
 const WRITER: usize = 1;
 
@@ -90,6 +93,15 @@ fn settle(s: &mut [u8], t: u8)
     }
 }
 
+// The locks of t go, and t is closed.
+fn close(s: &mut [u8], t: u8)
+    requires { ⌜ (Layout (now s)) × (1 ≤ t) × (t ≤ 16) × (is-open (now s) t ≡ true) ⌝ }
+    ensures { λ r. ⌜ Closed t (now (s .entry)) (now (s .exit)) (map (second (released t)) (nodes (now (s .entry)))) ⌝ }
+{
+    transactions::release(s, t as usize);
+    transactions::close(s, t as usize);
+}
+
 // What t deleted goes, with all below it; what else it did stays; its locks go.
 fn commit_open(s: &mut [u8], t: u8)
     requires { ⌜ Opened (now s) t ⌝ }
@@ -97,8 +109,7 @@ fn commit_open(s: &mut [u8], t: u8)
 {
     outline::prune(s, DELETER, t);
     settle(s, t);
-    transactions::release(s, t as usize);
-    transactions::close(s, t as usize);
+    close(s, t);
 }
 
 // Commit of t: "commit makes changes lasting".
@@ -153,8 +164,7 @@ fn abort_open(s: &mut [u8], t: u8)
 {
     outline::prune(s, INSERTER, t);
     undo(s, t);
-    transactions::release(s, t as usize);
-    transactions::close(s, t as usize);
+    close(s, t);
 }
 
 // Abort of t: "abort removes them".

@@ -14,8 +14,8 @@ use Rattle.layout.specs.Flat.{second, prune}
 use Rattle.layout.specs.Layout.{is-open, Entry, nodes, no-entry, Layout, Left, Kept}
 use Rattle.layout.specs.Fields.{field, with-field, restored, released}
 use Rattle.layout.specs.Laws.Lists.{modify-modify, modify-same, modify-none}
-use Rattle.layout.specs.Laws.Kept.{kept-same, kept-then, kept-as, left-then, left-as}
-use Rattle.ends.specs.Ends.{without-mark, rewritten, settled-marks, undone-marks, map-first, Ended}
+use Rattle.layout.specs.Laws.Kept.{kept-same, kept-then, kept-as, left-kept, left-then, left-as}
+use Rattle.ends.specs.Ends.{without-mark, rewritten, settled-marks, undone-marks, map-first, Closed, Ended}
 
 -- one node -------------------------------------------------------------------------------------
 
@@ -98,27 +98,31 @@ module _ (g : Entry → Entry) where
 -- an end ----------------------------------------------------------------------------------------------
 
 -- t is open until it is closed
-pub still-open : {s s₁ s₂ s₃ : List ℕ} {l m n : List Entry} (t : ℕ) → Left s s₁ (is-open s) l → Kept s₁ s₂ m → Kept s₂ s₃ n → is-open s t ≡ true → is-open s₃ t ≡ true
-still-open t a b c e = ap (λ (f : ℕ → Bool). f t) (c .opens ∙ b .opens ∙ a .opens) ∙ e
+pub left-open : {s s′ : List ℕ} {l : List Entry} (t : ℕ) → Left s s′ (is-open s) l → is-open s t ≡ true → is-open s′ t ≡ true
+left-open t a e = ap (λ (f : ℕ → Bool). f t) (a .opens) ∙ e
 
--- pruned, each mark cleared, the locks released, closed
+pub kept-open : {s s′ : List ℕ} {l : List Entry} (t : ℕ) → Kept s s′ l → is-open s t ≡ true → is-open s′ t ≡ true
+kept-open t a e = left-open t (left-kept a) e
+
+-- closed after another change
+module _ {s s₁ s₂ : List ℕ} (t : ℕ) where
+  pub closed-after : (ns : List Entry) (f : List Entry → List Entry) → Left s s₁ (is-open s) ns → Closed t s₁ s₂ (f (nodes s₁)) → Closed t s s₂ (f ns)
+  closed-after ns f a b = record {
+    layout = b .layout;
+    long = b .long ∙ a .long;
+    behind = b .behind ∙ a .behind;
+    opens = b .opens ∙ ap {B = ℕ → Bool} (λ (p : ℕ → Bool) (u : ℕ). not (eqb u t) && p u) (a .opens);
+    nodes = b .nodes ∙ ap f (a .nodes);
+  }
+
+-- pruned, each mark cleared, the locks released and t closed
 module _ (shown : Marked → Bool) (marks g : Marked → Marked) (t : ℕ) (whole : (a : Marked) → released t (marks a) ≡ g a) where
-  pub ended : {s s₁ s₂ s₃ s₄ : List ℕ}
-      → Left s s₁ (is-open s) (prune shown 0 (nodes s))
-      → Kept s₁ s₂ (map (second marks) (nodes s₁))
-      → Kept s₂ s₃ (map (second (released t)) (nodes s₂))
-      → Left s₃ s₄ (λ u. not (eqb u t) && is-open s₃ u) (nodes s₃)
-      → Ended shown g t s s₄
-  ended {s} {s₁} {s₂} {s₃} {s₄} a b c d =
-      let e = left-then _ (map (second (released t))) (left-then (prune shown 0 (nodes s)) (map (second marks)) a b) c in
-      let m = map-map (second (released t)) (second marks) (second g) (prune shown 0 (nodes s)) (λ x i. ap (λ (y : Marked). (x .0, y)) (whole (x .1))) in
-      record {
-        layout = d .layout;
-        long = d .long ∙ e .long;
-        behind = d .behind ∙ e .behind;
-        opens = d .opens ∙ ap {B = ℕ → Bool} (λ (f : ℕ → Bool) (u : ℕ). not (eqb u t) && f u) (e .opens);
-        nodes = d .nodes ∙ e .nodes ∙ m;
-      }
+  pub ended : {s s₁ s₂ s₃ : List ℕ} → Left s s₁ (is-open s) (prune shown 0 (nodes s)) → Kept s₁ s₂ (map (second marks) (nodes s₁))
+      → Closed t s₂ s₃ (map (second (released t)) (nodes s₂)) → Ended shown g t s s₃
+  ended {s} a b c =
+      left-as _ (map (second g) (prune shown 0 (nodes s)))
+      (map-map (second (released t)) (second marks) (second g) (prune shown 0 (nodes s)) (λ x i. ap (λ (y : Marked). (x .0, y)) (whole (x .1))))
+      (closed-after t _ (map (second (released t))) (left-then (prune shown 0 (nodes s)) (map (second marks)) a b) c)
 
 pub settled-whole : (t : ℕ) (a : Marked) → released t (settled-marks t a) ≡ settled t a
 settled-whole t a = refl
