@@ -1,0 +1,34 @@
+use borrow.Author.Needs.{needs}
+use native.Mathlib.Omega.{arith}
+use Rattle.protocol.specs.State.{undone}
+use Rattle.edits.specs.Rows.{not-inserted-by}
+use Rattle.ends.specs.Ends.{undone-marks}
+use Rattle.ends.specs.Laws.Marks.{left-open, kept-open, ended, undone-whole}
+use Rattle.ends.specs.Laws.Calls.{not-inserted}
+use Rattle.ends.proofs.abort_open.Statement.{statement}
+use Rattle.ends.proofs.abort_open.Tie as tie
+
+prune-requires : tie.Need-prune-requires
+prune-requires c κs = (c .before .before .pre .layout, search needs, not-inserted _ _ (c .before .before .pre))
+
+undo-requires : tie.Need-undo-requires
+undo-requires c κs = search needs
+
+close-requires : tie.Need-close-requires
+close-requires c κs = (c .before .before .before .undo .ensures .layout, c .before .before .before .before .before .before .before .before .before .before .pre .low, c .before .before .before .before .before .before .before .before .before .before .pre .high, kept-open _ (c .before .before .before .undo .ensures) (left-open _ (c .before .before .before .before .before .before .before .prune .ensures) (c .before .before .before .before .before .before .before .before .before .before .pre .is-open)))
+
+same-length : tie.Need-same-length
+same-length c = search needs
+
+returns : tie.Need-returns
+returns c = let t = c .before .before .before .before .before .before .before .before .before .before .before .before .before .args .t in ended (not-inserted-by t) (undone-marks t) (undone t) t (undone-whole t) (c .before .before .before .before .before .before .before .before .before .before .prune .ensures) (c .before .before .before .before .before .before .undo .ensures) (c .before .before .close .ensures)
+
+pub abort-open-spec : {M : Type 1} → statement M
+abort-open-spec =
+    tie.close
+    (tie.spec
+    prune-requires
+    undo-requires
+    close-requires
+    same-length
+    returns)

@@ -1,0 +1,66 @@
+use borrow.Author.Needs.{needs}
+use native.Mathlib.Omega.{arith}
+use mathlib.Core.Path.{_≡_, refl, sym, ap, _∙_}
+use borrow.Author.Tests.{not-true, not-false}
+use Rattle.form.specs.Laws.Holds.{form-layout}
+use Rattle.ends.specs.Laws.Calls.{begin-zero, begin-high, begin-open, begin-done}
+use Rattle.engine.specs.Laws.Outcomes.{performed-unformed}
+use Rattle.ends.proofs.begin.Statement.{statement}
+use Rattle.ends.proofs.begin.Tie as tie
+
+formed-requires : tie.Need-formed-requires
+formed-requires c κs = search needs
+
+same-length : tie.Need-same-length
+same-length c = search needs
+
+returns : tie.Need-returns
+returns c = performed-unformed (sym (c .before .formed .ensures) ∙ not-true _ (c .if1 .taken)) _
+
+same-length-2 : tie.Need-same-length-2
+same-length-2 c = search needs
+
+returns-2 : tie.Need-returns-2
+returns-2 c = begin-zero (sym (c .before .before .formed .ensures) ∙ not-false _ (c .before .if1 .left)) (c .if2 .taken)
+
+same-length-3 : tie.Need-same-length-3
+same-length-3 c = search needs
+
+returns-3 : tie.Need-returns-3
+returns-3 c = begin-high (sym (c .before .before .before .formed .ensures) ∙ not-false _ (c .before .before .if1 .left)) (c .if3 .taken)
+
+is-open-requires : tie.Need-is-open-requires
+is-open-requires c κs = (form-layout (sym (c .before .before .before .before .formed .ensures) ∙ not-false _ (c .before .before .before .if1 .left)), omega (arith, c .before .before .if2 .left), search needs)
+
+same-length-4 : tie.Need-same-length-4
+same-length-4 c = search needs
+
+returns-4 : tie.Need-returns-4
+returns-4 c = begin-open (sym (c .before .before .before .before .before .before .formed .ensures) ∙ not-false _ (c .before .before .before .before .before .if1 .left)) (omega (arith, c .before .before .before .before .if2 .left)) (search needs) (sym (c .before .is-open .ensures) ∙ c .if4 .taken)
+
+open-requires : tie.Need-open-requires
+open-requires c κs = (form-layout (sym (c .before .before .before .before .before .before .before .formed .ensures) ∙ not-false _ (c .before .before .before .before .before .before .if1 .left)), omega (arith, c .before .before .before .before .before .if2 .left), search needs, sym (c .before .before .is-open .ensures) ∙ c .before .if4 .left)
+
+same-length-5 : tie.Need-same-length-5
+same-length-5 c = search needs
+
+returns-5 : tie.Need-returns-5
+returns-5 c = begin-done (sym (c .before .before .before .before .before .before .before .before .before .before .formed .ensures) ∙ not-false _ (c .before .before .before .before .before .before .before .before .before .if1 .left)) (omega (arith, c .before .before .before .before .before .before .before .before .if2 .left)) (search needs) (sym (c .before .before .before .before .before .is-open .ensures) ∙ c .before .before .before .before .if4 .left) (c .before .before .open .ensures)
+
+pub begin-spec : {M : Type 1} → statement M
+begin-spec =
+    tie.close
+    (tie.spec
+    formed-requires
+    same-length
+    returns
+    same-length-2
+    returns-2
+    same-length-3
+    returns-3
+    is-open-requires
+    same-length-4
+    returns-4
+    open-requires
+    same-length-5
+    returns-5)

@@ -1,0 +1,34 @@
+use borrow.Author.Needs.{needs}
+use native.Mathlib.Omega.{arith}
+use Rattle.ends.specs.Laws.Marks.{rewritten-own, not-rewritten}
+use Rattle.ends.proofs.rewrite.Statement.{statement}
+use Rattle.ends.proofs.rewrite.Tie as tie
+
+writer-requires : tie.Need-writer-requires
+writer-requires c κs = search needs
+
+restore-content-requires : tie.Need-restore-content-requires
+restore-content-requires c κs = search needs
+
+same-length : tie.Need-same-length
+same-length c = search needs
+
+returns : tie.Need-returns
+returns c = rewritten-own _ _ _ (c .before .before .before .before .before .writer .ensures) (c .before .before .before .before .if1 .taken) (c .before .before .restore-content .ensures)
+
+same-length-2 : tie.Need-same-length-2
+same-length-2 c = search needs
+
+returns-2 : tie.Need-returns-2
+returns-2 c = not-rewritten _ _ _ _ (c .before .writer .ensures) (c .if1 .left) (search needs)
+
+pub rewrite-spec : {M : Type 1} → statement M
+rewrite-spec =
+    tie.close
+    (tie.spec
+    writer-requires
+    restore-content-requires
+    same-length
+    returns
+    same-length-2
+    returns-2)

@@ -1,0 +1,39 @@
+-- What the ends of a transaction do to the marks of a node; its locks are released on their own.
+use Prim.Native.Nat.{ℕ, zero, suc}
+use mathlib.Core.Bool.{Bool, cond, not, _&&_}
+use mathlib.Core.List.{List, [], _∷_, map}
+use lib.Dec.{eqb}
+use Rattle.protocol.specs.State.{Marked, unless}
+use Rattle.layout.specs.Fields.{field, with-field, with-now}
+use Rattle.layout.specs.Flat.{second, prune}
+use Rattle.layout.specs.Layout.{is-open, Entry, nodes, Left}
+
+-- mark o (1 writer, 2 inserter, 3 deleter) of t is nobody's
+abbrev pub without-mark : ℕ → ℕ → Marked → Marked
+without-mark o t a = with-field o (unless t (field o a)) a
+
+-- the committed content again where t wrote the node
+abbrev pub rewritten : ℕ → Marked → Marked
+rewritten t a = with-now (cond (eqb (a .writer) t) (a .before) (a .now .content)) a
+
+-- a commit: what t wrote and inserted is everybody's
+abbrev pub settled-marks : ℕ → Marked → Marked
+settled-marks t a = without-mark 2 t (without-mark 1 t a)
+
+-- an abort: what t wrote and deleted is as before
+abbrev pub undone-marks : ℕ → Marked → Marked
+undone-marks t a = without-mark 3 t (without-mark 1 t (rewritten t a))
+
+-- the first i of a list by g
+unfoldable pub map-first : {A : Type 0} → ℕ → (A → A) → List A → List A
+map-first zero g l = l
+map-first (suc i) g [] = []
+map-first (suc i) g (x ∷ l) = g x ∷ map-first i g l
+
+-- what closing t leaves: these nodes, and the others open as they were
+abbrev pub Closed : ℕ → List ℕ → List ℕ → List Entry → Type 0
+Closed t s s′ ns = Left s s′ (λ u. not (eqb u t) && is-open s u) ns
+
+-- what an end of t leaves: the nodes that are shown, each by g, and t closed
+abbrev pub Ended : (Marked → Bool) → (Marked → Marked) → ℕ → List ℕ → List ℕ → Type 0
+Ended shown g t s s′ = Closed t s s′ (map (second g) (prune shown 0 (nodes s)))

@@ -1,0 +1,156 @@
+-- From what the calls leave to the definitions of protocol.
+use mathlib.Core.Path.{_≡_, refl, sym, ap, _∙_}
+use Prim.Native.Nat.{ℕ, _≤_, _<_}
+use mathlib.Core.Bool.{Bool, true, false, cond, not, _&&_, _||_}
+use mathlib.Core.List.{List, map}
+use native.Mathlib.Omega.{arith}
+use lib.ListN.{length, getD, drop}
+use lib.Dec.{eqb, leb}
+use borrow.Author.Tests.{le-leb, lt-leb, ne-eqb}
+use Rattle.tree.specs.Steps.{done}
+use Rattle.protocol.specs.State.{nobody, is-transaction, Marked, Tree, State, seen-by, settled, undone, commit-tree, abort-tree, opened, closed}
+use Rattle.protocol.specs.Calls.{Call, begin, commit, abort, refused, Next, unchanged, becomes, if-open, next}
+use Rattle.protocol.specs.Answers.{answer-of, granted-answer}
+use Rattle.protocol.specs.declared.Answer.the-variants.{Done, Refused}
+use Rattle.layout.specs.Flat.{flat, second, prune}
+use Rattle.layout.specs.Layout.{is-open, Entry, nodes, no-entry, Left}
+use Rattle.lookup.specs.Places.{unique}
+use Rattle.form.specs.Form.{form, fine-tree, Holds}
+use Rattle.form.specs.Laws.Holds.{form-holds}
+use Rattle.form.specs.Laws.Fine.{FineDocument, Root, root-of}
+use Rattle.form.specs.Laws.Steps.{holds-left, holds-unique, fine-commit, fine-abort}
+use Rattle.outline.specs.Outline.{not-marked}
+use Rattle.edits.specs.Rows.{not-inserted-by}
+use Rattle.edits.specs.Laws.Ends.{commit-rows, abort-rows}
+use Rattle.edits.specs.Laws.Kept.{unique-commit, unique-abort}
+use Rattle.engine.specs.Contract.{Performed}
+use Rattle.engine.specs.Admission.{Opened, Barred}
+use Rattle.ends.specs.Ends.{Ended}
+use Rattle.engine.specs.Laws.Outcomes.{Stays, Grants, performed-stays, performed-grants}
+use Rattle.engine.specs.Laws.Admission.{open-next}
+
+-- the document is nobody's insertion or deletion, so that no end takes it out -------------------
+
+first-document : (s : List ℕ) → form s ≡ true → FineDocument (getD (nodes s) 0 no-entry .1)
+unfolding flat
+first-document s f =
+    let m = form-holds s f in
+    let r = root-of (m .0 .tree) (m .1 .fine) in
+    let e : getD (nodes s) 0 no-entry .1 ≡ r .it = ap (λ (l : List Entry). getD l 0 no-entry .1) (m .1 .rows ∙ ap (flat 0) (r .whole)) in
+    rw e (r .document)
+
+pub not-inserted : (s : List ℕ) (t : ℕ) → Opened s t → not-marked 2 t (getD (nodes s) 0 no-entry .1) ≡ true
+not-inserted s t o = rw (first-document s (o .formed) .inserter, ne-eqb nobody t (λ e. omega (arith, o .low)))
+
+pub not-deleted : (s : List ℕ) (t : ℕ) → Opened s t → not-marked 3 t (getD (nodes s) 0 no-entry .1) ≡ true
+not-deleted s t o = rw (first-document s (o .formed) .deleter, ne-eqb nobody t (λ e. omega (arith, o .low)))
+
+-- begin ---------------------------------------------------------------------------------------------
+
+refusal : {s : List ℕ} {call : Call} (cause : ℕ) → form s ≡ true → ((M : State) → Holds s M → next call M ≡ unchanged (refused cause) M) → Performed s s (Refused cause) call
+unfolding answer-of
+refusal {s} {call} cause f h = performed-stays (record { formed = f; next = h; quiet = refl }) (Refused cause) (λ writing. refl)
+
+module _ {s : List ℕ} {t : ℕ} (f : form s ≡ true) where
+  pub begin-zero : t ≡ 0 → Performed s s (Refused 1) (begin t)
+  unfolding next
+  begin-zero e = refusal 1 f (λ M h. rw e)
+
+  pub begin-high : 16 < t → Performed s s (Refused 1) (begin t)
+  unfolding next
+  begin-high k = refusal 1 f (λ M h. rw (lt-leb t 16 k) (go (leb 1 t) M))
+    where
+      go : (b : Bool) (M : State) → cond (not (b && false)) (unchanged (refused 1) M) (cond (M .is-open t) (unchanged (refused 2) M) (becomes done (opened t M))) ≡ unchanged (refused 1) M
+      go true M = refl
+      go false M = refl
+
+  module _ (low : 1 ≤ t) (high : t ≤ 16) where
+    pub begin-open : is-open s t ≡ true → Performed s s (Refused 2) (begin t)
+    unfolding next
+    begin-open e = refusal 2 f (λ M h. let o : M .is-open t ≡ true = rw (← h .opens) e in rw (le-leb 1 t low, le-leb t 16 high, o))
+
+    begins : is-open s t ≡ false → (M : State) → Holds s M → next (begin t) M ≡ becomes done (opened t M)
+    unfolding next
+    begins e M h = let o : M .is-open t ≡ false = rw (← h .opens) e in rw (le-leb 1 t low, le-leb t 16 high, o)
+
+    pub begin-done : {s′ : List ℕ} → is-open s t ≡ false → Left s s′ (λ u. eqb u t || is-open s u) (nodes s) → Performed s s′ Done (begin t)
+    unfolding granted-answer
+    begin-done {s′} e k = performed-grants
+        (record {
+          formed = f;
+          outcome = λ M h. ap (λ (n : Next). n .outcome) (begins e M h);
+          state = λ M h. rw (begins e M h) (record {
+            layout = k .layout;
+            opens = k .opens ∙ ap {B = ℕ → Bool} (λ (g : ℕ → Bool) (u : ℕ). eqb u t || g u) (h .opens);
+            rows = k .nodes ∙ h .rows;
+            unique = rw (k .nodes) (h .unique);
+            fine = h .fine;
+          });
+          long = k .long;
+          behind = k .behind;
+        })
+        Done refl
+
+-- commit and abort ------------------------------------------------------------------------------------
+
+-- a call of t that is 1 or 3 for the same reasons as any
+module _ {s : List ℕ} {t : ℕ} {call : Call} (x : State → Next) (e : (M : State) → next call M ≡ if-open t M (x M)) where
+  pub performed-barred : (cause : ℕ) → Barred s t cause → Performed s s (Refused cause) call
+  unfolding answer-of
+  performed-barred cause b = record {
+    unformed = λ u. (ap Refused (b .unformed u), refl);
+    answer = λ M h writing. rw (e M ∙ b .formed M h (x M));
+    state = λ M h. rw (e M ∙ b .formed M h (x M)) h;
+    still = λ M h q. refl;
+    long = refl;
+    behind = refl;
+  }
+
+module _ {s s′ : List ℕ} {t : ℕ} {call : Call} (edit : Tree → Tree) (shown : Marked → Bool) (g : Marked → Marked)
+    (e : (M : State) → next call M ≡ if-open t M (becomes done (closed t (edit (M .tree)) M)))
+    (rows : (f : Tree) → flat 0 (edit f) ≡ map (second g) (prune shown 0 (flat 0 f)))
+    (distinct : (f : Tree) → unique (flat 0 f) ≡ true → unique (flat 0 (edit f)) ≡ true)
+    (kept : (f : Tree) → fine-tree f ≡ true → fine-tree (edit f) ≡ true) where
+  performed-end : Opened s t → Ended shown g t s s′ → Performed s s′ Done call
+  unfolding granted-answer
+  performed-end o k =
+      let n : (M : State) → Holds s M → next call M ≡ becomes done (closed t (edit (M .tree)) M) = λ M h. e M ∙ open-next o M h _ in
+      performed-grants
+      (record {
+        formed = o .formed;
+        outcome = λ M h. ap (λ (n : Next). n .outcome) (n M h);
+        state = λ M h. rw (n M h) (holds-left {s = s} (closed t (edit (M .tree)) M)
+            (record {
+              layout = k .layout;
+              long = k .long;
+              behind = k .behind;
+              opens = k .opens ∙ ap {B = ℕ → Bool} (λ (p : ℕ → Bool) (u : ℕ). not (eqb u t) && p u) (h .opens);
+              nodes = k .nodes ∙ ap (λ (l : List Entry). map (second g) (prune shown 0 l)) (h .rows) ∙ sym (rows (M .tree));
+            })
+            (distinct (M .tree) (holds-unique h)) (kept (M .tree) (h .fine)));
+        long = k .long;
+        behind = k .behind;
+      })
+      Done refl
+
+next-commit : (t : ℕ) (M : State) → next (commit t) M ≡ if-open t M (becomes done (closed t (commit-tree t (M .tree)) M))
+unfolding next
+next-commit t M = refl
+
+next-abort : (t : ℕ) (M : State) → next (abort t) M ≡ if-open t M (becomes done (closed t (abort-tree t (M .tree)) M))
+unfolding next
+next-abort t M = refl
+
+pub commit-barred : {s : List ℕ} {t : ℕ} (cause : ℕ) → Barred s t cause → Performed s s (Refused cause) (commit t)
+commit-barred {s} {t} cause b = performed-barred (λ M. becomes done (closed t (commit-tree t (M .tree)) M)) (next-commit t) cause b
+
+pub abort-barred : {s : List ℕ} {t : ℕ} (cause : ℕ) → Barred s t cause → Performed s s (Refused cause) (abort t)
+abort-barred {s} {t} cause b = performed-barred (λ M. becomes done (closed t (abort-tree t (M .tree)) M)) (next-abort t) cause b
+
+pub commit-done : {s s′ : List ℕ} {t : ℕ} → Opened s t → Ended (seen-by t) (settled t) t s s′ → Performed s s′ Done (commit t)
+commit-done {s} {s′} {t} o k =
+    performed-end (commit-tree t) (seen-by t) (settled t) (next-commit t) (commit-rows t) (unique-commit t) (λ f. fine-commit t f (o .low)) o k
+
+pub abort-done : {s s′ : List ℕ} {t : ℕ} → Opened s t → Ended (not-inserted-by t) (undone t) t s s′ → Performed s s′ Done (abort t)
+abort-done {s} {s′} {t} o k =
+    performed-end (abort-tree t) (not-inserted-by t) (undone t) (next-abort t) (abort-rows t) (unique-abort t) (λ f. fine-abort t f (o .low)) o k

@@ -1,0 +1,131 @@
+-- The marks of a node cleared one by one, the nodes one after the other, and what an end leaves in all.
+use mathlib.Core.Path.{_≡_, refl, sym, ap, _∙_}
+use Prim.Native.Nat.{ℕ, zero, suc, _+_, _≤_, _<_}
+use mathlib.Core.Bool.{Bool, true, false, cond, not, _&&_}
+use mathlib.Core.List.{List, [], _∷_, map}
+use native.Mathlib.Omega.{arith}
+use lib.ListN.{length, getD}
+use lib.Dec.{eqb}
+use borrow.Author.Tests.{eq-eqb, ne-eqb}
+use Rattle.tree.specs.Laws.Lists.{map-map}
+use Rattle.protocol.specs.State.{nobody, Marked, unless, seen-by, settled, undone}
+use Rattle.layout.specs.Lists.{modify}
+use Rattle.layout.specs.Flat.{second, prune}
+use Rattle.layout.specs.Layout.{is-open, Entry, nodes, no-entry, Layout, Left, Kept}
+use Rattle.layout.specs.Fields.{field, with-field, restored, released}
+use Rattle.layout.specs.Laws.Lists.{modify-modify, modify-same, modify-none}
+use Rattle.layout.specs.Laws.Kept.{kept-same, kept-then, kept-as, left-kept, left-then, left-as}
+use Rattle.ends.specs.Ends.{without-mark, rewritten, settled-marks, undone-marks, map-first, Closed, Ended}
+
+-- one node -------------------------------------------------------------------------------------
+
+own-field : (o : ℕ) (a : Marked) → o < 4 → with-field o (field o a) a ≡ a
+own-field zero a l = refl
+own-field (suc zero) a l = refl
+own-field (suc (suc zero)) a l = refl
+own-field (suc (suc (suc zero))) a l = refl
+own-field (suc (suc (suc (suc o)))) a l = absurd (omega arith)
+
+-- a change that does nothing to the node at i
+none-kept : (s : List ℕ) (i : ℕ) (g : Marked → Marked) → g (getD (nodes s) i no-entry .1) ≡ getD (nodes s) i no-entry .1 → Layout s → Kept s s (modify i (second g) (nodes s))
+none-kept s i g q h =
+    kept-as (nodes s) _ (sym (modify-none i (second g) (nodes s) no-entry (ap (λ (b : Marked). (getD (nodes s) i no-entry .0, b)) q))) (kept-same s h)
+
+-- and one that is the same there as another
+same-kept : {s s′ : List ℕ} (i : ℕ) (f g : Marked → Marked) → f (getD (nodes s) i no-entry .1) ≡ g (getD (nodes s) i no-entry .1)
+    → Kept s s′ (modify i (second f) (nodes s)) → Kept s s′ (modify i (second g) (nodes s))
+same-kept {s} i f g q k = kept-as _ _ (modify-same i (second f) (second g) (nodes s) no-entry (ap (λ (b : Marked). (getD (nodes s) i no-entry .0, b)) q)) k
+
+pub cleared : {s s′ : List ℕ} (i o t r : ℕ) → r ≡ field o (getD (nodes s) i no-entry .1) → r ≡ t
+    → Kept s s′ (modify i (second (with-field o 0)) (nodes s)) → Kept s s′ (modify i (second (without-mark o t)) (nodes s))
+cleared {s} i o t r e p k =
+    let a : Marked = getD (nodes s) i no-entry .1 in
+    let q : 0 ≡ unless t (field o a) = rw (eq-eqb (field o a) t (sym e ∙ p)) in
+    same-kept i (with-field o 0) (without-mark o t) (ap (λ (v : ℕ). with-field o v a) q) k
+
+pub not-cleared : (s : List ℕ) (i o t r : ℕ) → r ≡ field o (getD (nodes s) i no-entry .1) → (r ≡ t → ⊥) → o < 4 → Layout s → Kept s s (modify i (second (without-mark o t)) (nodes s))
+not-cleared s i o t r e p l h =
+    let a : Marked = getD (nodes s) i no-entry .1 in
+    let q : unless t (field o a) ≡ field o a = rw (ne-eqb (field o a) t (λ x. p (e ∙ x))) in
+    none-kept s i (without-mark o t) (ap (λ (v : ℕ). with-field o v a) q ∙ own-field o a l) h
+
+pub rewritten-own : {s s′ : List ℕ} (i t r : ℕ) → r ≡ getD (nodes s) i no-entry .1 .writer → r ≡ t
+    → Kept s s′ (modify i (second restored) (nodes s)) → Kept s s′ (modify i (second (rewritten t)) (nodes s))
+rewritten-own {s} i t r e p k =
+    let a : Marked = getD (nodes s) i no-entry .1 in
+    same-kept i restored (rewritten t) (rw (eq-eqb (a .writer) t (sym e ∙ p))) k
+
+pub not-rewritten : (s : List ℕ) (i t r : ℕ) → r ≡ getD (nodes s) i no-entry .1 .writer → (r ≡ t → ⊥) → Layout s → Kept s s (modify i (second (rewritten t)) (nodes s))
+not-rewritten s i t r e p h =
+    let a : Marked = getD (nodes s) i no-entry .1 in
+    none-kept s i (rewritten t) (rw (ne-eqb (a .writer) t (λ x. p (e ∙ x)))) h
+
+-- two changes of one node
+pub both-marks : {s s′ s″ : List ℕ} (i : ℕ) (g h : Marked → Marked) → Kept s s′ (modify i (second g) (nodes s)) → Kept s′ s″ (modify i (second h) (nodes s′))
+    → Kept s s″ (modify i (second (λ a. h (g a))) (nodes s))
+both-marks {s} i g h a b = kept-as _ _ (modify-modify i (second h) (second g) (nodes s)) (kept-then (modify i (second g) (nodes s)) (modify i (second h)) a b)
+
+-- node after node ---------------------------------------------------------------------------------
+
+module _ {A : Type 0} (g : A → A) where
+  first-more : (i : ℕ) (l : List A) → modify i g (map-first i g l) ≡ map-first (suc i) g l
+  unfolding map-first modify
+  first-more zero [] = refl
+  first-more zero (x ∷ l) = refl
+  first-more (suc i) [] = refl
+  first-more (suc i) (x ∷ l) = ap (λ k. g x ∷ k) (first-more i l)
+
+  first-all : (i : ℕ) (l : List A) → length l ≤ i → map-first i g l ≡ map g l
+  unfolding map-first
+  first-all zero [] h = refl
+  first-all zero (x ∷ l) h = absurd (omega arith)
+  first-all (suc i) [] h = refl
+  first-all (suc i) (x ∷ l) h = ap (λ k. g x ∷ k) (first-all i l (omega arith))
+
+module _ (g : Entry → Entry) where
+  pub first-none : (s : List ℕ) → Layout s → Kept s s (map-first 0 g (nodes s))
+  unfolding map-first
+  first-none s h = kept-same s h
+
+  pub first-next : {s s′ s″ : List ℕ} (i : ℕ) → Kept s s′ (map-first i g (nodes s)) → Kept s′ s″ (modify i g (nodes s′)) → Kept s s″ (map-first (i + 1) g (nodes s))
+  first-next {s} i a b =
+      let e : suc i ≡ i + 1 = omega arith in
+      kept-as _ (map-first (i + 1) g (nodes s)) (first-more g i (nodes s) ∙ ap (λ (n : ℕ). map-first n g (nodes s)) e) (kept-then (map-first i g (nodes s)) (modify i g) a b)
+
+  pub first-done : {s s′ : List ℕ} (i : ℕ) → length (nodes s) ≤ i → Kept s s′ (map-first i g (nodes s)) → Kept s s′ (map g (nodes s))
+  first-done {s} i h k = kept-as _ _ (first-all g i (nodes s) h) k
+
+-- an end ----------------------------------------------------------------------------------------------
+
+-- t is open until it is closed
+pub left-open : {s s′ : List ℕ} {l : List Entry} (t : ℕ) → Left s s′ (is-open s) l → is-open s t ≡ true → is-open s′ t ≡ true
+left-open t a e = ap (λ (f : ℕ → Bool). f t) (a .opens) ∙ e
+
+pub kept-open : {s s′ : List ℕ} {l : List Entry} (t : ℕ) → Kept s s′ l → is-open s t ≡ true → is-open s′ t ≡ true
+kept-open t a e = left-open t (left-kept a) e
+
+-- closed after another change
+module _ {s s₁ s₂ : List ℕ} (t : ℕ) where
+  pub closed-after : (ns : List Entry) (f : List Entry → List Entry) → Left s s₁ (is-open s) ns → Closed t s₁ s₂ (f (nodes s₁)) → Closed t s s₂ (f ns)
+  closed-after ns f a b = record {
+    layout = b .layout;
+    long = b .long ∙ a .long;
+    behind = b .behind ∙ a .behind;
+    opens = b .opens ∙ ap {B = ℕ → Bool} (λ (p : ℕ → Bool) (u : ℕ). not (eqb u t) && p u) (a .opens);
+    nodes = b .nodes ∙ ap f (a .nodes);
+  }
+
+-- pruned, each mark cleared, the locks released and t closed
+module _ (shown : Marked → Bool) (marks g : Marked → Marked) (t : ℕ) (whole : (a : Marked) → released t (marks a) ≡ g a) where
+  pub ended : {s s₁ s₂ s₃ : List ℕ} → Left s s₁ (is-open s) (prune shown 0 (nodes s)) → Kept s₁ s₂ (map (second marks) (nodes s₁))
+      → Closed t s₂ s₃ (map (second (released t)) (nodes s₂)) → Ended shown g t s s₃
+  ended {s} a b c =
+      left-as _ (map (second g) (prune shown 0 (nodes s)))
+      (map-map (second (released t)) (second marks) (second g) (prune shown 0 (nodes s)) (λ x i. ap (λ (y : Marked). (x .0, y)) (whole (x .1))))
+      (closed-after t _ (map (second (released t))) (left-then (prune shown 0 (nodes s)) (map (second marks)) a b) c)
+
+pub settled-whole : (t : ℕ) (a : Marked) → released t (settled-marks t a) ≡ settled t a
+settled-whole t a = refl
+
+pub undone-whole : (t : ℕ) (a : Marked) → released t (undone-marks t a) ≡ undone t a
+undone-whole t a = refl
