@@ -3,3 +3,4 @@ pub mod Shape
 pub mod Grammar
 pub mod Reading
 pub mod Writing
+pub mod Laws

@@ -1,0 +1,4 @@
+pub mod Words
+pub mod Automaton
+pub mod Transitions
+pub mod Sound
