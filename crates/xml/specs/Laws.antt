@@ -5,4 +5,5 @@ pub mod Sound
 pub mod Complete
 pub mod Unique
 pub mod Counts
+pub mod Phases
 pub mod Completions
