@@ -7,3 +7,6 @@ pub mod Unique
 pub mod Counts
 pub mod Phases
 pub mod Completions
+pub mod Forces
+pub mod Judge
+pub mod Verdicts

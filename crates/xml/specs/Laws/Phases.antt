@@ -191,3 +191,28 @@ loose-step (end-name n ns (a ∷ w)) b h = h
 pub loose : {c d : Config} {s : List ℕ} {v : List Event} → Reads true c s v d → Reads false c s v d
 loose stay = stay
 loose (on {c = c} {b = b} h r) = on (loose-step c b h) (loose r)
+
+-- at the end ---------------------------------------------------------------------------
+
+pub over-epilog : (c : Config) → is-over (phase c) ≡ true → c ≡ epilog
+over-epilog at-start h = absurd (false≢true h)
+over-epilog behind-first h = absurd (false≢true h)
+over-epilog prolog h = absurd (false≢true h)
+over-epilog behind-root h = absurd (false≢true h)
+over-epilog (declaration x) h = absurd (false≢true h)
+over-epilog (tag-name ns p) h = absurd (false≢true h)
+over-epilog (behind-part n ns seen) h = absurd (false≢true h)
+over-epilog (in-tag n ns seen) h = absurd (false≢true h)
+over-epilog (before-equals n ns seen) h = absurd (false≢true h)
+over-epilog (behind-equals n ns seen) h = absurd (false≢true h)
+over-epilog (behind-slash ns) h = absurd (false≢true h)
+over-epilog (attribute-name n ns seen p) h = absurd (false≢true h)
+over-epilog (behind-quote n ns seen q) h = absurd (false≢true h)
+over-epilog (in-value n ns seen q) h = absurd (false≢true h)
+over-epilog (value-reference n ns seen q x) h = absurd (false≢true h)
+over-epilog (content n ns) h = absurd (false≢true h)
+over-epilog (behind-open n ns) h = absurd (false≢true h)
+over-epilog (in-text n ns k) h = absurd (false≢true h)
+over-epilog (text-reference n ns x) h = absurd (false≢true h)
+over-epilog (end-name n ns w) h = absurd (false≢true h)
+over-epilog epilog h = refl
