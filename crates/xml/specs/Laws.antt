@@ -10,3 +10,6 @@ pub mod Completions
 pub mod Forces
 pub mod Judge
 pub mod Verdicts
+pub mod Structure
+pub mod Loadable
+pub mod Readings

@@ -11,14 +11,14 @@ use lib.Seq.{take-all, take-suc, drop-cons}
 use borrow.Author.Tests.{leb-true, leb-false, ltb-true, ltb-false, eqb-true, eqb-false}
 use Rattle.tree.specs.Content.{content-limit}
 use Rattle.protocol.specs.Calls.{node-limit}
-use Rattle.xml.specs.Shape.{Shape, size}
+use Rattle.xml.specs.Shape.{Shape, size, longest}
 use Rattle.xml.specs.Grammar.{Spells}
 use Rattle.xml.specs.Reading.{input-limit, Viable, LongContent, ManyNodes, Forces, FirstForced, opener, node-offset, Fault, wrong-byte, too-soon, too-long, long-content, many-nodes, Earlier}
 use Rattle.xml.specs.Laws.Automaton.{Config, at-start, epilog, Event, born, byte, Move, stuck, move, step, Reads, stay, on, tell}
 use Rattle.xml.specs.Laws.Sound.{sound}
 use Rattle.xml.specs.Laws.Complete.{complete}
 use Rattle.xml.specs.Laws.Unique.{one-run}
-use Rattle.xml.specs.Laws.Counts.{births, tail, peak, births-append, tail-append, peak-append, size-told}
+use Rattle.xml.specs.Laws.Counts.{births, tail, peak, births-append, tail-append, peak-append, size-told, longest-told}
 use Rattle.xml.specs.Laws.Phases.{phase, is-over, pending, over-epilog}
 use Rattle.xml.specs.Laws.Completions.{join, cut, read-viable, viable-read}
 use Rattle.xml.specs.Laws.Forces.{extent, many-forced, long-forced, few-free, short-free}
@@ -100,9 +100,19 @@ module _ (s : List ℕ) (i : ℕ) (l : i ≤ length s) (m : i ≤ input-limit) (
 abbrev pub Reported : List ℕ → ℕ → ℕ → Type 0
 Reported s c i = Fault s c i × ((c′ i′ : ℕ) → Fault s c′ i′ → Earlier c i c′ i′)
 
+-- a document within the limits, and no fault; n nodes with node 0
+pub record Faultless (s : List ℕ) (n : ℕ) : Type 0 where
+  pub shape : Shape
+  pub spelled : Spells s shape
+  pub no-fault : (c i : ℕ) → ¬ (Fault s c i)
+  pub nodes : n ≡ suc (size shape)
+  pub few-nodes : n ≤ node-limit
+  pub short-contents : longest shape ≤ content-limit
+  pub short-input : length s ≤ input-limit
+
 -- what a verdict says of the input
 abbrev pub Means : List ℕ → Verdict → Type 0
-Means s (fine n) = (f : Shape) × Spells s f × ((c i : ℕ) → ¬ (Fault s c i)) × (n ≡ suc (size f))
+Means s (fine n) = Faultless s n
 Means s (bad c i) = Reported s c i
 
 -- no fault comes before ----------------------------------------------------------------
@@ -176,7 +186,15 @@ module _ (s : List ℕ) (i : ℕ) (l : i ≤ length s) (m : i ≤ input-limit) (
         go : (t : Bool) → is-over (phase c) ≡ t → Means s (cond t (fine (suc (births v))) (bad 4 i))
         go true e =
             let x = spelled (over-epilog c e) in
-            (x .0, x .1, λ c′ i′. none-before h (x .0) (x .1), ap suc (ap births (x .2) ∙ size-told (x .0)))
+            record {
+              shape = x .0;
+              spelled = x .1;
+              no-fault = λ c′ i′. none-before h (x .0) (x .1);
+              nodes = ap suc (ap births (x .2) ∙ size-told (x .0));
+              few-nodes = w .few;
+              short-contents = omega (arith, w .short, ap (peak 0) (x .2), longest-told (x .0));
+              short-input = omega arith;
+            }
         go false e =
             let p : length s ≡ i = omega arith in
             (subst (Fault s 4) p (too-soon (read-viable run) (not-spelled e)),
