@@ -13,3 +13,5 @@ pub mod Verdicts
 pub mod Structure
 pub mod Loadable
 pub mod Readings
+pub mod Written
+pub mod Expressible
