@@ -64,7 +64,7 @@ length-from i (suc n) = ap suc (length-from (suc i) n)
 
 -- rules ----------------------------------------------------------------------------------
 
-abbrev not-attribute : ℕ → Bool
+abbrev pub not-attribute : ℕ → Bool
 not-attribute k = not (eqb k attribute-kind)
 
 -- what the kinds of the children are from a spot on

@@ -1,7 +1,7 @@
 -- The children that a document of the grammar can have, and that its trees have them.
 use Prim.Native.Nat.{ℕ}
-use mathlib.Core.Path.{_≡_, refl}
-use mathlib.Core.Bool.{Bool, true, false, not, _&&_, false≢true}
+use mathlib.Core.Path.{_≡_, refl, sym}
+use mathlib.Core.Bool.{Bool, true, false, not, _&&_, _||_, false≢true}
 use mathlib.Core.List.{List, [], _∷_, _++_}
 use Rattle.tree.specs.Lists.{every}
 use Rattle.tree.specs.Forest.{nil, node}
@@ -38,6 +38,10 @@ left-of false b h = h
 pub right-of : (a b : Bool) → (a && b) ≡ true → b ≡ true
 right-of true b h = h
 right-of false b h = absurd (false≢true h)
+
+pub neither : (a b : Bool) → (a || b) ≡ false → (a ≡ false) × (b ≡ false)
+neither true b h = absurd (false≢true (sym h))
+neither false b h = (refl, h)
 
 name-bytes : {r s t : List ℕ} → NameBytes r s t → every name-byte r ≡ true
 name-bytes no-name-byte = refl

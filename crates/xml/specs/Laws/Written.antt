@@ -2,7 +2,7 @@
 use Prim.Native.Nat.{ℕ, suc}
 use mathlib.Core.Path.{_≡_, refl, sym, ap, _∙_, subst}
 use mathlib.Core.Bool.{Bool, true, false, cond, not, _&&_, false≢true}
-use mathlib.Core.List.{List, [], _∷_, _++_, append-assoc, append-nil}
+use mathlib.Core.List.{List, [], _∷_, _++_, append-assoc}
 use lib.Dec.{eqb}
 use borrow.Author.Tests.{eqb-true}
 use Rattle.tree.specs.Text.{bytes}
@@ -144,6 +144,5 @@ written n t (no-attribute {seen = seen} r) = written-last n seen t r (written n 
 pub written-spells : {f : Shape} → FormedRoot f → Spells (long-declaration ++ (line-feed ∷ contents f)) f
 unfolding contents blank
 written-spells (formed-root {n = n} {f = f} i r) =
-    let p : ending n f ++ [] ≡ ending n f = append-nil (ending n f) in
     let x : Part true (behind n []) (writing.attributes f ++ (ending n f ++ [])) f [] = written n [] r in
     declared-long (root (blank-then refl no-blank) (named n _ i) x no-blank)
