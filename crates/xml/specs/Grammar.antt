@@ -6,7 +6,8 @@ use mathlib.Core.Bool.{Bool, true, false, _&&_}
 use mathlib.Core.List.{List, [], _∷_, _++_}
 use Rattle.tree.specs.Forest.{nil, node}
 use Rattle.tree.specs.Content.{name-start, name-byte}
-use Rattle.xml.specs.Bytes.{ampersand, slash, less-than, equals-sign, greater-than, quotation-mark, apostrophe, blank, Quote, mark, value-literal, text-literal, brackets, used, amp, apos, gt, lt, quot, short-declaration, long-declaration}
+use Rattle.xml.specs.Bytes.{ampersand, slash, less-than, equals-sign, greater-than, quotation-mark, apostrophe, blank, Quote, mark}
+use Rattle.xml.specs.Bytes.{value-literal, text-literal, brackets, used, amp, apos, gt, lt, quot, short-declaration, long-declaration}
 use Rattle.xml.specs.Shape.{Shape, element, attribute, text}
 
 abbrev pub Name : Type 0

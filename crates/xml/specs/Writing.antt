@@ -55,7 +55,7 @@ contents nil = []
 contents (node a ks fs) =
     cond (is-element a)
     (bytes "<" ++ (a .content ++ (attributes ks ++
-        (cond (childless ks) (bytes "/>") (bytes ">" ++ (contents ks ++ (bytes "</" ++ (a .content ++ bytes ">")))) ++ contents fs))))
+    (cond (childless ks) (bytes "/>") (bytes ">" ++ (contents ks ++ (bytes "</" ++ (a .content ++ bytes ">")))) ++ contents fs))))
     (cond (is-text a) (escaped (a .content) ++ contents fs) (contents fs))
 
 -- the children of the topmost node

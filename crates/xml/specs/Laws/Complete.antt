@@ -7,10 +7,24 @@ use native.Mathlib.Omega.{arith}
 use Rattle.tree.specs.Content.{text-kind}
 use Rattle.xml.specs.Bytes.{less-than, equals-sign, greater-than, blank, Quote, mark, used}
 use Rattle.xml.specs.Shape.{Shape}
-use Rattle.xml.specs.Grammar.{Name, Blanks, no-blank, blank-then, NameBytes, no-name-byte, name-byte-then, Named, name, Value, value-close, value-byte, value-entity, Chars, chars-end, chars-byte, chars-entity, text-node, Place, behind, spaced, inside, opened, Part, spacing, empty, full, more, attribute-part, text-part, markup, element-part, end-tag, Root, root, Parses, bare, declared-short, declared-long}
-use Rattle.xml.specs.Laws.Words.{Words, whole, begun, follow, Word, First, first-whole, first-begun, first, no-first, entity-word, short-word, long-word}
-use Rattle.xml.specs.Laws.Automaton.{Config, at-start, behind-first, prolog, behind-root, epilog, declaration, tag-name, behind-part, in-tag, before-equals, behind-equals, behind-slash, attribute-name, behind-quote, in-value, value-reference, content, behind-open, in-text, text-reference, end-name, Event, born, byte, depth, closed, Reads, stay, on, tell-bytes, tell}
-use Rattle.xml.specs.Laws.Transitions.{TagStep, tag-blank, tag-slash, tag-close, Step, s-start-blank, s-start-open, s-first-name, s-first-declaration, s-declaration-end, s-declaration-on, s-prolog-blank, s-prolog-open, s-root-name, s-tag-name, s-tag-name-end, s-behind, s-in-tag, s-in-tag-name, s-attribute, s-attribute-blank, s-attribute-equals, s-before-blank, s-before-equals, s-equals-blank, s-equals-quote, s-quote-byte, s-quote-reference, s-quote-end, s-value-byte, s-value-reference, s-value-end, s-value-word-end, s-value-word-on, s-slash, s-content-byte, s-content-reference, s-content-open, s-text-byte, s-text-reference, s-text-open, s-text-word-end, s-text-word-on, s-open-name, s-open-slash, s-end-byte, s-end-blank, s-end-close, s-epilog, step-is, forth, tag-no-name}
+use Rattle.xml.specs.Grammar.{Name, Blanks, no-blank, blank-then, NameBytes, no-name-byte, name-byte-then, Named, name, Value, value-close}
+use Rattle.xml.specs.Grammar.{value-byte, value-entity, Chars, chars-end, chars-byte, chars-entity, text-node, Place, behind, spaced, inside}
+use Rattle.xml.specs.Grammar.{opened, Part, spacing, empty, full, more, attribute-part, text-part, markup, element-part, end-tag, Root, root}
+use Rattle.xml.specs.Grammar.{Parses, bare, declared-short, declared-long}
+use Rattle.xml.specs.Laws.Words.{Words, whole, begun, follow, Word, First, first-whole, first-begun, first, no-first, entity-word, short-word}
+use Rattle.xml.specs.Laws.Words.{long-word}
+use Rattle.xml.specs.Laws.Automaton.{Config, at-start, behind-first, prolog, behind-root, epilog, declaration, tag-name, behind-part, in-tag}
+use Rattle.xml.specs.Laws.Automaton.{before-equals, behind-equals, behind-slash, attribute-name, behind-quote, in-value, value-reference}
+use Rattle.xml.specs.Laws.Automaton.{content, behind-open, in-text, text-reference, end-name, Event, born, byte, depth, closed, Reads, stay, on}
+use Rattle.xml.specs.Laws.Automaton.{tell-bytes, tell}
+use Rattle.xml.specs.Laws.Transitions.{TagStep, tag-blank, tag-slash, tag-close, Step, s-start-blank, s-start-open, s-first-name}
+use Rattle.xml.specs.Laws.Transitions.{s-first-declaration, s-declaration-end, s-declaration-on, s-prolog-blank, s-prolog-open, s-root-name}
+use Rattle.xml.specs.Laws.Transitions.{s-tag-name, s-tag-name-end, s-behind, s-in-tag, s-in-tag-name, s-attribute, s-attribute-blank}
+use Rattle.xml.specs.Laws.Transitions.{s-attribute-equals, s-before-blank, s-before-equals, s-equals-blank, s-equals-quote, s-quote-byte}
+use Rattle.xml.specs.Laws.Transitions.{s-quote-reference, s-quote-end, s-value-byte, s-value-reference, s-value-end, s-value-word-end}
+use Rattle.xml.specs.Laws.Transitions.{s-value-word-on, s-slash, s-content-byte, s-content-reference, s-content-open, s-text-byte}
+use Rattle.xml.specs.Laws.Transitions.{s-text-reference, s-text-open, s-text-word-end, s-text-word-on, s-open-name, s-open-slash, s-end-byte}
+use Rattle.xml.specs.Laws.Transitions.{s-end-blank, s-end-close, s-epilog, step-is, forth, tag-no-name}
 
 abbrev pub Accepts : Bool → Config → List ℕ → List Event → Type 0
 Accepts u c s e = Reads u c s e epilog

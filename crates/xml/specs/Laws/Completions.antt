@@ -13,10 +13,15 @@ use Rattle.xml.specs.Shape.{Shape}
 use Rattle.xml.specs.Grammar.{Name, no-blank, NameBytes, no-name-byte, name-byte-then, Parses}
 use Rattle.xml.specs.Reading.{Viable}
 use Rattle.xml.specs.Laws.Words.{Words, some-word}
-use Rattle.xml.specs.Laws.Automaton.{Config, at-start, behind-first, prolog, behind-root, epilog, declaration, tag-name, behind-part, in-tag, before-equals, behind-equals, behind-slash, attribute-name, behind-quote, in-value, value-reference, content, behind-open, in-text, text-reference, end-name, Event, born, byte, closed, step, move, Reads, stay, on, tell-bytes, tell}
-use Rattle.xml.specs.Laws.Transitions.{tag-slash, Step, s-start-open, s-first-name, s-prolog-open, s-root-name, s-behind, s-before-equals, s-equals-quote, s-quote-end, s-value-end, s-slash, s-content-open, s-text-open, s-open-slash}
+use Rattle.xml.specs.Laws.Automaton.{Config, at-start, behind-first, prolog, behind-root, epilog, declaration, tag-name, behind-part, in-tag}
+use Rattle.xml.specs.Laws.Automaton.{before-equals, behind-equals, behind-slash, attribute-name, behind-quote, in-value, value-reference}
+use Rattle.xml.specs.Laws.Automaton.{content, behind-open, in-text, text-reference, end-name, Event, born, byte, closed, step, move, Reads}
+use Rattle.xml.specs.Laws.Automaton.{stay, on, tell-bytes, tell}
+use Rattle.xml.specs.Laws.Transitions.{tag-slash, Step, s-start-open, s-first-name, s-prolog-open, s-root-name, s-behind, s-before-equals}
+use Rattle.xml.specs.Laws.Transitions.{s-equals-quote, s-quote-end, s-value-end, s-slash, s-content-open, s-text-open, s-open-slash}
 use Rattle.xml.specs.Laws.Sound.{sound}
-use Rattle.xml.specs.Laws.Complete.{Accepts, _▸_, value-word, text-word, declaration-word, no-attribute, read-tag-name, read-attribute-name, read-end, complete}
+use Rattle.xml.specs.Laws.Complete.{Accepts, _▸_, value-word, text-word, declaration-word, no-attribute, read-tag-name, read-attribute-name}
+use Rattle.xml.specs.Laws.Complete.{read-end, complete}
 use Rattle.xml.specs.Laws.Phases.{Phase, early, reading, referring, over, phase}
 
 -- bytes that complete c and tell nothing more

@@ -10,7 +10,8 @@ use lib.ListN.{length, length-append}
 use borrow.Author.Tests.{eqb-true, eqb-false, leb-true, not-true}
 use Rattle.tree.specs.Lists.{every}
 use Rattle.tree.specs.Forest.{nil, node, rows, view}
-use Rattle.tree.specs.Content.{content-limit, element-kind, attribute-kind, text-kind, text-byte, is-name, is-text, spells-name, spells-text, allowed, takes, attributes-first, children-rule}
+use Rattle.tree.specs.Content.{content-limit, element-kind, attribute-kind, text-kind, text-byte, is-name, is-text, spells-name, spells-text, allowed}
+use Rattle.tree.specs.Content.{takes, attributes-first, children-rule}
 use Rattle.tree.specs.Document.{Node, Document, lines, top-kinds, ruled, rooted, legal}
 use Rattle.protocol.specs.Calls.{node-limit, loadable, stands-for}
 use Rattle.xml.specs.Bytes.{used}
@@ -18,7 +19,8 @@ use Rattle.xml.specs.Shape.{Label, Shape, element, attribute, text, size
 use Rattle.xml.specs.Grammar.{Name, text-node, Spells}
 use Rattle.xml.specs.Reading.{input-limit, ReadsAs}
 use Rattle.xml.specs.Writing.{below, write, no-root, repeats, begins-with-text, neighbouring-texts, expressible}
-use Rattle.xml.specs.Laws.Structure.{Spot, attributes, children, behind-text, Formed, formed-nil, formed-attribute, formed-text, formed-element, no-text, no-attribute, FormedRoot, formed-root, left-of, right-of, neither, spelled-formed}
+use Rattle.xml.specs.Laws.Structure.{Spot, attributes, children, behind-text, Formed, formed-nil, formed-attribute, formed-text, formed-element}
+use Rattle.xml.specs.Laws.Structure.{no-text, no-attribute, FormedRoot, formed-root, left-of, right-of, neither, spelled-formed}
 use Rattle.xml.specs.Laws.Loadable.{not-attribute, spelled-loadable}
 use Rattle.xml.specs.Laws.Readings.{accepted-iff}
 use Rattle.xml.specs.Laws.Written.{written-spells}
@@ -127,7 +129,7 @@ module _ (i : ℕ) (c : List ℕ) (ks fs : Document) (seen : List Name) where
       let n = childless ks (left-of _ _ b) in
       let outer = g seen (rep .1, nei .1) .after-text in
       let this : every not-attribute (top-kinds fs) ≡ true → Formed children (shape (child-of 4)) =
-        λ h. rw n (text-child c a (outer h (neither (begins-with-text (shape fs)) _ (nei .0) .0))) in
+      λ h. rw n (text-child c a (outer h (neither (begins-with-text (shape fs)) _ (nei .0) .0))) in
       record { first = λ h. no-attribute (this h); behind = this; after-text = λ h k. absurd (false≢true (sym k)) }
 
 formed-of : (f : Document) (seen : List Name) → ruled f ≡ true → every (takes element-kind) (top-kinds f) ≡ true → Clear seen (shape f) → Children f seen
@@ -141,7 +143,7 @@ formed-of (node a ks fs) seen r h clear =
     (right-of (allowed (a .kind) (a .content) && children-rule (a .kind) (top-kinds ks)) _ q) clear
     (λ k l. formed-of ks [] (right-of (allowed (a .kind) (a .content) && children-rule (a .kind) (top-kinds ks)) _ q) k l)
     (λ s l. formed-of fs s (right-of (allowed (a .kind) (a .content) && children-rule (a .kind) (top-kinds ks) && ruled ks) _ r)
-      (right-of (takes element-kind (a .kind)) _ h) l)
+    (right-of (takes element-kind (a .kind)) _ h) l)
 
 -- the document ---------------------------------------------------------------------------
 
@@ -157,7 +159,7 @@ element-root c js r p q =
     let y = left-of (allowed 2 c && children-rule 2 (top-kinds js)) _ x in
     let rule = right-of (allowed 2 c) (children-rule 2 (top-kinds js)) y in
     let kids = formed-of js [] (right-of (allowed 2 c && children-rule 2 (top-kinds js)) _ x) (left-of _ _ rule)
-      (neither (repeats [] (shape js)) _ p .0, neither (neighbouring-texts (shape js)) _ q .0) in
+    (neither (repeats [] (shape js)) _ p .0, neither (neighbouring-texts (shape js)) _ q .0) in
     formed-root (right-of (leb (length c) content-limit) _ (left-of (allowed 2 c) _ y)) (kids .first (right-of (every (takes 2) (top-kinds js)) _ rule))
 
 root-of : (ks : Document) → ruled ks ≡ true → children-rule 1 (top-kinds ks) ≡ true → no-root (shape ks) ≡ false → repeats [] (shape ks) ≡ false
@@ -290,10 +292,14 @@ expressible-parts : (d : Document) → expressible d ≡ true → Writable d × 
 unfolding expressible
 expressible-parts d h =
     let x = left-of (not (no-root (below (shape d))) && not (repeats [] (below (shape d))) && not (neighbouring-texts (below (shape d)))) _ h in
-    let y = left-of (not (no-root (below (shape d))) && not (repeats [] (below (shape d)))) _ x in
-    ((not-true _ (left-of _ _ y), not-true _ (right-of (not (no-root (below (shape d)))) _ y),
-      not-true _ (right-of (not (no-root (below (shape d))) && not (repeats [] (below (shape d)))) _ x)),
-      leb-true (length (write d)) input-limit (right-of (not (no-root (below (shape d))) && not (repeats [] (below (shape d))) && not (neighbouring-texts (below (shape d)))) _ h))
+    let y = left-of (not (no-root (below (shape d))) && not (repeats [] (below (shape d)))) _ x in (
+      (
+        not-true _ (left-of _ _ y),
+        not-true _ (right-of (not (no-root (below (shape d)))) _ y),
+        not-true _ (right-of (not (no-root (below (shape d))) && not (repeats [] (below (shape d)))) _ x),
+      ),
+      leb-true (length (write d)) input-limit (right-of (not (no-root (below (shape d))) && not (repeats [] (below (shape d))) && not (neighbouring-texts (below (shape d)))) _ h),
+    )
 
 pub read-back : (d : Document) → legal d ≡ true → expressible d ≡ true → length (lines d) ≤ node-limit → ReadBack d
 unfolding lines shape view size longest write
@@ -309,8 +315,8 @@ read-back (node a ks nil) h e l =
     let k = spelled-loadable x few short in
     record {
       same-tree =
-        shape-numbered 0 (node (record { kind = 1; content = [] }) (shape ks) nil)
-        ∙ ap₂ (λ (k : ℕ) (c : List ℕ). node (record { kind = k; content = c }) (shape ks) nil) (sym (q .0)) (sym (q .1));
+          shape-numbered 0 (node (record { kind = 1; content = [] }) (shape ks) nil)
+          ∙ ap₂ (λ (k : ℕ) (c : List ℕ). node (record { kind = k; content = c }) (shape ks) nil) (sym (q .0)) (sym (q .1));
       is-loadable = k;
       reads = accepted-iff (write (node a ks nil)) (renumbered (node a ks nil)) k .1 (record { shape = shape ks; spelled = x; stands = refl; short-input = p .1; few-nodes = few; short-contents = short });
     }

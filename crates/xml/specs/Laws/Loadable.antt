@@ -10,12 +10,14 @@ use lib.ListN.{length, length-map}
 use borrow.Author.Tests.{le-leb, eq-eqb, ne-eqb}
 use Rattle.tree.specs.Lists.{every, has, distinct}
 use Rattle.tree.specs.Forest.{nil, node, rows}
-use Rattle.tree.specs.Content.{content-limit, attribute-kind, element-kind, text-byte, is-name, is-text, spells-name, allowed, takes, attributes-first, children-rule}
+use Rattle.tree.specs.Content.{content-limit, attribute-kind, element-kind, text-byte, is-name, is-text, spells-name, allowed, takes}
+use Rattle.tree.specs.Content.{attributes-first, children-rule}
 use Rattle.tree.specs.Document.{Node, Document, Line, lines, numbers, top-kinds, ruled, rooted, legal}
 use Rattle.protocol.specs.Calls.{node-limit, ascending-from, loadable}
 use Rattle.xml.specs.Shape.{Label, Shape, element, attribute, text, size, longest, numbered, document}
 use Rattle.xml.specs.Grammar.{Name, text-node, Spells}
-use Rattle.xml.specs.Laws.Structure.{Spot, attributes, children, behind-text, Formed, formed-nil, formed-attribute, formed-text, formed-element, no-text, no-attribute, FormedRoot, formed-root, both, left-of, right-of, spelled-formed}
+use Rattle.xml.specs.Laws.Structure.{Spot, attributes, children, behind-text, Formed, formed-nil, formed-attribute, formed-text, formed-element}
+use Rattle.xml.specs.Laws.Structure.{no-text, no-attribute, FormedRoot, formed-root, both, left-of, right-of, spelled-formed}
 
 -- numbers --------------------------------------------------------------------------------
 

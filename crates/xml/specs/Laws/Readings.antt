@@ -11,7 +11,8 @@ use Rattle.tree.specs.Document.{Document}
 use Rattle.protocol.specs.Calls.{node-limit, loadable, Input, unreadable, stands-for}
 use Rattle.xml.specs.Shape.{Shape, size, longest, document}
 use Rattle.xml.specs.Grammar.{Parses, Spells}
-use Rattle.xml.specs.Reading.{input-limit, Viable, Fault, wrong-byte, too-soon, too-long, long-content, many-nodes, Earlier, ReadsAs, accepted, refused}
+use Rattle.xml.specs.Reading.{input-limit, Viable, Fault, wrong-byte, too-soon, too-long, long-content, many-nodes, Earlier, ReadsAs, accepted}
+use Rattle.xml.specs.Reading.{refused}
 use Rattle.xml.specs.Laws.Sound.{sound}
 use Rattle.xml.specs.Laws.Complete.{complete}
 use Rattle.xml.specs.Laws.Unique.{tell-unique, one-tree}

@@ -7,10 +7,23 @@ use Rattle.tree.specs.Forest.{nil, node}
 use Rattle.tree.specs.Content.{element-kind}
 use Rattle.xml.specs.Bytes.{less-than, equals-sign, greater-than, blank, Quote, mark, used, short-declaration, long-declaration}
 use Rattle.xml.specs.Shape.{Shape, element, attribute, text}
-use Rattle.xml.specs.Grammar.{Name, Blanks, no-blank, blank-then, NameBytes, no-name-byte, name-byte-then, Named, name, Value, value-close, value-byte, value-entity, Chars, chars-end, chars-byte, chars-entity, text-node, behind, spaced, inside, opened, Part, spacing, empty, full, more, attribute-part, text-part, markup, element-part, end-tag, Root, root, Parses, bare, declared-short, declared-long}
+use Rattle.xml.specs.Grammar.{Name, Blanks, no-blank, blank-then, NameBytes, no-name-byte, name-byte-then, Named, name, Value, value-close}
+use Rattle.xml.specs.Grammar.{value-byte, value-entity, Chars, chars-end, chars-byte, chars-entity, text-node, behind, spaced, inside, opened}
+use Rattle.xml.specs.Grammar.{Part, spacing, empty, full, more, attribute-part, text-part, markup, element-part, end-tag, Root, root, Parses}
+use Rattle.xml.specs.Grammar.{bare, declared-short, declared-long}
 use Rattle.xml.specs.Laws.Words.{Words, declarations, Word, word-back, word-end, word-entity, word-declaration}
-use Rattle.xml.specs.Laws.Automaton.{Config, at-start, behind-first, prolog, behind-root, epilog, declaration, tag-name, behind-part, in-tag, before-equals, behind-equals, behind-slash, attribute-name, behind-quote, in-value, value-reference, content, behind-open, in-text, text-reference, end-name, Event, born, byte, depth, closed, step, move, Reads, stay, on, tell-bytes, tell}
-use Rattle.xml.specs.Laws.Transitions.{TagStep, tag-blank, tag-slash, tag-close, Step, s-start-blank, s-start-open, s-first-name, s-first-declaration, s-declaration-end, s-declaration-on, s-prolog-blank, s-prolog-open, s-root-name, s-tag-name, s-tag-name-end, s-behind, s-in-tag, s-in-tag-name, s-attribute, s-attribute-blank, s-attribute-equals, s-before-blank, s-before-equals, s-equals-blank, s-equals-quote, s-quote-byte, s-quote-reference, s-quote-end, s-value-byte, s-value-reference, s-value-end, s-value-word-end, s-value-word-on, s-slash, s-content-byte, s-content-reference, s-content-open, s-text-byte, s-text-reference, s-text-open, s-text-word-end, s-text-word-on, s-open-name, s-open-slash, s-end-byte, s-end-blank, s-end-close, s-epilog, step-is}
+use Rattle.xml.specs.Laws.Automaton.{Config, at-start, behind-first, prolog, behind-root, epilog, declaration, tag-name, behind-part, in-tag}
+use Rattle.xml.specs.Laws.Automaton.{before-equals, behind-equals, behind-slash, attribute-name, behind-quote, in-value, value-reference}
+use Rattle.xml.specs.Laws.Automaton.{content, behind-open, in-text, text-reference, end-name, Event, born, byte, depth, closed, step, move}
+use Rattle.xml.specs.Laws.Automaton.{Reads, stay, on, tell-bytes, tell}
+use Rattle.xml.specs.Laws.Transitions.{TagStep, tag-blank, tag-slash, tag-close, Step, s-start-blank, s-start-open, s-first-name}
+use Rattle.xml.specs.Laws.Transitions.{s-first-declaration, s-declaration-end, s-declaration-on, s-prolog-blank, s-prolog-open, s-root-name}
+use Rattle.xml.specs.Laws.Transitions.{s-tag-name, s-tag-name-end, s-behind, s-in-tag, s-in-tag-name, s-attribute, s-attribute-blank}
+use Rattle.xml.specs.Laws.Transitions.{s-attribute-equals, s-before-blank, s-before-equals, s-equals-blank, s-equals-quote, s-quote-byte}
+use Rattle.xml.specs.Laws.Transitions.{s-quote-reference, s-quote-end, s-value-byte, s-value-reference, s-value-end, s-value-word-end}
+use Rattle.xml.specs.Laws.Transitions.{s-value-word-on, s-slash, s-content-byte, s-content-reference, s-content-open, s-text-byte}
+use Rattle.xml.specs.Laws.Transitions.{s-text-reference, s-text-open, s-text-word-end, s-text-word-on, s-open-name, s-open-slash, s-end-byte}
+use Rattle.xml.specs.Laws.Transitions.{s-end-blank, s-end-close, s-epilog, step-is}
 
 -- s may follow the configuration to the end of a document, and tells e
 pub data Rest (u : Bool) : Config → List ℕ → List Event → Type 0 where
@@ -20,20 +33,33 @@ pub data Rest (u : Bool) : Config → List ℕ → List Event → Type 0 where
   r-first : {s : List ℕ} {e : List Event} → Rest u behind-root s e → Rest u behind-first s e
   r-declarations : {s : List ℕ} {e : List Event} → Rest u (declaration declarations) s e → Rest u behind-first (63 ∷ s) e
   r-declaration : {x : Words} {s t : List ℕ} {k : ℕ} {e : List Event} → Word x s t k → Rest u prolog t e → Rest u (declaration x) s e
-  r-tag-name : {ns : List Name} {p : Name} {r s t : List ℕ} {e : List Event} → NameBytes r s t → Rest u (behind-part (p ++ r) ns []) t e → Rest u (tag-name ns p) s (tell-bytes r e)
-  r-behind : {n : Name} {ns seen : List Name} {s t : List ℕ} {f : Shape} {e : List Event} → Part u (behind n seen) s f t → Rest u (closed ns) t e → Rest u (behind-part n ns seen) s (tell (suc (depth ns)) f e)
-  r-in-tag : {n : Name} {ns seen : List Name} {s t : List ℕ} {f : Shape} {e : List Event} → Part u (spaced n seen) s f t → Rest u (closed ns) t e → Rest u (in-tag n ns seen) s (tell (suc (depth ns)) f e)
-  r-attribute : {n p : Name} {ns seen : List Name} {r s t : List ℕ} {e : List Event} → NameBytes r s t → (u && used seen (p ++ r)) ≡ false → Rest u (before-equals n ns ((p ++ r) ∷ seen)) t e → Rest u (attribute-name n ns seen p) s (tell-bytes r e)
-  r-before : {n : Name} {ns seen : List Name} {s t : List ℕ} {e : List Event} → Blanks s (equals-sign ∷ t) → Rest u (behind-equals n ns seen) t e → Rest u (before-equals n ns seen) s e
-  r-equals : {n : Name} {ns seen : List Name} (q : Quote) {s t : List ℕ} {e : List Event} → Blanks s (mark q ∷ t) → Rest u (behind-quote n ns seen q) t e → Rest u (behind-equals n ns seen) s e
-  r-quote : {n : Name} {ns seen : List Name} {q : Quote} {s t c : List ℕ} {e : List Event} → Value q s t c → Rest u (behind-part n ns seen) t e → Rest u (behind-quote n ns seen q) s (tell (suc (suc (depth ns))) (text-node c) e)
-  r-value : {n : Name} {ns seen : List Name} {q : Quote} {s t c : List ℕ} {e : List Event} → Value q s t c → Rest u (behind-part n ns seen) t e → Rest u (in-value n ns seen q) s (tell-bytes c e)
-  r-value-word : {n : Name} {ns seen : List Name} {q : Quote} {k : ℕ} {x : Words} {s t : List ℕ} {e : List Event} → Word x s t k → Rest u (in-value n ns seen q) t e → Rest u (value-reference n ns seen q x) s (byte k ∷ e)
+  r-tag-name : {ns : List Name} {p : Name} {r s t : List ℕ} {e : List Event} → NameBytes r s t → Rest u (behind-part (p ++ r) ns []) t e
+      → Rest u (tag-name ns p) s (tell-bytes r e)
+  r-behind : {n : Name} {ns seen : List Name} {s t : List ℕ} {f : Shape} {e : List Event} → Part u (behind n seen) s f t → Rest u (closed ns) t e
+      → Rest u (behind-part n ns seen) s (tell (suc (depth ns)) f e)
+  r-in-tag : {n : Name} {ns seen : List Name} {s t : List ℕ} {f : Shape} {e : List Event} → Part u (spaced n seen) s f t → Rest u (closed ns) t e
+      → Rest u (in-tag n ns seen) s (tell (suc (depth ns)) f e)
+  r-attribute : {n p : Name} {ns seen : List Name} {r s t : List ℕ} {e : List Event} → NameBytes r s t → (u && used seen (p ++ r)) ≡ false → Rest u (before-equals n ns ((p ++ r) ∷ seen)) t e
+      → Rest u (attribute-name n ns seen p) s (tell-bytes r e)
+  r-before : {n : Name} {ns seen : List Name} {s t : List ℕ} {e : List Event} → Blanks s (equals-sign ∷ t) → Rest u (behind-equals n ns seen) t e
+      → Rest u (before-equals n ns seen) s e
+  r-equals : {n : Name} {ns seen : List Name} (q : Quote) {s t : List ℕ} {e : List Event} → Blanks s (mark q ∷ t) → Rest u (behind-quote n ns seen q) t e
+      → Rest u (behind-equals n ns seen) s e
+  r-quote : {n : Name} {ns seen : List Name} {q : Quote} {s t c : List ℕ} {e : List Event} → Value q s t c → Rest u (behind-part n ns seen) t e
+      → Rest u (behind-quote n ns seen q) s (tell (suc (suc (depth ns))) (text-node c) e)
+  r-value : {n : Name} {ns seen : List Name} {q : Quote} {s t c : List ℕ} {e : List Event} → Value q s t c → Rest u (behind-part n ns seen) t e
+      → Rest u (in-value n ns seen q) s (tell-bytes c e)
+  r-value-word : {n : Name} {ns seen : List Name} {q : Quote} {k : ℕ} {x : Words} {s t : List ℕ} {e : List Event} → Word x s t k → Rest u (in-value n ns seen q) t e
+      → Rest u (value-reference n ns seen q x) s (byte k ∷ e)
   r-slash : {ns : List Name} {s : List ℕ} {e : List Event} → Rest u (closed ns) s e → Rest u (behind-slash ns) (greater-than ∷ s) e
-  r-content : {n : Name} {ns : List Name} {s t : List ℕ} {f : Shape} {e : List Event} → Part u (inside n) s f t → Rest u (closed ns) t e → Rest u (content n ns) s (tell (suc (depth ns)) f e)
-  r-open : {n : Name} {ns : List Name} {s t : List ℕ} {f : Shape} {e : List Event} → Part u (opened n) s f t → Rest u (closed ns) t e → Rest u (behind-open n ns) s (tell (suc (depth ns)) f e)
-  r-text : {n : Name} {ns : List Name} {k : ℕ} {s t c : List ℕ} {e : List Event} → Chars k s t c → Rest u (behind-open n ns) t e → Rest u (in-text n ns k) s (tell-bytes c e)
-  r-text-word : {n : Name} {ns : List Name} {k : ℕ} {x : Words} {s t : List ℕ} {e : List Event} → Word x s t k → Rest u (in-text n ns 0) t e → Rest u (text-reference n ns x) s (byte k ∷ e)
+  r-content : {n : Name} {ns : List Name} {s t : List ℕ} {f : Shape} {e : List Event} → Part u (inside n) s f t → Rest u (closed ns) t e
+      → Rest u (content n ns) s (tell (suc (depth ns)) f e)
+  r-open : {n : Name} {ns : List Name} {s t : List ℕ} {f : Shape} {e : List Event} → Part u (opened n) s f t → Rest u (closed ns) t e
+      → Rest u (behind-open n ns) s (tell (suc (depth ns)) f e)
+  r-text : {n : Name} {ns : List Name} {k : ℕ} {s t c : List ℕ} {e : List Event} → Chars k s t c → Rest u (behind-open n ns) t e
+      → Rest u (in-text n ns k) s (tell-bytes c e)
+  r-text-word : {n : Name} {ns : List Name} {k : ℕ} {x : Words} {s t : List ℕ} {e : List Event} → Word x s t k → Rest u (in-text n ns 0) t e
+      → Rest u (text-reference n ns x) s (byte k ∷ e)
   r-end : {n : Name} {ns : List Name} {w s t : List ℕ} {e : List Event} → Blanks s (greater-than ∷ t) → Rest u (closed ns) t e → Rest u (end-name n ns w) (w ++ s) e
   r-epilog : {s : List ℕ} → Blanks s [] → Rest u epilog s []
 

@@ -8,7 +8,10 @@ use Rattle.tree.specs.Forest.{nil, node}
 use Rattle.tree.specs.Content.{text-byte, name-start, name-byte, spells-name}
 use Rattle.xml.specs.Bytes.{Quote, used, value-literal, text-literal}
 use Rattle.xml.specs.Shape.{Shape, element, attribute, text}
-use Rattle.xml.specs.Grammar.{Name, NameBytes, no-name-byte, name-byte-then, Named, name, Entity, entity-amp, entity-apos, entity-gt, entity-lt, entity-quot, Value, value-close, value-byte, value-entity, Chars, chars-end, chars-byte, chars-entity, text-node, Place, behind, spaced, inside, opened, Part, spacing, empty, full, more, attribute-part, text-part, markup, element-part, end-tag, Root, root, Parses, bare, declared-short, declared-long, Spells}
+use Rattle.xml.specs.Grammar.{Name, NameBytes, no-name-byte, name-byte-then, Named, name, Entity, entity-amp, entity-apos, entity-gt, entity-lt}
+use Rattle.xml.specs.Grammar.{entity-quot, Value, value-close, value-byte, value-entity, Chars, chars-end, chars-byte, chars-entity, text-node}
+use Rattle.xml.specs.Grammar.{Place, behind, spaced, inside, opened, Part, spacing, empty, full, more, attribute-part, text-part, markup}
+use Rattle.xml.specs.Grammar.{element-part, end-tag, Root, root, Parses, bare, declared-short, declared-long, Spells}
 
 -- where among the children of an element: among the attributes, those before named; behind them; behind a text
 pub data Spot : Type 0 where

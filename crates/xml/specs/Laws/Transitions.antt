@@ -6,10 +6,14 @@ use mathlib.Core.List.{List, [], _∷_, _++_}
 use lib.Dec.{eqb, leb}
 use borrow.Author.Tests.{eqb-true, eq-eqb}
 use Rattle.tree.specs.Content.{element-kind, attribute-kind, text-kind, name-start, name-byte, text-byte}
-use Rattle.xml.specs.Bytes.{ampersand, slash, less-than, equals-sign, greater-than, quotation-mark, apostrophe, blank, Quote, double, single, mark, value-literal, text-literal, brackets, used}
+use Rattle.xml.specs.Bytes.{ampersand, slash, less-than, equals-sign, greater-than, quotation-mark, apostrophe, blank, Quote, double, single}
+use Rattle.xml.specs.Bytes.{mark, value-literal, text-literal, brackets, used}
 use Rattle.xml.specs.Grammar.{Name}
 use Rattle.xml.specs.Laws.Words.{Words, Found, no-word, whole, begun, follow, entities, declarations, fork-on}
-use Rattle.xml.specs.Laws.Automaton.{Config, at-start, behind-first, prolog, behind-root, epilog, declaration, tag-name, behind-part, in-tag, before-equals, behind-equals, behind-slash, attribute-name, behind-quote, in-value, value-reference, content, behind-open, in-text, text-reference, end-name, Event, born, byte, Move, stuck, move, to, depth, closed, tag-step, word-step, step}
+use Rattle.xml.specs.Laws.Automaton.{Config, at-start, behind-first, prolog, behind-root, epilog, declaration, tag-name, behind-part, in-tag}
+use Rattle.xml.specs.Laws.Automaton.{before-equals, behind-equals, behind-slash, attribute-name, behind-quote, in-value, value-reference}
+use Rattle.xml.specs.Laws.Automaton.{content, behind-open, in-text, text-reference, end-name, Event, born, byte, Move, stuck, move, to, depth}
+use Rattle.xml.specs.Laws.Automaton.{closed, tag-step, word-step, step}
 
 -- behind a name or a value in a start tag
 pub data TagStep (n : Name) (ns seen : List Name) : ℕ → Config → Type 0 where

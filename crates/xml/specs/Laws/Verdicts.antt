@@ -13,7 +13,8 @@ use Rattle.tree.specs.Content.{content-limit}
 use Rattle.protocol.specs.Calls.{node-limit}
 use Rattle.xml.specs.Shape.{Shape, size, longest}
 use Rattle.xml.specs.Grammar.{Spells}
-use Rattle.xml.specs.Reading.{input-limit, Viable, LongContent, ManyNodes, Forces, FirstForced, opener, node-offset, Fault, wrong-byte, too-soon, too-long, long-content, many-nodes, Earlier}
+use Rattle.xml.specs.Reading.{input-limit, Viable, LongContent, ManyNodes, Forces, FirstForced, opener, node-offset, Fault, wrong-byte}
+use Rattle.xml.specs.Reading.{too-soon, too-long, long-content, many-nodes, Earlier}
 use Rattle.xml.specs.Laws.Automaton.{Config, at-start, epilog, Event, born, byte, Move, stuck, move, step, Reads, stay, on, tell}
 use Rattle.xml.specs.Laws.Sound.{sound}
 use Rattle.xml.specs.Laws.Complete.{complete}
@@ -196,11 +197,12 @@ module _ (s : List ℕ) (i : ℕ) (l : i ≤ length s) (m : i ≤ input-limit) (
               short-input = omega arith;
             }
         go false e =
-            let p : length s ≡ i = omega arith in
-            (subst (Fault s 4) p (too-soon (read-viable run) (not-spelled e)),
-              λ c′ i′ x. four-first (later s i l m clean x) (λ y. absurd (omega (arith, y .inside))))
+            let p : length s ≡ i = omega arith in (
+              subst (Fault s 4) p (too-soon (read-viable run) (not-spelled e)),
+              λ c′ i′ x. four-first (later s i l m clean x) (λ y. absurd (omega (arith, y .inside))),
+            )
 
--- a byte ---------------------------------------------------------------------------------
+    -- a byte ---------------------------------------------------------------------------------
 
     module _ (inside : i < length s) where
       abbrev here : ℕ
@@ -269,9 +271,10 @@ module _ (s : List ℕ) (i : ℕ) (l : i ≤ length s) (m : i ≤ input-limit) (
             (subst (Fault s 4) p (too-long (omega arith)), λ c′ i′ z. four-first (later s i l m clean z) f)
 
         long-here : ltb content-limit (extent (tail 0 v) e d) ≡ true → i < input-limit → (FirstForced ManyNodes s i → i ≤ node-offset s i) → Reported s 5 i
-        long-here k x f =
-            (long-content (first-long (ltb-true content-limit (extent (tail 0 v) e d) k)),
-              λ c′ i′ z. five-first (read-viable reads-next) inside x (later s i l m clean z) f)
+        long-here k x f = (
+          long-content (first-long (ltb-true content-limit (extent (tail 0 v) e d) k)),
+          λ c′ i′ z. five-first (read-viable reads-next) inside x (later s i l m clean z) f,
+        )
 
         stepped : (further : Verdict) → (Within s (suc i) d (v ++ e) → i < input-limit → Means s further)
             → Means s (weighed (byte-before s i) i nodes (extent (tail 0 v) e d) further)
@@ -286,11 +289,12 @@ module _ (s : List ℕ) (i : ℕ) (l : i ≤ length s) (m : i ≤ input-limit) (
                 (subst (Fault s 6) (p .0) (many-nodes (first-many (ltb-true node-limit nodes a))), λ c′ i′ z. six-before i (p .1) (later s i l m clean z))
             go true a false b true g y k = long-input (leb-true input-limit i g) (many-here true false a b refl)
             go true a false b false g true k = long-here k (leb-false input-limit i g) (many-here true false a b refl)
-            go true a false b false g false k =
-                (subst (Fault s 6) (offset-at s i b) (many-nodes (first-many (ltb-true node-limit nodes a))),
-                  λ c′ i′ z. six-first (read-viable reads-next) inside (leb-false input-limit i g) (later s i l m clean z)
-                    (λ x. short-free reads-next (omega (arith, extent-next, ltb-false content-limit (extent (tail 0 v) e d) k, w .short)) (x .forced))
-                    (many-here true false a b refl))
+            go true a false b false g false k = (
+              subst (Fault s 6) (offset-at s i b) (many-nodes (first-many (ltb-true node-limit nodes a))),
+              λ c′ i′ z. six-first (read-viable reads-next) inside (leb-false input-limit i g) (later s i l m clean z)
+                  (λ x. short-free reads-next (omega (arith, extent-next, ltb-false content-limit (extent (tail 0 v) e d) k, w .short)) (x .forced))
+                  (many-here true false a b refl),
+            )
             go false a q b true g y k = long-input (leb-true input-limit i g) (many-here false q a b refl)
             go false a q b false g true k = long-here k (leb-false input-limit i g) (many-here false q a b refl)
             go false a q b false g false k =

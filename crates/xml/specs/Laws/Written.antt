@@ -9,12 +9,17 @@ use Rattle.tree.specs.Text.{bytes}
 use Rattle.tree.specs.Lists.{every}
 use Rattle.tree.specs.Forest.{nil, node}
 use Rattle.tree.specs.Content.{name-start, name-byte, text-byte, spells-name}
-use Rattle.xml.specs.Bytes.{line-feed, less-than, greater-than, ampersand, quotation-mark, equals-sign, blank, used, double, value-literal, text-literal, brackets, long-declaration}
+use Rattle.xml.specs.Bytes.{line-feed, less-than, greater-than, ampersand, quotation-mark, equals-sign, blank, used, double, value-literal}
+use Rattle.xml.specs.Bytes.{text-literal, brackets, long-declaration}
 use Rattle.xml.specs.Shape.{Shape, element, attribute, text}
-use Rattle.xml.specs.Grammar.{Name, no-blank, blank-then, NameBytes, no-name-byte, name-byte-then, Named, name, entity-amp, entity-gt, entity-lt, entity-quot, Value, value-close, value-byte, value-entity, Chars, chars-end, chars-byte, chars-entity, text-node, behind, inside, opened, Part, spacing, empty, full, attribute-part, text-part, markup, element-part, end-tag, root, declared-long, Spells}
+use Rattle.xml.specs.Grammar.{Name, no-blank, blank-then, NameBytes, no-name-byte, name-byte-then, Named, name, entity-amp, entity-gt}
+use Rattle.xml.specs.Grammar.{entity-lt, entity-quot, Value, value-close, value-byte, value-entity, Chars, chars-end, chars-byte, chars-entity}
+use Rattle.xml.specs.Grammar.{text-node, behind, inside, opened, Part, spacing, empty, full, attribute-part, text-part, markup, element-part}
+use Rattle.xml.specs.Grammar.{end-tag, root, declared-long, Spells}
 use Rattle.xml.specs.Writing.{escape, escaped, value, childless, contents}
 use Rattle.xml.specs.Writing as writing
-use Rattle.xml.specs.Laws.Structure.{Spot, attributes, children, behind-text, Formed, formed-nil, formed-attribute, formed-text, formed-element, no-text, no-attribute, FormedRoot, formed-root, left-of, right-of}
+use Rattle.xml.specs.Laws.Structure.{Spot, attributes, children, behind-text, Formed, formed-nil, formed-attribute, formed-text, formed-element}
+use Rattle.xml.specs.Laws.Structure.{no-text, no-attribute, FormedRoot, formed-root, left-of, right-of}
 
 name-bytes : (r t : List ℕ) → every name-byte r ≡ true → NameBytes r (r ++ t) t
 name-bytes [] t h = no-name-byte
