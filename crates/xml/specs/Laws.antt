@@ -15,3 +15,4 @@ pub mod Loadable
 pub mod Readings
 pub mod Written
 pub mod Expressible
+pub mod Scan
