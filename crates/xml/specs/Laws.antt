@@ -16,3 +16,6 @@ pub mod Readings
 pub mod Written
 pub mod Expressible
 pub mod Scan
+pub mod Goes
+pub mod Tokens
+pub mod Fixed
