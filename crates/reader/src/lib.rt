@@ -7,6 +7,8 @@ ghost use Rattle.tree.specs.Content.{name-start, name-byte};
 ghost use Rattle.xml.specs.Bytes.{blank};
 ghost use Rattle.xml.specs.Laws.Tokens.{span};
 ghost use Rattle.reader.specs.Classes.{plain, class-of};
+ghost use Rattle.xml.specs.Laws.Fixed.{word-at, entity-at};
+ghost use Rattle.reader.specs.Steps.{Run, Agreement, Refers};
 
 // Of each byte: 3 a name's first byte, 2 another byte of a name, 1 another byte that may stand for itself, 0 any other.
 const CLASS: [u8; 256] = [
@@ -70,4 +72,102 @@ pub fn peek(s: &[u8], at: usize) -> u8
     ensures { λ r. ⌜ r ≡ getD (now (s .entry)) at 0 ⌝ }
 {
     if at < s.len() { s[at] } else { 0 }
+}
+
+// How many bytes of a word stand in the input from an offset on.
+pub fn agreement(s: &[u8], at: usize, word: &[u8]) -> usize
+    requires { ⌜ at ≤ length (now s) ⌝ }
+    ensures { λ r. ⌜ Agreement (now (word .entry)) (now (s .entry)) at r ⌝ }
+{
+    let mut n: usize = 0;
+    while n < word.len() {
+        if at + n >= s.len() {
+            return n;
+        }
+        if s[at + n] != word[n] {
+            return n;
+        }
+        n += 1;
+    }
+    n
+}
+
+pub struct Cursor {
+    pub at: usize,
+}
+
+// A reference behind its ampersand: the byte that it stands for, or the offset where no entity goes on.
+pub enum Reference {
+    Byte(u8, Cursor),
+    NoEntity(usize),
+}
+
+impl Cursor {
+    // Over blanks.
+    pub fn blanks(self, s: &[u8]) -> Cursor
+        requires { ⌜ self .at ≤ length (now s) ⌝ }
+        ensures { λ r. ⌜ Run blank (now (s .entry)) (self .at) (r .at) ⌝ }
+    {
+        let mut i = self.at;
+        while i < s.len() {
+            let b = s[i];
+            if !is_blank(b) {
+                break;
+            }
+            i += 1;
+        }
+        Cursor { at: i }
+    }
+
+    // Over the bytes of a name.
+    pub fn name(self, s: &[u8]) -> Cursor
+        requires { ⌜ self .at ≤ length (now s) ⌝ }
+        ensures { λ r. ⌜ Run name-byte (now (s .entry)) (self .at) (r .at) ⌝ }
+    {
+        let mut i = self.at;
+        while i < s.len() {
+            let b = s[i];
+            if !is_name_byte(b) {
+                break;
+            }
+            i += 1;
+        }
+        Cursor { at: i }
+    }
+
+    // One entity, compared whole.
+    pub fn entity(self, s: &[u8], word: &[u8], value: u8) -> Reference
+        requires { ⌜ self .at ≤ length (now s) ⌝ }
+        ensures { λ r. ⌜ Refers (now (s .entry)) (self .at) (word-at (now (word .entry)) value (drop (self .at) (now (s .entry)))) r ⌝ }
+    {
+        let at = self.at;
+        let n = agreement(s, at, word);
+        if n == word.len() {
+            return Reference::Byte(value, Cursor { at: at + n });
+        }
+        Reference::NoEntity(at + n)
+    }
+
+    // A reference, behind its ampersand; the first two bytes tell which entity it can be.
+    pub fn reference(self, s: &[u8]) -> Reference
+        requires { ⌜ self .at ≤ length (now s) ⌝ }
+        ensures { λ r. ⌜ Refers (now (s .entry)) (self .at) (entity-at (drop (self .at) (now (s .entry)))) r ⌝ }
+    {
+        let at = self.at;
+        let first = peek(s, at);
+        if first == b'a' {
+            let second = peek(s, at + 1);
+            if second == b'm' {
+                return self.entity(s, b"amp;", 38);
+            }
+            return self.entity(s, b"apos;", 39);
+        }
+        if first == b'g' {
+            return self.entity(s, b"gt;", 62);
+        }
+        if first == b'l' {
+            return self.entity(s, b"lt;", 60);
+        }
+        self.entity(s, b"quot;", 34)
+    }
 }
