@@ -4,11 +4,11 @@ ghost use mathlib.Core.Bool.{Bool, true, false};
 ghost use Prim.Native.Nat.{ℕ, _+_, _-_, _<_, _≤_};
 ghost use lib.ListN.{length, getD, take, drop};
 ghost use Rattle.tree.specs.Content.{name-start, name-byte};
-ghost use Rattle.xml.specs.Bytes.{blank};
+ghost use Rattle.xml.specs.Bytes.{blank, brackets};
 ghost use Rattle.xml.specs.Laws.Tokens.{span};
-ghost use Rattle.reader.specs.Classes.{plain, class-of};
+ghost use Rattle.reader.specs.Classes.{plain, class-of, begins};
 ghost use Rattle.xml.specs.Laws.Fixed.{word-at, entity-at};
-ghost use Rattle.reader.specs.Steps.{Run, Agreement, Refers};
+ghost use Rattle.reader.specs.Steps.{Run, Agreement, Refers, Character, CharactersRead};
 
 // Of each byte: 3 a name's first byte, 2 another byte of a name, 1 another byte that may stand for itself, 0 any other.
 const CLASS: [u8; 256] = [
@@ -92,6 +92,34 @@ pub fn agreement(s: &[u8], at: usize, word: &[u8]) -> usize
     n
 }
 
+// Whether a byte may begin a character of a value or a text that ends with stop, k bytes ] just before it.
+fn may_stand(b: u8, stop: u8, k: usize) -> bool
+    ensures { λ r. ⌜ r ≡ begins stop k b ⌝ }
+{
+    if b == b'&' {
+        return true;
+    }
+    if b != b'>' {
+        return is_plain(b);
+    }
+    if stop != b'<' {
+        return true;
+    }
+    k != 2
+}
+
+fn brackets_after(k: usize, b: u8) -> usize
+    ensures { λ r. ⌜ r ≡ brackets k b ⌝ }
+{
+    if b == b']' {
+        if k == 0 {
+            return 1;
+        }
+        return 2;
+    }
+    0
+}
+
 pub struct Cursor {
     pub at: usize,
 }
@@ -100,6 +128,12 @@ pub struct Cursor {
 pub enum Reference {
     Byte(u8, Cursor),
     NoEntity(usize),
+}
+
+// What a part of the input leads to: the cursor behind it and the number of nodes; or a cause and its offset.
+pub enum Read {
+    Past(Cursor, usize),
+    Refused(u8, usize),
 }
 
 impl Cursor {
@@ -169,5 +203,51 @@ impl Cursor {
             return self.entity(s, b"lt;", 60);
         }
         self.entity(s, b"quot;", 34)
+    }
+
+    // One character of a value or a text: a byte that stands for itself, or a reference.
+    pub fn character(self, s: &[u8]) -> Reference
+        requires { ⌜ self .at < length (now s) ⌝ }
+        ensures { λ r. ⌜ Character (now (s .entry)) (self .at) r ⌝ }
+    {
+        let at = self.at;
+        let b = s[at];
+        let next = Cursor { at: at + 1 };
+        if b == b'&' {
+            return next.reference(s);
+        }
+        Reference::Byte(b, next)
+    }
+
+    // The characters of a value or a text, from the first on, up to the byte that ends it.
+    pub fn characters(self, s: &[u8], stop: u8, nodes: usize) -> Read
+        requires { ⌜ (self .at ≤ length (now s)) × (nodes ≤ 1024) ⌝ }
+        ensures { λ r. ⌜ CharactersRead (now (s .entry)) stop (self .at) nodes r ⌝ }
+    {
+        let mut i = self.at;
+        let mut count: usize = 0;
+        let mut k: usize = 0;
+        while i < s.len() {
+            let b = s[i];
+            if b == stop {
+                return Read::Past(Cursor { at: i + 1 }, nodes);
+            }
+            if !may_stand(b, stop, k) {
+                return Read::Refused(4, i);
+            }
+            if count == 32 {
+                return Read::Refused(5, i);
+            }
+            let here = Cursor { at: i };
+            match here.character(s) {
+                Reference::NoEntity(j) => return Read::Refused(4, j),
+                Reference::Byte(_, next) => {
+                    i = next.at;
+                }
+            }
+            count += 1;
+            k = brackets_after(k, b);
+        }
+        Read::Refused(4, i)
     }
 }
