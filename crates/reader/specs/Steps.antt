@@ -5,9 +5,13 @@ use mathlib.Core.Bool.{Bool, true, false}
 use mathlib.Core.List.{List, [], _∷_}
 use lib.ListN.{length, getD, drop}
 use Rattle.protocol.specs.Calls.{node-limit}
-use Rattle.xml.specs.Bytes.{ampersand, brackets}
+use Rattle.tree.specs.Content.{name-start}
+use Rattle.xml.specs.Bytes.{ampersand, brackets, Quote, mark}
+use Rattle.xml.specs.Grammar.{Name}
+use Rattle.xml.specs.Reading.{node-offset}
 use Rattle.xml.specs.Laws.Words.{Words, entities}
-use Rattle.xml.specs.Laws.Automaton.{Config, Event, byte, stuck, move, to, step}
+use Rattle.xml.specs.Laws.Automaton.{behind-part, in-tag, before-equals, behind-slash, behind-quote, content, closed}
+use Rattle.xml.specs.Laws.Automaton.{Config, Event, born, byte, stuck, move, to, step}
 use Rattle.xml.specs.Laws.Phases.{phase, is-over, pending}
 use Rattle.xml.specs.Laws.Judge.{Verdict, bad}
 use Rattle.xml.specs.Laws.Scan.{scan-at}
@@ -18,6 +22,10 @@ use Rattle.reader.specs.Classes.{literal}
 use Rattle.reader.specs.declared.Cursor.{Cursor}
 use Rattle.reader.specs.declared.Reference.{Reference}
 use Rattle.reader.specs.declared.Reference.the-variants.{Byte, NoEntity}
+use Rattle.reader.specs.declared.Equals.{Equals}
+use Rattle.reader.specs.declared.Equals.the-variants.{Quoted, NoQuote}
+use Rattle.reader.specs.declared.Part.{Part}
+use Rattle.reader.specs.declared.Part.the-variants.{Open, Empty, Attribute, Wrong}
 use Rattle.reader.specs.declared.Read.{Read}
 use Rattle.reader.specs.declared.Read.the-variants.{Past, Refused}
 
@@ -61,3 +69,47 @@ pub data CharactersRead (s : List ℕ) (stop at nodes : ℕ) : Read → Type 0 w
       → CharactersRead s stop at nodes (Past c nodes)
   characters-refused : {x j : ℕ} → ((C : ℕ → Config) (R : Words → Config) (D : Config) → Characters stop C R D → scan-at s (C 0) nodes 0 at ≡ bad x j)
       → CharactersRead s stop at nodes (Refused x j)
+
+-- a value or a text from the configuration S on, before its first byte
+pub record Contents (stop : ℕ) (S : Config) (C : ℕ → Config) (R : Words → Config) (D : Config) : Type 0 where
+  pub inner : Characters stop C R D
+  pub depth : ℕ
+  pub kind : ℕ
+  pub first : (b : ℕ) → (b ≡ stop → ⊥) → literal stop 0 b ≡ true → step true S b ≡ move (C (brackets 0 b)) (born depth kind ∷ byte b ∷ [])
+  pub first-refers : step true S ampersand ≡ move (R entities) (born depth kind ∷ [])
+  pub nothing : step true S stop ≡ to D
+  pub no-first : (b : ℕ) → (b ≡ stop → ⊥) → (b ≡ ampersand → ⊥) → literal stop 0 b ≡ false → step true S b ≡ stuck
+  pub starting : is-over (phase S) ≡ false
+
+-- where a value or a text leads
+pub data ContentRead (s : List ℕ) (stop at nodes : ℕ) : Read → Type 0 where
+  content-past : {c : Cursor} {m : ℕ} → at < c .at → c .at ≤ length s → getD s (c .at - 1) 0 ≡ stop → nodes ≤ m → m ≤ node-limit
+      → ((S : Config) (C : ℕ → Config) (R : Words → Config) (D : Config) → Contents stop S C R D → Goes s S nodes at D m (c .at))
+      → ContentRead s stop at nodes (Past c m)
+  content-refused : {x j : ℕ}
+      → ((S : Config) (C : ℕ → Config) (R : Words → Config) (D : Config) → Contents stop S C R D → Leads s S nodes at (bad x j))
+      → ContentRead s stop at nodes (Refused x j)
+
+-- from behind an attribute's name
+pub data EqualsRead (s : List ℕ) (at : ℕ) : Equals → Type 0 where
+  quoted : {c : Cursor} (q : Quote) → at < c .at → c .at ≤ length s → node-offset s (c .at) ≡ c .at - 1
+      → ((n : Name) (ns seen : List Name) (m : ℕ) → m ≤ node-limit → Goes s (before-equals n ns seen) m at (behind-quote n ns seen q) m (c .at))
+      → EqualsRead s at (Quoted (mark q) c)
+  no-quote : {j : ℕ} → ((n : Name) (ns seen : List Name) (m : ℕ) → m ≤ node-limit → Leads s (before-equals n ns seen) m at (bad 4 j)) → EqualsRead s at (NoQuote j)
+
+-- from a configuration in a start tag, which may depend on the element, those around it and the attributes so far
+pub data TagRead (s : List ℕ) (F : Name → List Name → List Name → Config) (at : ℕ) : Part → Type 0 where
+  tag-open : {c : Cursor} → at < c .at → c .at ≤ length s → node-offset s (c .at) ≡ c .at
+      → ((n : Name) (ns seen : List Name) (m : ℕ) → m ≤ node-limit → Goes s (F n ns seen) m at (content n ns) m (c .at)) → TagRead s F at (Open c)
+  tag-empty : {c : Cursor} → at < c .at → c .at ≤ length s → node-offset s (c .at) ≡ c .at
+      → ((n : Name) (ns seen : List Name) (m : ℕ) → m ≤ node-limit → Goes s (F n ns seen) m at (closed ns) m (c .at)) → TagRead s F at (Empty c)
+  tag-attribute : {c : Cursor} → at < c .at → c .at < length s → node-offset s (c .at) ≡ c .at → name-start (getD s (c .at) 0) ≡ true
+      → ((n : Name) (ns seen : List Name) (m : ℕ) → m ≤ node-limit → Goes s (F n ns seen) m at (in-tag n ns seen) m (c .at)) → TagRead s F at (Attribute c)
+  tag-wrong : {j : ℕ} → ((n : Name) (ns seen : List Name) (m : ℕ) → m ≤ node-limit → Leads s (F n ns seen) m at (bad 4 j)) → TagRead s F at (Wrong j)
+
+abbrev pub PartRead : List ℕ → ℕ → Part → Type 0
+PartRead s at r = TagRead s behind-part at r
+
+-- from the slash of an empty-element tag
+abbrev pub SlashRead : List ℕ → ℕ → Part → Type 0
+SlashRead s at r = (getD s at 0 ≡ 47) → TagRead s (λ n ns seen. behind-part n ns seen) at r

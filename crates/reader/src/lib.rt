@@ -5,10 +5,11 @@ ghost use Prim.Native.Nat.{ℕ, _+_, _-_, _<_, _≤_};
 ghost use lib.ListN.{length, getD, take, drop};
 ghost use Rattle.tree.specs.Content.{name-start, name-byte};
 ghost use Rattle.xml.specs.Bytes.{blank, brackets};
+ghost use Rattle.xml.specs.Reading.{node-offset};
 ghost use Rattle.xml.specs.Laws.Tokens.{span};
 ghost use Rattle.reader.specs.Classes.{plain, class-of, begins};
 ghost use Rattle.xml.specs.Laws.Fixed.{word-at, entity-at};
-ghost use Rattle.reader.specs.Steps.{Run, Agreement, Refers, Character, CharactersRead};
+ghost use Rattle.reader.specs.Steps.{Run, Agreement, Refers, Character, CharactersRead, ContentRead, EqualsRead, PartRead, SlashRead};
 
 // Of each byte: 3 a name's first byte, 2 another byte of a name, 1 another byte that may stand for itself, 0 any other.
 const CLASS: [u8; 256] = [
@@ -136,6 +137,20 @@ pub enum Read {
     Refused(u8, usize),
 }
 
+// Behind an opening quote, or the offset where there is none.
+pub enum Equals {
+    Quoted(u8, Cursor),
+    NoQuote(usize),
+}
+
+// What comes next in a start tag: its end, of an empty-element tag too, or an attribute; or the offset of a wrong byte.
+pub enum Part {
+    Open(Cursor),
+    Empty(Cursor),
+    Attribute(Cursor),
+    Wrong(usize),
+}
+
 impl Cursor {
     // Over blanks.
     pub fn blanks(self, s: &[u8]) -> Cursor
@@ -249,5 +264,98 @@ impl Cursor {
             k = brackets_after(k, b);
         }
         Read::Refused(4, i)
+    }
+
+    // A value or a text, which may be empty, up to the byte that ends it; begin is the offset of its node.
+    pub fn content(self, s: &[u8], stop: u8, begin: usize, nodes: usize) -> Read
+        requires { ⌜ (self .at ≤ length (now s)) × (nodes ≤ 1024) × (begin ≡ node-offset (now s) (self .at)) ⌝ }
+        ensures { λ r. ⌜ ContentRead (now (s .entry)) stop (self .at) nodes r ⌝ }
+    {
+        let at = self.at;
+        if at >= s.len() {
+            return Read::Refused(4, at);
+        }
+        let b = s[at];
+        if b == stop {
+            return Read::Past(Cursor { at: at + 1 }, nodes);
+        }
+        if !may_stand(b, stop, 0) {
+            return Read::Refused(4, at);
+        }
+        if nodes == 1024 {
+            return Read::Refused(6, begin);
+        }
+        self.characters(s, stop, nodes + 1)
+    }
+
+    // From behind the name of an attribute to behind its opening quote.
+    pub fn equals(self, s: &[u8]) -> Equals
+        requires { ⌜ self .at ≤ length (now s) ⌝ }
+        ensures { λ r. ⌜ EqualsRead (now (s .entry)) (self .at) r ⌝ }
+    {
+        let before = self.blanks(s);
+        let at = before.at;
+        if at >= s.len() {
+            return Equals::NoQuote(at);
+        }
+        if s[at] != b'=' {
+            return Equals::NoQuote(at);
+        }
+        let sign = Cursor { at: at + 1 };
+        let behind = sign.blanks(s);
+        let i = behind.at;
+        if i >= s.len() {
+            return Equals::NoQuote(i);
+        }
+        let b = s[i];
+        if b == b'"' {
+            return Equals::Quoted(b, Cursor { at: i + 1 });
+        }
+        if b == b'\'' {
+            return Equals::Quoted(b, Cursor { at: i + 1 });
+        }
+        Equals::NoQuote(i)
+    }
+
+    // From behind a name or a value in a start tag to behind the tag, or to an attribute's name.
+    pub fn part(self, s: &[u8]) -> Part
+        requires { ⌜ self .at ≤ length (now s) ⌝ }
+        ensures { λ r. ⌜ PartRead (now (s .entry)) (self .at) r ⌝ }
+    {
+        let from = self.at;
+        let behind = self.blanks(s);
+        let at = behind.at;
+        if at >= s.len() {
+            return Part::Wrong(at);
+        }
+        let b = s[at];
+        if b == b'>' {
+            return Part::Open(Cursor { at: at + 1 });
+        }
+        if b == b'/' {
+            return behind.slash(s);
+        }
+        if at == from {
+            return Part::Wrong(at);
+        }
+        if is_name_start(b) {
+            return Part::Attribute(behind);
+        }
+        Part::Wrong(at)
+    }
+
+    // An empty-element tag from its slash on.
+    fn slash(self, s: &[u8]) -> Part
+        requires { ⌜ self .at < length (now s) ⌝ }
+        ensures { λ r. ⌜ SlashRead (now (s .entry)) (self .at) r ⌝ }
+    {
+        let at = self.at + 1;
+        if at >= s.len() {
+            return Part::Wrong(at);
+        }
+        if s[at] != b'>' {
+            return Part::Wrong(at);
+        }
+        Part::Empty(Cursor { at: at + 1 })
     }
 }

@@ -153,11 +153,11 @@ six-before i l (at-long h) = record { offsets = omega arith; causes = λ e. omeg
 six-before {s} i l (at-many h) = record { offsets = offset-least s (i - 1) i (omega arith); causes = λ e. omega arith }
 six-before i l (not-before h) = record { offsets = omega arith; causes = λ e. omega arith }
 
-offset-before : (s : List ℕ) (i : ℕ) → opener (byte-before s i) ≡ true → (node-offset s i ≡ i - 1) × (1 ≤ i)
+pub offset-before : (s : List ℕ) (i : ℕ) → opener (byte-before s i) ≡ true → (node-offset s i ≡ i - 1) × (1 ≤ i)
 offset-before s zero h = absurd (false≢true h)
 offset-before s (suc i) h = let p : i ≡ suc i - 1 = omega arith in (rw h p, omega arith)
 
-offset-at : (s : List ℕ) (i : ℕ) → opener (byte-before s i) ≡ false → node-offset s i ≡ i
+pub offset-at : (s : List ℕ) (i : ℕ) → opener (byte-before s i) ≡ false → node-offset s i ≡ i
 offset-at s zero h = refl
 offset-at s (suc i) h = rw h
 
