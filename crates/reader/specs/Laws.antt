@@ -2,3 +2,4 @@ pub mod Tables
 pub mod Runs
 pub mod Characters
 pub mod Contents
+pub mod Tags

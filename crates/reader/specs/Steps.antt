@@ -10,7 +10,7 @@ use Rattle.xml.specs.Bytes.{ampersand, brackets, Quote, mark}
 use Rattle.xml.specs.Grammar.{Name}
 use Rattle.xml.specs.Reading.{node-offset}
 use Rattle.xml.specs.Laws.Words.{Words, entities}
-use Rattle.xml.specs.Laws.Automaton.{behind-part, in-tag, before-equals, behind-slash, behind-quote, content, closed}
+use Rattle.xml.specs.Laws.Automaton.{behind-part, in-tag, before-equals, behind-slash, behind-quote, content, closed, tag-step}
 use Rattle.xml.specs.Laws.Automaton.{Config, Event, born, byte, stuck, move, to, step}
 use Rattle.xml.specs.Laws.Phases.{phase, is-over, pending}
 use Rattle.xml.specs.Laws.Judge.{Verdict, bad}
@@ -103,13 +103,19 @@ pub data TagRead (s : List ℕ) (F : Name → List Name → List Name → Config
       → ((n : Name) (ns seen : List Name) (m : ℕ) → m ≤ node-limit → Goes s (F n ns seen) m at (content n ns) m (c .at)) → TagRead s F at (Open c)
   tag-empty : {c : Cursor} → at < c .at → c .at ≤ length s → node-offset s (c .at) ≡ c .at
       → ((n : Name) (ns seen : List Name) (m : ℕ) → m ≤ node-limit → Goes s (F n ns seen) m at (closed ns) m (c .at)) → TagRead s F at (Empty c)
-  tag-attribute : {c : Cursor} → at < c .at → c .at < length s → node-offset s (c .at) ≡ c .at → name-start (getD s (c .at) 0) ≡ true
+  tag-attribute : {c : Cursor} → at ≤ c .at → c .at < length s → node-offset s (c .at) ≡ c .at → name-start (getD s (c .at) 0) ≡ true
       → ((n : Name) (ns seen : List Name) (m : ℕ) → m ≤ node-limit → Goes s (F n ns seen) m at (in-tag n ns seen) m (c .at)) → TagRead s F at (Attribute c)
   tag-wrong : {j : ℕ} → ((n : Name) (ns seen : List Name) (m : ℕ) → m ≤ node-limit → Leads s (F n ns seen) m at (bad 4 j)) → TagRead s F at (Wrong j)
 
+-- from behind a name or a value
 abbrev pub PartRead : List ℕ → ℕ → Part → Type 0
 PartRead s at r = TagRead s behind-part at r
 
--- from the slash of an empty-element tag
-abbrev pub SlashRead : List ℕ → ℕ → Part → Type 0
-SlashRead s at r = (getD s at 0 ≡ 47) → TagRead s (λ n ns seen. behind-part n ns seen) at r
+-- configurations in a start tag that go on alike where no name begins
+pub record TagPlace (F : Name → List Name → List Name → Config) : Type 0 where
+  pub alike : (n : Name) (ns seen : List Name) (b : ℕ) → name-start b ≡ false → step true (F n ns seen) b ≡ tag-step n ns seen b
+  pub calm : (n : Name) (ns seen : List Name) → is-over (phase (F n ns seen)) ≡ false
+
+-- from such a place
+pub record SlashRead (s : List ℕ) (at : ℕ) (r : Part) : Type 0 where
+  pub reads : (F : Name → List Name → List Name → Config) → TagPlace F → TagRead s F at r

@@ -309,10 +309,10 @@ impl Cursor {
         }
         let b = s[i];
         if b == b'"' {
-            return Equals::Quoted(b, Cursor { at: i + 1 });
+            return Equals::Quoted(b'"', Cursor { at: i + 1 });
         }
         if b == b'\'' {
-            return Equals::Quoted(b, Cursor { at: i + 1 });
+            return Equals::Quoted(b'\'', Cursor { at: i + 1 });
         }
         Equals::NoQuote(i)
     }
@@ -346,7 +346,7 @@ impl Cursor {
 
     // An empty-element tag from its slash on.
     fn slash(self, s: &[u8]) -> Part
-        requires { ⌜ self .at < length (now s) ⌝ }
+        requires { ⌜ (self .at < length (now s)) × (getD (now s) (self .at) 0 ≡ 47) ⌝ }
         ensures { λ r. ⌜ SlashRead (now (s .entry)) (self .at) r ⌝ }
     {
         let at = self.at + 1;
