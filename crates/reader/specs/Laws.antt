@@ -3,3 +3,4 @@ pub mod Runs
 pub mod Characters
 pub mod Contents
 pub mod Tags
+pub mod Attributes

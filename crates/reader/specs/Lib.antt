@@ -1,3 +1,4 @@
 pub mod Classes
 pub mod Steps
+pub mod Elements
 pub mod Laws

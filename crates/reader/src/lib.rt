@@ -4,12 +4,14 @@ ghost use mathlib.Core.Bool.{Bool, true, false};
 ghost use Prim.Native.Nat.{ℕ, _+_, _-_, _<_, _≤_};
 ghost use lib.ListN.{length, getD, take, drop};
 ghost use Rattle.tree.specs.Content.{name-start, name-byte};
-ghost use Rattle.xml.specs.Bytes.{blank, brackets};
+ghost use Rattle.xml.specs.Bytes.{blank, brackets, used};
+ghost use Rattle.tree.specs.Lists.{same};
 ghost use Rattle.xml.specs.Reading.{node-offset};
-ghost use Rattle.xml.specs.Laws.Tokens.{span};
+ghost use Rattle.xml.specs.Laws.Tokens.{span, name-at};
 ghost use Rattle.reader.specs.Classes.{plain, class-of, begins};
 ghost use Rattle.xml.specs.Laws.Fixed.{word-at, entity-at};
 ghost use Rattle.reader.specs.Steps.{Run, Agreement, Refers, Character, CharactersRead, ContentRead, EqualsRead, PartRead, SlashRead};
+ghost use Rattle.reader.specs.Elements.{stack, Placed, Attributed, AttributeRead};
 
 // Of each byte: 3 a name's first byte, 2 another byte of a name, 1 another byte that may stand for itself, 0 any other.
 const CLASS: [u8; 256] = [
@@ -129,6 +131,37 @@ pub struct Cursor {
 pub enum Reference {
     Byte(u8, Cursor),
     NoEntity(usize),
+}
+
+// Whether the name at an offset is the one that stands between two others.
+fn same_name(s: &[u8], from: usize, to: usize, other: usize) -> bool
+    requires { ⌜ (from ≤ to) × (other ≤ length (now s)) × Run name-byte (now s) from to ⌝ }
+    ensures { λ r. ⌜ r ≡ same (name-at (now (s .entry)) other) (name-at (now (s .entry)) from) ⌝ }
+{
+    let start = Cursor { at: other };
+    let end = start.name(s);
+    let n = end.at - other;
+    if n != to - from {
+        return false;
+    }
+    let word = &s[from..to];
+    agreement(s, other, word) == n
+}
+
+// Whether a name is among the count names whose offsets stand from lo on.
+fn repeated(s: &[u8], names: &[usize; 1024], lo: usize, count: usize, from: usize, to: usize) -> bool
+    requires { ⌜ (from ≤ to) × Run name-byte (now s) from to × (lo + count ≤ 1024) × Placed (now s) (now names) (lo + count) ⌝ }
+    ensures { λ r. ⌜ r ≡ used (stack (now (s .entry)) (now (names .entry)) lo count) (name-at (now (s .entry)) from) ⌝ }
+{
+    let mut i = count;
+    while 0 < i {
+        i -= 1;
+        let other = names[lo + i];
+        if same_name(s, from, to, other) {
+            return true;
+        }
+    }
+    false
 }
 
 // What a part of the input leads to: the cursor behind it and the number of nodes; or a cause and its offset.
@@ -357,5 +390,31 @@ impl Cursor {
             return Part::Wrong(at);
         }
         Part::Empty(Cursor { at: at + 1 })
+    }
+
+    // An attribute from the first byte of its name to behind its value; the names of those before it stand from lo on.
+    pub fn attribute(self, s: &[u8], names: &[usize; 1024], lo: usize, count: usize, nodes: usize) -> Read
+        requires { ⌜ Attributed (now s) (self .at) nodes × (lo + count ≤ 1024) × Placed (now s) (now names) (lo + count) ⌝ }
+        ensures { λ r. ⌜ AttributeRead (now (s .entry)) (stack (now (s .entry)) (now (names .entry)) lo count) (self .at) nodes r ⌝ }
+    {
+        let at = self.at;
+        if nodes == 1024 {
+            return Read::Refused(6, at);
+        }
+        let end = self.name(s);
+        let to = end.at;
+        if to - at > 32 {
+            return Read::Refused(5, at + 32);
+        }
+        if repeated(s, names, lo, count, at, to) {
+            return Read::Refused(4, to);
+        }
+        match end.equals(s) {
+            Equals::NoQuote(j) => Read::Refused(4, j),
+            Equals::Quoted(q, next) => {
+                let begin = next.at - 1;
+                next.content(s, q, begin, nodes + 1)
+            }
+        }
     }
 }

@@ -74,7 +74,7 @@ total : List Name → ℕ
 total [] = 0
 total (m ∷ ms) = length m + total ms
 
-same-length : (m n : Name) → ¬ (length m ≡ length n) → same m n ≡ false
+pub same-length : (m n : Name) → ¬ (length m ≡ length n) → same m n ≡ false
 same-length [] [] h = absurd (h refl)
 same-length [] (y ∷ ys) h = refl
 same-length (x ∷ xs) [] h = refl

@@ -7,7 +7,7 @@ use native.Mathlib.Omega.{arith}
 use lib.Dec.{leb, ltb}
 use lib.ListN.{length, take, drop, getD, drop-of-length-le}
 use lib.Seq.{take-nil, drop-cons}
-use borrow.Author.Tests.{leb-true, leb-false, lt-leb, le-leb, lt-ltb, le-ltb}
+use borrow.Author.Tests.{leb-true, leb-false, lt-leb, le-leb, lt-ltb, le-ltb, ltb-true, ltb-false}
 use Rattle.tree.specs.Content.{content-limit}
 use Rattle.protocol.specs.Calls.{node-limit}
 use Rattle.xml.specs.Reading.{input-limit, opener}
@@ -136,3 +136,13 @@ module _ (s : List ℕ) (c : Config) (n k i : ℕ) where
       pub scan-many-before : node-limit < n + births v → opener (byte-before s i) ≡ true → scan-at s c n k i ≡ bad 6 (i - 1)
       unfolding scan-at scan
       scan-many-before l o = rw (drop-cons s i 0 h, e, lt-ltb node-limit (n + births v) l, o)
+
+-- configurations that take the same step, or end alike
+pub scan-alike : (s : List ℕ) (c d : Config) (n k i : ℕ) → (i < length s → step true c (getD s i 0) ≡ step true d (getD s i 0))
+    → is-over (phase c) ≡ is-over (phase d) → scan-at s c n k i ≡ scan-at s d n k i
+unfolding scan-at scan
+scan-alike s c d n k i f p = go (ltb i (length s)) refl
+  where
+    go : (t : Bool) → ltb i (length s) ≡ t → scan-at s c n k i ≡ scan-at s d n k i
+    go true e = let h = ltb-true i (length s) e in rw (drop-cons s i 0 h, f h)
+    go false e = scan-end s c n k i (ltb-false i (length s) e) ∙ rw p (sym (scan-end s d n k i (ltb-false i (length s) e)))
