@@ -4,3 +4,6 @@ pub mod Characters
 pub mod Contents
 pub mod Tags
 pub mod Attributes
+pub mod StartTags
+pub mod EndTags
+pub mod Children

@@ -12,6 +12,9 @@ ghost use Rattle.reader.specs.Classes.{plain, class-of, begins};
 ghost use Rattle.xml.specs.Laws.Fixed.{word-at, entity-at};
 ghost use Rattle.reader.specs.Steps.{Run, Agreement, Refers, Character, CharactersRead, ContentRead, EqualsRead, PartRead, SlashRead};
 ghost use Rattle.reader.specs.Elements.{stack, Placed, Attributed, AttributeRead};
+ghost use Rattle.reader.specs.Elements.{Kept, AttributesRead, Named, ElementRead, EndRead};
+ghost use Rattle.reader.specs.Children.{opened, Behind, Beginning, Deep, ChildRead};
+ghost use Rattle.xml.specs.Laws.Automaton.{closed};
 
 // Of each byte: 3 a name's first byte, 2 another byte of a name, 1 another byte that may stand for itself, 0 any other.
 const CLASS: [u8; 256] = [
@@ -182,6 +185,25 @@ pub enum Part {
     Empty(Cursor),
     Attribute(Cursor),
     Wrong(usize),
+}
+
+// A start tag: the cursor behind it and the number of nodes, where content follows and where the element is empty; or a cause and its offset.
+pub enum Tag {
+    Opened(Cursor, usize),
+    Emptied(Cursor, usize),
+    Broken(u8, usize),
+}
+
+// Behind an end tag, or the offset where it is wrong.
+pub enum End {
+    Behind(Cursor),
+    Mismatch(usize),
+}
+
+// Inside the document: the cursor, the number of open elements and the number of nodes; or a cause and its offset.
+pub enum Child {
+    At(Cursor, usize, usize),
+    Stopped(u8, usize),
 }
 
 impl Cursor {
@@ -415,6 +437,126 @@ impl Cursor {
                 let begin = next.at - 1;
                 next.content(s, q, begin, nodes + 1)
             }
+        }
+    }
+
+    // A start tag from behind its name on; the offsets of its attributes' names are kept from lo on.
+    fn attributes(self, s: &[u8], names: &mut [usize; 1024], lo: usize, nodes: usize) -> Tag
+        requires { ⌜ (self .at ≤ length (now s)) × (lo + 1 ≤ nodes) × (nodes ≤ 1024) × Placed (now s) (now names) lo × (length (now names) ≡ 1024) ⌝ }
+        ensures { λ r. ⌜ AttributesRead (now (s .entry)) (self .at) nodes r × Kept lo (now (names .entry)) (now (names .exit)) ⌝ }
+    {
+        let mut i = self.at;
+        let mut count: usize = 0;
+        let mut n = nodes;
+        loop {
+            let here = Cursor { at: i };
+            match here.part(s) {
+                Part::Wrong(j) => return Tag::Broken(4, j),
+                Part::Open(c) => return Tag::Opened(c, n),
+                Part::Empty(c) => return Tag::Emptied(c, n),
+                Part::Attribute(c) => {
+                    match c.attribute(s, names, lo, count, n) {
+                        Read::Refused(x, j) => return Tag::Broken(x, j),
+                        Read::Past(next, m) => {
+                            names[lo + count] = c.at;
+                            count += 1;
+                            i = next.at;
+                            n = m;
+                        }
+                    }
+                }
+            }
+        }
+    }
+
+    // A start tag from the first byte of its name on; the offset of the name is kept at place depth.
+    pub fn start_tag(self, s: &[u8], names: &mut [usize; 1024], depth: usize, nodes: usize) -> Tag
+        requires { ⌜ Named (now s) (self .at) × (depth + 2 ≤ nodes) × (nodes ≤ 1024) × Placed (now s) (now names) depth × (length (now names) ≡ 1024) ⌝ }
+        ensures { λ r. ⌜ ElementRead (now (s .entry)) (self .at) nodes r × Kept depth (now (names .entry)) (now (names .exit)) × (getD (now (names .exit)) depth 0 ≡ self .at) ⌝ }
+    {
+        let at = self.at;
+        names[depth] = at;
+        let end = self.name(s);
+        if end.at - at > 32 {
+            return Tag::Broken(5, at + 32);
+        }
+        end.attributes(s, names, depth + 1, nodes)
+    }
+
+    // An end tag, from behind its slash; the name that it has to have stands at from.
+    pub fn end_tag(self, s: &[u8], from: usize) -> End
+        requires { ⌜ (self .at ≤ length (now s)) × (from ≤ length (now s)) ⌝ }
+        ensures { λ r. ⌜ EndRead (now (s .entry)) (name-at (now (s .entry)) from) (self .at) r ⌝ }
+    {
+        let at = self.at;
+        let start = Cursor { at: from };
+        let end = start.name(s);
+        let to = end.at;
+        let word = &s[from..to];
+        let n = agreement(s, at, word);
+        if n != to - from {
+            return End::Mismatch(at + n);
+        }
+        let tail = Cursor { at: at + n };
+        let close = tail.blanks(s);
+        let i = close.at;
+        if i >= s.len() {
+            return End::Mismatch(i);
+        }
+        if s[i] != b'>' {
+            return End::Mismatch(i);
+        }
+        End::Behind(Cursor { at: i + 1 })
+    }
+
+    // A tag from behind its <; depth elements are open, the offsets of their names kept at the first places.
+    pub fn tag(self, s: &[u8], names: &mut [usize; 1024], depth: usize, nodes: usize) -> Child
+        requires { ⌜ Behind (now s) (self .at) × Deep (now s) (now names) depth nodes ⌝ }
+        ensures { λ r. ⌜ ChildRead (now (s .entry)) (opened (stack (now (s .entry)) (now (names .entry)) 0 depth)) (self .at) nodes (now (names .exit)) r ⌝ }
+    {
+        let at = self.at;
+        if at >= s.len() {
+            return Child::Stopped(4, at);
+        }
+        let b = s[at];
+        if b == b'/' {
+            return self.end(s, names, depth, nodes);
+        }
+        if !is_name_start(b) {
+            return Child::Stopped(4, at);
+        }
+        if nodes == 1024 {
+            return Child::Stopped(6, at - 1);
+        }
+        match self.start_tag(s, names, depth, nodes + 1) {
+            Tag::Opened(c, m) => Child::At(c, depth + 1, m),
+            Tag::Emptied(c, m) => Child::At(c, depth, m),
+            Tag::Broken(x, j) => Child::Stopped(x, j),
+        }
+    }
+
+    // The end tag of the innermost open element, from its slash on.
+    fn end(self, s: &[u8], names: &mut [usize; 1024], depth: usize, nodes: usize) -> Child
+        requires { ⌜ (self .at < length (now s)) × (getD (now s) (self .at) 0 ≡ 47) × Deep (now s) (now names) depth nodes ⌝ }
+        ensures { λ r. ⌜ ChildRead (now (s .entry)) (opened (stack (now (s .entry)) (now (names .entry)) 0 depth)) (self .at) nodes (now (names .exit)) r ⌝ }
+    {
+        let from = names[depth - 1];
+        let next = Cursor { at: self.at + 1 };
+        match next.end_tag(s, from) {
+            End::Mismatch(j) => Child::Stopped(4, j),
+            End::Behind(c) => Child::At(c, depth - 1, nodes),
+        }
+    }
+
+    // A text, which may be empty, and the tag behind it.
+    pub fn child(self, s: &[u8], names: &mut [usize; 1024], depth: usize, nodes: usize) -> Child
+        requires { ⌜ Beginning (now s) (self .at) × Deep (now s) (now names) depth nodes ⌝ }
+        ensures { λ r. ⌜ ChildRead (now (s .entry)) (closed (stack (now (s .entry)) (now (names .entry)) 0 depth)) (self .at) nodes (now (names .exit)) r ⌝ }
+    {
+        let at = self.at;
+        match self.content(s, b'<', at, nodes) {
+            Read::Refused(x, j) => Child::Stopped(x, j),
+            Read::Past(c, m) => c.tag(s, names, depth, m),
         }
     }
 }

@@ -102,7 +102,7 @@ naming : (n : Name) (ns seen : List Name) → Naming (attribute-name n ns seen)
 unfolding step
 naming n ns seen = record { next = λ p b e. rw e; calm = λ p. refl }
 
-start-name : (b : ℕ) → name-start b ≡ true → name-byte b ≡ true
+pub start-name : (b : ℕ) → name-start b ≡ true → name-byte b ≡ true
 unfolding name-byte
 start-name b h = rw h
 

@@ -36,7 +36,7 @@ pub in-place : TagPlace in-tag
 unfolding step
 in-place = record { alike = λ n ns seen b h. rw h; calm = λ n ns seen. refl }
 
-calm-closed : (ns : List Name) → pending (phase (closed ns)) ≡ 0
+pub calm-closed : (ns : List Name) → pending (phase (closed ns)) ≡ 0
 calm-closed [] = refl
 calm-closed (n ∷ ns) = refl
 
