@@ -1,0 +1,9 @@
+pub mod Tables
+pub mod Runs
+pub mod Characters
+pub mod Contents
+pub mod Tags
+pub mod Attributes
+pub mod StartTags
+pub mod EndTags
+pub mod Children

@@ -1,0 +1,180 @@
+-- Names compared with each other, and an attribute from its name to its value.
+use Prim.Native.Nat.{ℕ, zero, suc, _+_, _-_, _≤_, _<_}
+use mathlib.Core.Path.{_≡_, refl, sym, ap, ap₂, _∙_, subst}
+use mathlib.Core.Bool.{Bool, true, false, cond, _&&_, _||_, false≢true}
+use mathlib.Core.List.{List, [], _∷_}
+use native.Mathlib.Omega.{arith}
+use native.Mathlib.Numerals.{add-one}
+use lib.Dec.{eqb, leb, eqb·zero-suc, eqb·suc-suc}
+use lib.ListN.{length, getD, take, drop, length-drop}
+use lib.Seq.{length-take-le}
+use borrow.Author.Tests.{leb-true, leb-false}
+use Rattle.tree.specs.Lists.{same}
+use Rattle.tree.specs.Content.{content-limit, attribute-kind, name-start, name-byte}
+use Rattle.protocol.specs.Calls.{node-limit}
+use Rattle.xml.specs.Bytes.{used, blank, Quote, mark}
+use Rattle.xml.specs.Grammar.{Name}
+use Rattle.xml.specs.Reading.{opener, node-offset}
+use Rattle.xml.specs.Laws.Automaton.{Config, behind-part, in-tag, before-equals, attribute-name, behind-quote, Event, born, byte, depth, stuck, move, to, step}
+use Rattle.xml.specs.Laws.Counts.{births, tail, peak}
+use Rattle.xml.specs.Laws.Phases.{phase, is-over, pending}
+use Rattle.xml.specs.Laws.Judge.{Verdict, bad, byte-before}
+use Rattle.xml.specs.Laws.Verdicts.{offset-before}
+use Rattle.xml.specs.Laws.Scan.{scan-at, scan-end, scan-stuck, scan-alike}
+use Rattle.xml.specs.Laws.Goes.{Leads, Goes, goes-then, scan-born, stops-many}
+use Rattle.xml.specs.Laws.Tokens.{span, span-length, span-behind, name-at, Naming, name-short, name-long}
+use Rattle.xml.specs.Laws.Completions.{same-length}
+use Rattle.xml.specs.Laws.Fixed.{agree}
+use Rattle.reader.specs.declared.Cursor.{Cursor}
+use Rattle.reader.specs.declared.Equals.{Equals}
+use Rattle.reader.specs.declared.Equals.the-variants.{Quoted, NoQuote}
+use Rattle.reader.specs.declared.Read.{Read}
+use Rattle.reader.specs.declared.Read.the-variants.{Past, Refused}
+use Rattle.reader.specs.Steps.{Run, Agreement, EqualsRead, quoted, no-quote, ContentRead, content-past, content-refused}
+use Rattle.reader.specs.Elements.{stack, Placed, Attributed, AttributeRead, attribute-past, attribute-refused}
+use Rattle.reader.specs.Laws.Contents.{value-contents}
+
+-- names --------------------------------------------------------------------------------------
+
+same-agree : (w l : List ℕ) (m : ℕ) → m ≡ length w → m ≤ length l → same (take m l) w ≡ eqb (agree w l) (length w)
+unfolding agree
+same-agree [] l zero p h = refl
+same-agree [] l (suc m) p h = absurd (omega arith)
+same-agree (x ∷ w) l zero p h = absurd (omega arith)
+same-agree (x ∷ w) [] (suc m) p h = absurd (omega arith)
+same-agree (x ∷ w) (b ∷ l) (suc m) p h = go (eqb b x) (same-agree w l m (omega arith) (omega arith))
+  where
+    go : (t : Bool) → same (take m l) w ≡ eqb (agree w l) (length w) → (t && same (take m l) w) ≡ eqb (cond t (suc (agree w l)) 0) (suc (length w))
+    go true e = e ∙ sym (eqb·suc-suc (agree w l) (length w))
+    go false e = sym (eqb·zero-suc (length w))
+
+-- the bytes of a name
+pub name-of : (s : List ℕ) (from to : ℕ) → Run name-byte s from to → take (to - from) (drop from s) ≡ name-at s from
+unfolding name-at
+name-of s from to r = let p : to - from ≡ span name-byte (drop from s) = omega (arith, r .ends) in rw p
+
+pub length-name : (s : List ℕ) (from to : ℕ) → Run name-byte s from to → length (name-at s from) ≡ to - from
+unfolding name-at
+length-name s from to r = length-take-le (span name-byte (drop from s)) (drop from s) (span-length name-byte (drop from s)) ∙ omega (arith, r .ends)
+
+module _ (s : List ℕ) (from to other end : ℕ) (a : Run name-byte s from to) (b : Run name-byte s other end) where
+  pub other-length : (end - other ≡ to - from → ⊥) → false ≡ same (name-at s other) (name-at s from)
+  other-length h = sym (same-length (name-at s other) (name-at s from) (λ e. h (sym (length-name s other end b) ∙ e ∙ length-name s from to a)))
+
+  pub same-bytes : end - other ≡ to - from → (n : ℕ) → Agreement (take (to - from) (drop from s)) s other n → eqb n (end - other) ≡ same (name-at s other) (name-at s from)
+  same-bytes h n g =
+      let w = name-at s from in
+      let q : n ≡ agree w (drop other s) = g .agrees ∙ ap (λ (x : List ℕ). agree x (drop other s)) (name-of s from to a) in
+      let m : end - other ≡ length w = h ∙ sym (length-name s from to a) in
+      let r = same-agree w (drop other s) (end - other) m (omega (arith, b .inside, length-drop other s)) in
+      ap₂ (λ (x y : ℕ). eqb x y) q m ∙ sym r ∙ ap (λ (x : List ℕ). same x w) (name-of s other end b)
+
+-- a name among those seen: i are left to compare
+unfoldable pub Comparing : List ℕ → List ℕ → ℕ → ℕ → Name → ℕ → Type 0
+Comparing s os lo count w i = used (stack s os lo count) w ≡ used (stack s os lo i) w
+
+pub compare-start : (s os : List ℕ) (lo count : ℕ) (w : Name) → Comparing s os lo count w count
+unfolding Comparing
+compare-start s os lo count w = refl
+
+compare-step : (s os : List ℕ) (lo : ℕ) (w : Name) (i : ℕ) → 0 < i → used (stack s os lo i) w ≡ (same (name-at s (getD os (lo + (i - 1)) 0)) w || used (stack s os lo (i - 1)) w)
+unfolding stack used
+compare-step s os lo w zero h = absurd (omega arith)
+compare-step s os lo w (suc i) h = let p : suc i - 1 ≡ i = omega arith in rw p
+
+module _ (s os : List ℕ) (lo count : ℕ) (w : Name) (i : ℕ) (c : Comparing s os lo count w i) where
+  pub compare-found : 0 < i → same (name-at s (getD os (lo + (i - 1)) 0)) w ≡ true → true ≡ used (stack s os lo count) w
+  unfolding Comparing
+  compare-found h e = sym (c ∙ compare-step s os lo w i h ∙ rw e)
+
+  pub compare-turn : 0 < i → same (name-at s (getD os (lo + (i - 1)) 0)) w ≡ false → Comparing s os lo count w (i - 1)
+  unfolding Comparing
+  compare-turn h e = c ∙ compare-step s os lo w i h ∙ rw e
+
+  pub compare-none : (0 < i → ⊥) → false ≡ used (stack s os lo count) w
+  unfolding Comparing stack used
+  compare-none h = let p : i ≡ 0 = omega arith in sym (c ∙ rw p)
+
+-- an attribute ---------------------------------------------------------------------------------
+
+-- an attribute's name, as the automaton carries it
+naming : (n : Name) (ns seen : List Name) → Naming (attribute-name n ns seen)
+unfolding step
+naming n ns seen = record { next = λ p b e. rw e; calm = λ p. refl }
+
+pub start-name : (b : ℕ) → name-start b ≡ true → name-byte b ≡ true
+unfolding name-byte
+start-name b h = rw h
+
+module _ (s : List ℕ) (at nodes : ℕ) (x : Attributed s at nodes) where
+  abbrev b : ℕ
+  b = getD s at 0
+
+  born-step : (n : Name) (ns seen : List Name) → step true (in-tag n ns seen) b ≡ move (attribute-name n ns seen (b ∷ [])) (born (depth (n ∷ ns)) attribute-kind ∷ byte b ∷ [])
+  unfolding step
+  born-step n ns seen = rw (x .starts)
+
+  no-opener-before : opener (byte-before s at) ≡ false
+  no-opener-before = go (opener (byte-before s at)) refl
+    where
+      go : (t : Bool) → opener (byte-before s at) ≡ t → opener (byte-before s at) ≡ false
+      go true o = absurd (let p = offset-before s at o in omega (arith, p .0, p .1, x .begins-here))
+      go false o = o
+
+  pub attribute-many : (seen : List Name) → nodes ≡ node-limit → AttributeRead s seen at nodes (Refused 6 at)
+  unfolding births tail peak
+  attribute-many seen l = attribute-refused {x = 6} {j = at} (λ n ns.
+    stops-many s (in-tag n ns seen) nodes at (x .inside) (attribute-name n ns seen (b ∷ [])) (depth (n ∷ ns)) attribute-kind (byte b ∷ []) (born-step n ns seen) refl l (omega arith) no-opener-before)
+
+  module _ (room : nodes < node-limit) (to : ℕ) (r : Run name-byte s at to) where
+    -- behind the first byte
+    named : (n : Name) (ns seen : List Name) (k : ℕ) → k ≤ content-limit → scan-at s (in-tag n ns seen) nodes k at ≡ scan-at s (attribute-name n ns seen (b ∷ [])) (nodes + 1) 1 (at + 1)
+    unfolding births tail peak
+    named n ns seen k h = scan-born s (in-tag n ns seen) nodes at (x .inside) (attribute-name n ns seen (b ∷ [])) (depth (n ∷ ns)) attribute-kind (byte b ∷ []) (born-step n ns seen) refl room k h (omega arith)
+
+    pub attribute-long : (seen : List Name) → content-limit < to - at → AttributeRead s seen at nodes (Refused 5 (at + 32))
+    attribute-long seen h = attribute-refused {x = 5} {j = at + 32} (λ n ns. record { leads = λ k m. named n ns seen k m
+      ∙ name-long s (attribute-name n ns seen) (nodes + 1) (naming n ns seen) (omega arith) at (x .inside) (start-name b (x .starts)) (omega (arith, r .ends)) })
+
+    module _ (short : to - at ≤ content-limit) where
+      -- behind the name
+      whole : (n : Name) (ns seen : List Name) (k : ℕ) → k ≤ content-limit → scan-at s (in-tag n ns seen) nodes k at ≡ scan-at s (attribute-name n ns seen (name-at s at)) (nodes + 1) (to - at) to
+      whole n ns seen k m =
+          let p : span name-byte (drop at s) ≡ to - at = omega (arith, r .ends) in
+          let q : at + (to - at) ≡ to = omega (arith, r .ends) in
+          named n ns seen k m
+          ∙ (rw (p, q) at (name-short s (attribute-name n ns seen) (nodes + 1) (naming n ns seen) (omega arith) at (x .inside) (start-name b (x .starts)) (omega arith)))
+
+      ended : to < length s → name-byte (getD s to 0) ≡ false
+      ended h = rw (r .ends) (span-behind name-byte s at (omega (arith, r .ends)))
+
+      pub attribute-repeated : (seen : List Name) → used seen (name-at s at) ≡ true → AttributeRead s seen at nodes (Refused 4 to)
+      unfolding step
+      attribute-repeated seen e = attribute-refused {x = 4} {j = to} (λ n ns. record { leads = λ k m. whole n ns seen k m ∙ go n ns (leb (length s) to) refl })
+        where
+          go : (n : Name) (ns : List Name) (t : Bool) → leb (length s) to ≡ t → scan-at s (attribute-name n ns seen (name-at s at)) (nodes + 1) (to - at) to ≡ bad 4 to
+          go n ns true l = scan-end s (attribute-name n ns seen (name-at s at)) (nodes + 1) (to - at) to (leb-true (length s) to l)
+          go n ns false l =
+              let h = leb-false (length s) to l in
+              scan-stuck s (attribute-name n ns seen (name-at s at)) (nodes + 1) (to - at) to h (rw (ended h, e))
+
+      module _ (seen : List Name) (e : used seen (name-at s at) ≡ false) where
+        to-sign : (n : Name) (ns : List Name) → Goes s (in-tag n ns seen) nodes at (before-equals n ns (name-at s at ∷ seen)) (nodes + 1) to
+        unfolding step
+        to-sign n ns = record { back = λ v y. record { leads = λ k m. whole n ns seen k m
+          ∙ scan-alike s (attribute-name n ns seen (name-at s at)) (before-equals n ns (name-at s at ∷ seen)) (nodes + 1) (to - at) to (λ h. rw (ended h, e)) refl
+          ∙ y .leads (to - at) short } }
+
+        pub attribute-unquoted : {j : ℕ} → EqualsRead s to (NoQuote j) → AttributeRead s seen at nodes (Refused 4 j)
+        attribute-unquoted {j} (no-quote f) = attribute-refused {x = 4} {j = j} (λ n ns. to-sign n ns .back _ (f n ns (name-at s at ∷ seen) (nodes + 1) (omega arith)))
+
+        pub attribute-valued : {q : ℕ} {c : Cursor} {y : Read} → EqualsRead s to (Quoted q c) → ContentRead s q (c .at) (nodes + 1) y → AttributeRead s seen at nodes y
+        attribute-valued (quoted q a b d f) (content-past {c = c} {m = m} g h i j k u) =
+            attribute-past {c = c} {m = m} (omega (arith, r .ends)) h (omega arith) k
+            (λ n ns. goes-then (to-sign n ns) (goes-then (f n ns (name-at s at ∷ seen) (nodes + 1) (omega arith)) (u _ _ _ _ (value-contents n ns (name-at s at ∷ seen) q))))
+        attribute-valued (quoted q a b d f) (content-refused {x = x} {j = j} u) =
+            attribute-refused {x = x} {j = j}
+            (λ n ns. to-sign n ns .back _ (f n ns (name-at s at ∷ seen) (nodes + 1) (omega arith) .back _ (u _ _ _ _ (value-contents n ns (name-at s at ∷ seen) q))))
+
+pub quoted-inside : {s : List ℕ} {at q : ℕ} {c : Cursor} → EqualsRead s at (Quoted q c) → (1 ≤ c .at) × (c .at ≤ length s) × (c .at - 1 ≡ node-offset s (c .at))
+quoted-inside (quoted q a b d f) = (omega arith, b, sym d)

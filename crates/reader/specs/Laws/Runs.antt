@@ -1,0 +1,115 @@
+-- The loops over runs of bytes and over words.
+use Prim.Native.Nat.{ℕ, zero, suc, _+_, _-_, _≤_, _<_}
+use mathlib.Core.Path.{_≡_, refl, sym, ap, _∙_, subst}
+use mathlib.Core.Bool.{Bool, true, false, cond, not}
+use mathlib.Core.List.{List, [], _∷_}
+use native.Mathlib.Omega.{arith}
+use native.Mathlib.Numerals.{add-one}
+use lib.Dec.{eqb}
+use lib.ListN.{length, getD, drop, length-drop, drop-of-length-le}
+use lib.Seq.{drop-cons, getD-drop}
+use Rattle.xml.specs.Bytes.{amp, apos, gt, lt, quot}
+use borrow.Author.Tests.{eq-eqb, ne-eqb}
+use Rattle.xml.specs.Laws.Tokens.{span, span-end, span-stop, span-go, span-length, Reach, got, lost}
+use Rattle.xml.specs.Laws.Fixed.{agree, word-at, entity-at}
+use Rattle.reader.specs.declared.Cursor.{Cursor}
+use Rattle.reader.specs.declared.Reference.{Reference}
+use Rattle.reader.specs.declared.Reference.the-variants.{Byte, NoEntity}
+use Rattle.reader.specs.Steps.{Run, Agreement, Refers, refers, no-entity}
+
+-- a run: i is where the loop stands, from where it began
+unfoldable pub Running : (ℕ → Bool) → List ℕ → ℕ → ℕ → Type 0
+Running t s from i = from + span t (drop from s) ≡ i + span t (drop i s)
+
+pub run-start : (t : ℕ → Bool) (s : List ℕ) (from : ℕ) → Running t s from from
+unfolding Running
+run-start t s from = refl
+
+module _ (t : ℕ → Bool) (s : List ℕ) (from i : ℕ) (r : Running t s from i) where
+  pub run-turn : i < length s → t (getD s i 0) ≡ true → Running t s from (i + 1)
+  unfolding Running
+  run-turn h e = r ∙ rw add-one (omega (arith, span-go t s i h e))
+
+  pub run-stop : i < length s → t (getD s i 0) ≡ false → Run t s from i
+  unfolding Running
+  run-stop h e = record { ends = omega (arith, r, span-stop t s i h e); inside = omega arith }
+
+  pub run-end : i ≤ length s → length s ≤ i → Run t s from i
+  unfolding Running
+  run-end l h = record { ends = omega (arith, r, span-end t s i h); inside = l }
+
+-- words: n bytes agree so far
+unfoldable pub Agreeing : List ℕ → List ℕ → ℕ → ℕ → Type 0
+Agreeing w s at n = agree w (drop at s) ≡ n + agree (drop n w) (drop (at + n) s)
+
+pub agree-start : (w s : List ℕ) (at : ℕ) → Agreeing w s at 0
+unfolding Agreeing
+agree-start w s at = let p : at + 0 ≡ at = omega arith in rw p (omega arith)
+
+module _ (w s : List ℕ) (at n : ℕ) (r : Agreeing w s at n) where
+  pub agree-turn : n < length w → at + n < length s → getD s (at + n) 0 ≡ getD w n 0 → Agreeing w s at (n + 1)
+  unfolding Agreeing agree
+  agree-turn h k e =
+      let p : at + (n + 1) ≡ suc (at + n) = omega arith in
+      let q : agree (drop n w) (drop (at + n) s) ≡ suc (agree (drop (suc n) w) (drop (suc (at + n)) s)) =
+        rw (drop-cons w n 0 h, drop-cons s (at + n) 0 k, eq-eqb (getD s (at + n) 0) (getD w n 0) e) in
+      rw (p, add-one n) (omega (arith, r))
+
+  pub agree-differ : n < length w → at + n < length s → (getD s (at + n) 0 ≡ getD w n 0 → ⊥) → Agreement w s at n
+  unfolding Agreeing agree
+  agree-differ h k e =
+      let q : agree (drop n w) (drop (at + n) s) ≡ 0 = rw (drop-cons w n 0 h, drop-cons s (at + n) 0 k, ne-eqb (getD s (at + n) 0) (getD w n 0) e) in
+      record { agrees = omega (arith, r); inside = omega arith; most = omega arith }
+
+  pub agree-short : n < length w → at + n ≤ length s → length s ≤ at + n → Agreement w s at n
+  unfolding Agreeing agree
+  agree-short h l k =
+      let q : agree (drop n w) (drop (at + n) s) ≡ 0 = rw (drop-cons w n 0 h, drop-of-length-le s k) in
+      record { agrees = omega (arith, r); inside = l; most = omega arith }
+
+  pub agree-whole : n ≤ length w → length w ≤ n → at + n ≤ length s → Agreement w s at n
+  unfolding Agreeing agree
+  agree-whole m h l =
+      let q : agree (drop n w) (drop (at + n) s) ≡ 0 = rw (drop-of-length-le w h) in
+      record { agrees = omega (arith, r); inside = l; most = m }
+
+-- an entity
+module _ (w s : List ℕ) (value at n : ℕ) (a : Agreement w s at n) where
+  pub entity-whole : (c : Cursor) → n ≡ length w → c .at ≡ at + n → Refers s at (word-at w value (drop at s)) (Byte value c)
+  unfolding word-at
+  entity-whole c h e =
+      let p : agree w (drop at s) ≡ length w = omega (arith, a .agrees) in
+      rw (p, eq-eqb (length w) (length w) refl) (refers {n = length w} {c = c} (omega arith) (omega (arith, a .inside)))
+
+  pub entity-part : (n ≡ length w → ⊥) → Refers s at (word-at w value (drop at s)) (NoEntity (at + n))
+  unfolding word-at
+  entity-part h = rw (← a .agrees, ne-eqb n (length w) h) (no-entity refl)
+
+-- which entity it can be, by the first two bytes
+module _ (s : List ℕ) (at : ℕ) (x : Reference) where
+  abbrev Is : List ℕ → ℕ → Type 0
+  Is w value = Refers s at (word-at w value (drop at s)) x → Refers s at (entity-at (drop at s)) x
+
+  byte-here : getD (drop at s) 0 0 ≡ getD s at 0
+  byte-here = let p : at + 0 ≡ at = omega arith in getD-drop at s 0 0 ∙ rw p
+
+  module _ (first : getD s at 0 ≡ 97) where
+    pub is-amp : getD s (at + 1) 0 ≡ 109 → Is amp 38
+    unfolding entity-at
+    is-amp e r = rw (byte-here, first, getD-drop at s 1 0, e) r
+
+    pub is-apos : (getD s (at + 1) 0 ≡ 109 → ⊥) → Is apos 39
+    unfolding entity-at
+    is-apos e r = rw (byte-here, first, getD-drop at s 1 0, ne-eqb (getD s (at + 1) 0) 109 e) r
+
+  pub is-gt : getD s at 0 ≡ 103 → Is gt 62
+  unfolding entity-at
+  is-gt e r = rw (byte-here, e) r
+
+  pub is-lt : getD s at 0 ≡ 108 → Is lt 60
+  unfolding entity-at
+  is-lt e r = rw (byte-here, e) r
+
+  pub is-quot : (getD s at 0 ≡ 97 → ⊥) → (getD s at 0 ≡ 103 → ⊥) → (getD s at 0 ≡ 108 → ⊥) → Is quot 34
+  unfolding entity-at
+  is-quot e f g r = rw (byte-here, ne-eqb (getD s at 0) 97 e, ne-eqb (getD s at 0) 103 f, ne-eqb (getD s at 0) 108 g) r

@@ -1,0 +1,138 @@
+-- Start tags: names kept as offsets, the loop over the attributes, the tag from the first byte of its name.
+use Prim.Native.Nat.{ℕ, zero, suc, _+_, _-_, _≤_, _<_}
+use mathlib.Core.Path.{_≡_, refl, sym, ap, _∙_, subst}
+use mathlib.Core.Bool.{Bool, true, false}
+use mathlib.Core.List.{List, [], _∷_}
+use native.Mathlib.Omega.{arith}
+use native.Mathlib.Numerals.{add-one}
+use lib.Dec.{eqb}
+use lib.ListN.{length, getD, set, drop, length-set}
+use lib.Seq.{getD-set-same, getD-set-other}
+use borrow.Author.Tests.{eqb-true, eqb-false}
+use Rattle.tree.specs.Content.{content-limit, name-start, name-byte}
+use Rattle.protocol.specs.Calls.{node-limit}
+use Rattle.xml.specs.Grammar.{Name}
+use Rattle.xml.specs.Laws.Automaton.{Config, behind-part, in-tag, tag-name, content, closed, step}
+use Rattle.xml.specs.Laws.Judge.{Verdict, bad}
+use Rattle.xml.specs.Laws.Scan.{scan-at, scan-alike}
+use Rattle.xml.specs.Laws.Goes.{Leads, Goes, goes-then, goes-same}
+use Rattle.xml.specs.Laws.Tokens.{span, span-behind, name-at, Naming, name-short, name-long}
+use Rattle.reader.specs.declared.Cursor.{Cursor}
+use Rattle.reader.specs.declared.Part.{Part}
+use Rattle.reader.specs.declared.Part.the-variants.{Open, Empty, Attribute, Wrong}
+use Rattle.reader.specs.declared.Read.{Read}
+use Rattle.reader.specs.declared.Read.the-variants.{Past, Refused}
+use Rattle.reader.specs.declared.Tag.{Tag}
+use Rattle.reader.specs.declared.Tag.the-variants.{Opened, Emptied, Broken}
+use Rattle.reader.specs.Steps.{Run, TagRead, tag-open, tag-empty, tag-attribute, tag-wrong}
+use Rattle.reader.specs.Elements.{stack, Placed, Attributed, AttributeRead, attribute-past, attribute-refused, Kept, Onward}
+use Rattle.reader.specs.Elements.{AttributesRead, attributes-opened, attributes-emptied, attributes-broken, Named}
+use Rattle.reader.specs.Elements.{ElementRead, element-opened, element-emptied, element-broken}
+use Rattle.reader.specs.Laws.Attributes.{start-name}
+
+-- offsets --------------------------------------------------------------------------------------
+
+stack-frame : (s os : List ℕ) (lo n k v : ℕ) → lo + n ≤ k → stack s (set os k v) lo n ≡ stack s os lo n
+unfolding stack
+stack-frame s os lo zero k v h = refl
+stack-frame s os lo (suc n) k v h = rw (getD-set-other os k (lo + n) v 0 (λ e. omega arith), stack-frame s os lo n k v (omega arith))
+
+pub stack-push : (s os : List ℕ) (lo n v : ℕ) → lo + n < length os → stack s (set os (lo + n) v) lo (n + 1) ≡ name-at s v ∷ stack s os lo n
+unfolding stack
+stack-push s os lo n v h = rw (add-one n, getD-set-same os (lo + n) v 0 h, stack-frame s os lo n (lo + n) v (omega arith))
+
+pub stack-same : (s os os′ : List ℕ) (n : ℕ) → Kept n os os′ → stack s os′ 0 n ≡ stack s os 0 n
+unfolding stack
+stack-same s os os′ zero k = refl
+stack-same s os os′ (suc n) k = rw (k .kept (0 + n) (omega arith), stack-same s os os′ n (record { as-long = k .as-long; kept = λ i h. k .kept i (omega arith) }))
+
+pub placed-push : (s os : List ℕ) (n v : ℕ) → Placed s os n → v ≤ length s → n < length os → Placed s (set os n v) (n + 1)
+placed-push s os n v p h l = record { placed = λ i m. go i m (eqb i n) refl }
+  where
+    go : (i : ℕ) → i < n + 1 → (t : Bool) → eqb i n ≡ t → getD (set os n v) i 0 ≤ length s
+    go i m true e = rw (eqb-true i n e, getD-set-same os n v 0 l) h
+    go i m false e = let x : i ≡ n → ⊥ = eqb-false i n e in rw (getD-set-other os n i v 0 x) (p .placed i (omega arith))
+
+pub kept-same : (n : ℕ) (os : List ℕ) → Kept n os os
+kept-same n os = record { as-long = refl; kept = λ i h. refl }
+
+pub kept-set : (n : ℕ) (os os′ : List ℕ) (k v : ℕ) → Kept n os os′ → n ≤ k → Kept n os (set os′ k v)
+kept-set n os os′ k v x h = record { as-long = length-set os′ k v ∙ x .as-long; kept = λ i m. getD-set-other os′ k i v 0 (λ e. omega arith) ∙ x .kept i m }
+
+pub kept-less : (n m : ℕ) (os os′ os″ : List ℕ) → Kept n os os′ → Kept m os′ os″ → n ≤ m → Kept n os os″
+kept-less n m os os′ os″ x y h = record { as-long = y .as-long ∙ x .as-long; kept = λ i l. y .kept i (omega arith) ∙ x .kept i l }
+
+pub placed-kept : (s os os′ : List ℕ) (n : ℕ) → Placed s os n → Kept n os os′ → Placed s os′ n
+placed-kept s os os′ n p k = record { placed = λ i h. rw (k .kept i h) (p .placed i h) }
+
+-- the loop over the attributes -------------------------------------------------------------------
+
+pub record AttributesTo (s os : List ℕ) (lo count at nodes i n : ℕ) : Type 0 where
+  pub comes : (m : Name) (ns : List Name) → Goes s (behind-part m ns []) nodes at (behind-part m ns (stack s os lo count)) n i
+
+pub attributes-start : (s os : List ℕ) (lo at nodes : ℕ) → AttributesTo s os lo 0 at nodes at nodes
+unfolding stack
+attributes-start s os lo at nodes = record { comes = λ m ns. goes-same s (behind-part m ns []) nodes at at refl }
+
+module _ (s os : List ℕ) (lo count at nodes i n : ℕ) (t : AttributesTo s os lo count at nodes i n) (a : at ≤ i) (b : nodes ≤ n) (l : n ≤ node-limit) where
+  pub attributes-wrong : {j : ℕ} → TagRead s behind-part i (Wrong j) → AttributesRead s at nodes (Broken 4 j)
+  attributes-wrong {j} (tag-wrong f) = attributes-broken {x = 4} {j = j} (λ m ns. t .comes m ns .back _ (f m ns (stack s os lo count) n l))
+
+  pub attributes-open : {c : Cursor} → TagRead s behind-part i (Open c) → AttributesRead s at nodes (Opened c n)
+  attributes-open {c} (tag-open d e g f) =
+      attributes-opened {c = c} {m = n} (record { further = omega arith; inside = e; begins-here = g; more = b; few = l })
+      (λ m ns. goes-then (t .comes m ns) (f m ns (stack s os lo count) n l))
+
+  pub attributes-empty : {c : Cursor} → TagRead s behind-part i (Empty c) → AttributesRead s at nodes (Emptied c n)
+  attributes-empty {c} (tag-empty d e g f) =
+      attributes-emptied {c = c} {m = n} (record { further = omega arith; inside = e; begins-here = g; more = b; few = l })
+      (λ m ns. goes-then (t .comes m ns) (f m ns (stack s os lo count) n l))
+
+  pub attributes-bad : {c : Cursor} {x j : ℕ} → TagRead s behind-part i (Attribute c) → AttributeRead s (stack s os lo count) (c .at) n (Refused x j) → AttributesRead s at nodes (Broken x j)
+  attributes-bad {c} {x} {j} (tag-attribute d e g h f) (attribute-refused u) =
+      attributes-broken {x = x} {j = j} (λ m ns. t .comes m ns .back _ (f m ns (stack s os lo count) n l .back _ (u m ns)))
+
+  pub attributes-turn : {c d : Cursor} {m : ℕ} → TagRead s behind-part i (Attribute c) → AttributeRead s (stack s os lo count) (c .at) n (Past d m) → lo + count < length os
+      → AttributesTo s (set os (lo + count) (c .at)) lo (count + 1) at nodes (d .at) m
+  attributes-turn {c} {d} {m} (tag-attribute p e g h f) (attribute-past q r w x u) z = record { comes = λ nm ns.
+    rw (stack-push s os lo count (c .at) z) (goes-then (t .comes nm ns) (goes-then (f nm ns (stack s os lo count) n l) (u nm ns))) }
+
+pub attribute-here : {s : List ℕ} {i : ℕ} {c : Cursor} (n : ℕ) → n ≤ node-limit → TagRead s behind-part i (Attribute c) → Attributed s (c .at) n × (i ≤ c .at)
+attribute-here n l (tag-attribute d e g h f) = (record { inside = e; starts = h; begins-here = g; few = l }, d)
+
+pub attribute-behind : {s : List ℕ} {seen : List Name} {at n m : ℕ} {d : Cursor} → AttributeRead s seen at n (Past d m) → (at < d .at) × (d .at ≤ length s) × (n < m) × (m ≤ node-limit)
+attribute-behind (attribute-past a b e f u) = (a, b, e, f)
+
+-- from the first byte of the name ------------------------------------------------------------------
+
+naming : (ns : List Name) → Naming (tag-name ns)
+unfolding step
+naming ns = record { next = λ p b e. rw e; calm = λ p. refl }
+
+module _ (s : List ℕ) (at nodes to : ℕ) (x : Named s at) (l : nodes ≤ node-limit) (r : Run name-byte s at to) where
+  pub element-long : content-limit < to - at → ElementRead s at nodes (Broken 5 (at + 32))
+  element-long h = element-broken {x = 5} {j = at + 32}
+    (λ ns. name-long s (tag-name ns) nodes (naming ns) l at (x .inside) (start-name (getD s at 0) (x .starts)) (omega (arith, r .ends)))
+
+  module _ (short : to - at ≤ content-limit) where
+    -- behind the name
+    to-part : (ns : List Name) → scan-at s (tag-name ns (getD s at 0 ∷ [])) nodes 1 (at + 1) ≡ scan-at s (behind-part (name-at s at) ns []) nodes (to - at) to
+    unfolding step
+    to-part ns =
+        let p : span name-byte (drop at s) ≡ to - at = omega (arith, r .ends) in
+        let q : at + (to - at) ≡ to = omega (arith, r .ends) in
+        (rw (p, q) at (name-short s (tag-name ns) nodes (naming ns) l at (x .inside) (start-name (getD s at 0) (x .starts)) (omega arith)))
+        ∙ scan-alike s (tag-name ns (name-at s at)) (behind-part (name-at s at) ns []) nodes (to - at) to
+          (λ h. rw (rw (← r .ends) at (span-behind name-byte s at (omega (arith, r .ends))))) refl
+
+    pub element-rest : {y : Tag} → AttributesRead s to nodes y → ElementRead s at nodes y
+    element-rest (attributes-opened {c = c} {m = m} o f) =
+        element-opened {c = c} {m = m} (record { further = omega (arith, o .further, r .ends); inside = o .inside; begins-here = o .begins-here; more = o .more; few = o .few })
+        (λ ns v y. to-part ns ∙ f (name-at s at) ns .back v y .leads (to - at) short)
+    element-rest (attributes-emptied {c = c} {m = m} o f) =
+        element-emptied {c = c} {m = m} (record { further = omega (arith, o .further, r .ends); inside = o .inside; begins-here = o .begins-here; more = o .more; few = o .few })
+        (λ ns v y. to-part ns ∙ f (name-at s at) ns .back v y .leads (to - at) short)
+    element-rest (attributes-broken {x = x} {j = j} f) = element-broken {x = x} {j = j} (λ ns. to-part ns ∙ f (name-at s at) ns .leads (to - at) short)
+
+pub placed-at : (s os : List ℕ) (n m : ℕ) → n ≡ m → Placed s os n → Placed s os m
+placed-at s os n m e p = subst (Placed s os) e p

@@ -1,0 +1,5 @@
+pub mod Classes
+pub mod Steps
+pub mod Elements
+pub mod Children
+pub mod Laws

@@ -1,0 +1,93 @@
+-- Bytes of markup, classes of bytes and fixed byte strings: document 01, "Reading and writing XML". Numbers in brackets are productions of XML 1.0.
+use Prim.Native.Nat.{ℕ, zero, suc}
+use mathlib.Core.Bool.{Bool, true, false, cond, not, _&&_, _||_}
+use mathlib.Core.List.{List, [], _∷_}
+use lib.Dec.{eqb}
+use Rattle.tree.specs.Text.{bytes}
+use Rattle.tree.specs.Lists.{any, same}
+use Rattle.tree.specs.Content.{text-byte}
+
+abbrev pub line-feed : ℕ
+line-feed = 10
+
+abbrev pub space : ℕ
+space = 32
+
+abbrev pub quotation-mark : ℕ
+quotation-mark = 34
+
+abbrev pub ampersand : ℕ
+ampersand = 38
+
+abbrev pub apostrophe : ℕ
+apostrophe = 39
+
+abbrev pub slash : ℕ
+slash = 47
+
+abbrev pub less-than : ℕ
+less-than = 60
+
+abbrev pub equals-sign : ℕ
+equals-sign = 61
+
+abbrev pub greater-than : ℕ
+greater-than = 62
+
+abbrev pub right-bracket : ℕ
+right-bracket = 93
+
+-- [3] S, without byte 13
+unfoldable pub blank : ℕ → Bool
+blank b = eqb b 9 || eqb b line-feed || eqb b space
+
+-- the quotes around a value
+pub data Quote : Type 0 where
+  double single : Quote
+
+abbrev pub mark : Quote → ℕ
+mark double = quotation-mark
+mark single = apostrophe
+
+-- [10]: a byte that stands for itself in a value in these quotes
+unfoldable pub value-literal : Quote → ℕ → Bool
+value-literal q b = text-byte b && not (eqb b less-than) && not (eqb b ampersand) && not (eqb b (mark q))
+
+-- [14]: a byte that stands for itself in a text, k literal bytes ] just before it (2 for two or more): there is no ]]> in a text
+unfoldable pub text-literal : ℕ → ℕ → Bool
+text-literal k b = text-byte b && not (eqb b less-than) && not (eqb b ampersand) && not (eqb b greater-than && eqb k 2)
+
+abbrev more-brackets : ℕ → ℕ
+more-brackets zero = 1
+more-brackets (suc k) = 2
+
+-- how many bytes ] stand just before the byte after b, where k stand just before b
+unfoldable pub brackets : ℕ → ℕ → ℕ
+brackets k b = cond (eqb b right-bracket) (more-brackets k) 0
+
+-- a name is among those used
+unfoldable pub used : List (List ℕ) → List ℕ → Bool
+used names a = any (λ n. same n a) names
+
+-- the five predefined entities [68], behind the ampersand
+abbrev pub amp : List ℕ
+amp = bytes "amp;"
+
+abbrev pub apos : List ℕ
+apos = bytes "apos;"
+
+abbrev pub gt : List ℕ
+gt = bytes "gt;"
+
+abbrev pub lt : List ℕ
+lt = bytes "lt;"
+
+abbrev pub quot : List ℕ
+quot = bytes "quot;"
+
+-- the two declarations [23]
+abbrev pub short-declaration : List ℕ
+short-declaration = bytes "<?xml version=\"1.0\"?>"
+
+abbrev pub long-declaration : List ℕ
+long-declaration = bytes "<?xml version=\"1.0\" encoding=\"UTF-8\"?>"

@@ -1,0 +1,100 @@
+-- The grammar: document 01, "Reading and writing XML"; numbers in brackets are productions of XML 1.0.
+-- Each relation says that the bytes s begin with such a part, and t is what stands behind it.
+use Prim.Native.Nat.{ℕ}
+use mathlib.Core.Path.{_≡_}
+use mathlib.Core.Bool.{Bool, true, false, _&&_}
+use mathlib.Core.List.{List, [], _∷_, _++_}
+use Rattle.tree.specs.Forest.{nil, node}
+use Rattle.tree.specs.Content.{name-start, name-byte}
+use Rattle.xml.specs.Bytes.{ampersand, slash, less-than, equals-sign, greater-than, quotation-mark, apostrophe, blank, Quote, mark}
+use Rattle.xml.specs.Bytes.{value-literal, text-literal, brackets, used, amp, apos, gt, lt, quot, short-declaration, long-declaration}
+use Rattle.xml.specs.Shape.{Shape, element, attribute, text}
+
+abbrev pub Name : Type 0
+Name = List ℕ
+
+-- S? [3]: any number of blanks
+pub data Blanks : (s t : List ℕ) → Type 0 where
+  no-blank : {t : List ℕ} → Blanks t t
+  blank-then : {b : ℕ} {s t : List ℕ} → blank b ≡ true → Blanks s t → Blanks (b ∷ s) t
+
+-- NameChar* [4a]: the bytes r
+pub data NameBytes : (r s t : List ℕ) → Type 0 where
+  no-name-byte : {t : List ℕ} → NameBytes [] t t
+  name-byte-then : {b : ℕ} {r s t : List ℕ} → name-byte b ≡ true → NameBytes r s t → NameBytes (b ∷ r) (b ∷ s) t
+
+-- Name [5]: the name n
+pub data Named : (n s t : List ℕ) → Type 0 where
+  name : {b : ℕ} {r s t : List ℕ} → name-start b ≡ true → NameBytes r s t → Named (b ∷ r) (b ∷ s) t
+
+-- EntityRef [68] behind its ampersand, and the byte that it stands for; "only the five predefined entities exist"
+pub data Entity : (s t : List ℕ) → ℕ → Type 0 where
+  entity-amp : {t : List ℕ} → Entity (amp ++ t) t ampersand
+  entity-apos : {t : List ℕ} → Entity (apos ++ t) t apostrophe
+  entity-gt : {t : List ℕ} → Entity (gt ++ t) t greater-than
+  entity-lt : {t : List ℕ} → Entity (lt ++ t) t less-than
+  entity-quot : {t : List ℕ} → Entity (quot ++ t) t quotation-mark
+
+-- AttValue [10] behind its opening quote, the closing quote included; its bytes are c
+pub data Value (q : Quote) : (s t c : List ℕ) → Type 0 where
+  value-close : {t : List ℕ} → Value q (mark q ∷ t) t []
+  value-byte : {b : ℕ} {s t c : List ℕ} → value-literal q b ≡ true → Value q s t c → Value q (b ∷ s) t (b ∷ c)
+  value-entity : {b : ℕ} {s u t c : List ℕ} → Entity s u b → Value q u t c → Value q (ampersand ∷ s) t (b ∷ c)
+
+-- CharData [14] and references [67] up to the < that ends them, that byte included, k literal bytes ] just before; the bytes of the text are c
+pub data Chars : ℕ → (s t c : List ℕ) → Type 0 where
+  chars-end : {k : ℕ} {t : List ℕ} → Chars k (less-than ∷ t) t []
+  chars-byte : {k b : ℕ} {s t c : List ℕ} → text-literal k b ≡ true → Chars (brackets k b) s t c → Chars k (b ∷ s) t (b ∷ c)
+  chars-entity : {k b : ℕ} {s u t c : List ℕ} → Entity s u b → Chars 0 u t c → Chars k (ampersand ∷ s) t (b ∷ c)
+
+-- "an attribute without a text has the empty value"
+abbrev pub text-node : List ℕ → Shape
+text-node [] = nil
+text-node (b ∷ c) = node (text (b ∷ c)) nil nil
+
+-- places in an element named n: in its start tag behind the name or a value, or behind a blank, `seen` being the attribute names so far;
+-- behind the start tag or a child; behind a < there
+pub data Place : Type 0 where
+  behind spaced : (n : Name) (seen : List Name) → Place
+  inside opened : (n : Name) → Place
+
+-- from the place on to the end of the element; f are the children that stand there. `unique` asks for Unique Att Spec, the constraint of [41]
+pub data Part (unique : Bool) : Place → (s : List ℕ) (f : Shape) (t : List ℕ) → Type 0 where
+  -- S in a start tag [40], [44]
+  spacing : {n : Name} {seen : List Name} {b : ℕ} {s t : List ℕ} {f : Shape}
+      → blank b ≡ true → Part unique (spaced n seen) s f t → Part unique (behind n seen) (b ∷ s) f t
+  -- EmptyElemTag [44]
+  empty : {n : Name} {seen : List Name} {t : List ℕ} → Part unique (behind n seen) (slash ∷ greater-than ∷ t) nil t
+  -- the end of STag [40]
+  full : {n : Name} {seen : List Name} {s t : List ℕ} {f : Shape} → Part unique (inside n) s f t → Part unique (behind n seen) (greater-than ∷ s) f t
+  -- no attribute behind the blank
+  more : {n : Name} {seen : List Name} {s t : List ℕ} {f : Shape} → Part unique (behind n seen) s f t → Part unique (spaced n seen) s f t
+  -- Attribute [41], with Eq [25] and AttValue [10]
+  attribute-part : {n a : Name} {seen : List Name} (q : Quote) {s u v w x t c : List ℕ} {f : Shape}
+      → Named a s u → (unique && used seen a) ≡ false → Blanks u (equals-sign ∷ v) → Blanks v (mark q ∷ w) → Value q w x c
+      → Part unique (behind n (a ∷ seen)) x f t → Part unique (spaced n seen) s (node (attribute a) (text-node c) f) t
+  -- CharData and references in content [43]
+  text-part : {n : Name} {s u t c : List ℕ} {b : ℕ} {f : Shape}
+      → Chars 0 s u (b ∷ c) → Part unique (opened n) u f t → Part unique (inside n) s (node (text (b ∷ c)) nil f) t
+  -- no text before the next tag
+  markup : {n : Name} {s t : List ℕ} {f : Shape} → Part unique (opened n) s f t → Part unique (inside n) (less-than ∷ s) f t
+  -- element in content [39], [43]
+  element-part : {n m : Name} {s u v t : List ℕ} {g f : Shape}
+      → Named m s u → Part unique (behind m []) u g v → Part unique (inside n) v f t → Part unique (opened n) s (node (element m) g f) t
+  -- ETag [42], by Element Type Match with the name of the start tag
+  end-tag : {n : Name} {u t : List ℕ} → Blanks u (greater-than ∷ t) → Part unique (opened n) (slash ∷ (n ++ u)) nil t
+
+-- the root element [39] with blanks around it, to the end of the input
+pub data Root (unique : Bool) : List ℕ → Shape → Type 0 where
+  root : {n : Name} {s u v t : List ℕ} {f : Shape}
+      → Blanks s (less-than ∷ u) → Named n u v → Part unique (behind n []) v f t → Blanks t [] → Root unique s (node (element n) f nil)
+
+-- document [1] with its optional XMLDecl [23]: the bytes, and the root element that they spell
+pub data Parses (unique : Bool) : List ℕ → Shape → Type 0 where
+  bare : {s : List ℕ} {f : Shape} → Root unique s f → Parses unique s f
+  declared-short : {s : List ℕ} {f : Shape} → Root unique s f → Parses unique (short-declaration ++ s) f
+  declared-long : {s : List ℕ} {f : Shape} → Root unique s f → Parses unique (long-declaration ++ s) f
+
+-- the documents of the grammar
+abbrev pub Spells : List ℕ → Shape → Type 0
+Spells s f = Parses true s f

@@ -1,0 +1,148 @@
+-- The judgement without the limit on the input, as a reader makes it, and that the limit can be applied afterwards.
+use Prim.Native.Nat.{ℕ, zero, suc, _+_, _-_, _≤_, _<_}
+use mathlib.Core.Path.{_≡_, refl, sym, ap, ap₂, _∙_, subst}
+use mathlib.Core.Bool.{Bool, true, false, cond, _&&_, false≢true}
+use mathlib.Core.List.{List, [], _∷_}
+use native.Mathlib.Omega.{arith}
+use lib.Dec.{leb, ltb}
+use lib.ListN.{length, take, drop, getD, drop-of-length-le}
+use lib.Seq.{take-nil, drop-cons}
+use borrow.Author.Tests.{leb-true, leb-false, lt-leb, le-leb, lt-ltb, le-ltb, ltb-true, ltb-false}
+use Rattle.tree.specs.Content.{content-limit}
+use Rattle.protocol.specs.Calls.{node-limit}
+use Rattle.xml.specs.Reading.{input-limit, opener}
+use Rattle.xml.specs.Laws.Automaton.{Config, at-start, Event, Move, stuck, move, to, step}
+use Rattle.xml.specs.Laws.Counts.{births, tail, peak}
+use Rattle.xml.specs.Laws.Phases.{phase, is-over, pending}
+use Rattle.xml.specs.Laws.Forces.{extent}
+use Rattle.xml.specs.Laws.Judge.{Verdict, fine, bad, weighed, judge-move, judge, byte-before, judgement}
+
+-- as `weighed`, without the limit
+abbrev pub counted : ℕ → ℕ → ℕ → ℕ → Verdict → Verdict
+counted b i n k further =
+    cond (ltb node-limit n && opener b) (bad 6 (i - 1)) (cond (ltb content-limit k) (bad 5 i) (cond (ltb node-limit n) (bad 6 i) further))
+
+abbrev pub scan-move : Move → ℕ → ℕ → ℕ → ℕ → (Config → ℕ → ℕ → Verdict) → Verdict
+scan-move stuck n k b i f = bad 4 i
+scan-move (move d v) n k b i f = let further = f d (n + births v) (tail k v) in counted b i (n + births v) (extent k v d) further
+
+unfoldable pub scan : Config → ℕ → ℕ → ℕ → ℕ → List ℕ → Verdict
+scan c n k b i [] = cond (is-over (phase c)) (fine n) (bad 4 i)
+scan c n k b i (a ∷ s) = scan-move (step true c a) n k b i (λ d m j. scan d m j a (suc i) s)
+
+-- the limit: a verdict on the first 65,537 bytes, for an input that has more than 65,536 or not
+abbrev pub limited : Bool → Verdict → Verdict
+limited long (fine n) = cond long (bad 4 input-limit) (fine n)
+limited long (bad c i) = cond (leb input-limit i) (bad 4 input-limit) (bad c i)
+
+limited-four : (long : Bool) (i : ℕ) → i ≤ input-limit → limited long (bad 4 i) ≡ bad 4 i
+limited-four long i h = go (leb input-limit i) refl
+  where
+    go : (t : Bool) → leb input-limit i ≡ t → cond t (bad 4 input-limit) (bad 4 i) ≡ bad 4 i
+    go true e = let p : input-limit ≡ i = omega (arith, leb-true input-limit i e) in ap (bad 4) p
+    go false e = refl
+
+limited-below : (long : Bool) (c i : ℕ) → i < input-limit → limited long (bad c i) ≡ bad c i
+limited-below long c i h = rw (lt-leb input-limit i h)
+
+limited-at : (long : Bool) (c i : ℕ) → input-limit ≤ i → limited long (bad c i) ≡ bad 4 input-limit
+limited-at long c i h = rw (le-leb input-limit i h)
+
+limited-end : (c : Config) (n i : ℕ) → i ≤ input-limit → cond (is-over (phase c)) (fine n) (bad 4 i) ≡ limited false (cond (is-over (phase c)) (fine n) (bad 4 i))
+limited-end c n i h = go (is-over (phase c))
+  where
+    go : (t : Bool) → cond t (fine n) (bad 4 i) ≡ limited false (cond t (fine n) (bad 4 i))
+    go true = refl
+    go false = sym (limited-four false i h)
+
+limited-past : (t : Bool) (n i : ℕ) → input-limit ≤ i → limited true (cond t (fine n) (bad 4 i)) ≡ bad 4 input-limit
+limited-past true n i h = refl
+limited-past false n i h = limited-at true 4 i h
+
+-- one byte
+limited-counted : (long : Bool) (b i n k : ℕ) (u v : Verdict) → i ≤ input-limit → (i < input-limit → u ≡ limited long v) → (i ≡ input-limit → limited long v ≡ bad 4 input-limit)
+    → weighed b i n k u ≡ limited long (counted b i n k v)
+limited-counted long b i n k u v h f g = go (ltb node-limit n) (opener b) (leb input-limit i) refl (ltb content-limit k)
+  where
+    go : (o q x : Bool) → leb input-limit i ≡ x → (y : Bool)
+        → cond (o && q) (bad 6 (i - 1)) (cond x (bad 4 i) (cond y (bad 5 i) (cond o (bad 6 i) u)))
+          ≡ limited long (cond (o && q) (bad 6 (i - 1)) (cond y (bad 5 i) (cond o (bad 6 i) v)))
+    go true true x e y = sym (limited-below long 6 (i - 1) (omega arith))
+    go true false true e true = let p : i ≡ input-limit = omega (arith, leb-true input-limit i e) in ap (bad 4) p ∙ sym (limited-at long 5 i (omega arith))
+    go true false true e false = let p : i ≡ input-limit = omega (arith, leb-true input-limit i e) in ap (bad 4) p ∙ sym (limited-at long 6 i (omega arith))
+    go true false false e true = sym (limited-below long 5 i (leb-false input-limit i e))
+    go true false false e false = sym (limited-below long 6 i (leb-false input-limit i e))
+    go false q true e true = let p : i ≡ input-limit = omega (arith, leb-true input-limit i e) in ap (bad 4) p ∙ sym (limited-at long 5 i (omega arith))
+    go false q true e false = let p : i ≡ input-limit = omega (arith, leb-true input-limit i e) in ap (bad 4) p ∙ sym (g p)
+    go false q false e true = sym (limited-below long 5 i (leb-false input-limit i e))
+    go false q false e false = f (leb-false input-limit i e)
+
+judge-scan : (c : Config) (n k b i : ℕ) (l : List ℕ) (m : ℕ) → i + m ≡ suc input-limit → i ≤ input-limit
+    → judge c n k b i l ≡ limited (ltb input-limit (i + length l)) (scan c n k b i (take m l))
+unfolding judge scan
+judge-scan c n k b i [] m e h = rw (take-nil {A = ℕ} m, le-ltb input-limit (i + 0) (omega arith)) (limited-end c n i h)
+judge-scan c n k b i (a ∷ l) zero e h = absurd (omega arith)
+judge-scan c n k b i (a ∷ l) (suc m) e h =
+    let p : i + suc (length l) ≡ suc i + length l = omega arith in
+    rw p (go (step true c a) (λ d n′ k′ s. judge-scan d n′ k′ a (suc i) l m (omega arith) s))
+  where
+    past : (d : Config) (n′ k′ : ℕ) → i ≡ input-limit → limited (ltb input-limit (suc i + length l)) (scan d n′ k′ a (suc i) (take m l)) ≡ bad 4 input-limit
+    past d n′ k′ q =
+        let z : m ≡ 0 = omega arith in
+        rw (z, lt-ltb input-limit (suc i + length l) (omega arith)) (limited-past (is-over (phase d)) n′ (suc i) (omega arith))
+
+    go : (x : Move)
+        → ((d : Config) (n′ k′ : ℕ) → suc i ≤ input-limit → judge d n′ k′ a (suc i) l ≡ limited (ltb input-limit (suc i + length l)) (scan d n′ k′ a (suc i) (take m l)))
+        → judge-move x n k b i (λ d n′ k′. judge d n′ k′ a (suc i) l)
+          ≡ limited (ltb input-limit (suc i + length l)) (scan-move x n k b i (λ d n′ k′. scan d n′ k′ a (suc i) (take m l)))
+    go stuck f = sym (limited-four (ltb input-limit (suc i + length l)) i h)
+    go (move d v) f =
+        limited-counted (ltb input-limit (suc i + length l)) b i (n + births v) (extent k v d) (judge d (n + births v) (tail k v) a (suc i) l)
+        (scan d (n + births v) (tail k v) a (suc i) (take m l)) h (f d (n + births v) (tail k v)) (past d (n + births v) (tail k v))
+
+pub judgement-scan : (s : List ℕ) → judgement s ≡ limited (ltb input-limit (length s)) (scan at-start 1 0 0 0 (take (suc input-limit) s))
+unfolding judgement
+judgement-scan s = let p : 0 + length s ≡ length s = omega arith in rw p at (judge-scan at-start 1 0 0 0 s (suc input-limit) refl (omega arith))
+
+-- steps ------------------------------------------------------------------------------------
+
+-- from offset i of s on
+unfoldable pub scan-at : List ℕ → Config → ℕ → ℕ → ℕ → Verdict
+scan-at s c n k i = scan c n k (byte-before s i) i (drop i s)
+
+module _ (s : List ℕ) (c : Config) (n k i : ℕ) where
+  pub scan-end : length s ≤ i → scan-at s c n k i ≡ cond (is-over (phase c)) (fine n) (bad 4 i)
+  unfolding scan-at scan
+  scan-end h = rw (drop-of-length-le s h)
+
+  module _ (h : i < length s) where
+    pub scan-stuck : step true c (getD s i 0) ≡ stuck → scan-at s c n k i ≡ bad 4 i
+    unfolding scan-at scan
+    scan-stuck e = rw (drop-cons s i 0 h, e)
+
+    module _ (d : Config) (v : List Event) (e : step true c (getD s i 0) ≡ move d v) where
+      pub scan-next : n + births v ≤ node-limit → extent k v d ≤ content-limit → scan-at s c n k i ≡ scan-at s d (n + births v) (tail k v) (suc i)
+      unfolding scan-at scan
+      scan-next l m = rw (drop-cons s i 0 h, e, le-ltb node-limit (n + births v) l, le-ltb content-limit (extent k v d) m)
+
+      pub scan-long : n + births v ≤ node-limit → content-limit < extent k v d → scan-at s c n k i ≡ bad 5 i
+      unfolding scan-at scan
+      scan-long l m = rw (drop-cons s i 0 h, e, le-ltb node-limit (n + births v) l, lt-ltb content-limit (extent k v d) m)
+
+      pub scan-many : node-limit < n + births v → extent k v d ≤ content-limit → opener (byte-before s i) ≡ false → scan-at s c n k i ≡ bad 6 i
+      unfolding scan-at scan
+      scan-many l m o = rw (drop-cons s i 0 h, e, lt-ltb node-limit (n + births v) l, le-ltb content-limit (extent k v d) m, o)
+
+      pub scan-many-before : node-limit < n + births v → opener (byte-before s i) ≡ true → scan-at s c n k i ≡ bad 6 (i - 1)
+      unfolding scan-at scan
+      scan-many-before l o = rw (drop-cons s i 0 h, e, lt-ltb node-limit (n + births v) l, o)
+
+-- configurations that take the same step, or end alike
+pub scan-alike : (s : List ℕ) (c d : Config) (n k i : ℕ) → (i < length s → step true c (getD s i 0) ≡ step true d (getD s i 0))
+    → is-over (phase c) ≡ is-over (phase d) → scan-at s c n k i ≡ scan-at s d n k i
+unfolding scan-at scan
+scan-alike s c d n k i f p = go (ltb i (length s)) refl
+  where
+    go : (t : Bool) → ltb i (length s) ≡ t → scan-at s c n k i ≡ scan-at s d n k i
+    go true e = let h = ltb-true i (length s) e in rw (drop-cons s i 0 h, f h)
+    go false e = scan-end s c n k i (ltb-false i (length s) e) ∙ rw p (sym (scan-end s d n k i (ltb-false i (length s) e)))

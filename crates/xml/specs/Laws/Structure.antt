@@ -1,0 +1,105 @@
+-- The children that a document of the grammar can have, and that its trees have them.
+use Prim.Native.Nat.{ℕ}
+use mathlib.Core.Path.{_≡_, refl, sym}
+use mathlib.Core.Bool.{Bool, true, false, not, _&&_, _||_, false≢true}
+use mathlib.Core.List.{List, [], _∷_, _++_}
+use Rattle.tree.specs.Lists.{every}
+use Rattle.tree.specs.Forest.{nil, node}
+use Rattle.tree.specs.Content.{text-byte, name-start, name-byte, spells-name}
+use Rattle.xml.specs.Bytes.{Quote, used, value-literal, text-literal}
+use Rattle.xml.specs.Shape.{Shape, element, attribute, text}
+use Rattle.xml.specs.Grammar.{Name, NameBytes, no-name-byte, name-byte-then, Named, name, Entity, entity-amp, entity-apos, entity-gt, entity-lt}
+use Rattle.xml.specs.Grammar.{entity-quot, Value, value-close, value-byte, value-entity, Chars, chars-end, chars-byte, chars-entity, text-node}
+use Rattle.xml.specs.Grammar.{Place, behind, spaced, inside, opened, Part, spacing, empty, full, more, attribute-part, text-part, markup}
+use Rattle.xml.specs.Grammar.{element-part, end-tag, Root, root, Parses, bare, declared-short, declared-long, Spells}
+
+-- where among the children of an element: among the attributes, those before named; behind them; behind a text
+pub data Spot : Type 0 where
+  attributes : (seen : List Name) → Spot
+  children behind-text : Spot
+
+-- children that may stand from there on
+pub data Formed : Spot → Shape → Type 0 where
+  formed-nil : {p : Spot} → Formed p nil
+  formed-attribute : {seen : List Name} {a : Name} (c : List ℕ) {f : Shape} → spells-name a ≡ true → used seen a ≡ false → every text-byte c ≡ true
+      → Formed (attributes (a ∷ seen)) f → Formed (attributes seen) (node (attribute a) (text-node c) f)
+  formed-text : {b : ℕ} {c : List ℕ} {f : Shape} → every text-byte (b ∷ c) ≡ true → Formed behind-text f → Formed children (node (text (b ∷ c)) nil f)
+  formed-element : {m : Name} {g f : Shape} → spells-name m ≡ true → Formed (attributes []) g → Formed children f → Formed behind-text (node (element m) g f)
+  no-text : {f : Shape} → Formed behind-text f → Formed children f
+  no-attribute : {seen : List Name} {f : Shape} → Formed children f → Formed (attributes seen) f
+
+pub data FormedRoot : Shape → Type 0 where
+  formed-root : {n : Name} {f : Shape} → spells-name n ≡ true → Formed (attributes []) f → FormedRoot (node (element n) f nil)
+
+pub both : {a b : Bool} → a ≡ true → b ≡ true → (a && b) ≡ true
+both p q = rw (p, q)
+
+pub left-of : (a b : Bool) → (a && b) ≡ true → a ≡ true
+left-of true b h = refl
+left-of false b h = h
+
+pub right-of : (a b : Bool) → (a && b) ≡ true → b ≡ true
+right-of true b h = h
+right-of false b h = absurd (false≢true h)
+
+pub neither : (a b : Bool) → (a || b) ≡ false → (a ≡ false) × (b ≡ false)
+neither true b h = absurd (false≢true (sym h))
+neither false b h = (refl, h)
+
+name-bytes : {r s t : List ℕ} → NameBytes r s t → every name-byte r ≡ true
+name-bytes no-name-byte = refl
+name-bytes (name-byte-then h l) = both h (name-bytes l)
+
+named : {n s t : List ℕ} → Named n s t → spells-name n ≡ true
+named (name h l) = both h (name-bytes l)
+
+entity-byte : {s t : List ℕ} {k : ℕ} → Entity s t k → text-byte k ≡ true
+unfolding text-byte
+entity-byte entity-amp = refl
+entity-byte entity-apos = refl
+entity-byte entity-gt = refl
+entity-byte entity-lt = refl
+entity-byte entity-quot = refl
+
+literal-value : (q : Quote) (b : ℕ) → value-literal q b ≡ true → text-byte b ≡ true
+unfolding value-literal
+literal-value q b h = left-of _ _ (left-of _ _ (left-of _ _ h))
+
+literal-text : (k b : ℕ) → text-literal k b ≡ true → text-byte b ≡ true
+unfolding text-literal
+literal-text k b h = left-of _ _ (left-of _ _ (left-of _ _ h))
+
+value-bytes : {q : Quote} {s t c : List ℕ} → Value q s t c → every text-byte c ≡ true
+value-bytes value-close = refl
+value-bytes {q} (value-byte {b = b} h v) = both (literal-value q b h) (value-bytes v)
+value-bytes (value-entity r v) = both (entity-byte r) (value-bytes v)
+
+text-bytes : {k : ℕ} {s t c : List ℕ} → Chars k s t c → every text-byte c ≡ true
+text-bytes chars-end = refl
+text-bytes (chars-byte {k = k} {b = b} h x) = both (literal-text k b h) (text-bytes x)
+text-bytes (chars-entity r x) = both (entity-byte r) (text-bytes x)
+
+abbrev spot : Place → Spot
+spot (behind n seen) = attributes seen
+spot (spaced n seen) = attributes seen
+spot (inside n) = children
+spot (opened n) = behind-text
+
+parts : {p : Place} {s t : List ℕ} {f : Shape} → Part true p s f t → Formed (spot p) f
+parts (spacing h p) = parts p
+parts empty = formed-nil
+parts (full p) = no-attribute (parts p)
+parts (more p) = parts p
+parts (attribute-part q {c = c} m k x y v p) = formed-attribute c (named m) k (value-bytes v) (parts p)
+parts (text-part x p) = formed-text (text-bytes x) (parts p)
+parts (markup p) = no-text (parts p)
+parts (element-part m p i) = formed-element (named m) (parts p) (parts i)
+parts (end-tag x) = formed-nil
+
+root-formed : {s : List ℕ} {f : Shape} → Root true s f → FormedRoot f
+root-formed (root x n p y) = formed-root (named n) (parts p)
+
+pub spelled-formed : {s : List ℕ} {f : Shape} → Spells s f → FormedRoot f
+spelled-formed (bare r) = root-formed r
+spelled-formed (declared-short r) = root-formed r
+spelled-formed (declared-long r) = root-formed r

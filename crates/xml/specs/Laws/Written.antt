@@ -1,0 +1,153 @@
+-- What is written is of the grammar, and spells the tree that was written.
+use Prim.Native.Nat.{ℕ, suc}
+use mathlib.Core.Path.{_≡_, refl, sym, ap, _∙_, subst}
+use mathlib.Core.Bool.{Bool, true, false, cond, not, _&&_, false≢true}
+use mathlib.Core.List.{List, [], _∷_, _++_, append-assoc}
+use lib.Dec.{eqb}
+use borrow.Author.Tests.{eqb-true}
+use Rattle.tree.specs.Text.{bytes}
+use Rattle.tree.specs.Lists.{every}
+use Rattle.tree.specs.Forest.{nil, node}
+use Rattle.tree.specs.Content.{name-start, name-byte, text-byte, spells-name}
+use Rattle.xml.specs.Bytes.{line-feed, less-than, greater-than, ampersand, quotation-mark, equals-sign, blank, used, double, value-literal}
+use Rattle.xml.specs.Bytes.{text-literal, brackets, long-declaration}
+use Rattle.xml.specs.Shape.{Shape, element, attribute, text}
+use Rattle.xml.specs.Grammar.{Name, no-blank, blank-then, NameBytes, no-name-byte, name-byte-then, Named, name, entity-amp, entity-gt}
+use Rattle.xml.specs.Grammar.{entity-lt, entity-quot, Value, value-close, value-byte, value-entity, Chars, chars-end, chars-byte, chars-entity}
+use Rattle.xml.specs.Grammar.{text-node, behind, inside, opened, Part, spacing, empty, full, attribute-part, text-part, markup, element-part}
+use Rattle.xml.specs.Grammar.{end-tag, root, declared-long, Spells}
+use Rattle.xml.specs.Writing.{escape, escaped, value, childless, contents}
+use Rattle.xml.specs.Writing as writing
+use Rattle.xml.specs.Laws.Structure.{Spot, attributes, children, behind-text, Formed, formed-nil, formed-attribute, formed-text, formed-element}
+use Rattle.xml.specs.Laws.Structure.{no-text, no-attribute, FormedRoot, formed-root, left-of, right-of}
+
+name-bytes : (r t : List ℕ) → every name-byte r ≡ true → NameBytes r (r ++ t) t
+name-bytes [] t h = no-name-byte
+name-bytes (b ∷ r) t h = name-byte-then (left-of (name-byte b) _ h) (name-bytes r t (right-of (name-byte b) _ h))
+
+named : (n t : List ℕ) → spells-name n ≡ true → Named n (n ++ t) t
+named [] t h = absurd (false≢true h)
+named (b ∷ r) t h = name (left-of (name-start b) _ h) (name-bytes r t (right-of (name-start b) _ h))
+
+-- an escaped byte, by the four that are written as entities
+escape-cases : (P : List ℕ → Type 0) (b : ℕ) → (b ≡ ampersand → P (bytes "&amp;")) → (b ≡ less-than → P (bytes "&lt;")) → (b ≡ greater-than → P (bytes "&gt;"))
+    → (b ≡ quotation-mark → P (bytes "&quot;"))
+    → (eqb b ampersand ≡ false → eqb b less-than ≡ false → eqb b greater-than ≡ false → eqb b quotation-mark ≡ false → P (b ∷ [])) → P (escape b)
+escape-cases P b f g h k l = go (eqb b ampersand) refl (eqb b less-than) refl (eqb b greater-than) refl (eqb b quotation-mark) refl
+  where
+    go : (x : Bool) → eqb b ampersand ≡ x → (y : Bool) → eqb b less-than ≡ y → (z : Bool) → eqb b greater-than ≡ z → (w : Bool) → eqb b quotation-mark ≡ w
+        → P (cond x (bytes "&amp;") (cond y (bytes "&lt;") (cond z (bytes "&gt;") (cond w (bytes "&quot;") (b ∷ [])))))
+    go true e y e₁ z e₂ w e₃ = f (eqb-true b ampersand e)
+    go false e true e₁ z e₂ w e₃ = g (eqb-true b less-than e₁)
+    go false e false e₁ true e₂ w e₃ = h (eqb-true b greater-than e₂)
+    go false e false e₁ false e₂ true e₃ = k (eqb-true b quotation-mark e₃)
+    go false e false e₁ false e₂ false e₃ = l e e₁ e₂ e₃
+
+value-written : (c t : List ℕ) → every text-byte c ≡ true → Value double (escaped c ++ (quotation-mark ∷ t)) t c
+unfolding escaped value-literal
+value-written [] t h = value-close
+value-written (b ∷ c) t h =
+    rw (append-assoc (escape b) (escaped c) (quotation-mark ∷ t))
+    (go (left-of (text-byte b) _ h) (value-written c t (right-of (text-byte b) _ h)))
+  where
+    go : text-byte b ≡ true → Value double (escaped c ++ (quotation-mark ∷ t)) t c → Value double (escape b ++ (escaped c ++ (quotation-mark ∷ t))) t (b ∷ c)
+    go k v = escape-cases (λ l. Value double (l ++ (escaped c ++ (quotation-mark ∷ t))) t (b ∷ c)) b
+        (λ e. rw e (value-entity entity-amp v)) (λ e. rw e (value-entity entity-lt v)) (λ e. rw e (value-entity entity-gt v)) (λ e. rw e (value-entity entity-quot v))
+        (λ e e₁ e₂ e₃. value-byte {b = b} (rw (k, e, e₁, e₃)) v)
+
+text-written : (k : ℕ) (c t : List ℕ) → every text-byte c ≡ true → Chars k (escaped c ++ (less-than ∷ t)) t c
+unfolding escaped text-literal
+text-written k [] t h = chars-end
+text-written k (b ∷ c) t h =
+    rw (append-assoc (escape b) (escaped c) (less-than ∷ t))
+    (go (left-of (text-byte b) _ h) (λ j. text-written j c t (right-of (text-byte b) _ h)))
+  where
+    go : text-byte b ≡ true → ((j : ℕ) → Chars j (escaped c ++ (less-than ∷ t)) t c) → Chars k (escape b ++ (escaped c ++ (less-than ∷ t))) t (b ∷ c)
+    go i v = escape-cases (λ l. Chars k (l ++ (escaped c ++ (less-than ∷ t))) t (b ∷ c)) b
+        (λ e. rw e (chars-entity entity-amp (v 0))) (λ e. rw e (chars-entity entity-lt (v 0))) (λ e. rw e (chars-entity entity-gt (v 0))) (λ e. rw e (chars-entity entity-quot (v 0)))
+        (λ e e₁ e₂ e₃. chars-byte {k = k} {b = b} (rw (i, e, e₁, e₂)) (v (brackets k b)))
+
+-- the end of an element, of its start tag or of the empty tag
+abbrev close : Name → List ℕ → List ℕ
+close n t = bytes "</" ++ (n ++ (bytes ">" ++ t))
+
+abbrev ending : Name → Shape → List ℕ
+ending n f = cond (childless f) (bytes "/>") (bytes ">" ++ (contents f ++ (bytes "</" ++ (n ++ bytes ">"))))
+
+ending-full : (n : Name) (f : Shape) (t : List ℕ) → childless f ≡ false → ending n f ++ t ≡ greater-than ∷ (contents f ++ close n t)
+ending-full n f t h = rw (h, append-assoc (contents f) (bytes "</" ++ (n ++ bytes ">")) t, append-assoc n (bytes ">") t)
+
+-- what is written from a spot on
+abbrev Good : Spot → Name → Shape → List ℕ → Type 0
+Good (attributes seen) n f t = Part true (behind n seen) (writing.attributes f ++ (ending n f ++ t)) f t
+Good children n f t = Part true (inside n) (contents f ++ close n t) f t
+Good behind-text n f t = (u : List ℕ) × (contents f ++ close n t ≡ less-than ∷ u) × Part true (opened n) u f t
+
+-- behind the attributes there is none
+abbrev NoAttribute : Spot → Shape → Type 0
+NoAttribute (attributes seen) f = Unit {0}
+NoAttribute children f = writing.attributes f ≡ []
+NoAttribute behind-text f = writing.attributes f ≡ []
+
+none-left : {p : Spot} {f : Shape} → Formed p f → NoAttribute p f
+unfolding writing.attributes
+none-left (formed-nil {p = attributes seen}) = tt
+none-left (formed-nil {p = children}) = refl
+none-left (formed-nil {p = behind-text}) = refl
+none-left (formed-attribute c n h k r) = tt
+none-left (formed-text h r) = none-left r
+none-left (formed-element n g r) = none-left r
+none-left (no-text r) = none-left r
+none-left (no-attribute r) = tt
+
+module _ (n : Name) (seen : List Name) (t : List ℕ) where
+  written-full : {f : Shape} → childless f ≡ false → writing.attributes f ≡ [] → Good children n f t → Good (attributes seen) n f t
+  written-full {f} h k x = rw (k, ending-full n f t h) (full x)
+
+  written-last : {f : Shape} → Formed children f → Good children n f t → Good (attributes seen) n f t
+  unfolding writing.attributes contents
+  written-last formed-nil x = empty
+  written-last (formed-text h r) x = written-full refl (none-left r) x
+  written-last (no-text formed-nil) x = empty
+  written-last (no-text (formed-element i g r)) x = written-full refl (none-left r) x
+
+value-of : (c : List ℕ) → value (text-node c) ≡ escaped c
+unfolding escaped
+value-of [] = refl
+value-of (b ∷ c) = refl
+
+-- an attribute, then l and x
+attribute-written : (n a : Name) (seen : List Name) (c l x t : List ℕ) (f : Shape) → spells-name a ≡ true → used seen a ≡ false → every text-byte c ≡ true
+    → Part true (behind n (a ∷ seen)) (l ++ x) f t
+    → Part true (behind n seen) ((bytes " " ++ (a ++ (bytes "=\"" ++ (value (text-node c) ++ (bytes "\"" ++ l))))) ++ x) (node (attribute a) (text-node c) f) t
+unfolding blank
+attribute-written n a seen c l x t f i h k p =
+    let q = append-assoc a (equals-sign ∷ quotation-mark ∷ (escaped c ++ (quotation-mark ∷ l))) x in
+    let r = append-assoc (escaped c) (quotation-mark ∷ l) x in
+    rw (value-of c, q, r) (spacing refl (attribute-part double (named a _ i) h no-blank no-blank (value-written c (l ++ x) k) p))
+
+written : {p : Spot} {f : Shape} (n : Name) (t : List ℕ) → Formed p f → Good p n f t
+unfolding writing.attributes contents
+written n t (formed-nil {p = attributes seen}) = empty
+written n t (formed-nil {p = children}) = markup (end-tag no-blank)
+written n t (formed-nil {p = behind-text}) = (_, refl, end-tag no-blank)
+written n t (formed-attribute {seen = seen} {a = a} c {f = f} i h k r) =
+    attribute-written n a seen c (writing.attributes f) (ending n f ++ t) t f i h k (written n t r)
+written n t (formed-text {b = b} {c = c} {f = f} h r) =
+    let x = written n t r in
+    rw (append-assoc (escaped (b ∷ c)) (contents f) (close n t), x .1) (text-part (text-written 0 (b ∷ c) (x .0) h) (x .2))
+written n t (formed-element {m = m} {g = g} {f = f} i h r) =
+    let later : List ℕ = contents f ++ close n t in
+    let p = append-assoc m (writing.attributes g ++ (ending m g ++ contents f)) (close n t) in
+    let q = append-assoc (writing.attributes g) (ending m g ++ contents f) (close n t) in
+    let o = append-assoc (ending m g) (contents f) (close n t) in
+    (m ++ (writing.attributes g ++ (ending m g ++ later)), rw (p, q, o), element-part (named m _ i) (written m later h) (written n t r))
+written n t (no-text r) = let x = written n t r in rw (x .1) (markup (x .2))
+written n t (no-attribute {seen = seen} r) = written-last n seen t r (written n t r)
+
+-- WRITTEN: the tree spells what was written
+pub written-spells : {f : Shape} → FormedRoot f → Spells (long-declaration ++ (line-feed ∷ contents f)) f
+unfolding contents blank
+written-spells (formed-root {n = n} {f = f} i r) =
+    let x : Part true (behind n []) (writing.attributes f ++ (ending n f ++ [])) f [] = written n [] r in
+    declared-long (root (blank-then refl no-blank) (named n _ i) x no-blank)

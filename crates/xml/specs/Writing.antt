@@ -1,0 +1,96 @@
+-- Writing: document 01, "Reading and writing XML". Numbers are not written, so this is about shapes.
+use Prim.Native.Nat.{ℕ}
+use mathlib.Core.Bool.{Bool, true, false, cond, not, _&&_, _||_}
+use mathlib.Core.List.{List, [], _∷_, _++_}
+use lib.ListN.{length}
+use lib.Dec.{eqb, leb}
+use Rattle.tree.specs.Text.{bytes}
+use Rattle.tree.specs.Forest.{nil, node}
+use Rattle.tree.specs.Content.{element-kind, attribute-kind, text-kind}
+use Rattle.tree.specs.Document.{Document}
+use Rattle.xml.specs.Bytes.{line-feed, quotation-mark, ampersand, less-than, greater-than, amp, gt, lt, quot, used, long-declaration}
+use Rattle.xml.specs.Shape.{Label, Shape, shape}
+use Rattle.xml.specs.Reading.{input-limit}
+
+-- "&amp; &lt; &gt; &quot; in texts and values"
+abbrev pub escape : ℕ → List ℕ
+escape b =
+    cond (eqb b ampersand) (ampersand ∷ amp)
+    (cond (eqb b less-than) (ampersand ∷ lt)
+    (cond (eqb b greater-than) (ampersand ∷ gt)
+    (cond (eqb b quotation-mark) (ampersand ∷ quot) (b ∷ []))))
+
+unfoldable pub escaped : List ℕ → List ℕ
+escaped [] = []
+escaped (b ∷ c) = escape b ++ escaped c
+
+abbrev pub is-element : Label → Bool
+is-element a = eqb (a .kind) element-kind
+
+abbrev pub is-attribute : Label → Bool
+is-attribute a = eqb (a .kind) attribute-kind
+
+abbrev pub is-text : Label → Bool
+is-text a = eqb (a .kind) text-kind
+
+-- the value of an attribute with these children
+abbrev pub value : Shape → List ℕ
+value nil = []
+value (node a ks fs) = escaped (a .content)
+
+-- the attributes among the children, for the start tag
+unfoldable pub attributes : Shape → List ℕ
+attributes nil = []
+attributes (node a ks fs) =
+    cond (is-attribute a) (bytes " " ++ (a .content ++ (bytes "=\"" ++ (value ks ++ (bytes "\"" ++ attributes fs))))) (attributes fs)
+
+-- "childless elements (attributes aside)"
+abbrev pub childless : Shape → Bool
+childless nil = true
+childless (node a ks fs) = is-attribute a && childless fs
+
+-- the elements and texts among the children
+unfoldable pub contents : Shape → List ℕ
+contents nil = []
+contents (node a ks fs) =
+    cond (is-element a)
+    (bytes "<" ++ (a .content ++ (attributes ks ++
+    (cond (childless ks) (bytes "/>") (bytes ">" ++ (contents ks ++ (bytes "</" ++ (a .content ++ bytes ">")))) ++ contents fs))))
+    (cond (is-text a) (escaped (a .content) ++ contents fs) (contents fs))
+
+-- the children of the topmost node
+abbrev pub below : Shape → Shape
+below nil = nil
+below (node a ks fs) = ks
+
+-- "the longer declaration, one byte 10, the tree without added blanks"
+unfoldable pub write : Document → List ℕ
+write d = long-declaration ++ (line-feed ∷ contents (below (shape d)))
+
+-- not expressible ----------------------------------------------------------------
+
+-- "no root"
+abbrev pub no-root : Shape → Bool
+no-root nil = true
+no-root (node a ks fs) = false
+
+-- "two attributes of one element with one name": among these children, `seen` being the names so far, or further below
+unfoldable pub repeats : List (List ℕ) → Shape → Bool
+repeats seen nil = false
+repeats seen (node a ks fs) =
+    cond (is-attribute a) (used seen (a .content) || repeats (a .content ∷ seen) fs) (repeats [] ks || repeats seen fs)
+
+abbrev pub begins-with-text : Shape → Bool
+begins-with-text nil = false
+begins-with-text (node a ks fs) = is-text a
+
+-- "two neighbouring texts"
+unfoldable pub neighbouring-texts : Shape → Bool
+neighbouring-texts nil = false
+neighbouring-texts (node a ks fs) = (is-text a && begins-with-text fs) || neighbouring-texts ks || neighbouring-texts fs
+
+-- "not expressible: no root, two attributes of one element with one name, two neighbouring texts, more than 65,536 bytes in all"
+unfoldable pub expressible : Document → Bool
+expressible d =
+    not (no-root (below (shape d))) && not (repeats [] (below (shape d))) && not (neighbouring-texts (below (shape d))) &&
+    leb (length (write d)) input-limit
