@@ -6,3 +6,4 @@ pub mod Cells
 pub mod Begins
 pub mod Fresh
 pub mod Check
+pub mod Start

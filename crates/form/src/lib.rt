@@ -6,10 +6,15 @@ ghost use Rattle.tree.specs.Lists.{same};
 ghost use Rattle.locks.specs.Words.{bit};
 ghost use Rattle.layout.specs.Layout.{state-size, count, cell, part};
 ghost use Rattle.form.specs.Form.{fair-sizes, apart, form};
+ghost use Rattle.layout.specs.Laws.Bytes.{Filled};
+ghost use Rattle.form.specs.Start.{outline-byte, start-byte, Started};
 ghost use Rattle.form.specs.Check.{fine-header, column, fair-cell, fine-first, fine-nodes, Outlined};
 
 // The bytes that a state takes; those behind are never touched.
 pub const SIZE: usize = 110608;
+
+// The first bytes of a state.
+const MARK: [u8; 8] = *b"NFSTATE1";
 
 const NODES: usize = 1024;
 
@@ -43,7 +48,7 @@ fn header(s: &[u8]) -> bool
     if s.len() < SIZE {
         return false;
     }
-    if !begins(s, b"NFSTATE1") {
+    if !begins(s, &MARK) {
         return false;
     }
     let n = layout::word(s, 10) as usize;
@@ -182,4 +187,61 @@ pub fn formed(s: &[u8]) -> bool
         return false;
     }
     apart(s, 4, n, 65536)
+}
+
+// The beginning ----------------------------------------------------------------------
+
+// Byte j of the outline at the beginning.
+fn outline_byte(j: usize) -> u8
+    requires { ⌜ j < 6144 ⌝ }
+    ensures { λ r. ⌜ r ≡ outline-byte j ⌝ }
+{
+    if j % 6 == 0 {
+        return (j / 6 % 256) as u8;
+    }
+    if j % 6 == 1 {
+        return (j / 6 / 256) as u8;
+    }
+    0
+}
+
+// Byte j of the header, the outline and the document's kind at the beginning.
+fn start_byte(j: usize) -> u8
+    requires { ⌜ j < 6161 ⌝ }
+    ensures { λ r. ⌜ r ≡ start-byte j ⌝ }
+{
+    if j < 8 {
+        return MARK[j];
+    }
+    if j < OUTLINE {
+        return if j == 10 { 1 } else { 0 };
+    }
+    if j < CELLS {
+        return outline_byte(j - OUTLINE);
+    }
+    1
+}
+
+// Sets the bytes up to the kind of the first cell.
+fn begin(s: &mut [u8])
+    requires { ⌜ state-size ≤ length (now s) ⌝ }
+    ensures { λ r. ⌜ Filled 0 6161 start-byte (now (s .entry)) (now (s .exit)) ⌝ }
+{
+    let mut j: usize = 0;
+    while j < CELLS + 1 {
+        s[j] = start_byte(j);
+        j += 1;
+    }
+}
+
+// Sets the bytes to node 0 alone, with nothing open; false if they are too few, and then nothing is changed.
+pub fn start(s: &mut [u8]) -> bool
+    ensures { λ r. ⌜ Started (now (s .entry)) (now (s .exit)) r ⌝ }
+{
+    if s.len() < SIZE {
+        return false;
+    }
+    begin(s);
+    layout::clear(s, CELLS + 1, SIZE - CELLS - 1);
+    true
 }
