@@ -1,12 +1,28 @@
--- What the ends of a transaction do to the marks of a node; its locks are released on their own.
-use Prim.Native.Nat.{ℕ, zero, suc}
+-- The contract of start, and what the ends of a transaction do to the marks of a node; its locks are released on their own.
+use mathlib.Core.Path.{_≡_}
+use Prim.Native.Nat.{ℕ, zero, suc, _≤_, _<_}
 use mathlib.Core.Bool.{Bool, cond, not, _&&_}
 use mathlib.Core.List.{List, [], _∷_, map}
+use lib.ListN.{length, drop}
 use lib.Dec.{eqb}
-use Rattle.protocol.specs.State.{Marked, unless}
+use Rattle.tree.specs.Document.{Document}
+use Rattle.protocol.specs.State.{Marked, State, unless}
+use Rattle.protocol.specs.Calls.{start, next}
+use Rattle.protocol.specs.Answers.{answer-of}
+use Rattle.protocol.specs.declared.Answer.{Answer}
+use Rattle.protocol.specs.declared.Answer.the-variants.{Refused}
 use Rattle.layout.specs.Fields.{field, with-field, with-now}
 use Rattle.layout.specs.Flat.{second, prune}
-use Rattle.layout.specs.Layout.{is-open, Entry, nodes, Left}
+use Rattle.layout.specs.Layout.{state-size, is-open, Entry, nodes, Left}
+use Rattle.form.specs.Form.{Holds}
+
+-- "a start call sets it to the beginning": the bytes need not be of the form, and 13 is given only where they are too short
+pub record Restarted (s s′ : List ℕ) (r : Answer) : Type 0 where
+  pub short : length s < state-size → (r ≡ Refused 13) × (s′ ≡ s)
+  pub answer : state-size ≤ length s → (M : State) (writing : Document → Answer) → r ≡ answer-of writing (next start M .outcome)
+  pub state : state-size ≤ length s → (M : State) → Holds s′ (next start M .state)
+  pub long : length s′ ≡ length s
+  pub behind : drop state-size s′ ≡ drop state-size s
 
 -- mark o (1 writer, 2 inserter, 3 deleter) of t is nobody's
 abbrev pub without-mark : ℕ → ℕ → Marked → Marked

@@ -1,4 +1,4 @@
-// The beginning and the ends of transactions: begin, commit and abort.
+// Start, begin, commit and abort.
 use protocol::Answer;
 ghost use mathlib.Core.Path.{_≡_};
 ghost use mathlib.Core.Bool.{true};
@@ -14,13 +14,23 @@ ghost use Rattle.layout.specs.Fields.{released};
 ghost use Rattle.edits.specs.Rows.{not-inserted-by};
 ghost use Rattle.engine.specs.Contract.{Performed};
 ghost use Rattle.engine.specs.Admission.{Opened, Caller};
-ghost use Rattle.ends.specs.Ends.{without-mark, rewritten, settled-marks, undone-marks, Closed, Ended};
+ghost use Rattle.ends.specs.Ends.{Restarted, without-mark, rewritten, settled-marks, undone-marks, Closed, Ended};
 
 const WRITER: usize = 1;
 
 const INSERTER: usize = 2;
 
 const DELETER: usize = 3;
+
+// Start: the bytes are set to the beginning, where they are long enough.
+pub fn start(s: &mut [u8]) -> Answer
+    ensures { λ r. ⌜ Restarted (now (s .entry)) (now (s .exit)) r ⌝ }
+{
+    if form::start(s) {
+        return Answer::Done;
+    }
+    Answer::Refused(13)
+}
 
 // The cause 13, 1 or 3 of a call of transaction t, or 0.
 fn caller(s: &[u8], t: u32) -> u8

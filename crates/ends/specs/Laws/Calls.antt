@@ -6,16 +6,17 @@ use mathlib.Core.List.{List, map}
 use native.Mathlib.Omega.{arith}
 use lib.ListN.{length, getD, drop}
 use lib.Dec.{eqb, leb}
-use borrow.Author.Tests.{le-leb, lt-leb, ne-eqb}
+use borrow.Author.Tests.{le-leb, lt-leb, leb-true, leb-false, ne-eqb}
 use Rattle.tree.specs.Steps.{done}
 use Rattle.protocol.specs.State.{nobody, is-transaction, Marked, Tree, State, seen-by, settled, undone, commit-tree, abort-tree, opened, closed}
 use Rattle.protocol.specs.Calls.{Call, begin, commit, abort, refused, Next, unchanged, becomes, if-open, next}
 use Rattle.protocol.specs.Answers.{answer-of, granted-answer}
 use Rattle.protocol.specs.declared.Answer.the-variants.{Done, Refused}
 use Rattle.layout.specs.Flat.{flat, second, prune}
-use Rattle.layout.specs.Layout.{is-open, Entry, nodes, no-entry, Left}
+use Rattle.layout.specs.Layout.{state-size, is-open, Entry, nodes, no-entry, Left}
 use Rattle.lookup.specs.Places.{unique}
 use Rattle.form.specs.Form.{form, fine-tree, Holds}
+use Rattle.form.specs.Start.{Started}
 use Rattle.form.specs.Laws.Holds.{form-holds}
 use Rattle.form.specs.Laws.Fine.{FineDocument, Root, root-of}
 use Rattle.form.specs.Laws.Steps.{holds-left, holds-unique, fine-commit, fine-abort}
@@ -25,7 +26,7 @@ use Rattle.edits.specs.Laws.Ends.{commit-rows, abort-rows}
 use Rattle.edits.specs.Laws.Kept.{unique-commit, unique-abort}
 use Rattle.engine.specs.Contract.{Performed}
 use Rattle.engine.specs.Admission.{Opened, Barred}
-use Rattle.ends.specs.Ends.{Ended}
+use Rattle.ends.specs.Ends.{Restarted, Ended}
 use Rattle.engine.specs.Laws.Outcomes.{Stays, Grants, performed-stays, performed-grants}
 use Rattle.engine.specs.Laws.Admission.{open-next}
 
@@ -44,6 +45,21 @@ not-inserted s t o = rw (first-document s (o .formed) .inserter, ne-eqb nobody t
 
 pub not-deleted : (s : List ℕ) (t : ℕ) → Opened s t → not-marked 3 t (getD (nodes s) 0 no-entry .1) ≡ true
 not-deleted s t o = rw (first-document s (o .formed) .deleter, ne-eqb nobody t (λ e. omega (arith, o .low)))
+
+-- start ---------------------------------------------------------------------------------------------
+
+module _ {s s′ : List ℕ} {b : Bool} (k : Started s s′ b) where
+  pub start-done : b ≡ true → Restarted s s′ Done
+  unfolding next answer-of granted-answer
+  start-done e =
+      let z : state-size ≤ length s = leb-true state-size (length s) (sym (k .answer) ∙ e) in
+      record { short = λ h. absurd (omega (arith, h, z)); answer = λ h M writing. refl; state = λ h M. k .holds h; long = k .long; behind = k .behind }
+
+  pub start-short : b ≡ false → Restarted s s′ (Refused 13)
+  unfolding next
+  start-short e =
+      let z : length s < state-size = leb-false state-size (length s) (sym (k .answer) ∙ e) in
+      record { short = λ h. (refl, k .short h); answer = λ h. absurd (omega (arith, h, z)); state = λ h M. k .holds h; long = k .long; behind = k .behind }
 
 -- begin ---------------------------------------------------------------------------------------------
 
