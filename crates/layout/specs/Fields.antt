@@ -4,7 +4,7 @@ use mathlib.Core.Bool.{Bool, true, false, cond}
 use mathlib.Core.List.{List, [], _∷_, _++_}
 use lib.Dec.{eqb}
 use Rattle.tree.specs.Steps.{with-content}
-use Rattle.locks.specs.Modes.{in-word}
+use Rattle.locks.specs.Modes.{no-mode, in-word}
 use Rattle.protocol.specs.State.{Marked, none-of}
 
 -- the four bytes of a cell that stand for themselves: 0 kind, 1 writer, 2 inserter, 3 deleter
@@ -75,3 +75,7 @@ with-modes t w a = record {
 -- transaction t holds nothing
 abbrev pub released : ℕ → Marked → Marked
 released t a = record { now = a .now; before = a .before; writer = a .writer; inserter = a .inserter; deleter = a .deleter; held = none-of t (a .held) }
+
+-- nobody holds anything
+abbrev pub unlocked : Marked → Marked
+unlocked a = record { now = a .now; before = a .before; writer = a .writer; inserter = a .inserter; deleter = a .deleter; held = λ u. no-mode }

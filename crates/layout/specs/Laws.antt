@@ -1,6 +1,7 @@
 pub mod Lists
 pub mod Bytes
 pub mod Nodes
+pub mod Kept
 pub mod Fields
 pub mod Texts
 pub mod Locks

@@ -9,7 +9,7 @@ ghost use Rattle.locks.specs.Modes.{in-word};
 ghost use Rattle.layout.specs.Lists.{modify};
 ghost use Rattle.layout.specs.Flat.{second};
 ghost use Rattle.layout.specs.Layout.{is-open, nodes, no-entry, Layout, Left, Kept};
-ghost use Rattle.layout.specs.Fields.{with-modes, released};
+ghost use Rattle.layout.specs.Fields.{with-modes, released, unlocked};
 ghost use Rattle.layout.specs.Transaction.{Loaded};
 
 const OPEN: usize = 8;
@@ -88,4 +88,16 @@ pub fn load(s: &[u8], t: usize) -> Transaction
         k += 1;
     }
     Transaction { modes }
+}
+
+// Nobody holds anything on the node at i.
+pub fn unlock(s: &mut [u8], i: usize)
+    requires { ⌜ (Layout (now s)) × (i < length (nodes (now s))) ⌝ }
+    ensures { λ r. ⌜ Kept (now (s .entry)) (now (s .exit)) (modify i (second unlocked) (nodes (now (s .entry)))) ⌝ }
+{
+    let mut t: usize = 1;
+    while t <= 16 {
+        set_lock(s, t, i, 0);
+        t += 1;
+    }
 }

@@ -6,7 +6,7 @@ use mathlib.Core.List.{List, [], _∷_, _++_, map}
 use native.Mathlib.Omega.{arith}
 use lib.ListN.{length, getD, take, drop, set}
 use lib.Dec.{eqb, ltb, leb}
-use borrow.Author.Tests.{ltb-true, ltb-false, leb-true, le-leb, eqb-true, eqb-false, eq-eqb, ne-eqb}
+use borrow.Author.Tests.{ltb-true, ltb-false, lt-ltb, le-ltb, leb-true, le-leb, eqb-true, eqb-false, eq-eqb, ne-eqb}
 use Rattle.locks.specs.Modes.{Mode, ModeSet, no-mode, in-word, LT, LC, LR, LU, LW, LTT, LRR, LUU, LIR, LIU, LIW, LICW}
 use Rattle.protocol.specs.State.{is-transaction, Marked, none-of}
 use Rattle.layout.specs.Lists.{tabulate, modify}
@@ -15,7 +15,9 @@ use Rattle.layout.specs.Layout.{state-size, cell-at, lock-at, word, part
 use borrow.Author.Count.{below-more}
 use lib.Seq.{getD-set-same, getD-set-other}
 use Rattle.layout.specs.Transaction.{Loaded}
-use Rattle.layout.specs.Fields.{with-modes, released}
+use Rattle.layout.specs.Fields.{with-modes, released, unlocked}
+use Rattle.layout.specs.Laws.Lists.{modify-modify, modify-same, modify-none}
+use Rattle.layout.specs.Laws.Kept.{kept-same, kept-then, kept-as}
 use Rattle.layout.specs.Laws.Bytes.{Filled, Only, only-wider, only-word, put-word, word-put, word-low, word-high, part-low}
 use Rattle.layout.specs.Laws.Nodes.{node-at, length-nodes, kept-of, kept-map}
 
@@ -161,3 +163,67 @@ loaded-of s t modes h a b f = record {
 pub loaded-more : (f : ℕ → ℕ) (l : List ℕ) (i v : ℕ) → i < length l → ((k : ℕ) → k < i → getD l k 0 ≡ f k) → v ≡ f i → (k : ℕ) → k < i + 1 → getD (set l i v) k 0 ≡ f k
 loaded-more f l i v h all here =
     below-more (λ (k : ℕ). getD (set l i v) k 0 ≡ f k) i (λ k lt. getD-set-other l i k v 0 (λ e. omega arith) ∙ all k lt) (getD-set-same l i v 0 h ∙ here)
+
+-- the words of one node cleared, transaction by transaction ------------------------------------
+
+-- only transactions hold anything
+pub held-none : (s : List ℕ) (i u : ℕ) → i < length (nodes s) → is-transaction u ≡ false → getD (nodes s) i no-entry .1 .held u ≡ no-mode
+unfolding entry decode held
+held-none s i u l e = rw (node-at s i (omega (arith, length-nodes s)), e)
+
+-- those below t hold nothing
+unfoldable pub cleared : ℕ → Marked → Marked
+cleared t a = record {
+  now = a .now;
+  before = a .before;
+  writer = a .writer;
+  inserter = a .inserter;
+  deleter = a .deleter;
+  held = λ u. cond (ltb u t) no-mode (a .held u);
+}
+
+not-transaction : (u : ℕ) → (1 ≤ u → u ≤ 16 → ⊥) → is-transaction u ≡ false
+not-transaction u h = go (is-transaction u) refl
+  where
+    go : (x : Bool) → is-transaction u ≡ x → x ≡ false
+    go true e = absurd (h (transaction-low u e) (transaction-high u e))
+    go false e = refl
+
+cleared-none : (a : Marked) → a .held 0 ≡ no-mode → cleared 1 a ≡ a
+unfolding cleared
+cleared-none a h = ap (λ (f : ℕ → ModeSet). record { now = a .now; before = a .before; writer = a .writer; inserter = a .inserter; deleter = a .deleter; held = f }) (fun-ext go)
+  where
+    go : (u : ℕ) → cond (ltb u 1) no-mode (a .held u) ≡ a .held u
+    go zero = sym h
+    go (suc u) = rw (le-ltb (suc u) 1 (omega arith))
+
+cleared-more : (t : ℕ) (a : Marked) → with-modes t 0 (cleared t a) ≡ cleared (t + 1) a
+unfolding cleared
+cleared-more t a = ap (λ (f : ℕ → ModeSet). record { now = a .now; before = a .before; writer = a .writer; inserter = a .inserter; deleter = a .deleter; held = f }) (fun-ext (λ u. go u (eqb u t) refl (ltb u t) refl))
+  where
+    go : (u : ℕ) (x : Bool) → eqb u t ≡ x → (y : Bool) → ltb u t ≡ y → cond (eqb u t) (in-word 0) (cond (ltb u t) no-mode (a .held u)) ≡ cond (ltb u (t + 1)) no-mode (a .held u)
+    go u true p y q = rw (p, no-modes, lt-ltb u (t + 1) (omega (arith, eqb-true u t p)))
+    go u false p true q = rw (p, q, lt-ltb u (t + 1) (omega (arith, ltb-true u t q)))
+    go u false p false q = let ne : u ≡ t → ⊥ = eqb-false u t p in rw (p, q, le-ltb u (t + 1) (omega (arith, ltb-false u t q, ne)))
+
+cleared-all : (a : Marked) → ((u : ℕ) → is-transaction u ≡ false → a .held u ≡ no-mode) → cleared 17 a ≡ unlocked a
+unfolding cleared
+cleared-all a h = ap (λ (f : ℕ → ModeSet). record { now = a .now; before = a .before; writer = a .writer; inserter = a .inserter; deleter = a .deleter; held = f }) (fun-ext (λ u. go u (ltb u 17) refl))
+  where
+    go : (u : ℕ) (x : Bool) → ltb u 17 ≡ x → cond x no-mode (a .held u) ≡ no-mode
+    go u true p = refl
+    go u false p = h u (not-transaction u (λ b c. omega (arith, ltb-false u 17 p)))
+
+-- the loop: start, a turn, the end
+pub clear-start : (s : List ℕ) (i : ℕ) → Layout s → i < length (nodes s) → Kept s s (modify i (second (cleared 1)) (nodes s))
+clear-start s i h l = kept-as _ _ (sym (modify-none i (second (cleared 1)) (nodes s) no-entry (rw (cleared-none (getD (nodes s) i no-entry .1) (held-none s i 0 l refl))))) (kept-same s h)
+
+pub clear-turn : {s s′ s″ : List ℕ} (i t : ℕ) → Kept s s′ (modify i (second (cleared t)) (nodes s)) → Kept s′ s″ (modify i (second (with-modes t 0)) (nodes s′)) → Kept s s″ (modify i (second (cleared (t + 1))) (nodes s))
+clear-turn {s} i t a b =
+    kept-as _ _ (modify-modify i (second (with-modes t 0)) (second (cleared t)) (nodes s) ∙ modify-same i _ (second (cleared (t + 1))) (nodes s) no-entry (rw (cleared-more t (getD (nodes s) i no-entry .1))))
+    (kept-then (modify i (second (cleared t)) (nodes s)) (modify i (second (with-modes t 0))) a b)
+
+pub clear-done : {s s′ : List ℕ} (i t : ℕ) → i < length (nodes s) → t ≡ 17 → Kept s s′ (modify i (second (cleared t)) (nodes s)) → Kept s s′ (modify i (second unlocked) (nodes s))
+clear-done {s} {s′} i t l e a =
+    let b : Kept s s′ (modify i (second (cleared 17)) (nodes s)) = rw e at a in
+    kept-as _ _ (modify-same i (second (cleared 17)) (second unlocked) (nodes s) no-entry (rw (cleared-all (getD (nodes s) i no-entry .1) (λ u x. held-none s i u l x)))) b

@@ -107,6 +107,14 @@ module _ {k n : ℕ} {s s′ : List ℕ} (o : Only k n s s′) (low : cell-at 0 
       (map-tabulate (count s) (entry s) (entry s′) (second g) (λ j x. entry-as j (omega arith) ∙ rw (here j x)))
       (λ j x. rw (same j x) (h .sizes j x))
 
+  -- of none
+  pub kept-none :
+      Layout s → k + n ≤ state-size → ((j : ℕ) → j < count s → (cell s′ (slot s j) ≡ cell s (slot s j)) × (held s′ (slot s j) ≡ held s (slot s j))) → Kept s s′ (nodes s)
+  unfolding nodes entry
+  kept-none h b same =
+      let m : count s ≤ 1024 = h .room in
+      kept-all h b (nodes s) (tabulate-same (count s) (entry s′) (entry s) (λ j x. entry-as j (omega arith) ∙ rw (same j x .0, same j x .1))) (λ j x. rw (same j x .0) (h .sizes j x))
+
 -- a store to one cell --------------------------------------------------------------------
 
 module _ {k : ℕ} {s s′ : List ℕ} (o : Only (cell-at k) 70 s s′) where

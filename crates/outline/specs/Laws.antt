@@ -1,0 +1,3 @@
+pub mod Lists
+pub mod Entries
+pub mod Insert

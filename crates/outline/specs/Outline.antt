@@ -1,0 +1,45 @@
+-- Entries of the outline, used or free, as the functions of this crate move them.
+use Prim.Native.Nat.{ℕ, _+_, _*_, _≤_, _<_}
+use mathlib.Core.Path.{_≡_}
+use mathlib.Core.List.{List, []}
+use lib.ListN.{length, getD}
+use Rattle.protocol.specs.State.{Marked}
+use Rattle.layout.specs.Lists.{modify, insert}
+use Rattle.layout.specs.Layout.{entry-at, slot, depth, number, is-open, Entry, nodes, no-entry, Left}
+use Rattle.layout.specs.Laws.Bytes.{Only}
+
+-- the entry at place i
+pub record Placed (s : List ℕ) (i k d n : ℕ) : Type 0 where
+  pub slot : slot s i ≡ k
+  pub depth : depth s i ≡ d
+  pub number : number s i ≡ n
+
+-- the entry at place i of s′ is that at place j of s
+pub record Copy (s : List ℕ) (j : ℕ) (s′ : List ℕ) (i : ℕ) : Type 0 where
+  pub slot : slot s′ i ≡ slot s j
+  pub depth : depth s′ i ≡ depth s j
+  pub number : number s′ i ≡ number s j
+
+-- only the entry at place i may differ, and it is this
+pub record Entered (s s′ : List ℕ) (i k d n : ℕ) : Type 0 where
+  pub only : Only (entry-at i) 6 s s′
+  pub is : Placed s′ i k d n
+
+-- the entries from place p up to n moved up by one place; the one at p is as it was
+pub record Shifted (s s′ : List ℕ) (p n : ℕ) : Type 0 where
+  pub only : Only (entry-at 0) 6144 s s′
+  pub low : (i : ℕ) → i ≤ p → Copy s i s′ i
+  pub moved : (i : ℕ) → p ≤ i → i < n → Copy s i s′ (i + 1)
+  pub high : (i : ℕ) → n < i → i < 1024 → Copy s i s′ i
+
+-- two places exchanged
+unfoldable pub exchange : ℕ → ℕ → List Entry → List Entry
+exchange i j l = modify i (λ x. getD l j no-entry) (modify j (λ x. getD l i no-entry) l)
+
+-- what opening a place leaves: a node at place p with this depth and number and no committed content, the rest of it as the slot had it
+pub record Opened (s s′ : List ℕ) (p d n : ℕ) : Type 0 where
+  pub node : Marked
+  pub number : node .now .number ≡ n
+  pub before : node .before ≡ []
+  pub many : length (nodes s′) ≡ length (nodes s) + 1
+  pub left : Left s s′ (is-open s) (insert p (d, node) (nodes s))

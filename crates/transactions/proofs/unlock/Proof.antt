@@ -1,0 +1,52 @@
+use borrow.Author.Needs.{needs}
+use native.Mathlib.Omega.{arith}
+use mathlib.Core.Path.{_≡_, refl, sym, ap, _∙_}
+use Prim.Native.Nat.{ℕ, zero, suc, _+_, _-_, _*_, _≤_, _<_}
+use lib.ListN.{length}
+use Rattle.layout.specs.Lists.{modify}
+use Rattle.layout.specs.Flat.{second}
+use Rattle.layout.specs.Layout.{nodes, Kept}
+use Rattle.layout.specs.Laws.Locks.{cleared, clear-start, clear-turn, clear-done}
+use Rattle.transactions.proofs.unlock.Statement.{statement}
+use Rattle.transactions.proofs.unlock.Tie as tie
+
+abbrev Inv-loop : tie.InvT-loop
+Inv-loop s₀ i t₀ s t = (1 ≤ t) × (t ≤ 17) × (i < length (nodes s)) × Kept s₀ s (modify i (second (cleared t)) (nodes s₀))
+
+abbrev μ-loop : tie.MeasureT-loop
+μ-loop s₀ i t₀ s t = 17 - t
+
+loop-holds : tie.Need-loop-holds Inv-loop μ-loop
+loop-holds c = (search needs, search needs, search needs, clear-start _ _ (search needs) (search needs))
+
+set-lock-requires : tie.Need-set-lock-requires Inv-loop μ-loop
+set-lock-requires c κs = search needs
+
+add-t : tie.Need-add-t Inv-loop μ-loop
+add-t c = search needs
+
+loop-less : tie.Need-loop-less Inv-loop μ-loop
+loop-less c = search needs
+
+loop-again : tie.Need-loop-again Inv-loop μ-loop
+loop-again c = (search needs, search needs, search needs, clear-turn _ _ (c .before .before .before .before .before .loop .inv .3) (c .before .before .set-lock .ensures))
+
+same-length : tie.Need-same-length Inv-loop μ-loop
+same-length c = search needs
+
+returns : tie.Need-returns Inv-loop μ-loop
+returns c = clear-done _ _ (search needs) (omega arith) (c .before .loop .inv .3)
+
+pub unlock-spec : {M : Type 1} → statement M
+unlock-spec =
+    tie.close
+    (tie.spec
+    Inv-loop
+    μ-loop
+    loop-holds
+    set-lock-requires
+    add-t
+    loop-less
+    loop-again
+    same-length
+    returns)
