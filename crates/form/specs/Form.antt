@@ -1,0 +1,87 @@
+-- The form of the lent bytes (docs/STATE.md), and the state that bytes of the form hold.
+use mathlib.Core.Path.{_≡_}
+use Prim.Native.Nat.{ℕ, zero, suc}
+use mathlib.Core.Bool.{Bool, true, false, _&&_}
+use mathlib.Core.List.{List, [], _∷_}
+use lib.ListN.{length, getD}
+use lib.Dec.{eqb, leb, ltb}
+use Rattle.tree.specs.Lists.{every, distinct, same}
+use Rattle.tree.specs.Forest.{Forest, nil, node}
+use Rattle.tree.specs.Content.{document-kind, element-kind, text-kind, content-limit, between}
+use Rattle.protocol.specs.State.{nobody, Marked, Tree, State}
+use Rattle.protocol.specs.Calls.{node-limit}
+use Rattle.layout.specs.Lists.{tabulate}
+use Rattle.layout.specs.Flat.{flat}
+use Rattle.layout.specs.Layout.{state-size, format-mark, part, count, slot, cell, is-open, Entry, nodes, Layout}
+use Rattle.lookup.specs.Places.{unique}
+
+-- nodes --------------------------------------------------------------------------------
+
+-- the marks of a node name nobody or one of sixteen transactions
+abbrev pub fair-marks : Marked → Bool
+fair-marks a = leb (a .writer) 16 && leb (a .inserter) 16 && leb (a .deleter) 16
+
+-- a node below the document: element, attribute or text
+unfoldable pub fine : Marked → Bool
+fine a = between element-kind text-kind (a .now .kind) && fair-marks a
+
+-- the document: numbered 0, and nobody inserted or deleted it, so that no end takes it out
+unfoldable pub fine-document : Marked → Bool
+fine-document a =
+    eqb (a .now .kind) document-kind && eqb (a .now .number) 0 && leb (a .writer) 16 && eqb (a .inserter) nobody && eqb (a .deleter) nobody
+
+-- rows -----------------------------------------------------------------------------------
+
+-- of the rows behind one of depth `before`: each is fine, at least at depth 1 and at most one deeper than the row before it
+unfoldable pub fine-below : ℕ → List Entry → Bool
+fine-below before [] = true
+fine-below before (x ∷ xs) = between 1 (suc before) (x .0) && fine (x .1) && fine-below (x .0) xs
+
+-- the document at depth 0, and all other rows below it
+unfoldable pub fine-rows : List Entry → Bool
+fine-rows [] = false
+fine-rows (x ∷ xs) = eqb (x .0) 0 && fine-document (x .1) && fine-below 0 xs
+
+-- the same of a tree
+unfoldable pub all-fine : Tree → Bool
+all-fine nil = true
+all-fine (node a ks fs) = fine a && all-fine ks && all-fine fs
+
+unfoldable pub fine-tree : Tree → Bool
+fine-tree nil = false
+fine-tree (node a ks nil) = fine-document a && all-fine ks
+fine-tree (node a ks (node b js fs)) = false
+
+-- bytes ------------------------------------------------------------------------------------
+
+-- the slots of all entries of the outline, of the used ones first
+unfoldable pub slots : List ℕ → List ℕ
+slots s = tabulate node-limit (slot s)
+
+-- the cells of the nodes, in document order
+unfoldable pub cells : List ℕ → List (List ℕ)
+cells s = tabulate (count s) (λ i. cell s (slot s i))
+
+-- both sizes of a cell are those of contents
+unfoldable pub fair-sizes : List ℕ → Bool
+fair-sizes c = leb (getD c 4 0) content-limit && leb (getD c 5 0) content-limit
+
+-- each number below the limit, and no two alike
+unfoldable pub apart : ℕ → List ℕ → Bool
+apart limit l = every (λ k. ltb k limit) l && distinct l
+
+-- long enough, the format mark, 1 to 1,024 nodes, slots that are a permutation of 0 to 1,023, sizes in range, rows of a tree, and no two of one number
+unfoldable pub form : List ℕ → Bool
+form s =
+    leb state-size (length s) && same (part s 0 8) format-mark && between 1 node-limit (count s)
+    && apart node-limit (slots s) && every fair-sizes (cells s) && fine-rows (nodes s) && unique (nodes s)
+
+-- states -------------------------------------------------------------------------------------
+
+-- the bytes hold the state M
+pub record Holds (s : List ℕ) (M : State) : Type 0 where
+  pub layout : Layout s
+  pub opens : is-open s ≡ M .is-open
+  pub rows : nodes s ≡ flat 0 (M .tree)
+  pub unique : unique (nodes s) ≡ true
+  pub fine : fine-tree (M .tree) ≡ true

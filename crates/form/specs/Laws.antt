@@ -1,0 +1,4 @@
+pub mod Rows
+pub mod Holds
+pub mod Fine
+pub mod Steps

@@ -1,0 +1,233 @@
+-- What the form asks of a tree is kept by every change that a call makes.
+use mathlib.Core.Path.{_≡_, refl, sym, ap, _∙_}
+use Prim.Native.Nat.{ℕ, zero, suc, _+_, _≤_, _<_}
+use mathlib.Core.Bool.{Bool, true, false, cond, not, _&&_, _||_, false≢true}
+use mathlib.Core.List.{List, [], _∷_, _++_, map}
+use native.Mathlib.Omega.{arith}
+use lib.ListN.{length, getD}
+use lib.Dec.{eqb, leb, ltb}
+use borrow.Author.Tests.{le-leb, leb-true, eqb-true, eqb-false, eq-eqb, ne-eqb}
+use Rattle.tree.specs.Lists.{any, every}
+use Rattle.tree.specs.Forest.{Forest, nil, node, Row, row, amend, view, place, put}
+use Rattle.tree.specs.Content.{document-kind, element-kind, text-kind, between, allowed, takes, children-rule}
+use Rattle.tree.specs.Document.{Document, Node, node-0-alone, top-kinds, ruled, rooted, legal}
+use Rattle.tree.specs.Steps.{Step, T, C, R, U, D, I, TT, RR, UU, target}
+use Rattle.tree.specs.Laws.Tests.{and-left, and-right, or-left, or-right, refuted}
+use Rattle.locks.specs.Needs.{Lock}
+use Rattle.protocol.specs.State.{nobody, is-transaction, Marked, Tree, numbered, seen-by, written-by, deleted-by, unmarked, inserted-by, granted-to, unless, settled, undone}
+use Rattle.protocol.specs.State.{mark, renamed, act, grant, commit-tree, abort-tree, tree-of}
+use Rattle.layout.specs.Flat.{flat}
+use Rattle.layout.specs.Layout.{Entry, no-entry}
+use Rattle.lookup.specs.Places.{item, items, number-of, unique}
+use Rattle.lookup.specs.Found.{misfit-on}
+use Rattle.lookup.specs.Laws.Find.{unique-head}
+use Rattle.form.specs.Form.{fair-marks, fine, fine-document, all-fine, fine-tree}
+use Rattle.form.specs.Laws.Rows.{and-of, between-of, between-low, between-high}
+
+-- nodes ------------------------------------------------------------------------------------
+
+-- what the form asks of a node below the document
+pub record Fine (a : Marked) : Type 0 where
+  pub low : element-kind ≤ a .now .kind
+  pub high : a .now .kind ≤ text-kind
+  pub writer : a .writer ≤ 16
+  pub inserter : a .inserter ≤ 16
+  pub deleter : a .deleter ≤ 16
+
+pub fine-is : {a : Marked} → fine a ≡ true → Fine a
+unfolding fine
+fine-is {a} h =
+    let k : between element-kind text-kind (a .now .kind) ≡ true = and-left (between element-kind text-kind (a .now .kind)) (fair-marks a) h in
+    let m : fair-marks a ≡ true = and-right (between element-kind text-kind (a .now .kind)) (fair-marks a) h in
+    let n : (leb (a .writer) 16 && leb (a .inserter) 16) ≡ true = and-left (leb (a .writer) 16 && leb (a .inserter) 16) _ m in
+    record {
+      low = between-low element-kind text-kind (a .now .kind) k;
+      high = between-high element-kind text-kind (a .now .kind) k;
+      writer = leb-true (a .writer) 16 (and-left (leb (a .writer) 16) _ n);
+      inserter = leb-true (a .inserter) 16 (and-right (leb (a .writer) 16) _ n);
+      deleter = leb-true (a .deleter) 16 (and-right (leb (a .writer) 16 && leb (a .inserter) 16) _ m);
+    }
+
+pub is-fine : (a : Marked) → Fine a → fine a ≡ true
+unfolding fine
+is-fine a h =
+    rw (le-leb element-kind (a .now .kind) (h .low), le-leb (a .now .kind) text-kind (h .high), le-leb (a .writer) 16 (h .writer), le-leb (a .inserter) 16 (h .inserter), le-leb (a .deleter) 16 (h .deleter))
+
+-- and of the document
+pub record FineDocument (a : Marked) : Type 0 where
+  pub kind : a .now .kind ≡ document-kind
+  pub number : a .now .number ≡ 0
+  pub writer : a .writer ≤ 16
+  pub inserter : a .inserter ≡ nobody
+  pub deleter : a .deleter ≡ nobody
+
+pub document-is : {a : Marked} → fine-document a ≡ true → FineDocument a
+unfolding fine-document
+document-is {a} h =
+    let i = and-left (eqb (a .now .kind) document-kind && eqb (a .now .number) 0 && leb (a .writer) 16 && eqb (a .inserter) nobody) _ h in
+    let w = and-left (eqb (a .now .kind) document-kind && eqb (a .now .number) 0 && leb (a .writer) 16) _ i in
+    let n = and-left (eqb (a .now .kind) document-kind && eqb (a .now .number) 0) _ w in
+    record {
+      kind = eqb-true (a .now .kind) document-kind (and-left (eqb (a .now .kind) document-kind) _ n);
+      number = eqb-true (a .now .number) 0 (and-right (eqb (a .now .kind) document-kind) _ n);
+      writer = leb-true (a .writer) 16 (and-right (eqb (a .now .kind) document-kind && eqb (a .now .number) 0) _ w);
+      inserter = eqb-true (a .inserter) nobody (and-right (eqb (a .now .kind) document-kind && eqb (a .now .number) 0 && leb (a .writer) 16) _ i);
+      deleter = eqb-true (a .deleter) nobody (and-right (eqb (a .now .kind) document-kind && eqb (a .now .number) 0 && leb (a .writer) 16 && eqb (a .inserter) nobody) _ h);
+    }
+
+pub is-document : (a : Marked) → FineDocument a → fine-document a ≡ true
+unfolding fine-document
+is-document a h =
+    rw (eq-eqb (a .now .kind) document-kind (h .kind), eq-eqb (a .now .number) 0 (h .number), le-leb (a .writer) 16 (h .writer), eq-eqb (a .inserter) nobody (h .inserter), eq-eqb (a .deleter) nobody (h .deleter))
+
+-- changes of a node --------------------------------------------------------------------------
+
+-- a change that keeps what the form asks, of a node below the document and of the document
+pub record Keeps (g : Marked → Marked) : Type 0 where
+  pub node : (a : Marked) → Fine a → Fine (g a)
+  pub document : (a : Marked) → FineDocument a → FineDocument (g a)
+
+unless-small : (t u : ℕ) → u ≤ 16 → unless t u ≤ 16
+unless-small t u h = go (eqb u t)
+  where
+    go : (b : Bool) → cond b nobody u ≤ 16
+    go true = omega arith
+    go false = h
+
+unless-nobody : (t u : ℕ) → u ≡ nobody → unless t u ≡ nobody
+unless-nobody t u h = go (eqb u t)
+  where
+    go : (b : Bool) → cond b nobody u ≡ nobody
+    go true = refl
+    go false = h
+
+pub keeps-same : Keeps (λ a. a)
+keeps-same = record { node = λ a h. h; document = λ a h. h }
+
+pub keeps-written : (t : ℕ) (b : List ℕ) → t ≤ 16 → Keeps (written-by t b)
+keeps-written t b l = record {
+  node = λ a h. record { low = h .low; high = h .high; writer = l; inserter = h .inserter; deleter = h .deleter };
+  document = λ a h. record { kind = h .kind; number = h .number; writer = l; inserter = h .inserter; deleter = h .deleter };
+}
+
+pub keeps-granted : (t : ℕ) (ls : List Lock) → Keeps (granted-to t ls)
+keeps-granted t ls = record {
+  node = λ a h. record { low = h .low; high = h .high; writer = h .writer; inserter = h .inserter; deleter = h .deleter };
+  document = λ a h. record { kind = h .kind; number = h .number; writer = h .writer; inserter = h .inserter; deleter = h .deleter };
+}
+
+pub keeps-settled : (t : ℕ) → Keeps (settled t)
+keeps-settled t = record {
+  node = λ a h. record { low = h .low; high = h .high; writer = unless-small t (a .writer) (h .writer); inserter = unless-small t (a .inserter) (h .inserter); deleter = h .deleter };
+  document = λ a h. record { kind = h .kind; number = h .number; writer = unless-small t (a .writer) (h .writer); inserter = unless-nobody t (a .inserter) (h .inserter); deleter = h .deleter };
+}
+
+pub keeps-undone : (t : ℕ) → Keeps (undone t)
+keeps-undone t = record {
+  node = λ a h. record { low = h .low; high = h .high; writer = unless-small t (a .writer) (h .writer); inserter = h .inserter; deleter = unless-small t (a .deleter) (h .deleter) };
+  document = λ a h. record { kind = h .kind; number = h .number; writer = unless-small t (a .writer) (h .writer); inserter = h .inserter; deleter = unless-nobody t (a .deleter) (h .deleter) };
+}
+
+pub fine-deleted : (t : ℕ) → t ≤ 16 → (a : Marked) → Fine a → Fine (deleted-by t a)
+fine-deleted t l a h = record { low = h .low; high = h .high; writer = h .writer; inserter = h .inserter; deleter = l }
+
+pub fine-inserted : (t : ℕ) (a : Node) → t ≤ 16 → element-kind ≤ a .kind → a .kind ≤ text-kind → Fine (inserted-by t a)
+fine-inserted t a l low high = record { low = low; high = high; writer = omega arith; inserter = l; deleter = omega arith }
+
+-- changes of a tree ----------------------------------------------------------------------------
+
+all-parts : (a : Marked) (ks fs : Tree) → all-fine (node a ks fs) ≡ true → Fine a × (all-fine ks ≡ true) × (all-fine fs ≡ true)
+unfolding all-fine
+all-parts a ks fs h =
+    let p : (fine a && all-fine ks) ≡ true = and-left (fine a && all-fine ks) _ h in
+    (fine-is (and-left (fine a) _ p), and-right (fine a) _ p, and-right (fine a && all-fine ks) _ h)
+
+parts-all : (a : Marked) (ks fs : Tree) → Fine a → all-fine ks ≡ true → all-fine fs ≡ true → all-fine (node a ks fs) ≡ true
+unfolding all-fine
+parts-all a ks fs h k l = and-of (and-of (is-fine a h) k) l
+
+-- a fine tree is a document node with fine nodes below it
+pub record Root (f : Tree) : Type 0 where
+  pub it : Marked
+  pub below : Tree
+  pub whole : f ≡ node it below nil
+  pub document : FineDocument it
+  pub fine : all-fine below ≡ true
+
+pub root-of : (f : Tree) → fine-tree f ≡ true → Root f
+unfolding fine-tree
+root-of nil h = absurd (false≢true h)
+root-of (node a ks nil) h = record { it = a; below = ks; whole = refl; document = document-is (and-left (fine-document a) _ h); fine = and-right (fine-document a) _ h }
+root-of (node a ks (node b js fs)) h = absurd (false≢true h)
+
+pub tree-of-root : (a : Marked) (ks : Tree) → FineDocument a → all-fine ks ≡ true → fine-tree (node a ks nil) ≡ true
+unfolding fine-tree
+tree-of-root a ks h k = and-of (is-document a h) k
+
+-- nodes anew in the same places
+all-amend : (g : Row Marked Marked → Marked) → ((r : Row Marked Marked) → Fine (r .it) → Fine (g r)) → (up : List Marked) (f : Tree) → all-fine f ≡ true → all-fine (amend (λ a. a) g up f) ≡ true
+unfolding amend
+all-amend g k up nil h = h
+all-amend g k up (node a ks fs) h =
+    let p = all-parts a ks fs h in
+    parts-all (g (row a up)) (amend (λ a. a) g (a ∷ up) ks) (amend (λ a. a) g up fs) (k (row a up) (p .0)) (all-amend g k (a ∷ up) ks (p .1)) (all-amend g k up fs (p .2))
+
+pub fine-mark : (g : Row Marked Marked → Marked) → ((r : Row Marked Marked) → Fine (r .it) → Fine (g r)) → ((a : Marked) → FineDocument a → FineDocument (g (row a [])))
+    → (f : Tree) → fine-tree f ≡ true → fine-tree (mark g f) ≡ true
+unfolding amend
+fine-mark g k d f h =
+    let r = root-of f h in
+    rw (r .whole) (tree-of-root (g (row (r .it) [])) (amend (λ a. a) g (r .it ∷ []) (r .below)) (d (r .it) (r .document)) (all-amend g k (r .it ∷ []) (r .below) (r .fine)))
+
+-- the nodes that are shown
+all-view : (shown : Marked → Bool) (g : Marked → Marked) → ((a : Marked) → Fine a → Fine (g a)) → (f : Tree) → all-fine f ≡ true → all-fine (view shown g f) ≡ true
+unfolding view
+all-view shown g k nil h = h
+all-view shown g k (node a ks fs) h =
+    let p = all-parts a ks fs h in
+    go (shown a) (k a (p .0)) (all-view shown g k ks (p .1)) (all-view shown g k fs (p .2))
+  where
+    go : (b : Bool) → Fine (g a) → all-fine (view shown g ks) ≡ true → all-fine (view shown g fs) ≡ true → all-fine (cond b (node (g a) (view shown g ks) (view shown g fs)) (view shown g fs)) ≡ true
+    go true u v w = parts-all (g a) (view shown g ks) (view shown g fs) u v w
+    go false u v w = w
+
+pub fine-view : (shown : Marked → Bool) (g : Marked → Marked) → Keeps g → ((a : Marked) → FineDocument a → shown a ≡ true) → (f : Tree) → fine-tree f ≡ true → fine-tree (view shown g f) ≡ true
+unfolding view
+fine-view shown g k s f h =
+    let r = root-of f h in
+    rw (r .whole, s (r .it) (r .document)) (tree-of-root (g (r .it)) (view shown g (r .below)) (k .document (r .it) (r .document)) (all-view shown g (k .node) (r .below) (r .fine)))
+
+-- a new node
+all-place : (counts : Marked → Bool) (k : ℕ) (new : Marked) (f : Tree) → Fine new → all-fine f ≡ true → all-fine (place counts k new f) ≡ true
+unfolding place all-fine
+all-place counts zero new f n h = parts-all new nil f n refl h
+all-place counts (suc zero) new f n h = parts-all new nil f n refl h
+all-place counts (suc (suc k)) new nil n h = parts-all new nil nil n refl refl
+all-place counts (suc (suc k)) new (node a ks fs) n h =
+    let p = all-parts a ks fs h in
+    parts-all a ks (cond (counts a) (place counts (suc k) new fs) (place counts (suc (suc k)) new fs)) (p .0) (p .1)
+    (go (counts a) (all-place counts (suc k) new fs n (p .2)) (all-place counts (suc (suc k)) new fs n (p .2)))
+  where
+    go : (b : Bool) → all-fine (place counts (suc k) new fs) ≡ true → all-fine (place counts (suc (suc k)) new fs) ≡ true → all-fine (cond b (place counts (suc k) new fs) (place counts (suc (suc k)) new fs)) ≡ true
+    go true u v = u
+    go false u v = v
+
+module _ (parent counts : Marked → Bool) (k : ℕ) (new : Marked) (n : Fine new) where
+  all-children : (b : Bool) (ks : Tree) → all-fine ks ≡ true → all-fine (cond b (place counts k new ks) ks) ≡ true
+  all-children true ks h = all-place counts k new ks n h
+  all-children false ks h = h
+
+  all-put : (f : Tree) → all-fine f ≡ true → all-fine (put parent counts k new f) ≡ true
+  unfolding put
+  all-put nil h = h
+  all-put (node a ks fs) h =
+      let p = all-parts a ks fs h in
+      parts-all a (cond (parent a) (place counts k new (put parent counts k new ks)) (put parent counts k new ks)) (put parent counts k new fs) (p .0)
+      (all-children (parent a) (put parent counts k new ks) (all-put ks (p .1))) (all-put fs (p .2))
+
+  pub fine-put : (f : Tree) → fine-tree f ≡ true → fine-tree (put parent counts k new f) ≡ true
+  unfolding put
+  fine-put f h =
+      let r = root-of f h in
+      let ks : Tree = put parent counts k new (r .below) in
+      rw (r .whole) (tree-of-root (r .it) (cond (parent (r .it)) (place counts k new ks) ks) (r .document) (all-children (parent (r .it)) ks (all-put (r .below) (r .fine))))

@@ -1,0 +1,161 @@
+-- Bytes of the form hold a state, and what holds a state is of the form.
+use mathlib.Core.Path.{_≡_, refl, sym, ap, _∙_}
+use Prim.Native.Nat.{ℕ, zero, suc, _+_, _≤_, _<_}
+use mathlib.Core.Bool.{Bool, true, false, cond, _&&_, _||_, false≢true}
+use mathlib.Core.List.{List, [], _∷_}
+use native.Mathlib.Omega.{arith}
+use lib.ListN.{length, getD}
+use lib.Dec.{eqb, leb, ltb}
+use borrow.Author.Tests.{le-leb, leb-true, lt-ltb, ltb-true, eqb-true, eqb-false, eq-eqb, ne-eqb}
+use Rattle.tree.specs.Lists.{every, has, distinct, same}
+use Rattle.tree.specs.Content.{between, content-limit}
+use Rattle.tree.specs.Laws.Tests.{and-left, and-right, or-left, or-right}
+use Rattle.protocol.specs.State.{Marked, Tree, State}
+use Rattle.protocol.specs.Calls.{node-limit}
+use Rattle.layout.specs.Lists.{tabulate}
+use Rattle.layout.specs.Flat.{flat}
+use Rattle.layout.specs.Layout.{state-size, format-mark, part, count, slot, cell, is-open, Entry, nodes, Sized, Layout}
+use Rattle.layout.specs.Laws.Nodes.{length-nodes}
+use Rattle.lookup.specs.Places.{unique}
+use Rattle.form.specs.Form.{fine-rows, fine-tree, slots, cells, fair-sizes, apart, form, Holds}
+use Rattle.form.specs.Laws.Rows.{and-of, between-of, between-low, between-high, rows-fine, fine-forest}
+
+-- tests of lists that are given by a rule ---------------------------------------------------------
+
+module _ {A : Type 0} (t : A → Bool) where
+  every-tabulate : (n : ℕ) (f : ℕ → A) → every t (tabulate n f) ≡ true → (i : ℕ) → i < n → t (f i) ≡ true
+  unfolding tabulate
+  every-tabulate zero f h i k = absurd (omega arith)
+  every-tabulate (suc n) f h zero k = and-left (t (f 0)) _ h
+  every-tabulate (suc n) f h (suc i) k = every-tabulate n (λ j. f (suc j)) (and-right (t (f 0)) _ h) i (omega arith)
+
+  tabulate-every : (n : ℕ) (f : ℕ → A) → ((i : ℕ) → i < n → t (f i) ≡ true) → every t (tabulate n f) ≡ true
+  unfolding tabulate
+  tabulate-every zero f h = refl
+  tabulate-every (suc n) f h = and-of (h 0 (omega arith)) (tabulate-every n (λ j. f (suc j)) (λ i k. h (suc i) (omega arith)))
+
+has-tabulate : (x n : ℕ) (f : ℕ → ℕ) → has x (tabulate n f) ≡ false → (i : ℕ) → i < n → f i ≡ x → ⊥
+unfolding tabulate
+has-tabulate x zero f h i k e = omega arith
+has-tabulate x (suc n) f h zero k e = eqb-false (f 0) x (or-left (eqb (f 0) x) _ h) e
+has-tabulate x (suc n) f h (suc i) k e = has-tabulate x n (λ j. f (suc j)) (or-right (eqb (f 0) x) _ h) i (omega arith) e
+
+tabulate-has : (x n : ℕ) (f : ℕ → ℕ) → ((i : ℕ) → i < n → f i ≡ x → ⊥) → has x (tabulate n f) ≡ false
+unfolding tabulate
+tabulate-has x zero f h = refl
+tabulate-has x (suc n) f h = rw (ne-eqb (f 0) x (h 0 (omega arith))) (tabulate-has x n (λ j. f (suc j)) (λ i k. h (suc i) (omega arith)))
+
+distinct-head : (x : ℕ) (l : List ℕ) → distinct (x ∷ l) ≡ true → (has x l ≡ false) × (distinct l ≡ true)
+distinct-head x l h = go (has x l) h
+  where
+    go : (b : Bool) → cond b false (distinct l) ≡ true → (b ≡ false) × (distinct l ≡ true)
+    go true h = absurd (false≢true h)
+    go false h = (refl, h)
+
+distinct-tabulate : (n : ℕ) (f : ℕ → ℕ) → distinct (tabulate n f) ≡ true → (i j : ℕ) → i < n → j < n → f i ≡ f j → i ≡ j
+unfolding tabulate
+distinct-tabulate zero f h i j a b e = absurd (omega arith)
+distinct-tabulate (suc n) f h i j a b e = go i j a b e (distinct-head (f 0) (tabulate n (λ k. f (suc k))) h) (distinct-tabulate n (λ k. f (suc k)))
+  where
+    go : (i j : ℕ) → i < suc n → j < suc n → f i ≡ f j → (has (f 0) (tabulate n (λ k. f (suc k))) ≡ false) × (distinct (tabulate n (λ k. f (suc k))) ≡ true)
+        → (distinct (tabulate n (λ k. f (suc k))) ≡ true → (i j : ℕ) → i < n → j < n → f (suc i) ≡ f (suc j) → i ≡ j) → i ≡ j
+    go zero zero a b e h r = refl
+    go zero (suc j) a b e h r = absurd (has-tabulate (f 0) n (λ k. f (suc k)) (h .0) j (omega arith) (sym e))
+    go (suc i) zero a b e h r = absurd (has-tabulate (f 0) n (λ k. f (suc k)) (h .0) i (omega arith) e)
+    go (suc i) (suc j) a b e h r = ap suc (r (h .1) i j (omega arith) (omega arith) e)
+
+tabulate-distinct : (n : ℕ) (f : ℕ → ℕ) → ((i j : ℕ) → i < n → j < n → f i ≡ f j → i ≡ j) → distinct (tabulate n f) ≡ true
+unfolding tabulate
+tabulate-distinct zero f h = refl
+tabulate-distinct (suc n) f h =
+    rw (tabulate-has (f 0) n (λ k. f (suc k)) (λ i k e. let z : suc i ≡ 0 = h (suc i) 0 (omega arith) (omega arith) e in omega arith))
+    (tabulate-distinct n (λ k. f (suc k)) (λ i j a b e. let z : suc i ≡ suc j = h (suc i) (suc j) (omega arith) (omega arith) e in omega arith))
+
+-- strings of bytes ------------------------------------------------------------------------------------
+
+same-eq : (l k : List ℕ) → same l k ≡ true → l ≡ k
+same-eq [] [] h = refl
+same-eq [] (y ∷ k) h = absurd (false≢true h)
+same-eq (x ∷ l) [] h = absurd (false≢true h)
+same-eq (x ∷ l) (y ∷ k) h = rw (eqb-true x y (and-left (eqb x y) _ h), same-eq l k (and-right (eqb x y) _ h))
+
+same-self : (l : List ℕ) → same l l ≡ true
+same-self [] = refl
+same-self (x ∷ l) = rw (eq-eqb x x refl) (same-self l)
+
+-- sizes -----------------------------------------------------------------------------------------------
+
+sized-of : (c : List ℕ) → fair-sizes c ≡ true → Sized c
+unfolding fair-sizes
+sized-of c h = record {
+  now = leb-true (getD c 4 0) content-limit (and-left (leb (getD c 4 0) content-limit) _ h);
+  before = leb-true (getD c 5 0) content-limit (and-right (leb (getD c 4 0) content-limit) _ h);
+}
+
+of-sized : (c : List ℕ) → Sized c → fair-sizes c ≡ true
+unfolding fair-sizes
+of-sized c z = rw (le-leb (getD c 4 0) content-limit (z .now), le-leb (getD c 5 0) content-limit (z .before))
+
+-- the theorems ------------------------------------------------------------------------------------------
+
+-- the tests of the form, one by one
+pub record Parts (s : List ℕ) : Type 0 where
+  pub size : leb state-size (length s) ≡ true
+  pub mark : same (part s 0 8) format-mark ≡ true
+  pub count : between 1 node-limit (count s) ≡ true
+  pub slots : apart node-limit (slots s) ≡ true
+  pub sizes : every fair-sizes (cells s) ≡ true
+  pub rows : fine-rows (nodes s) ≡ true
+  pub unique : unique (nodes s) ≡ true
+
+all-seven : (a b c d e f g : Bool) → (a && b && c && d && e && f && g) ≡ true
+    → (a ≡ true) × (b ≡ true) × (c ≡ true) × (d ≡ true) × (e ≡ true) × (f ≡ true) × (g ≡ true)
+all-seven a b c d e f g h =
+    let h₆ = and-left (a && b && c && d && e && f) g h in
+    let h₅ = and-left (a && b && c && d && e) f h₆ in
+    let h₄ = and-left (a && b && c && d) e h₅ in
+    let h₃ = and-left (a && b && c) d h₄ in
+    let h₂ = and-left (a && b) c h₃ in
+    (and-left a b h₂, and-right a b h₂, and-right (a && b) c h₃, and-right (a && b && c) d h₄, and-right (a && b && c && d) e h₅, and-right (a && b && c && d && e) f h₆, and-right (a && b && c && d && e && f) g h)
+
+pub form-parts : {s : List ℕ} → form s ≡ true → Parts s
+unfolding form
+form-parts {s} h =
+    let p = all-seven (leb state-size (length s)) (same (part s 0 8) format-mark) (between 1 node-limit (count s)) (apart node-limit (slots s))
+    (every fair-sizes (cells s)) (fine-rows (nodes s)) (unique (nodes s)) h in
+    record { size = p .0; mark = p .1; count = p .2; slots = p .3; sizes = p .4; rows = p .5; unique = p .6 }
+
+pub parts-form : {s : List ℕ} → Parts s → form s ≡ true
+unfolding form
+parts-form {s} p = and-of (and-of (and-of (and-of (and-of (and-of (p .size) (p .mark)) (p .count)) (p .slots)) (p .sizes)) (p .rows)) (p .unique)
+
+pub form-layout : {s : List ℕ} → form s ≡ true → Layout s
+unfolding slots cells apart
+form-layout {s} h = let p = form-parts h in record {
+  size = leb-true state-size (length s) (p .size);
+  mark = same-eq (part s 0 8) format-mark (p .mark);
+  some = between-low 1 node-limit (count s) (p .count);
+  room = between-high 1 node-limit (count s) (p .count);
+  many = length-nodes s;
+  slots = λ i l. ltb-true (slot s i) node-limit (every-tabulate (λ k. ltb k node-limit) node-limit (slot s) (and-left _ (distinct (slots s)) (p .slots)) i l);
+  apart = λ i j a b e. distinct-tabulate node-limit (slot s) (and-right (every (λ k. ltb k node-limit) (slots s)) _ (p .slots)) i j a b e;
+  sizes = λ i l. sized-of (cell s (slot s i)) (every-tabulate fair-sizes (count s) (λ i. cell s (slot s i)) (p .sizes) i l);
+}
+
+pub form-holds : (s : List ℕ) → form s ≡ true → (M : State) × Holds s M
+form-holds s h =
+    let p = form-parts h in
+    let t = fine-forest (nodes s) (p .rows) in
+    (record { is-open = is-open s; tree = t .0 }, record { layout = form-layout h; opens = refl; rows = t .1; unique = p .unique; fine = t .2 })
+
+pub holds-form : {s : List ℕ} {M : State} → Holds s M → form s ≡ true
+unfolding slots cells apart
+holds-form {s} {M} h = let l = h .layout in parts-form (record {
+  size = le-leb state-size (length s) (l .size);
+  mark = rw (l .mark) (same-self format-mark);
+  count = between-of 1 node-limit (count s) (l .some) (l .room);
+  slots = and-of (tabulate-every (λ k. ltb k node-limit) node-limit (slot s) (λ i a. lt-ltb (slot s i) node-limit (l .slots i a))) (tabulate-distinct node-limit (slot s) (l .apart));
+  sizes = tabulate-every fair-sizes (count s) (λ i. cell s (slot s i)) (λ i a. of-sized (cell s (slot s i)) (l .sizes i a));
+  rows = rw (h .rows) (rows-fine (M .tree) (h .fine));
+  unique = h .unique;
+})
