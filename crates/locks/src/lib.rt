@@ -91,7 +91,7 @@ fn clashes_with(w: u16, a: usize) -> bool
 }
 
 // A word moved up by one bit, with this bit below it.
-fn bit_below(m: u16, b: bool) -> u16
+pub fn bit_below(m: u16, b: bool) -> u16
     requires { ⌜ m < 32768 ⌝ }
     ensures { λ r. ⌜ r ≡ cond b 1 0 + 2 * m ⌝ }
 {

@@ -1,0 +1,27 @@
+-- Locks granted along the way, by words.
+use Prim.Native.Nat.{ℕ, zero, suc}
+use mathlib.Core.Bool.{cond}
+use mathlib.Core.List.{List, [], _∷_}
+use lib.Dec.{eqb}
+use Rattle.locks.specs.Modes.{union, in-word}
+use Rattle.locks.specs.Needs.{Need}
+use Rattle.locks.specs.declared.NeedWords.{NeedWords}
+use Rattle.protocol.specs.State.{Marked}
+use Rattle.layout.specs.Lists.{modify}
+use Rattle.layout.specs.Flat.{second}
+use Rattle.layout.specs.Layout.{Entry}
+use Rattle.edits.specs.Rows.{with-held, granted-along}
+use Rattle.locking.specs.Waits.{word-at}
+
+-- t is granted the modes of a word on a node
+abbrev pub with-more : ℕ → ℕ → Marked → Marked
+with-more t w a = with-held a (λ u. cond (eqb u t) (union (a .held u) (in-word w)) (a .held u))
+
+-- on the places of the way from its j-th on
+unfoldable pub granted-from : ℕ → NeedWords → ℕ → List ℕ → List Entry → List Entry
+granted-from t w j [] l = l
+granted-from t w j (i ∷ is) l = granted-from t w (suc j) is (modify i (second (with-more t (word-at w j))) l)
+
+-- the modes of a need on the places: on the first those of the node, then those of the parent, and on the others those above
+unfoldable pub granted-on : ℕ → Need → List ℕ → List Entry → List Entry
+granted-on t w is l = granted-along t (w .node) (w .parent) (w .above) is l

@@ -1,0 +1,4 @@
+pub mod Way
+pub mod Masks
+pub mod Waits
+pub mod Grants

@@ -1,0 +1,67 @@
+-- The loop up the ancestors.
+use mathlib.Core.Path.{_≡_, refl, sym, ap, _∙_}
+use Prim.Native.Nat.{ℕ, zero, suc, _+_, _-_, _≤_, _<_}
+use mathlib.Core.List.{List, [], _∷_, _++_, append-assoc, append-nil}
+use native.Mathlib.Omega.{arith}
+use native.Mathlib.Numerals.{add-one}
+use mathlib.Core.Bool.{Bool, true, false}
+use lib.Dec.{eqb}
+use borrow.Author.Tests.{eqb-true, eqb-false}
+use lib.ListN.{length, getD, take, set, length-set}
+use lib.Seq.{take-suc-set, getD-set-same, getD-set-other}
+use Rattle.layout.specs.Layout.{Entry}
+use Rattle.lookup.specs.Places.{depth, climb, above-places}
+use Rattle.lookup.specs.Laws.Up.{climb-found, climb-passed, climb-start}
+use Rattle.locking.specs.declared.Way.{Way}
+use Rattle.locking.specs.Way.{way-up, way-places, Inside, Climbed}
+
+-- count places of the way were found, those before k are still to be looked at, e is the depth of the last one found
+pub record Climbing (l : List Entry) (p e k count : ℕ) (places : List ℕ) : Type 0 where
+  pub long : length places ≡ 1024
+  pub room : count + k ≤ p + 1
+  pub low : k ≤ p
+  pub inside : (j : ℕ) → j < count → getD places j 0 < length l
+  pub found : way-up l p ≡ take count places ++ climb l e k
+
+module _ {l : List Entry} {p : ℕ} (h : p < length l) where
+  pub climbing-start : (e : ℕ) (places : List ℕ) → e ≡ depth l p → length places ≡ 1024 → Climbing l p e p 1 (set places 0 p)
+  unfolding way-up above-places
+  climbing-start e places v n = record {
+    long = length-set places 0 p ∙ n;
+    room = omega arith;
+    low = omega arith;
+    inside = λ j k. let z : j ≡ 0 = omega arith in rw (z, getD-set-same places 0 p 0 (omega arith)) h;
+    found = rw (v, take-suc-set places 0 p (omega arith));
+  }
+
+  module _ {e k count d : ℕ} {places : List ℕ} (c : Climbing l p e k count places) (some : 0 < k) (v : d ≡ depth l (k - 1)) where
+    pub climbing-passed : e ≤ d → Climbing l p e (k - 1) count places
+    climbing-passed q = record {
+      long = c .long;
+      room = omega (arith, c .room);
+      low = omega (arith, c .low);
+      inside = c .inside;
+      found = c .found ∙ ap (λ z. take count places ++ z) (climb-passed l e k some (omega (arith, v)));
+    }
+
+    pub climbing-found : length l ≤ 1024 → d < e → Climbing l p d (k - 1) (count + 1) (set places count (k - 1))
+    climbing-found m q =
+        let n : count < length places = omega (arith, c .long, c .room) in
+        record {
+          long = length-set places count (k - 1) ∙ c .long;
+          room = omega (arith, c .room);
+          low = omega (arith, c .low);
+          inside = λ j g. at j g n (eqb j count) refl;
+          found = c .found ∙ rw (add-one, take-suc-set places count (k - 1) n, v) (ap (λ z. take count places ++ z) (climb-found l e k some (omega (arith, v))) ∙ sym (append-assoc (take count places) ((k - 1) ∷ []) (climb l (depth l (k - 1)) (k - 1))));
+        }
+      where
+        at : (j : ℕ) → j < count + 1 → count < length places → (b : Bool) → eqb j count ≡ b → getD (set places count (k - 1)) j 0 < length l
+        at j g n true i = rw (eqb-true j count i, getD-set-same places count (k - 1) 0 n) (omega (arith, c .low))
+        at j g n false i = let z = eqb-false j count i in rw (getD-set-other places count j (k - 1) 0 z) (c .inside j (omega arith))
+
+  pub climbing-done : {e k count : ℕ} {places : List ℕ} → Climbing l p e k count places → length l ≤ 1024 → k ≡ 0 → Climbed l p (record { places = places; count = count })
+  unfolding way-places
+  climbing-done {e} {k} {count} {places} c m z = record {
+    inside = record { long = c .long; room = omega (arith, c .room); inside = c .inside };
+    places = sym (c .found ∙ rw (z, climb-start l e) (append-nil (take count places)));
+  }
