@@ -1,3 +1,5 @@
 pub mod Lists
 pub mod Entries
 pub mod Insert
+pub mod Prune
+pub mod Flat

@@ -1,10 +1,13 @@
 -- Entries of the outline, used or free, as the functions of this crate move them.
-use Prim.Native.Nat.{ℕ, _+_, _*_, _≤_, _<_}
+use Prim.Native.Nat.{ℕ, suc, _+_, _≤_, _<_}
+use mathlib.Core.Bool.{Bool, cond, not, _&&_}
 use mathlib.Core.Path.{_≡_}
 use mathlib.Core.List.{List, []}
 use lib.ListN.{length, getD}
+use lib.Dec.{eqb, ltb, leb}
 use Rattle.protocol.specs.State.{Marked}
 use Rattle.layout.specs.Lists.{modify, insert}
+use Rattle.layout.specs.Fields.{field}
 use Rattle.layout.specs.Layout.{entry-at, slot, depth, number, is-open, Entry, nodes, no-entry, Left}
 use Rattle.layout.specs.Laws.Bytes.{Only}
 
@@ -43,3 +46,11 @@ pub record Opened (s s′ : List ℕ) (p d n : ℕ) : Type 0 where
   pub before : node .before ≡ []
   pub many : length (nodes s′) ≡ length (nodes s) + 1
   pub left : Left s s′ (is-open s) (insert p (d, node) (nodes s))
+
+-- the least depth that is left out behind a node, 0 for none: after one that is left out, one more than its depth
+unfoldable pub next-below : (Marked → Bool) → ℕ → Entry → ℕ
+next-below shown below x = cond (ltb 0 below && leb below (x .0)) below (cond (shown (x .1)) 0 (suc (x .0)))
+
+-- the mark o of the node (2 inserter, 3 deleter) is not t
+abbrev pub not-marked : ℕ → ℕ → Marked → Bool
+not-marked o t a = not (eqb (field o a) t)

@@ -1,12 +1,14 @@
 // The outline of the lent bytes: a node put in at a place, and nodes taken out. Slots stay where they are; only the outline's entries move.
 ghost use mathlib.Core.Path.{_≡_};
+ghost use mathlib.Core.Bool.{true};
 ghost use mathlib.Core.List.{[]};
 ghost use Prim.Native.Nat.{_+_, _-_, _*_, _<_, _≤_};
 ghost use lib.ListN.{length, getD, take};
 ghost use Rattle.protocol.specs.State.{inserted-by};
 ghost use Rattle.layout.specs.Lists.{insert};
 ghost use Rattle.layout.specs.Layout.{state-size, slot, depth, number, is-open, nodes, no-entry, Layout, Left, Kept};
-ghost use Rattle.outline.specs.Outline.{Entered, Shifted, Opened};
+ghost use Rattle.layout.specs.Flat.{prune};
+ghost use Rattle.outline.specs.Outline.{Entered, Shifted, Opened, exchange, next-below, not-marked};
 
 const COUNT: usize = 10;
 
@@ -78,4 +80,79 @@ pub fn insert(s: &mut [u8], p: usize, d: u16, n: u16, kind: u8, t: u8, content: 
     table::set_deleter(s, p, 0);
     table::set_content(s, p, content);
     transactions::unlock(s, p);
+}
+
+// The entries at places i and j exchanged.
+pub fn swap(s: &mut [u8], i: usize, j: usize)
+    requires { ⌜ (Layout (now s)) × (i ≤ j) × (j < length (nodes (now s))) ⌝ }
+    ensures { λ r. ⌜ Kept (now (s .entry)) (now (s .exit)) (exchange i j (nodes (now (s .entry)))) ⌝ }
+{
+    if i == j {
+        return;
+    }
+    let a = OUTLINE + ENTRY * i;
+    let ki = layout::word(s, a);
+    let di = layout::word(s, a + 2);
+    let ni = layout::word(s, a + 4);
+    let b = OUTLINE + ENTRY * j;
+    let kj = layout::word(s, b);
+    let dj = layout::word(s, b + 2);
+    let nj = layout::word(s, b + 4);
+    set_entry(s, i, kj, dj, nj);
+    set_entry(s, j, ki, di, ni);
+}
+
+// Only the first k nodes are held; the slots of the others are free.
+pub fn cut(s: &mut [u8], k: usize)
+    requires { ⌜ (Layout (now s)) × (1 ≤ k) × (k ≤ length (nodes (now s))) ⌝ }
+    ensures { λ r. ⌜ Left (now (s .entry)) (now (s .exit)) (is-open (now (s .entry))) (take k (nodes (now (s .entry)))) ⌝ }
+{
+    layout::set_word(s, COUNT, k as u16);
+}
+
+// One more than the depth of the node at j where its mark o is t, else 0.
+fn below_marked(s: &[u8], j: usize, o: usize, t: u8) -> usize
+    requires { ⌜ (Layout (now s)) × (j < length (nodes (now s))) × (o < 4) ⌝ }
+    ensures { λ r. ⌜ r ≡ next-below (not-marked o t) 0 (getD (nodes (now (s .entry))) j no-entry) ⌝ }
+{
+    if table::field(s, j, o) == t {
+        return table::depth(s, j) as usize + 1;
+    }
+    0
+}
+
+// The least depth that is left out behind the node at j, 0 where the node is kept: those whose mark o is t go, with all below them.
+fn next_below(s: &[u8], j: usize, below: usize, o: usize, t: u8) -> usize
+    requires { ⌜ (Layout (now s)) × (j < length (nodes (now s))) × (o < 4) ⌝ }
+    ensures { λ r. ⌜ r ≡ next-below (not-marked o t) below (getD (nodes (now (s .entry))) j no-entry) ⌝ }
+{
+    if below == 0 {
+        return below_marked(s, j, o, t);
+    }
+    if below <= table::depth(s, j) as usize {
+        return below;
+    }
+    below_marked(s, j, o, t)
+}
+
+// The nodes with mark o (2 inserter, 3 deleter) of t taken out, with all below them; the first is not one of them.
+pub fn prune(s: &mut [u8], o: usize, t: u8)
+    requires { ⌜ (Layout (now s)) × (o < 4) × (not-marked o t (getD (nodes (now s)) 0 no-entry .1) ≡ true) ⌝ }
+    ensures { λ r. ⌜ Left (now (s .entry)) (now (s .exit)) (is-open (now (s .entry))) (prune (not-marked o t) 0 (nodes (now (s .entry)))) ⌝ }
+{
+    let m = table::count(s);
+    let mut k: usize = 1;
+    let mut j: usize = 1;
+    let mut below: usize = 0;
+    while j < m {
+        below = next_below(s, j, below, o, t);
+        if 0 < below {
+            j += 1;
+            continue;
+        }
+        swap(s, k, j);
+        k += 1;
+        j += 1;
+    }
+    cut(s, k);
 }

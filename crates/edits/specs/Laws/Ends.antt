@@ -13,8 +13,9 @@ use Rattle.tree.specs.Laws.Lists.{map-map}
 use Rattle.locks.specs.Modes.{ModeSet, no-mode}
 use Rattle.layout.specs.Fields.{released}
 use Rattle.layout.specs.Layout.{Entry}
-use Rattle.protocol.specs.State.{Marked, Tree, none-of, seen-by, settled, undone, unmarked, commit-tree, abort-tree, tree-of}
-use Rattle.tree.specs.Document.{Document}
+use Rattle.protocol.specs.State.{Marked, Tree, none-of, seen-by, settled, undone, unmarked, commit-tree, abort-tree, tree-of, start-state}
+use Rattle.tree.specs.Document.{Document, node-0-alone}
+use Rattle.tree.specs.Content.{document-kind}
 use Rattle.edits.specs.Rows.{left-out, with-held, not-inserted-by}
 
 -- 0 leaves nothing out; a limit leaves out from its own depth on
@@ -106,6 +107,11 @@ prune-all (x ∷ l) = ap (λ k. x ∷ k) (prune-all l)
 pub load-rows : (d : Document) → flat 0 (tree-of d) ≡ map (second unmarked) (flat 0 d)
 unfolding tree-of
 load-rows d = flat-view (λ a. true) unmarked 0 d ∙ ap (map (second unmarked)) (prune-all (flat 0 d))
+
+-- node 0 alone
+pub start-rows : flat 0 (start-state .tree) ≡ (0, unmarked (record { number = 0; kind = document-kind; content = [] })) ∷ []
+unfolding node-0-alone flat
+start-rows = load-rows node-0-alone
 
 -- the locks released first, by one change of all rows ------------------------------------------
 

@@ -1,0 +1,67 @@
+/* bench.c: times every step, the ends of transactions, load and write. bench [SETTINGS.xml] */
+#define _POSIX_C_SOURCE 199309L
+#include <stdio.h>
+#include <stdlib.h>
+#include <string.h>
+#include <time.h>
+
+#include "timing.h"
+
+#define TIMED(prefix)                                                                                                        \
+    {#prefix, prefix##_start, prefix##_load, prefix##_write, prefix##_begin, prefix##_commit, prefix##_abort, prefix##_test, \
+     prefix##_child, prefix##_read, prefix##_update, prefix##_delete, prefix##_insert, prefix##_test_tree,                   \
+     prefix##_read_tree, prefix##_rename_tree}
+
+const struct timed timed_engines[] = {
+    TIMED(bench),
+#ifdef WITH_LIBRARY
+    TIMED(noodlefen),
+#endif
+};
+const int timed_count = sizeof timed_engines / sizeof timed_engines[0];
+
+double now(void)
+{
+    struct timespec time;
+    clock_gettime(CLOCK_MONOTONIC, &time);
+    return 1e9 * (double)time.tv_sec + (double)time.tv_nsec;
+}
+
+static int order(const void *a, const void *b)
+{
+    double x = *(const double *)a, y = *(const double *)b;
+    return (x > y) - (x < y);
+}
+
+double median(double *samples, int count)
+{
+    qsort(samples, (size_t)count, sizeof *samples, order);
+    return samples[count / 2];
+}
+
+size_t tree_document(char *out, unsigned nodes)
+{
+    char *at = out + sprintf(out, "<ropeway>");
+    unsigned left = nodes - 2;
+    for (; left >= 5; left -= 5)
+        at += sprintf(at, "<drive id=\"%u\"><speed>6.25</speed></drive>", left);
+    for (; left > 0; left--)
+        at += sprintf(at, "<ramp/>");
+    at += sprintf(at, "</ropeway>");
+    return (size_t)(at - out);
+}
+
+void must_grant(const char *engine, const char *what, noodlefen_answer answer)
+{
+    if (noodlefen_granted(answer))
+        return;
+    fprintf(stderr, "%s: %s is not granted: outcome %u, cause %u\n", engine, what, (unsigned)(answer & 0xFF), noodlefen_cause(answer));
+    exit(1);
+}
+
+int main(int count, char **arguments)
+{
+    time_steps();
+    time_xml(count > 1 ? arguments[1] : "../host/settings.xml");
+    return 0;
+}

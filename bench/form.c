@@ -1,0 +1,117 @@
+#include "state.h"
+
+const uint8_t bench_mark[8] = {'n', 'o', 'o', 'd', 'l', 'e', 'f', 1};
+
+#define L (NAME_FIRST | NAME_LATER | TEXT_BYTE) /* a letter or _ */
+#define N (NAME_LATER | TEXT_BYTE)              /* a digit, - or . */
+#define T TEXT_BYTE
+#define B (BLANK | TEXT_BYTE)
+const uint8_t bench_class[256] = {
+    0, 0, 0, 0, 0, 0, 0, 0, 0, B, B, 0, 0, 0, 0, 0, 0, 0, 0, 0, 0, 0, 0, 0, 0, 0, 0, 0, 0, 0, 0, 0,
+    B, T, T, T, T, T, T, T, T, T, T, T, T, N, N, T, N, N, N, N, N, N, N, N, N, N, T, T, T, T, T, T,
+    T, L, L, L, L, L, L, L, L, L, L, L, L, L, L, L, L, L, L, L, L, L, L, L, L, L, L, T, T, T, T, L,
+    T, L, L, L, L, L, L, L, L, L, L, L, L, L, L, L, L, L, L, L, L, L, L, L, L, L, L, T, T, T, T, 0};
+#undef L
+#undef N
+#undef T
+#undef B
+
+int bench_name(const uint8_t *bytes, size_t length)
+{
+    if (length < 1 || length > 32)
+        return 0;
+    unsigned all = bench_class[bytes[0]] & NAME_FIRST ? NAME_LATER : 0;
+    for (size_t i = 1; i < length; i++)
+        all &= bench_class[bytes[i]];
+    return all != 0;
+}
+
+int bench_text(const uint8_t *bytes, size_t length)
+{
+    if (length < 1 || length > 32)
+        return 0;
+    unsigned all = TEXT_BYTE;
+    for (size_t i = 0; i < length; i++)
+        all &= bench_class[bytes[i]];
+    return all != 0;
+}
+
+/* 1,024 slots below 1,024 are a permutation if each is met. Bytes instead of bits: no store has to wait for the one before. */
+static int slots_are_permutation(const uint8_t *s)
+{
+    uint8_t met[NODES] = {0};
+    unsigned any = 0, all = 0;
+    for (unsigned row = 0; row < NODES; row++) {
+        unsigned slot = slot_of(s, row);
+        any |= slot;
+        met[slot & (NODES - 1)] = 1;
+    }
+    for (unsigned slot = 0; slot < NODES; slot++)
+        all += met[slot];
+    return any < NODES && all == NODES;
+}
+
+/* Numbers by a map that is all zero between calls; only what was set is cleared. */
+static int numbers_are_distinct(const uint8_t *s, unsigned count, unsigned n, unsigned *at)
+{
+    static uint8_t met[65536];
+    unsigned repeated = 0, found = count;
+    for (unsigned row = 0; row < count; row++) {
+        unsigned number = number_of(s, row);
+        repeated |= met[number];
+        met[number] = 1;
+        found = number == n ? row : found;
+    }
+    for (unsigned row = 0; row < count; row++)
+        met[number_of(s, row)] = 0;
+    *at = found;
+    return repeated == 0;
+}
+
+/* Each mark is 0 or an open transaction. */
+static int marks_are_open(const uint8_t *s, unsigned count)
+{
+    const uint8_t *inserted = s + AT_INSERTED, *deleted = s + AT_DELETED, *changed = s + AT_CHANGED;
+    unsigned any = 0, allowed = open_set(s) << 1 | 1u, marks = 0;
+    for (unsigned row = 0; row < count; row++)
+        any |= inserted[row] | deleted[row] | changed[row];
+    if (any == 0)
+        return 1;
+    if (any > 31)
+        return 0;
+    for (unsigned row = 0; row < count; row++)
+        marks |= 1u << inserted[row] | 1u << deleted[row] | 1u << changed[row];
+    if ((marks & ~allowed) != 0 || (inserted[0] | deleted[0] | changed[0]) != 0)
+        return 0;
+    unsigned wrong = 0;
+    for (unsigned row = 1; row < count; row++)
+        wrong |= changed[row] != 0 && s[AT_SAVED + CELL * slot_of(s, row)] - 1u > 31;
+    return wrong == 0;
+}
+
+/* One loop for each column, so that they can be taken many rows at a time. */
+static int rows_are_of_form(const uint8_t *s, unsigned count)
+{
+    const uint8_t *kinds = s + AT_KIND;
+    unsigned wrong = number_of(s, 0) | depth_of(s, 0) | (kinds[0] ^ 1u) | cell_in(s, 0)[0];
+    uint16_t deep = 0;
+    uint8_t strange = 0;
+    for (unsigned row = 1; row < count; row++)
+        deep |= (uint16_t)((uint16_t)(depth_of(s, row) - 1) > (uint16_t)depth_of(s, row - 1));
+    for (unsigned row = 1; row < count; row++)
+        strange |= (uint8_t)((uint8_t)(kinds[row] - 2) > 2);
+    for (unsigned row = 1; row < count; row++)
+        wrong |= s[AT_CELL + CELL * slot_of(s, row)] - 1u > 31;
+    return (wrong | deep | strange) == 0;
+}
+
+int bench_form(const uint8_t *s, size_t length, unsigned n, unsigned *row)
+{
+    if (length < AT_END || memcmp(s, bench_mark, 8) != 0)
+        return 0;
+    unsigned count = count_of(s);
+    if (count - 1 >= NODES || (s[AT_REST] | s[AT_REST + 1] | s[AT_REST + 2] | s[AT_REST + 3]) != 0)
+        return 0;
+    return slots_are_permutation(s) && rows_are_of_form(s, count) && marks_are_open(s, count)
+        && numbers_are_distinct(s, count, n, row);
+}

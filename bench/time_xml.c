@@ -1,0 +1,152 @@
+/* time_xml.c: load and write beside two known parsers, expat and libxml2. They read more of XML than the subset. */
+#include <stdio.h>
+#include <stdlib.h>
+#include <string.h>
+
+#include <expat.h>
+#include <libxml/parser.h>
+#include <libxml/tree.h>
+
+#include "timing.h"
+
+enum { SAMPLES = 301, MOST_ENGINES = 2 };
+
+static unsigned long seen; /* so that the handlers do something */
+
+static void on_start(void *data, const XML_Char *name, const XML_Char **attributes)
+{
+    (void)data;
+    seen += (unsigned char)name[0];
+    for (; *attributes != NULL; attributes += 2)
+        seen += (unsigned char)attributes[1][0];
+}
+
+static void on_end(void *data, const XML_Char *name)
+{
+    (void)data;
+    seen += (unsigned char)name[0];
+}
+
+static void on_text(void *data, const XML_Char *text, int length)
+{
+    (void)data;
+    seen += (unsigned)length + (unsigned char)text[0];
+}
+
+static void read_by_expat(const char *xml, size_t length)
+{
+    XML_Parser parser = XML_ParserCreate(NULL);
+    XML_SetElementHandler(parser, on_start, on_end);
+    XML_SetCharacterDataHandler(parser, on_text);
+    if (XML_Parse(parser, xml, (int)length, 1) != XML_STATUS_OK)
+        exit(1);
+    XML_ParserFree(parser);
+}
+
+static xmlDocPtr read_by_libxml2(const char *xml, size_t length)
+{
+    xmlDocPtr document = xmlReadMemory(xml, (int)length, NULL, NULL, XML_PARSE_NONET);
+    if (document == NULL)
+        exit(1);
+    return document;
+}
+
+struct times {
+    double load[MOST_ENGINES], write[MOST_ENGINES], expat, libxml2, libxml2_write;
+};
+
+static void time_document(const char *xml, size_t length, struct times *times)
+{
+    static uint8_t state[MOST_ENGINES][NOODLEFEN_STATE_BYTES], out[NOODLEFEN_XML_BYTES];
+    static double load[MOST_ENGINES][SAMPLES], write[MOST_ENGINES][SAMPLES], expat[SAMPLES], libxml2[SAMPLES], dump[SAMPLES];
+    for (int e = 0; e < timed_count; e++)
+        must_grant(timed_engines[e].name, "start", timed_engines[e].start(state[e], NOODLEFEN_STATE_BYTES));
+    for (int i = 0; i < SAMPLES; i++) {
+        double from;
+        for (int e = 0; e < timed_count; e++) {
+            const struct timed *engine = &timed_engines[e];
+            from = now();
+            noodlefen_answer answer = engine->load(state[e], NOODLEFEN_STATE_BYTES, (const uint8_t *)xml, length);
+            load[e][i] = now() - from;
+            must_grant(engine->name, "load", answer);
+            from = now();
+            answer = engine->write(state[e], NOODLEFEN_STATE_BYTES, out, sizeof out);
+            write[e][i] = now() - from;
+            must_grant(engine->name, "write", answer);
+        }
+        from = now();
+        read_by_expat(xml, length);
+        expat[i] = now() - from;
+        from = now();
+        xmlDocPtr document = read_by_libxml2(xml, length);
+        libxml2[i] = now() - from;
+        xmlChar *written;
+        int written_length;
+        from = now();
+        xmlDocDumpMemory(document, &written, &written_length);
+        dump[i] = now() - from;
+        xmlFree(written);
+        xmlFreeDoc(document);
+    }
+    for (int e = 0; e < timed_count; e++) {
+        times->load[e] = median(load[e], SAMPLES);
+        times->write[e] = median(write[e], SAMPLES);
+    }
+    times->expat = median(expat, SAMPLES);
+    times->libxml2 = median(libxml2, SAMPLES);
+    times->libxml2_write = median(dump, SAMPLES);
+}
+
+static void print_row(const char *what, const char *name, size_t length, const double *engines, double expat, double libxml2)
+{
+    const double ours = engines[timed_count - 1];
+    printf("%-6s%-16s%8lu%10.2f", what, name, (unsigned long)length, engines[0] / 1000);
+    if (timed_count > 1)
+        printf("%10.2f", engines[1] / 1000);
+    if (expat > 0)
+        printf("%10.2f%10.2f", expat / 1000, libxml2 / 1000);
+    else
+        printf("%10s%10.2f", "", libxml2 / 1000);
+    if (timed_count > 1)
+        printf("%12.2f", engines[1] / engines[0]);
+    if (expat > 0)
+        printf("%12.2f%12.2f\n", ours / expat, ours / libxml2);
+    else
+        printf("%12s%12.2f\n", "", ours / libxml2);
+}
+
+static void print_document(const char *name, const char *xml, size_t length)
+{
+    struct times times;
+    time_document(xml, length, &times);
+    print_row("load", name, length, times.load, times.expat, times.libxml2);
+    print_row("write", name, length, times.write, 0, times.libxml2_write);
+}
+
+void time_xml(const char *settings_path)
+{
+    static char xml[NOODLEFEN_XML_BYTES];
+    static const unsigned sizes[] = {16, 128, 1024};
+    const char *ours = timed_count > 1 ? "library" : "C engine";
+    printf("load and write, microseconds; ratios are %s / other\n%-22s%8s%10s", ours, "", "bytes", "C engine");
+    if (timed_count > 1)
+        printf("%10s", "library");
+    printf("%10s%10s", "expat", "libxml2");
+    if (timed_count > 1)
+        printf("%12s", "/ C engine");
+    printf("%12s%12s\n", "/ expat", "/ libxml2");
+    for (int i = 0; i < 3; i++) {
+        char name[32];
+        sprintf(name, "%u nodes", sizes[i]);
+        print_document(name, xml, tree_document(xml, sizes[i]));
+    }
+    FILE *file = fopen(settings_path, "rb");
+    if (file != NULL) {
+        size_t length = fread(xml, 1, sizeof xml, file);
+        fclose(file);
+        print_document("settings.xml", xml, length);
+    }
+    xmlCleanupParser();
+    if (seen == 0)
+        printf("expat saw nothing\n");
+}

@@ -1,0 +1,103 @@
+-- The documents of a state that is in step with its logs: marks are those of open transactions, and the held document is what they show.
+use mathlib.Core.Path.{_≡_, refl, sym, ap, _∙_}
+use Prim.Native.Nat.{ℕ}
+use mathlib.Core.Bool.{Bool, true, false, not, _||_}
+use mathlib.Core.List.{List, [], _∷_, List·Memᴰ, List·Memᴰ·head}
+use mathlib.Core.Logic.{_⊎_, inl, inr}
+use lib.Dec.{eqb}
+use borrow.Author.Tests.{eqb-false, eq-eqb}
+use Rattle.tree.specs.Lists.{every}
+use Rattle.tree.specs.Forest.{row}
+use Rattle.tree.specs.Document.{Document, Line, here, at}
+use Rattle.tree.specs.Steps.{D, U, UU}
+use Rattle.tree.specs.Laws.View.{in-view, view-in, view-agree}
+use Rattle.locks.specs.Modes.{LW, LU, LUU}
+use Rattle.locks.specs.Needs.{Lock, locks}
+use Rattle.locks.specs.Laws.Compatible.{node-locked}
+use Rattle.commute.specs.Laws.Lines.{Of, at-line, line-here}
+use Rattle.commute.specs.Laws.Runs.{Entry}
+use Rattle.protocol.specs.State.{nobody, State, Tree, deleted-in, done-by, shown, as-shown, document-of, held-document}
+use Rattle.serializability.specs.Laws.Shown.{Place, Inside, path, numbers-of}
+use Rattle.serializability.specs.Laws.Numbers.{number-of, Distinct, one-place}
+use Rattle.serializability.specs.Laws.Marks.{Within, Renames}
+use Rattle.serializability.specs.Laws.Whole.{lock-entry, holds, Good, log-open}
+
+-- lines and places --------------------------------------------------------------------------
+
+-- the set shows the node and all above it
+abbrev pub visible : (ℕ → Bool) → Place → Bool
+visible S r = every (shown S) (path r)
+
+abbrev pub line-in : (ℕ → Bool) → Place → Line
+line-in S r = row (as-shown S (r .it)) (numbers-of (r .above))
+
+pub place-of : (S : ℕ → Bool) (f : Tree) {l : Line} → Of l (document-of S f) → (r : Place) × Inside r f × (visible S r ≡ true) × (l ≡ line-in S r)
+unfolding document-of
+place-of S f i = in-view (λ a. a) (shown S) (shown S) (λ a. refl) (as-shown S) (λ a. a .number) (λ a. a .now .number) (λ a. refl) [] f refl i
+
+pub line-of-place : (S : ℕ → Bool) (f : Tree) {r : Place} → Inside r f → visible S r ≡ true → Of (line-in S r) (document-of S f)
+unfolding document-of
+line-of-place S f i e = view-in (λ a. a) (shown S) (shown S) (λ a. refl) (as-shown S) (λ a. a .number) (λ a. a .now .number) (λ a. refl) [] f refl i e
+
+-- a number that is there has a visible place
+pub here-place : (S : ℕ → Bool) (f : Tree) (n : ℕ) → here n (document-of S f) ≡ true → (r : Place) × Inside r f × (visible S r ≡ true) × (number-of r ≡ n) × (at n (document-of S f) ≡ line-in S r)
+here-place S f n h =
+    let a = at-line n (document-of S f) h in
+    let v = place-of S f (a .0) in
+    (v .0, v .1, v .2, sym (ap (λ (x : Line). x .it .number) (v .3)) ∙ a .1, v .3)
+
+pub place-here : (S : ℕ → Bool) (f : Tree) {r : Place} → Inside r f → visible S r ≡ true → here (number-of r) (document-of S f) ≡ true
+place-here S f {r} i e = line-here (number-of r) (document-of S f) (line-in S r) (line-of-place S f i e) refl
+
+-- the place of a number that is there
+pub here-visible : (S : ℕ → Bool) (f : Tree) → Distinct f → {r : Place} → Inside r f → here (number-of r) (document-of S f) ≡ true
+    → (visible S r ≡ true) × (at (number-of r) (document-of S f) ≡ line-in S r)
+here-visible S f d {r} i h =
+    let v = here-place S f (number-of r) h in
+    let e : v .0 ≡ r = one-place f d (v .1) i (v .3) in
+    (ap (visible S) (sym e) ∙ v .2, v .4 ∙ ap (line-in S) e)
+
+-- marks are of open transactions -------------------------------------------------------------
+
+module _ (c : Document) (log : ℕ → List Entry) (M : State) (g : Good c log M) where
+  -- who holds a lock is open
+  holder-open : (u : ℕ) (l : Lock) → List·Memᴰ l (holds log u) → M .is-open u ≡ true
+  holder-open u l i = log-open g u (lock-entry (log u) l i .1)
+
+  pub marker-open : (r : Place) → Inside r (M .tree) → (u : ℕ) → (u ≡ nobody → ⊥) → (eqb (r .it .inserter) u || eqb (r .it .deleter) u) ≡ true → M .is-open u ≡ true
+  marker-open r i u nu h = holder-open u (number-of r, LW) (g .covered .guarded r i u nu h (number-of r, LW) (node-locked (D (number-of r)) (numbers-of (r .above)) LW (List·Memᴰ·head refl)))
+
+  renamer-open : (u : ℕ) (p : List ℕ) → Renames (holds log) u p → M .is-open u ≡ true
+  renamer-open u [] w = absurd w
+  renamer-open u (q ∷ p) (inl w) = holder-open u (q, LUU) (w (q, LUU) (node-locked (UU q [] []) p LUU (List·Memᴰ·head refl)))
+  renamer-open u (q ∷ p) (inr w) = renamer-open u p w
+
+  pub writer-open : (r : Place) → Inside r (M .tree) → (u : ℕ) → (u ≡ nobody → ⊥) → eqb (r .it .writer) u ≡ true → M .is-open u ≡ true
+  writer-open r i u nu h = go (g .covered .authored r i u nu h)
+    where
+      go : (eqb (r .it .inserter) u ≡ true) ⊎ (Within (locks (U (number-of r) []) (numbers-of (r .above))) (holds log u) ⊎ Renames (holds log) u (numbers-of (path r))) → M .is-open u ≡ true
+      go (inl e) = marker-open r i u nu (rw e)
+      go (inr (inl w)) = holder-open u (number-of r, LU) (w (number-of r, LU) (node-locked (U (number-of r) []) (numbers-of (r .above)) LU (List·Memᴰ·head refl)))
+      go (inr (inr w)) = renamer-open u (numbers-of (path r)) w
+
+  -- a mark is nobody's or of an open transaction
+  pub inserter-done : (r : Place) → Inside r (M .tree) → done-by (M .is-open) (r .it .inserter) ≡ true
+  inserter-done r i = go (eqb (r .it .inserter) nobody) refl
+    where
+      go : (x : Bool) → eqb (r .it .inserter) nobody ≡ x → (x || M .is-open (r .it .inserter)) ≡ true
+      go true e = refl
+      go false e = marker-open r i (r .it .inserter) (eqb-false _ nobody e) (rw (eq-eqb (r .it .inserter) (r .it .inserter) refl))
+
+  pub writer-done : (r : Place) → Inside r (M .tree) → done-by (M .is-open) (r .it .writer) ≡ true
+  writer-done r i = go (eqb (r .it .writer) nobody) refl
+    where
+      go : (x : Bool) → eqb (r .it .writer) nobody ≡ x → (x || M .is-open (r .it .writer)) ≡ true
+      go true e = refl
+      go false e = writer-open r i (r .it .writer) (eqb-false _ nobody e) (eq-eqb (r .it .writer) (r .it .writer) refl)
+
+  -- the held document is what the open transactions show
+  pub held-shown : held-document M ≡ document-of (M .is-open) (M .tree)
+  unfolding held-document document-of
+  held-shown =
+      view-agree (λ a. a) (shown (M .is-open)) (shown (M .is-open)) (λ a. refl) (λ a. not (deleted-in (M .is-open) a)) (as-shown (M .is-open)) (λ a. a .now) [] (M .tree) refl
+      (λ r i e. rw (inserter-done r i)) (λ r i e. rw (writer-done r i))

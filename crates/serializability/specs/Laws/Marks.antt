@@ -1,0 +1,211 @@
+-- The marks of a tree against the locks: where a step's locks are compatible with those of the others, only its own transaction left marks.
+use mathlib.Core.Path.{_≡_, refl, sym, ap, _∙_}
+use Prim.Native.Nat.{ℕ}
+use mathlib.Core.Bool.{Bool, true, false, _&&_, _||_, false≢true, true≢false, or-true}
+use mathlib.Core.List.{List, [], _∷_, List·Memᴰ}
+use mathlib.Core.Logic.{_⊎_, inl, inr}
+use lib.Dec.{eqb}
+use borrow.Author.Tests.{eqb-true, eqb-false, eq-eqb, ne-eqb}
+use Rattle.tree.specs.Lists.{every, has, leads}
+use Rattle.tree.specs.Forest.{row}
+use Rattle.tree.specs.Document.{Line, here, at}
+use Rattle.tree.specs.Steps.{Step, U, D, UU, target}
+use Rattle.tree.specs.Laws.Tests.{and-left}
+use Rattle.tree.specs.Laws.Rows.{Each, each-above}
+use Rattle.tree.specs.Laws.View.{in-view}
+use Rattle.locks.specs.Modes.{LU, LW, LUU}
+use Rattle.locks.specs.Needs.{Lock, need, locks, needs}
+use Rattle.locks.specs.Laws.Compatible.{Compatible, compatible-symmetric, All-locked, node-locked, clashing, excludes, off-node, off-parent, off-path}
+use Rattle.locks.specs.Laws.Excludes.{LW-excludes}
+use Rattle.commute.specs.Laws.Lines.{at-line}
+use Rattle.protocol.specs.State.{nobody, Marked, Tree, seen-by, callers-document}
+use Rattle.serializability.specs.Laws.Shown.{Place, Inside, path, numbers-of, local}
+use Rattle.serializability.specs.Laws.Numbers.{number-of, Distinct, one-place}
+
+-- every lock of the one list is in the other
+abbrev pub Within : List Lock → List Lock → Type 0
+Within l k = (x : Lock) → List·Memᴰ x l → List·Memᴰ x k
+
+pub compatible-within : (l k k' : List Lock) → Compatible l k → Within k' k → Compatible l k'
+compatible-within l k k' c w q a b x y = c q a b x (w (q, b) y)
+
+-- nobody but t inserted or deleted it
+abbrev pub own : ℕ → Marked → Bool
+own t a = local t (a .inserter) && local t (a .deleter)
+
+-- the locks that each transaction holds
+module _ (holds : ℕ → List Lock) where
+  -- who inserted or deleted the node holds the locks of its deletion
+  abbrev pub Guarded : Marked → List Marked → Type 0
+  Guarded a p = (u : ℕ) → (u ≡ nobody → ⊥) → (eqb (a .inserter) u || eqb (a .deleter) u) ≡ true → Within (locks (D (a .now .number)) (numbers-of p)) (holds u)
+
+  -- u holds the locks of UU on the first of these nodes, or on one above it
+  abbrev pub Renames : ℕ → List ℕ → Type 0
+  Renames u [] = ⊥
+  Renames u (q ∷ p) = Within (locks (UU q [] []) p) (holds u) ⊎ Renames u p
+
+  -- who wrote the node inserted it, or holds the locks of its update, or those of UU on it or above
+  abbrev pub Authored : Marked → List Marked → Type 0
+  Authored a p = (u : ℕ) → (u ≡ nobody → ⊥) → eqb (a .writer) u ≡ true
+      → (eqb (a .inserter) u ≡ true) ⊎ (Within (locks (U (a .now .number) []) (numbers-of p)) (holds u) ⊎ Renames u (numbers-of (a ∷ p)))
+
+  pub record Covered (f : Tree) : Type 0 where
+    pub distinct : Distinct f
+    pub guarded : (r : Place) → Inside r f → Guarded (r .it) (r .above)
+    pub authored : (r : Place) → Inside r f → Authored (r .it) (r .above)
+
+-- somebody else's mark
+foreign : (t : ℕ) (a : Marked) → own t a ≡ false → (u : ℕ) × (u ≡ nobody → ⊥) × (u ≡ t → ⊥) × ((eqb (a .inserter) u || eqb (a .deleter) u) ≡ true)
+foreign t a h = go (local t (a .inserter)) refl h
+  where
+    away : (u : ℕ) → local t u ≡ false → (u ≡ nobody → ⊥) × (u ≡ t → ⊥)
+    away u i = both (eqb u nobody) refl (eqb u t) refl i
+      where
+        both : (x : Bool) → eqb u nobody ≡ x → (y : Bool) → eqb u t ≡ y → (x || y) ≡ false → (u ≡ nobody → ⊥) × (u ≡ t → ⊥)
+        both true p y q j = absurd (true≢false j)
+        both false p true q j = absurd (true≢false j)
+        both false p false q j = (eqb-false u nobody p, eqb-false u t q)
+
+    go : (x : Bool) → local t (a .inserter) ≡ x → (x && local t (a .deleter)) ≡ false → (u : ℕ) × (u ≡ nobody → ⊥) × (u ≡ t → ⊥) × ((eqb (a .inserter) u || eqb (a .deleter) u) ≡ true)
+    go true p i = let w = away (a .deleter) i in (a .deleter, w .0, w .1, rw (eq-eqb (a .deleter) (a .deleter) refl) (or-true (eqb (a .inserter) (a .deleter))))
+    go false p i = let w = away (a .inserter) p in (a .inserter, w .0, w .1, rw (eq-eqb (a .inserter) (a .inserter) refl))
+
+-- a step of t on a node of its document, compatible with what the others hold
+module _ (holds : ℕ → List Lock) (f : Tree) (cov : Covered holds f) (t : ℕ) (s : Step) (hs : here (target s) (callers-document t f) ≡ true)
+    (compat : (u : ℕ) → (u ≡ t → ⊥) → Compatible (needs s (callers-document t f)) (holds u)) where
+  abbrev n₀ : ℕ
+  n₀ = target s
+
+  abbrev P : List ℕ
+  P = at (target s) (callers-document t f) .above
+
+  -- the place of the node
+  pub target-place : (r : Place) × Inside r f × (number-of r ≡ n₀) × (numbers-of (r .above) ≡ P) × (every (seen-by t) (path r) ≡ true)
+  unfolding callers-document
+  target-place =
+      let a = at-line n₀ (callers-document t f) hs in
+      let v = in-view (λ x. x) (seen-by t) (seen-by t) (λ x. refl) (λ x. x .now) (λ x. x .number) (λ x. x .now .number) (λ x. refl) [] f refl (a .0) in
+      (v .0, v .1, sym (ap (λ (x : Line). x .it .number) (v .3)) ∙ a .1, sym (ap (λ (x : Line). x .above) (v .3)), v .2)
+
+  pub above-is : (r : Place) → Inside r f → number-of r ≡ n₀ → numbers-of (r .above) ≡ P
+  above-is r i e =
+      let v = target-place in
+      ap (λ (x : Place). numbers-of (x .above)) (one-place f (cov .distinct) i (v .1) (e ∙ sym (v .2))) ∙ v .3
+
+  -- what is known of each node of a path: it is guarded, and its place is one of the tree
+  abbrev Known : Marked → List Marked → Type 0
+  Known a p = Guarded holds a p × Inside (row a p) f
+
+  known : (r : Place) → Inside r f → Each (λ a. a) Known (path r)
+  known r i = each-above (λ a. a) Known tt (λ x j. (cov .guarded x j, j)) i
+
+  -- on the node and above it only t left marks
+  own-here : (a : Marked) (p : List Marked) → Guarded holds a p → has (a .now .number) (n₀ ∷ P) ≡ true → own t a ≡ true
+  own-here a p g h = go (own t a) refl
+    where
+      go : (x : Bool) → own t a ≡ x → x ≡ true
+      go true e = refl
+      go false e =
+          let w = foreign t a e in
+          let locked : All-locked (a .now .number) (LW ∷ []) (holds (w .0)) = λ m i. g (w .0) (w .1) (w .3) (a .now .number, m) (node-locked (D (a .now .number)) (numbers-of p) m i) in
+          absurd (true≢false (sym h ∙ off-path (a .now .number) (LW ∷ []) (holds (w .0)) locked s P (compatible-symmetric _ _ (compat (w .0) (w .2))) (LW-excludes s)))
+
+  own-all : (l : List Marked) → Each (λ a. a) Known l → ((q : ℕ) → has q (numbers-of l) ≡ true → has q (n₀ ∷ P) ≡ true) → every (own t) l ≡ true
+  own-all [] g h = refl
+  own-all (a ∷ p) g h = rw (
+    own-here a p (g .0 .0) (h (a .now .number) (rw (eq-eqb (a .now .number) (a .now .number) refl))),
+    own-all p (g .1) (λ q i. h q (rw (i, or-true (eqb (a .now .number) q)))),
+  )
+
+  pub own-node : (r : Place) → Inside r f → number-of r ≡ n₀ → every (own t) (path r) ≡ true
+  own-node r i e = own-all (path r) (known r i) (λ q h. rw (e, above-is r i e) at h)
+
+  -- where the node is locked so that it takes no insertion or deletion of a child
+  pub own-child : clashing (need s .node) (need (D 0) .parent) ≡ true → (r : Place) → Inside r f → leads n₀ (numbers-of (r .above)) ≡ true → every (own t) (path r) ≡ true
+  own-child c r i h = go (r .above) h (known r i)
+    where
+      go : (o : List Marked) → leads n₀ (numbers-of o) ≡ true → Each (λ a. a) Known (r .it ∷ o) → every (own t) (r .it ∷ o) ≡ true
+      go [] l g = absurd (false≢true l)
+      go (a ∷ p) l g = rw (mine (own t (r .it)) refl, own-node (row a p) (g .1 .0 .1) (eqb-true (a .now .number) n₀ l))
+        where
+          mine : (x : Bool) → own t (r .it) ≡ x → own t (r .it) ≡ true
+          mine true q = q
+          mine false q =
+              let w = foreign t (r .it) q in
+              absurd (true≢false (sym l ∙ off-parent n₀ (need s .node) (locks s P) (node-locked s P) (D (number-of r)) (a .now .number ∷ numbers-of p)
+              (compatible-within (locks s P) (holds (w .0)) _ (compat (w .0) (w .2)) (g .0 .0 (w .0) (w .1) (w .3))) c))
+
+  -- where it is locked so that nothing below it is inserted or deleted
+  module _ (c : excludes (need s .node) (need (D 0)) ≡ true) where
+    own-below : (l : List Marked) → Each (λ a. a) Known l → has n₀ (numbers-of l) ≡ true → every (own t) l ≡ true
+    own-below [] g h = refl
+    own-below (a ∷ p) g h = go (eqb (a .now .number) n₀) refl h (λ i. own-below p (g .1) i)
+      where
+        mine : (x : Bool) → own t a ≡ x → own t a ≡ true
+        mine true q = q
+        mine false q =
+            let w = foreign t a q in
+            absurd (true≢false (sym h ∙ off-path n₀ (need s .node) (locks s P) (node-locked s P) (D (a .now .number)) (numbers-of p)
+            (compatible-within (locks s P) (holds (w .0)) _ (compat (w .0) (w .2)) (g .0 .0 (w .0) (w .1) (w .3))) c))
+
+        go : (b : Bool) → eqb (a .now .number) n₀ ≡ b → (b || has n₀ (numbers-of p)) ≡ true → (has n₀ (numbers-of p) ≡ true → every (own t) p ≡ true) → (own t a && every (own t) p) ≡ true
+        go true e i rest = own-node (row a p) (g .0 .1) (eqb-true (a .now .number) n₀ e)
+        go false e i rest = rw (mine (own t a) refl, rest i)
+
+    pub own-subtree : (r : Place) → Inside r f → has n₀ (numbers-of (path r)) ≡ true → every (own t) (path r) ≡ true
+    own-subtree r i h = own-below (path r) (known r i) h
+
+  -- contents -----------------------------------------------------------------------------
+
+  -- where nobody else can have written, t wrote, or nobody
+  writer-local : (r : Place) → Inside r f → own t (r .it) ≡ true → ((u : ℕ) → (u ≡ t → ⊥) → Renames holds u (numbers-of (path r)) → ⊥)
+      → ((u : ℕ) → (u ≡ t → ⊥) → Within (locks (U (number-of r) []) (numbers-of (r .above))) (holds u) → ⊥) → local t (r .it .writer) ≡ true
+  writer-local r i o x y = go (eqb u nobody) refl (eqb u t) refl
+    where
+      u : ℕ
+      u = r .it .writer
+
+      case : (u ≡ nobody → ⊥) → (u ≡ t → ⊥)
+          → (eqb (r .it .inserter) u ≡ true) ⊎ (Within (locks (U (number-of r) []) (numbers-of (r .above))) (holds u) ⊎ Renames holds u (numbers-of (path r))) → ⊥
+      case a b (inl e) =
+          let z : local t (r .it .inserter) ≡ false = rw (eqb-true (r .it .inserter) u e, ne-eqb u nobody a, ne-eqb u t b) in
+          true≢false (sym (and-left _ _ o) ∙ z)
+      case a b (inr (inl e)) = y u b e
+      case a b (inr (inr e)) = x u b e
+
+      go : (a : Bool) → eqb u nobody ≡ a → (b : Bool) → eqb u t ≡ b → (a || b) ≡ true
+      go true p b q = refl
+      go false p true q = refl
+      go false p false q = absurd (case (eqb-false u nobody p) (eqb-false u t q) (cov .authored r i u (eqb-false u nobody p) (eq-eqb u u refl)))
+
+  module _ (c : excludes (LUU ∷ []) (need s) ≡ true) where
+    -- nobody else holds LUU on the node or above
+    no-LUU : (u : ℕ) → (u ≡ t → ⊥) → (q : ℕ) (p : List ℕ) → Within (locks (UU q [] []) p) (holds u) → has q (n₀ ∷ P) ≡ false
+    no-LUU u ne q p w = off-path q (LUU ∷ []) (holds u) (λ m i. w (q, m) (node-locked (UU q [] []) p m i)) s P (compatible-symmetric _ _ (compat u ne)) c
+
+    renames-above : (u : ℕ) → (u ≡ t → ⊥) → (l : List ℕ) → Renames holds u l → ((q : ℕ) → has q l ≡ true → has q (n₀ ∷ P) ≡ true) → ⊥
+    renames-above u ne [] w h = w
+    renames-above u ne (q ∷ l) (inl w) h = true≢false (sym (h q (rw (eq-eqb q q refl))) ∙ no-LUU u ne q l w)
+    renames-above u ne (q ∷ l) (inr w) h = renames-above u ne l w (λ x i. h x (rw (i, or-true (eqb q x))))
+
+    pub writer-node : clashing (need s .node) (LU ∷ []) ≡ true → (r : Place) → Inside r f → number-of r ≡ n₀ → local t (r .it .writer) ≡ true
+    writer-node k r i e = writer-local r i (and-left _ _ (own-node r i e))
+        (λ u ne w. renames-above u ne (numbers-of (path r)) w (λ q h. rw (e, above-is r i e) at h))
+        (λ u ne w. true≢false (sym (eq-eqb (number-of r) n₀ e) ∙ off-node n₀ (need s .node) (locks s P) (node-locked s P) (U (number-of r) []) (numbers-of (r .above))
+        (compatible-within (locks s P) (holds u) _ (compat u ne) w) k))
+
+    module _ (cd : excludes (need s .node) (need (D 0)) ≡ true) (cu : excludes (need s .node) (need (U 0 [])) ≡ true) (cuu : excludes (need s .node) (need (UU 0 [] [])) ≡ true) where
+      renames-below : (u : ℕ) → (u ≡ t → ⊥) → (l : List Marked) → Renames holds u (numbers-of l) → Each (λ a. a) Known l → has n₀ (numbers-of l) ≡ true → ⊥
+      renames-below u ne [] w g h = w
+      renames-below u ne (a ∷ p) (inl w) g h =
+          true≢false (sym h ∙ off-path n₀ (need s .node) (locks s P) (node-locked s P) (UU (a .now .number) [] []) (numbers-of p) (compatible-within (locks s P) (holds u) _ (compat u ne) w) cuu)
+      renames-below u ne (a ∷ p) (inr w) g h = go (eqb (a .now .number) n₀) refl h (λ i. renames-below u ne p w (g .1) i)
+        where
+          go : (e : Bool) → eqb (a .now .number) n₀ ≡ e → (e || has n₀ (numbers-of p)) ≡ true → (has n₀ (numbers-of p) ≡ true → ⊥) → ⊥
+          go true e i rest = renames-above u ne (numbers-of p) w (λ q j. rw (← above-is (row a p) (g .0 .1) (eqb-true (a .now .number) n₀ e), j) (or-true (eqb n₀ q)))
+          go false e i rest = rest i
+
+      pub writer-subtree : (r : Place) → Inside r f → has n₀ (numbers-of (path r)) ≡ true → local t (r .it .writer) ≡ true
+      writer-subtree r i h = writer-local r i (and-left _ _ (own-subtree cd r i h))
+          (λ u ne w. renames-below u ne (path r) w (known r i) h)
+          (λ u ne w. true≢false (sym h ∙ off-path n₀ (need s .node) (locks s P) (node-locked s P) (U (number-of r) []) (numbers-of (r .above)) (compatible-within (locks s P) (holds u) _ (compat u ne) w) cu))

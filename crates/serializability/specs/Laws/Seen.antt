@@ -1,0 +1,160 @@
+-- A step whose locks are compatible with the others' sees in its caller's document what it sees in the document of every set
+-- of transactions with the caller in it.
+use mathlib.Core.Path.{_≡_, refl, sym, ap, _∙_}
+use Prim.Native.Nat.{ℕ}
+use mathlib.Core.Bool.{Bool, true, false, not, _&&_, _||_, false≢true, true≢false}
+use mathlib.Core.List.{List, [], _∷_, map}
+use lib.Dec.{eqb}
+use borrow.Author.Tests.{eqb-true}
+use Rattle.tree.specs.Lists.{every, has, leads, keep}
+use Rattle.tree.specs.Forest.{row, rows, view}
+use Rattle.tree.specs.Document.{Node, Line, lines, select, here}
+use Rattle.tree.specs.Steps.{Step, T, C, R, U, D, I, TT, RR, UU, target, brings, with-content}
+use Rattle.tree.specs.Laws.Tests.{and-left, and-right, refuted}
+use Rattle.tree.specs.Laws.Lists.{keep-map, keep-keep, keep-same, in-keep, map-map, map-same}
+use Rattle.tree.specs.Laws.Rows.{of-rows}
+use Rattle.tree.specs.Laws.View.{rows-view, in-view}
+use Rattle.locks.specs.Needs.{Lock, needs}
+use Rattle.locks.specs.Laws.Compatible.{Compatible}
+use Rattle.locks.specs.Laws.Excludes.{kth-child, new-child, children-kept, numbers-below, cells-below, names-below, subtree-kept}
+use Rattle.locks.specs.Laws.Excludes.{reads as reads-node, reads-below, renames-below, content-LUU, contents-LUU, content-kept, contents-kept}
+use Rattle.commute.specs.Laws.Lines.{at-line}
+use Rattle.commute.specs.Laws.Views.{shape, Shapes, Whole, Reach, itself, children, subtree, within, reach, reads, Views}
+use Rattle.protocol.specs.State.{nobody, Marked, Tree, number-held, seen-by, done-by, shown, as-shown, callers-document, document-of}
+use Rattle.serializability.specs.Laws.Shown.{Place, Inside, path, numbers-of, local}
+use Rattle.serializability.specs.Laws.Numbers.{number-of, place-held}
+use Rattle.serializability.specs.Laws.Marks.{own, Covered, own-node, own-child, own-subtree, writer-node, writer-subtree}
+
+-- the places that a step sees from its node, as lines of a document and in the tree
+abbrev pub places : Reach → ℕ → Place → Bool
+places itself n r = eqb (number-of r) n
+places children n r = leads n (numbers-of (r .above))
+places subtree n r = has n (numbers-of (path r))
+
+-- two views of one tree ------------------------------------------------------------------
+
+-- the document of the nodes that are shown, each with such a content
+module _ (text : Marked → List ℕ) where
+  abbrev pub with-text : Marked → Node
+  with-text a = with-content (a .now) (text a)
+
+  abbrev pub line-of : Place → Line
+  line-of r = row (with-text (r .it)) (numbers-of (r .above))
+
+  within-places : (q : Reach) (n : ℕ) (r : Place) → within q n (line-of r) ≡ places q n r
+  within-places itself n r = refl
+  within-places children n r = refl
+  within-places subtree n r = refl
+
+  pub select-view : (sh : Marked → Bool) (q : Reach) (n : ℕ) (f : Tree)
+      → select (within q n) (view sh with-text f) ≡ map line-of (keep (λ r. every sh (path r)) (keep (places q n) (rows (λ a. a) [] f)))
+  unfolding select lines
+  select-view sh q n f = rw (
+    rows-view (λ a. a) sh sh (λ a. refl) with-text (λ a. a .number) (λ a. a .now .number) (λ a. refl) [] f refl,
+    keep-map (within q n) (places q n) line-of (keep (λ r. every sh (path r)) (rows (λ a. a) [] f)) (λ r m. within-places q n r),
+    keep-keep (places q n) (λ r. every sh (path r)) (rows (λ a. a) [] f),
+  )
+
+module _ (sh sh' : Marked → Bool) (text text' : Marked → List ℕ) (f : Tree) (q : Reach) (n : ℕ)
+    (h : (r : Place) → Inside r f → places q n r ≡ true → every sh' (path r) ≡ every sh (path r)) where
+  abbrev both : List Place
+  both = keep (λ r. every sh (path r)) (keep (places q n) (rows (λ a. a) [] f))
+
+  kept : keep (λ r. every sh' (path r)) (keep (places q n) (rows (λ a. a) [] f)) ≡ both
+  kept = keep-same (λ r. every sh' (path r)) (λ r. every sh (path r)) (keep (places q n) (rows (λ a. a) [] f))
+      (λ r m. let i = in-keep (places q n) (rows (λ a. a) [] f) m in h r (of-rows (λ a. a) r [] f (i .0)) (i .1))
+
+  agree-shapes : Shapes (within q n) (view sh (with-text text) f) (view sh' (with-text text') f)
+  agree-shapes = rw (select-view text' sh' q n f, select-view text sh q n f, kept)
+      (map-map shape (line-of text') (λ r. shape (line-of text r)) both (λ a m. refl) ∙ sym (map-map shape (line-of text) (λ r. shape (line-of text r)) both (λ a m. refl)))
+
+  agree-whole : ((r : Place) → Inside r f → places q n r ≡ true → text' (r .it) ≡ text (r .it)) → Whole (within q n) (view sh (with-text text) f) (view sh' (with-text text') f)
+  agree-whole k = rw (select-view text' sh' q n f, select-view text sh q n f, kept)
+      (map-same (line-of text') (line-of text) both
+      (λ r m. let i = in-keep (places q n) (rows (λ a. a) [] f) (in-keep (λ x. every sh (path x)) (keep (places q n) (rows (λ a. a) [] f)) m .0) in
+      rw (k r (of-rows (λ a. a) r [] f (i .0)) (i .1))))
+
+-- a number that no node has is in no document
+pub unheld-absent : (sh : Marked → Bool) (text : Marked → List ℕ) (f : Tree) (m : ℕ) → number-held m f ≡ false → here m (view sh (with-text text) f) ≡ false
+unheld-absent sh text f m h = refuted _ (λ e.
+    let a = at-line m (view sh (with-text text) f) e in
+    let v = in-view (λ x. x) sh sh (λ x. refl) (with-text text) (λ x. x .number) (λ x. x .now .number) (λ x. refl) [] f refl (a .0) in
+    true≢false (sym (place-held m f (v .1) (sym (ap (λ (x : Line). x .it .number) (v .3)) ∙ a .1)) ∙ h))
+
+-- the caller, and a set with it ------------------------------------------------------------
+
+module _ (t : ℕ) (nz : t ≡ nobody → ⊥) (S : ℕ → Bool) (st : S t ≡ true) where
+  local-done : (u : ℕ) → local t u ≡ true → done-by S u ≡ true
+  local-done u h = go (eqb u nobody) refl (eqb u t) refl h
+    where
+      go : (a : Bool) → eqb u nobody ≡ a → (b : Bool) → eqb u t ≡ b → (a || b) ≡ true → (a || S u) ≡ true
+      go true p b q i = refl
+      go false p true q i = rw (eqb-true u t q) st
+      go false p false q i = absurd (false≢true i)
+
+  local-deleted : (u : ℕ) → local t u ≡ true → not (not (eqb u nobody) && S u) ≡ not (eqb u t)
+  local-deleted u h = go (eqb u nobody) refl (eqb u t) refl h
+    where
+      go : (a : Bool) → eqb u nobody ≡ a → (b : Bool) → eqb u t ≡ b → (a || b) ≡ true → not (not a && S u) ≡ not b
+      go true p true q i = absurd (nz (sym (eqb-true u t q) ∙ eqb-true u nobody p))
+      go true p false q i = refl
+      go false p true q i = rw (eqb-true u t q, st)
+      go false p false q i = absurd (false≢true i)
+
+  -- where t alone left marks the set shows what t sees
+  pub own-shown : (a : Marked) → own t a ≡ true → shown S a ≡ seen-by t a
+  own-shown a h = rw (local-done (a .inserter) (and-left _ _ h), local-deleted (a .deleter) (and-right (local t (a .inserter)) _ h))
+
+  pub own-path : (l : List Marked) → every (own t) l ≡ true → every (shown S) l ≡ every (seen-by t) l
+  own-path [] h = refl
+  own-path (a ∷ l) h = rw (own-shown a (and-left _ _ h), own-path l (and-right (own t a) _ h))
+
+  pub own-content : (a : Marked) → local t (a .writer) ≡ true → as-shown S a ≡ a .now
+  own-content a h = rw (local-done (a .writer) h)
+
+-- a step of t on a node of its document, compatible with what the others hold, which brings in no number held
+module _ (holds : ℕ → List Lock) (f : Tree) (cov : Covered holds f) (t : ℕ) (nz : t ≡ nobody → ⊥) where
+  abbrev pub Compatible-step : Step → Type 0
+  Compatible-step s = (u : ℕ) → (u ≡ t → ⊥) → Compatible (needs s (callers-document t f)) (holds u)
+
+  -- what the step sees has no marks of others
+  pub own-seen : (s : Step) → here (target s) (callers-document t f) ≡ true → Compatible-step s
+      → (r : Place) → Inside r f → places (reach s) (target s) r ≡ true → every (own t) (path r) ≡ true
+  own-seen (T n) hs c r i e = own-node holds f cov t (T n) hs c r i (eqb-true _ n e)
+  own-seen (C n k) hs c r i e = own-child holds f cov t (C n k) hs c (children-kept (kth-child n k)) r i e
+  own-seen (R n) hs c r i e = own-node holds f cov t (R n) hs c r i (eqb-true _ n e)
+  own-seen (U n b) hs c r i e = own-node holds f cov t (U n b) hs c r i (eqb-true _ n e)
+  own-seen (D n) hs c r i e = own-node holds f cov t (D n) hs c r i (eqb-true _ n e)
+  own-seen (I m kind b n k) hs c r i e = own-child holds f cov t (I m kind b n k) hs c (children-kept (new-child m kind b n k)) r i e
+  own-seen (TT n) hs c r i e = own-subtree holds f cov t (TT n) hs c (subtree-kept (numbers-below n)) r i e
+  own-seen (RR n) hs c r i e = own-subtree holds f cov t (RR n) hs c (subtree-kept (cells-below n)) r i e
+  own-seen (UU n a b) hs c r i e = own-subtree holds f cov t (UU n a b) hs c (subtree-kept (names-below n a b)) r i e
+
+  -- what the step reads nobody else wrote
+  pub own-read : (s : Step) → here (target s) (callers-document t f) ≡ true → Compatible-step s → reads s ≡ true
+      → (r : Place) → Inside r f → places (reach s) (target s) r ≡ true → local t (r .it .writer) ≡ true
+  own-read (T n) hs c z r i e = absurd (false≢true z)
+  own-read (C n k) hs c z r i e = absurd (false≢true z)
+  own-read (R n) hs c z r i e = writer-node holds f cov t (R n) hs c (content-LUU (reads-node n)) (content-kept (reads-node n)) r i (eqb-true _ n e)
+  own-read (U n b) hs c z r i e = absurd (false≢true z)
+  own-read (D n) hs c z r i e = absurd (false≢true z)
+  own-read (I m kind b n k) hs c z r i e = absurd (false≢true z)
+  own-read (TT n) hs c z r i e = absurd (false≢true z)
+  own-read (RR n) hs c z r i e = writer-subtree holds f cov t (RR n) hs c (contents-LUU (reads-below n)) (subtree-kept (cells-below n))
+      (contents-kept (reads-below n) .0) (contents-kept (reads-below n) .1) r i e
+  own-read (UU n a b) hs c z r i e = writer-subtree holds f cov t (UU n a b) hs c (contents-LUU (renames-below n a b)) (subtree-kept (names-below n a b))
+      (contents-kept (renames-below n a b) .0) (contents-kept (renames-below n a b) .1) r i e
+
+  pub seen : (S : ℕ → Bool) → S t ≡ true → (s : Step) → here (target s) (callers-document t f) ≡ true → Compatible-step s
+      → ((m : ℕ) → has m (brings s) ≡ true → number-held m f ≡ false) → Views s (callers-document t f) (document-of S f)
+  unfolding callers-document document-of
+  seen S st s hs c new = record {
+    node = agree-shapes (seen-by t) (shown S) (λ a. a .now .content) (λ a. as-shown S a .content) f itself (target s)
+        (λ r i e. own-path t nz S st (path r) (own-node holds f cov t s hs c r i (eqb-true _ (target s) e)));
+    lines = agree-shapes (seen-by t) (shown S) (λ a. a .now .content) (λ a. as-shown S a .content) f (reach s) (target s)
+        (λ r i e. own-path t nz S st (path r) (own-seen s hs c r i e));
+    contents = λ z. agree-whole (seen-by t) (shown S) (λ a. a .now .content) (λ a. as-shown S a .content) f (reach s) (target s)
+        (λ r i e. own-path t nz S st (path r) (own-seen s hs c r i e))
+        (λ r i e. ap (λ (x : Node). x .content) (own-content t nz S st (r .it) (own-read s hs c z r i e)));
+    absent = λ m h. unheld-absent (shown S) (λ a. as-shown S a .content) f m (new m h) ∙ sym (unheld-absent (seen-by t) (λ a. a .now .content) f m (new m h));
+  }

@@ -1,0 +1,283 @@
+-- What a set of transactions shows of the tree after a step, a grant of locks, a commit, an abort and a load.
+use mathlib.Core.Path.{_≡_, refl, sym, ap, ap₂, _∙_}
+use Prim.Native.Nat.{ℕ}
+use mathlib.Core.Bool.{Bool, true, false, cond, not, _&&_, _||_, false≢true, or-true, and-false}
+use mathlib.Core.List.{List, [], _∷_, map}
+use lib.Dec.{eqb}
+use borrow.Author.Tests.{eqb-true, eq-eqb, ne-eqb}
+use Rattle.tree.specs.Lists.{any, every, has}
+use Rattle.tree.specs.Forest.{nil, node, Row, row, amend, view, put}
+use Rattle.tree.specs.Document.{Node, Document, is, under}
+use Rattle.tree.specs.Steps.{with-content, is-named, named, rewrite, remove}
+use Rattle.tree.specs.Laws.Tests.{and-left}
+use Rattle.tree.specs.Laws.Lists.{any-map}
+use Rattle.tree.specs.Laws.Rows.{In, self, inner, later}
+use Rattle.tree.specs.Laws.View.{view-view, view-agree, view-amend}
+use Rattle.tree.specs.Laws.Put.{view-put, view-put-hidden}
+use Rattle.locks.specs.Needs.{Lock}
+use Rattle.protocol.specs.State.{nobody, Marked, Tree, numbered, seen-by, done-by, shown, as-shown, document-of, written-by, deleted-by, inserted-by, granted-to}
+use Rattle.protocol.specs.State.{unless, settled, undone, mark, mark-node, renamed, grant, commit-tree, abort-tree, tree-of}
+
+-- a node held, with the nodes above it
+abbrev pub Place : Type 0
+Place = Row Marked Marked
+
+-- the place is one of the tree
+abbrev pub Inside : Place → Tree → Type 0
+Inside r f = In (λ a. a) r [] f
+
+-- the node and those above it
+abbrev pub path : Place → List Marked
+path r = r .it ∷ r .above
+
+abbrev pub numbers-of : List Marked → List ℕ
+numbers-of p = map (λ a. a .now .number) p
+
+-- u is nobody or t
+abbrev pub local : ℕ → ℕ → Bool
+local t u = eqb u nobody || eqb u t
+
+-- views of marked trees ------------------------------------------------------------------
+
+-- tests and nodes that agree everywhere
+view-same : {B : Type 0} (s s' : Marked → Bool) (g g' : Marked → B) (f : Tree) → ((a : Marked) → s' a ≡ s a) → ((a : Marked) → s a ≡ true → g' a ≡ g a) → view s' g' f ≡ view s g f
+view-same s s' g g' f h k = view-agree (λ a. a) s s (λ a. refl) s' g g' [] f refl (λ r i e. h (r .it)) (λ r i e. k (r .it) (and-left (s (r .it)) (every s (r .above)) e))
+
+-- a view of a tree with other marks is another view of the tree
+view-mark : {B : Type 0} (s s' : Marked → Bool) (g g' : Marked → B) (c : Place → Marked) (p : List Marked) (f : Tree)
+    → ((r : Place) → In (λ a. a) r p f → s' (c r) ≡ s (r .it)) → ((r : Place) → In (λ a. a) r p f → s (r .it) ≡ true → g' (c r) ≡ g (r .it))
+    → view s' g' (amend (λ a. a) c p f) ≡ view s g f
+unfolding view amend
+view-mark s s' g g' c p nil h k = refl
+view-mark s s' g g' c p (node a ks fs) h k =
+    rw (h (row a p) (self refl)) (go (s a) refl (view-mark s s' g g' c (a ∷ p) ks (λ r i. h r (inner i)) (λ r i. k r (inner i))) (view-mark s s' g g' c p fs (λ r i. h r (later i)) (λ r i. k r (later i))))
+  where
+    go : (b : Bool) → s a ≡ b → view s' g' (amend (λ x. x) c (a ∷ p) ks) ≡ view s g ks → view s' g' (amend (λ x. x) c p fs) ≡ view s g fs
+        → cond b (node (g' (c (row a p))) (view s' g' (amend (λ x. x) c (a ∷ p) ks)) (view s' g' (amend (λ x. x) c p fs))) (view s' g' (amend (λ x. x) c p fs))
+        ≡ cond b (node (g a) (view s g ks) (view s g fs)) (view s g fs)
+    go true e u v = rw (k (row a p) (self refl) e, u, v)
+    go false e u v = v
+
+-- tests of who did what ------------------------------------------------------------------
+
+done-own : (t : ℕ) (S : ℕ → Bool) → S t ≡ true → done-by S t ≡ true
+done-own t S h = rw h (or-true (eqb t 0))
+
+done-other : (t : ℕ) (S : ℕ → Bool) → (t ≡ nobody → ⊥) → S t ≡ false → done-by S t ≡ false
+done-other t S nz h = rw (h, ne-eqb t 0 nz)
+
+and-true : (x : Bool) → x ≡ (x && true)
+and-true true = refl
+and-true false = refl
+
+-- locks are not shown
+pub grant-shown : (S : ℕ → Bool) (t : ℕ) (ls : List Lock) (f : Tree) → document-of S (grant t ls f) ≡ document-of S f
+unfolding document-of grant
+grant-shown S t ls f = view-mark (shown S) (shown S) (as-shown S) (as-shown S) (λ r. granted-to t ls (r .it)) [] f (λ r i. refl) (λ r i e. refl)
+
+module _ (t : ℕ) (nz : t ≡ nobody → ⊥) (S : ℕ → Bool) where
+  -- with t: what the plain step does ------------------------------------------------------
+
+  module _ (st : S t ≡ true) where
+    pub U-shown : (n : ℕ) (b : List ℕ) (f : Tree) → document-of S (mark-node n (written-by t b) f) ≡ rewrite (is n) b (document-of S f)
+    unfolding document-of
+    U-shown n b f = view-amend (λ a. a) (shown S) (shown S) (λ a. refl) (shown S) (as-shown S) (as-shown S) c (λ a. a .number) c' numbers-of (λ a q e. refl) [] f refl
+        (λ r i e. sight (r .it) (numbered n (r .it))) (λ r i e. words (r .it) (numbers-of (r .above)) (numbered n (r .it)) refl)
+      where
+        c : Place → Marked
+        c r = cond (numbered n (r .it)) (written-by t b (r .it)) (r .it)
+
+        c' : Row Node ℕ → Node
+        c' r = cond (is n r) (with-content (r .it) b) (r .it)
+
+        sight : (a : Marked) (x : Bool) → shown S (cond x (written-by t b a) a) ≡ shown S a
+        sight a true = refl
+        sight a false = refl
+
+        words : (a : Marked) (q : List ℕ) (x : Bool) → numbered n a ≡ x → as-shown S (cond x (written-by t b a) a) ≡ cond x (with-content (as-shown S a) b) (as-shown S a)
+        words a q true e = rw (done-own t S st)
+        words a q false e = refl
+
+    pub D-shown : (n : ℕ) (f : Tree) → document-of S (mark-node n (deleted-by t) f) ≡ remove n (document-of S f)
+    unfolding document-of
+    D-shown n f = view-mark s' (shown S) (as-shown S) (as-shown S) c [] f (λ r i. sight (r .it) (numbered n (r .it)) refl) (λ r i e. words (r .it) (numbered n (r .it)))
+        ∙ sym (view-view (shown S) (as-shown S) (λ a. not (eqb (a .number) n)) (λ a. a) f)
+      where
+        c : Place → Marked
+        c r = cond (numbered n (r .it)) (deleted-by t (r .it)) (r .it)
+
+        s' : Marked → Bool
+        s' a = shown S a && not (eqb (a .now .number) n)
+
+        sight : (a : Marked) (x : Bool) → numbered n a ≡ x → shown S (cond x (deleted-by t a) a) ≡ (shown S a && not x)
+        sight a true e = rw (ne-eqb t 0 nz, st, and-false (shown S a)) (and-false (done-by S (a .inserter)))
+        sight a false e = and-true (shown S a)
+
+        words : (a : Marked) (x : Bool) → as-shown S (cond x (deleted-by t a) a) ≡ as-shown S a
+        words a true = refl
+        words a false = refl
+
+    -- among the parent's children t sees those that are shown
+    pub I-shown : (n k : ℕ) (new : Node) (f : Tree)
+        → ((r : Place) (a : Marked) (p : List Marked) → Inside r f → r .above ≡ a ∷ p → a .now .number ≡ n → shown S (r .it) ≡ seen-by t (r .it))
+        → document-of S (put (numbered n) (seen-by t) k (inserted-by t new) f) ≡ put (λ a. eqb (a .number) n) (λ a. true) k new (document-of S f)
+    unfolding document-of
+    I-shown n k new f h = view-put (numbered n) (seen-by t) k (inserted-by t new) (shown S) (as-shown S) (λ a. a) (λ a. eqb (a .number) n) (λ a. true)
+        (rw (done-own t S st)) (λ a e. refl) [] f (λ s r i e j o. sym (h r (s .it) (s .above) j o (eqb-true (s .it .now .number) n e)) ∙ and-true (shown S (r .it)))
+
+    -- in the subtree of n t sees what is shown, with the contents as they are now
+    pub UU-shown : (n : ℕ) (a b : List ℕ) (f : Tree)
+        → ((r : Place) → Inside r f → has n (numbers-of (path r)) ≡ true → (every (shown S) (path r) ≡ every (seen-by t) (path r)) × (as-shown S (r .it) ≡ r .it .now))
+        → document-of S (mark (λ r. cond (renamed t n a r) (written-by t b (r .it)) (r .it)) f) ≡ rewrite (λ r. under n r && named a r) b (document-of S f)
+    unfolding document-of
+    UU-shown n a b f h = view-amend (λ x. x) (shown S) (shown S) (λ x. refl) (shown S) (as-shown S) (as-shown S) c (λ x. x .number) c' numbers-of (λ x q e. refl) [] f refl
+        (λ r i e. sight (r .it) (renamed t n a r)) words
+      where
+        c : Place → Marked
+        c r = cond (renamed t n a r) (written-by t b (r .it)) (r .it)
+
+        c' : Row Node ℕ → Node
+        c' r = cond (under n r && named a r) (with-content (r .it) b) (r .it)
+
+        sight : (x : Marked) (y : Bool) → shown S (cond y (written-by t b x) x) ≡ shown S x
+        sight x true = refl
+        sight x false = refl
+
+        tests : (x y z : Bool) → x ≡ true → (x && y && z) ≡ (y && z)
+        tests true y z e = refl
+        tests false y z e = absurd (false≢true e)
+
+        numbers : (p : List Marked) → any (numbered n) p ≡ has n (numbers-of p)
+        numbers p = sym (any-map (λ q. eqb q n) (λ x. x .now .number) p)
+
+        content : (x : Marked) (y : Bool) → as-shown S (cond y (written-by t b x) x) ≡ cond y (with-content (as-shown S x) b) (as-shown S x)
+        content x true = rw (done-own t S st)
+        content x false = refl
+
+        seen-line : Place → Row Node ℕ
+        seen-line r = row (as-shown S (r .it)) (numbers-of (r .above))
+
+        -- t sees there what is shown, so its test is the plain one
+        test : (r : Place) → Inside r f → every (shown S) (path r) ≡ true → (y : Bool) → has n (numbers-of (path r)) ≡ y → renamed t n a r ≡ (y && named a (seen-line r))
+        test r i v true e =
+            let q = h r i e in
+            tests (every (seen-by t) (path r)) (any (numbered n) (path r)) (is-named a (r .it .now)) (sym (q .0) ∙ v)
+            ∙ ap₂ (λ (x : Bool) (z : Node). x && is-named a z) (numbers (path r) ∙ e) (sym (q .1))
+        test r i v false e =
+            ap (λ x. every (seen-by t) (path r) && x && is-named a (r .it .now)) (numbers (path r) ∙ e) ∙ rw (and-false (every (seen-by t) (path r)))
+
+        words : (r : Place) → Inside r f → every (shown S) (path r) ≡ true → as-shown S (c r) ≡ c' (seen-line r)
+        words r i v =
+            ap (λ x. as-shown S (cond x (written-by t b (r .it)) (r .it))) (test r i v (has n (numbers-of (path r))) refl)
+            ∙ content (r .it) (has n (numbers-of (path r)) && named a (seen-line r))
+
+  -- without t: nothing ---------------------------------------------------------------------
+
+  module _ (st : S t ≡ false) where
+    -- t wrote over what was committed, or over its own
+    before-shown : (b : List ℕ) (a : Marked) → local t (a .writer) ≡ true → as-shown S (written-by t b a) ≡ as-shown S a
+    before-shown b a h = ap (with-content (a .now)) (rw (done-other t S nz st) (go (eqb (a .writer) 0) refl (eqb (a .writer) t) refl h))
+      where
+        go : (x : Bool) → eqb (a .writer) 0 ≡ x → (y : Bool) → eqb (a .writer) t ≡ y → (x || y) ≡ true
+            → cond x (a .now .content) (a .before) ≡ cond (x || S (a .writer)) (a .now .content) (a .before)
+        go true p y q i = refl
+        go false p true q i = rw (eqb-true (a .writer) t q, st)
+        go false p false q i = absurd (false≢true i)
+
+    -- t wrote where a test says so
+    pub write-hidden : (test : Place → Bool) (b : List ℕ) (f : Tree) → ((r : Place) → Inside r f → test r ≡ true → local t (r .it .writer) ≡ true)
+        → document-of S (mark (λ r. cond (test r) (written-by t b (r .it)) (r .it)) f) ≡ document-of S f
+    unfolding document-of
+    write-hidden test b f h = view-mark (shown S) (shown S) (as-shown S) (as-shown S) _ [] f (λ r i. sight (r .it) (test r)) (λ r i e. words (r .it) (test r) (h r i))
+      where
+        sight : (a : Marked) (x : Bool) → shown S (cond x (written-by t b a) a) ≡ shown S a
+        sight a true = refl
+        sight a false = refl
+
+        words : (a : Marked) (x : Bool) → (x ≡ true → local t (a .writer) ≡ true) → as-shown S (cond x (written-by t b a) a) ≡ as-shown S a
+        words a true k = before-shown b a (k refl)
+        words a false k = refl
+
+    pub D-hidden : (n : ℕ) (f : Tree) → ((r : Place) → Inside r f → r .it .now .number ≡ n → local t (r .it .deleter) ≡ true)
+        → document-of S (mark-node n (deleted-by t) f) ≡ document-of S f
+    unfolding document-of
+    D-hidden n f h = view-mark (shown S) (shown S) (as-shown S) (as-shown S) _ [] f (λ r i. sight (r .it) (numbered n (r .it)) (λ e. h r i (eqb-true _ n e))) (λ r i e. words (r .it) (numbered n (r .it)))
+      where
+        was-shown : (a : Marked) → local t (a .deleter) ≡ true → shown S (deleted-by t a) ≡ shown S a
+        was-shown a l = rw st (ap (λ z. done-by S (a .inserter) && z) (step (eqb (a .deleter) 0) refl (eqb (a .deleter) t) refl l))
+          where
+            step : (x : Bool) → eqb (a .deleter) 0 ≡ x → (y : Bool) → eqb (a .deleter) t ≡ y → (x || y) ≡ true → not (not (eqb t 0) && false) ≡ not (not x && S (a .deleter))
+            step true p y q i = rw (and-false (not (eqb t 0)))
+            step false p true q i = rw (eqb-true (a .deleter) t q, st, and-false (not (eqb t 0)))
+            step false p false q i = absurd (false≢true i)
+
+        sight : (a : Marked) (x : Bool) → (x ≡ true → local t (a .deleter) ≡ true) → shown S (cond x (deleted-by t a) a) ≡ shown S a
+        sight a true k = was-shown a (k refl)
+        sight a false k = refl
+
+        words : (a : Marked) (x : Bool) → as-shown S (cond x (deleted-by t a) a) ≡ as-shown S a
+        words a true = refl
+        words a false = refl
+
+    pub I-hidden : (n k : ℕ) (new : Node) (f : Tree) → document-of S (put (numbered n) (seen-by t) k (inserted-by t new) f) ≡ document-of S f
+    unfolding document-of
+    I-hidden n k new f = view-put-hidden (numbered n) (seen-by t) k (inserted-by t new) (shown S) (as-shown S) f (rw (done-other t S nz st))
+
+-- the ends of a transaction ----------------------------------------------------------------
+
+abbrev pub plus : ℕ → (ℕ → Bool) → ℕ → Bool
+plus t S u = eqb u t || S u
+
+abbrev pub minus : ℕ → (ℕ → Bool) → ℕ → Bool
+minus t S u = not (eqb u t) && S u
+
+module _ (t : ℕ) (nz : t ≡ nobody → ⊥) (S : ℕ → Bool) where
+  settled-done : (u : ℕ) → done-by S (unless t u) ≡ done-by (plus t S) u
+  settled-done u = go (eqb u t) refl
+    where
+      go : (e : Bool) → eqb u t ≡ e → done-by S (cond e nobody u) ≡ (eqb u 0 || (e || S u))
+      go true e = sym (or-true (eqb u 0))
+      go false e = refl
+
+  -- after a commit a set shows what it showed with t
+  pub commit-shown : (f : Tree) → document-of S (commit-tree t f) ≡ document-of (plus t S) f
+  unfolding document-of commit-tree
+  commit-shown f = view-view (seen-by t) (settled t) (shown S) (as-shown S) f ∙ view-same (shown (plus t S)) _ (as-shown (plus t S)) _ f sight (λ a e. rw (settled-done (a .writer)))
+    where
+      sight : (a : Marked) → (seen-by t a && shown S (settled t a)) ≡ shown (plus t S) a
+      sight a = rw (settled-done (a .inserter)) (go (eqb (a .deleter) t) refl)
+        where
+          go : (x : Bool) → eqb (a .deleter) t ≡ x
+              → (not x && (done-by (plus t S) (a .inserter) && not (not (eqb (a .deleter) 0) && S (a .deleter)))) ≡ (done-by (plus t S) (a .inserter) && not (not (eqb (a .deleter) 0) && (x || S (a .deleter))))
+          go true x = rw (eqb-true (a .deleter) t x, ne-eqb t 0 nz) (sym (and-false (done-by (plus t S) (a .inserter))))
+          go false x = refl
+
+  -- after an abort a set shows what it showed without t
+  pub abort-shown : (f : Tree) → document-of S (abort-tree t f) ≡ document-of (minus t S) f
+  unfolding document-of abort-tree
+  abort-shown f = view-view (λ a. not (eqb (a .inserter) t)) (undone t) (shown S) (as-shown S) f ∙ view-same (shown (minus t S)) _ (as-shown (minus t S)) _ f sight (λ a e. ap (with-content (a .now)) (words a))
+    where
+      words : (a : Marked) → as-shown S (undone t a) .content ≡ as-shown (minus t S) a .content
+      words a = go (eqb (a .writer) t) refl
+        where
+          go : (x : Bool) → eqb (a .writer) t ≡ x
+              → cond (done-by S (cond x nobody (a .writer))) (cond x (a .before) (a .now .content)) (a .before) ≡ cond (eqb (a .writer) 0 || (not x && S (a .writer))) (a .now .content) (a .before)
+          go true x = rw (eqb-true (a .writer) t x, ne-eqb t 0 nz)
+          go false x = refl
+
+      sight : (a : Marked) → (not (eqb (a .inserter) t) && shown S (undone t a)) ≡ shown (minus t S) a
+      sight a = go (eqb (a .inserter) t) refl
+        where
+          gone : (y : Bool) → eqb (a .deleter) t ≡ y → (not (eqb (cond y nobody (a .deleter)) 0) && S (cond y nobody (a .deleter))) ≡ (not (eqb (a .deleter) 0) && (not y && S (a .deleter)))
+          gone true y = sym (and-false (not (eqb (a .deleter) 0)))
+          gone false y = refl
+
+          go : (x : Bool) → eqb (a .inserter) t ≡ x → (not x && shown S (undone t a)) ≡ shown (minus t S) a
+          go true x = rw (eqb-true (a .inserter) t x, ne-eqb t 0 nz, eq-eqb t t refl)
+          go false x = rw x (ap (λ z. done-by S (a .inserter) && not z) (gone (eqb (a .deleter) t) refl))
+
+-- a document without marks is shown to all
+pub load-shown : (S : ℕ → Bool) (d : Document) → document-of S (tree-of d) ≡ d
+unfolding document-of tree-of view
+load-shown S nil = refl
+load-shown S (node a ks fs) = rw (load-shown S ks, load-shown S fs)

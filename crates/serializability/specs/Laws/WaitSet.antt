@@ -1,0 +1,84 @@
+-- The bits of a wait set are the transactions that block.
+use mathlib.Core.Path.{_≡_, refl, sym, ap, _∙_}
+use Prim.Native.Nat.{ℕ, zero, suc, _+_, _-_, _*_, _/_, _%_, _^_, _<_, _≤_}
+use mathlib.Core.Bool.{Bool, true, false, cond}
+use mathlib.Core.List.{List, [], _∷_, List·Memᴰ, List·Memᴰ·head, List·Memᴰ·tail}
+use native.Mathlib.Omega.{arith}
+use native.Mathlib.Nat.{zero-div}
+use lib.Dec.{eqb, leb}
+use borrow.Author.Tests.{eqb-true, eqb-false, leb-true}
+use Rattle.tree.specs.Laws.Tests.{and-left, and-right}
+use Rattle.protocol.specs.State.{transactions, is-transaction}
+use Rattle.protocol.specs.Calls.{sum-of-bits}
+use Rattle.locks.specs.Words.{bit, word}
+use Rattle.locks.specs.Laws.Words.{word-small}
+use Rattle.locks.specs.Laws.Sets.{word-bit}
+
+scaled : (b : Bool) (c : ℕ) → cond b c 0 ≡ cond b 1 0 * c
+scaled true c = omega arith
+scaled false c = omega arith
+
+-- the sum is the word of these bits
+sum-word : (q : ℕ → Bool) → sum-of-bits q transactions ≡ word q 16 1
+unfolding word
+sum-word q = omega (
+  arith,
+  scaled (q 2) 2,
+  scaled (q 3) 4,
+  scaled (q 4) 8,
+  scaled (q 5) 16,
+  scaled (q 6) 32,
+  scaled (q 7) 64,
+  scaled (q 8) 128,
+  scaled (q 9) 256,
+  scaled (q 10) 512,
+  scaled (q 11) 1024,
+  scaled (q 12) 2048,
+  scaled (q 13) 4096,
+  scaled (q 14) 8192,
+  scaled (q 15) 16384,
+  scaled (q 16) 32768,
+)
+
+-- bit t-1 tells whether t passes
+pub sum-bit : (q : ℕ → Bool) (u : ℕ) → is-transaction u ≡ true → bit (sum-of-bits q transactions) (u - 1) ≡ q u
+sum-bit q u h =
+    let low : 1 ≤ u = leb-true 1 u (and-left (leb 1 u) (leb u 16) h) in
+    let high : u ≤ 16 = leb-true u 16 (and-right (leb 1 u) (leb u 16) h) in
+    rw (sum-word q) (word-bit q 16 1 (u - 1) (omega arith) ∙ ap q (omega arith))
+
+pub sum-bound : (q : ℕ → Bool) → sum-of-bits q transactions < 2 ^ 16
+sum-bound q = rw (sum-word q) (word-small q 16 1)
+
+-- the empty set: nobody passes
+pub sum-empty : (q : ℕ → Bool) → sum-of-bits q transactions ≡ 0 → (u : ℕ) → is-transaction u ≡ true → q u ≡ false
+unfolding bit
+sum-empty q e u h = sym (sum-bit q u h) ∙ rw e (none (2 ^ (u - 1)))
+  where
+    none : (c : ℕ) → eqb (0 / c % 2) 1 ≡ false
+    none c = rw (zero-div c)
+
+-- nobody passes: the empty set
+pub sum-none : (q : ℕ → Bool) (ts : List ℕ) → ((u : ℕ) → List·Memᴰ u ts → q u ≡ false) → sum-of-bits q ts ≡ 0
+sum-none q [] h = refl
+sum-none q (t ∷ ts) h = rw (h t (List·Memᴰ·head refl), sum-none q ts (λ u i. h u (List·Memᴰ·tail i)))
+
+-- i, i + 1, .. , n of them
+abbrev numbers-from : ℕ → ℕ → List ℕ
+numbers-from i zero = []
+numbers-from i (suc n) = i ∷ numbers-from (suc i) n
+
+in-numbers-from : (n i u : ℕ) → i ≤ u → u < i + n → List·Memᴰ u (numbers-from i n)
+in-numbers-from zero i u l h = absurd (omega arith)
+in-numbers-from (suc n) i u l h = go (eqb u i) refl (λ k. in-numbers-from n (suc i) u k (omega arith))
+  where
+    go : (b : Bool) → eqb u i ≡ b → (suc i ≤ u → List·Memᴰ u (numbers-from (suc i) n)) → List·Memᴰ u (i ∷ numbers-from (suc i) n)
+    go true e rest = List·Memᴰ·head (eqb-true u i e)
+    go false e rest = List·Memᴰ·tail (rest (omega (arith, eqb-false u i e)))
+
+-- the numbers 1 to 16 are all listed
+pub transaction-in : (u : ℕ) → is-transaction u ≡ true → List·Memᴰ u transactions
+transaction-in u h =
+    let low : 1 ≤ u = leb-true 1 u (and-left (leb 1 u) (leb u 16) h) in
+    let high : u ≤ 16 = leb-true u 16 (and-right (leb 1 u) (leb u 16) h) in
+    in-numbers-from 16 1 u low (omega arith)

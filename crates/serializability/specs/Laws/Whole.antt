@@ -1,0 +1,210 @@
+-- The state against the logs: for every list of distinct transactions, in every order, the plain rules lead from the committed document
+-- to the one that the tree shows of them. A granted step keeps this.
+use mathlib.Core.Path.{_≡_, refl, sym, ap, _∙_}
+use Prim.Native.Nat.{ℕ}
+use mathlib.Core.Bool.{Bool, true, false, cond, false≢true, true≢false}
+use mathlib.Core.List.{List, [], _∷_, _++_, List·Memᴰ, List·Memᴰ·head, List·Memᴰ·tail, List·Memᴰ·not-nil, Memᴰ·append-left, Memᴰ·append-right, List·Memᴰ·append-cases}
+use mathlib.Core.Logic.{_⊎_, inl, inr}
+use lib.Dec.{eqb}
+use borrow.Author.Tests.{eqb-true, eq-eqb, ne-eqb}
+use Rattle.tree.specs.Lists.{any, every, has}
+use Rattle.tree.specs.Document.{Document, here, at}
+use Rattle.tree.specs.Steps.{Step, target, brings, fits, answer, after}
+use Rattle.tree.specs.Laws.Tests.{refuted}
+use Rattle.tree.specs.Laws.Lists.{at-any, any-at, has-in, in-has}
+use Rattle.locks.specs.Needs.{Lock, needs}
+use Rattle.locks.specs.Laws.Compatible.{Compatible}
+use Rattle.commute.specs.Laws.Views.{views-same}
+use Rattle.commute.specs.Laws.Classes.{Absent}
+use Rattle.commute.specs.Laws.Kept.{fits-here}
+use Rattle.commute.specs.Laws.Runs.{Entry, Valid, Clear}
+use Rattle.commute.specs.Laws.Orders.{Distinct, permutation-back, to-front}
+use Rattle.commute.specs.Laws.Serial.{Serial, reorder, noted, in-noted, Grantable, grant, grant-other}
+use Rattle.protocol.specs.State.{nobody, State, Tree, is-transaction, number-held, seen-by, shown, as-shown, callers-document, document-of, act, with-tree}
+use Rattle.protocol.specs.State as state
+use Rattle.serializability.specs.Laws.Outcomes.{Passed}
+use Rattle.serializability.specs.Laws.Shown.{Place, Inside, path, numbers-of, grant-shown}
+use Rattle.serializability.specs.Laws.Numbers.{number-of, place-held}
+use Rattle.serializability.specs.Laws.Marks.{Within, Covered, target-place}
+use Rattle.serializability.specs.Laws.Seen.{seen, unheld-absent}
+use Rattle.serializability.specs.Laws.Acts.{act-shown, act-hidden}
+use Rattle.serializability.specs.Laws.Keeping.{act-covered, grant-covered}
+use Rattle.serializability.specs.Laws.Standing.{Standing, standing-carried, no-wait-compatible}
+use Rattle.serializability.specs.Laws.Granting.{after-step, step-carries, step-standing, Known-place, step-places}
+
+-- the locks of a log
+abbrev pub locks-of : List Entry → List Lock
+locks-of [] = []
+locks-of (x ∷ l) = x .held ++ locks-of l
+
+pub in-locks-of : (l : List Entry) (x : Entry) → List·Memᴰ x l → Within (x .held) (locks-of l)
+in-locks-of [] x m k i = absurd (List·Memᴰ·not-nil m)
+in-locks-of (y ∷ l) x (List·Memᴰ·head e) k i = Memᴰ·append-left {s = y .held} (locks-of l) (rw e at i)
+in-locks-of (y ∷ l) x (List·Memᴰ·tail m) k i = Memᴰ·append-right (y .held) (in-locks-of l x m k i)
+
+-- whose a lock is
+pub lock-entry : (l : List Entry) (k : Lock) → List·Memᴰ k (locks-of l) → (x : Entry) × List·Memᴰ x l × List·Memᴰ k (x .held)
+lock-entry [] k i = absurd (List·Memᴰ·not-nil i)
+lock-entry (y ∷ l) k i = go (List·Memᴰ·append-cases (y .held) i) (λ j. lock-entry l k j)
+  where
+    go : List·Memᴰ k (y .held) ⊎ List·Memᴰ k (locks-of l) → (List·Memᴰ k (locks-of l) → (x : Entry) × List·Memᴰ x l × List·Memᴰ k (x .held)) → (x : Entry) × List·Memᴰ x (y ∷ l) × List·Memᴰ k (x .held)
+    go (inl j) w = (y, List·Memᴰ·head refl, j)
+    go (inr j) w = let a = w j in (a .0, List·Memᴰ·tail (a .1), a .2)
+
+abbrev pub holds : (ℕ → List Entry) → ℕ → List Lock
+holds log u = locks-of (log u)
+
+-- c is the committed document, log what each open transaction did so far
+pub record Good (c : Document) (log : ℕ → List Entry) (M : State) : Type 0 where
+  pub closed : (u : ℕ) → M .is-open u ≡ false → log u ≡ []
+  pub numbered : (u : ℕ) → M .is-open u ≡ true → is-transaction u ≡ true
+  pub covered : Covered (holds log) (M .tree)
+  pub standing : (u : ℕ) (y : Entry) → List·Memᴰ y (log u) → Standing (M .tree) u (y .step) (y .held)
+  -- a node that a transaction inserted is one that its log brought in
+  pub brought : (r : Place) → Inside r (M .tree) → (r .it .inserter ≡ nobody → ⊥) → (y : Entry) × List·Memᴰ y (log (r .it .inserter)) × (has (number-of r) (brings (y .step)) ≡ true)
+  pub serial : (b : List ℕ) → Distinct b → Serial c b log (document-of (λ u. has u b) (M .tree))
+
+-- whoever has a log is open
+pub log-open : {c : Document} {log : ℕ → List Entry} {M : State} → Good c log M → (u : ℕ) {y : Entry} → List·Memᴰ y (log u) → M .is-open u ≡ true
+log-open {M = M} g u i = go (M .is-open u) refl
+  where
+    go : (x : Bool) → M .is-open u ≡ x → x ≡ true
+    go true e = refl
+    go false e = absurd (List·Memᴰ·not-nil (rw (g .closed u e) at i))
+
+pub nobody-idle : {c : Document} {log : ℕ → List Entry} {M : State} → Good c log M → log nobody ≡ []
+nobody-idle {M = M} g = g .closed nobody (refuted _ (λ e. false≢true (g .numbered nobody e)))
+
+-- a granted step -------------------------------------------------------------------------------
+
+abbrev pub entry : ℕ → State → Step → Entry
+entry t M s = record { step = s; value = answer s (callers-document t (M .tree)); held = needs s (callers-document t (M .tree)) }
+
+abbrev pub stepped : ℕ → Step → State → State
+stepped t s M = with-tree M (after-step t s (needs s (callers-document t (M .tree))) (M .tree))
+
+module _ (c : Document) (log : ℕ → List Entry) (M : State) (g : Good c log M) (t : ℕ) (s : Step) (tr : is-transaction t ≡ true)
+    (op : M .is-open t ≡ true) (ok : Passed t s M (callers-document t (M .tree))) where
+  abbrev f : Tree
+  f = M .tree
+
+  abbrev d : Document
+  d = callers-document t (M .tree)
+
+  abbrev x : Entry
+  x = entry t M s
+
+  nz : t ≡ nobody → ⊥
+  nz e = false≢true (rw e at tr)
+
+  unheld : (m : ℕ) → has m (brings s) ≡ true → number-held m f ≡ false
+  unheld m h = refuted _ (λ e. true≢false (sym (at-any (λ n. number-held n f) (brings s) (has-in m (brings s) h) e) ∙ ok .unheld))
+
+  nothing-there : any (λ m. here m d) (brings s) ≡ false
+  unfolding callers-document
+  nothing-there = refuted _ (λ e.
+      let a = any-at (λ m. here m d) (brings s) e in
+      true≢false (sym (a .2) ∙ unheld-absent (seen-by t) (λ y. y .now .content) f (a .0) (unheld (a .0) (in-has (a .0) (brings s) (a .1)))))
+
+  fit : fits s d ≡ true
+  fit = rw (ok .fit, nothing-there, ok .in-place)
+
+  hs : here (target s) d ≡ true
+  hs = fits-here s d fit
+
+  compat : (u : ℕ) → (u ≡ t → ⊥) → Compatible (needs s d) (holds log u)
+  compat u ne = go (M .is-open u) refl
+    where
+      go : (b : Bool) → M .is-open u ≡ b → Compatible (needs s d) (holds log u)
+      go true e = no-wait-compatible t (needs s d) (holds log u) M u (ok .clear) ne e (g .numbered u e)
+          (λ l i. let y = lock-entry (log u) l i in g .standing u (y .0) (y .1) .held l (y .2))
+      go false e = λ q a b i j. absurd (List·Memᴰ·not-nil (rw (g .closed u e) at j))
+
+  absent : Absent s c
+  unfolding document-of
+  absent m h =
+      let e = g .serial [] refl .run in
+      ap (here m) e ∙ unheld-absent (shown (λ u. false)) (λ y. as-shown (λ u. false) y .content) f m (unheld m h)
+
+  grantable : Grantable t log x
+  grantable = record { clear = λ v ne y i. clear v ne y i; new = λ y i m h. refuted _ (λ e. twice y i m h e) }
+    where
+      clear : (v : ℕ) → (v ≡ t → ⊥) → (y : Entry) → List·Memᴰ y (log v) → Clear x y
+      clear v ne y i q a b j k = compat v ne q a b j (in-locks-of (log v) y i (q, b) k)
+
+      twice : (y : Entry) → List·Memᴰ y (log t) → (m : ℕ) → has m (brings s) ≡ true → has m (brings (y .step)) ≡ true → ⊥
+      twice y i m h e = let r = g .standing t y i .new m e in true≢false (sym (place-held m f (r .1) (r .2)) ∙ unheld m h)
+
+  -- the step in every document with t, and in every document without
+  step-serial : (b : List ℕ) → Distinct b → Serial c b (noted t x log) (document-of (λ u. has u b) (after-step t s (needs s d) f))
+  step-serial b n = rw (grant-shown (λ u. has u b) t (needs s d) (act t s f)) (go (has t b) refl)
+    where
+      S : ℕ → Bool
+      S u = has u b
+
+      before : Serial c b log (document-of S f)
+      before = g .serial b n
+
+      go : (e : Bool) → has t b ≡ e → Serial c b (noted t x log) (document-of S (act t s f))
+      go true e =
+          let p = to-front t b e in
+          let v : Valid x (document-of S f) =
+          let w = views-same s d (document-of S f) (seen (holds log) f (g .covered) t nz S e s hs compat unheld) in
+          record { fit = w .fit ∙ fit; says = w .says; need = w .need } in
+          rw (act-shown (holds log) f (g .covered) t nz S e s hs compat)
+          (reorder c (t ∷ p .0) b (noted t x log) (after s (document-of S f)) (permutation-back (p .1))
+          (grant c t (p .0) log (document-of S f) x (reorder c b (t ∷ p .0) log (document-of S f) (p .1) before) v grantable absent))
+      go false e = rw (act-hidden (holds log) f (g .covered) t nz S e s hs compat) (grant-other c t b log (document-of S f) x e before grantable absent)
+
+  kept-noted : (u : ℕ) {y : Entry} → List·Memᴰ y (log u) → List·Memᴰ y (noted t x log u)
+  kept-noted u {y} j = go (eqb u t) refl
+    where
+      go : (b : Bool) → eqb u t ≡ b → List·Memᴰ y (cond b (log t ++ (x ∷ [])) (log u))
+      go true e = Memᴰ·append-left {s = log t} (x ∷ []) (rw (eqb-true u t e) at j)
+      go false e = j
+
+  more : (u : ℕ) → Within (holds log u) (holds (noted t x log) u)
+  more u l i =
+      let y = lock-entry (log u) l i in
+      in-locks-of (noted t x log u) (y .0) (kept-noted u (y .1)) l (y .2)
+
+  last-noted : List·Memᴰ x (noted t x log t)
+  last-noted = rw (eq-eqb t t refl) (Memᴰ·append-right (log t) (List·Memᴰ·head refl))
+
+  at-target : (r : Place) × Inside r f × (number-of r ≡ target s) × (numbers-of (r .above) ≡ at (target s) d .above) × (every (seen-by t) (path r) ≡ true)
+  at-target = target-place (holds log) f (g .covered) t s hs compat
+
+  step-stands : (u : ℕ) (y : Entry) → List·Memᴰ y (noted t x log u) → Standing (after-step t s (needs s d) f) u (y .step) (y .held)
+  step-stands u y i = go (in-noted t x log u i)
+    where
+      go : List·Memᴰ y (log u) ⊎ ((u ≡ t) × (y ≡ x)) → Standing (after-step t s (needs s d) f) u (y .step) (y .held)
+      go (inl j) = standing-carried f _ (g .covered .distinct) u (y .step) (y .held) (g .standing u y j) (λ r k h. step-carries t s (needs s d) u f r k)
+      go (inr j) = rw (j .0, j .1) (step-standing t s (at (target s) d .above) f (at-target .0) (at-target .1) (at-target .2) (at-target .3))
+
+  step-brought : (r : Place) → Inside r (after-step t s (needs s d) f) → (r .it .inserter ≡ nobody → ⊥)
+      → (y : Entry) × List·Memᴰ y (noted t x log (r .it .inserter)) × (has (number-of r) (brings (y .step)) ≡ true)
+  step-brought r i ne = go (step-places t s (needs s d) f r i)
+    where
+      moved : (u : ℕ) → r .it .inserter ≡ u → (y : Entry) → List·Memᴰ y (noted t x log u) → List·Memᴰ y (noted t x log (r .it .inserter))
+      moved u e y m = rw e m
+
+      go : Known-place t s f r → (y : Entry) × List·Memᴰ y (noted t x log (r .it .inserter)) × (has (number-of r) (brings (y .step)) ≡ true)
+      go (inl w) =
+          let y = g .brought (w .0) (w .1) (λ e. ne (w .3 ∙ e)) in
+          (y .0, moved (w .0 .it .inserter) (w .3) (y .0) (kept-noted (w .0 .it .inserter) (y .1)), ap (λ m. has m (brings (y .0 .step))) (w .2) ∙ y .2)
+      go (inr w) = (x, moved t (w .1) x last-noted, w .0)
+
+  -- a granted step keeps all this
+  pub step-good : Good c (noted t x log) (stepped t s M)
+  step-good = record {
+    closed = shut;
+    numbered = g .numbered;
+    covered = grant-covered (holds (noted t x log)) t (needs s d) (act t s f) (act-covered (holds log) (holds (noted t x log)) more f (g .covered) t nz s hs compat unheld
+        (λ l i. in-locks-of (noted t x log t) x last-noted l i));
+    standing = step-stands;
+    brought = step-brought;
+    serial = step-serial;
+  }
+    where
+      shut : (u : ℕ) → M .is-open u ≡ false → noted t x log u ≡ []
+      shut u e = rw (ne-eqb u t (λ q. true≢false (sym op ∙ rw q at e))) (g .closed u e)

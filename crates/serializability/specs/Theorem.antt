@@ -1,0 +1,113 @@
+-- What is claimed of every list of calls that begins with a start: document 01, "The plain run" (demand 3), and document 02, A.14.
+-- Only definitions of tree, locks and protocol are used; the proofs are in Laws.
+use Prim.Native.Nat.{ℕ, _-_, _<_, _^_}
+use mathlib.Core.Path.{_≡_}
+use mathlib.Core.Logic.{_↔_}
+use mathlib.Core.Bool.{Bool, true, false}
+use mathlib.Core.List.{List, [], _∷_, _++_, map, List·Memᴰ}
+use Rattle.tree.specs.Lists.{has, distinct}
+use Rattle.tree.specs.Document.{Document, here, legal, node-0-alone}
+use Rattle.tree.specs.Steps.{Step, Value, target, plain-document, plain-answers}
+use Rattle.locks.specs.Modes.{Mode}
+use Rattle.locks.specs.Words.{bit}
+use Rattle.locks.specs.Needs.{Lock, needs}
+use Rattle.protocol.specs.State.{State, Marked, is-transaction, transactions, nodes, callers-document, held-document, document-of, committed-document}
+use Rattle.protocol.specs.Lent.{Room}
+use Rattle.protocol.specs.Calls.{Call, start, abort, step, write, written, waits, refused, blocks, next}
+use Rattle.protocol.specs.History.{Event, history, state-after, is-granted, Ledger, new-ledger, ledger, fed, plain, plain-run-answers, answers-given, pending}
+
+-- a list that begins with a start, in any state: a start is always granted
+abbrev pub since-start : State → List Call → List Event
+since-start M cs = history M (start ∷ cs)
+
+abbrev pub reached : State → List Call → State
+reached M cs = state-after M (start ∷ cs)
+
+-- any order ----------------------------------------------------------------------------
+
+-- the logs of some transactions, one behind the other; one that is not open has an empty log
+abbrev pub logs : {E : Type 0} → (ℕ → List E) → List ℕ → List E
+logs log [] = []
+logs log (t ∷ ts) = log t ++ logs log ts
+
+-- the steps of the committed transactions, in commit order, and then of the transactions b, one behind the other
+abbrev pub steps-of : List Event → List ℕ → List Step
+steps-of h b = fed h .committed ++ logs (fed h .open-log) b
+
+-- the answers that these steps had
+abbrev pub answered : List Event → Ledger Value
+answered h = ledger (λ s v. v) (new-ledger node-0-alone) h
+
+abbrev pub answers-of : List Event → List ℕ → List Value
+answers-of h b = answered h .committed ++ logs (answered h .open-log) b
+
+-- the plain rules run the committed transactions and then b: they leave the document d, and each step has the answer it had
+pub record Runs (h : List Event) (b : List ℕ) (d : Document) : Type 0 where
+  pub document : plain-document (fed h .first) (steps-of h b) ≡ d
+  pub answers : plain-answers (fed h .first) (steps-of h b) ≡ answers-of h b
+
+-- any of the open transactions, in any order, leave what the tree shows of them
+abbrev pub AnyOrder : State → List Call → Type 0
+AnyOrder M cs = (b : List ℕ) → distinct b ≡ true → Runs (since-start M cs) b (document-of (λ u. has u b) (reached M cs .tree))
+
+-- A.14: "let the plain rules run the committed transactions in commit order and then those still open, .. in an arbitrary order.
+-- Each step must have the answer it had here, and the document left must equal the held one"
+abbrev pub OpenInAnyOrder : State → List Call → Type 0
+OpenInAnyOrder M cs = (b : List ℕ) → distinct b ≡ true → ((u : ℕ) → has u b ≡ reached M cs .is-open u)
+    → Runs (since-start M cs) b (held-document (reached M cs))
+
+-- demand 3 -----------------------------------------------------------------------------
+
+-- "a granted write gives what writing the plain document of the calls before it gives"
+abbrev pub writes-plain : List Event → List Event → Type 0
+writes-plain before [] = Unit {0}
+writes-plain before (e ∷ es) = (e .call ≡ write → e .outcome ≡ written (plain before)) × writes-plain (before ++ (e ∷ [])) es
+
+-- a single claim about the list
+pub record Demand3 (M : State) (cs : List Call) : Type 0 where
+  pub held-plain : (held-document (reached M cs) ≡ plain (since-start M cs)) ↔ (pending (since-start M cs) ≡ false)
+  pub answers : plain-run-answers (since-start M cs) ≡ answers-given (since-start M cs)
+  pub committed : committed-document (reached M cs) ≡ plain (since-start M cs)
+  pub writes : writes-plain [] (since-start M cs)
+
+-- the states that are reached ----------------------------------------------------------
+
+-- every transaction aborts; of those that are not open this is refused, and changes nothing
+abbrev pub all-aborted : State → State
+all-aborted M = state-after M (map abort transactions)
+
+pub record Reached (M : State) : Type 0 where
+  pub numbers-distinct : distinct (map (λ a. a .now .number) (nodes (M .tree))) ≡ true
+  pub documents-legal : (S : ℕ → Bool) → legal (document-of S (M .tree)) ≡ true
+  pub held-legal : legal (held-document M) ≡ true
+  -- a transaction that is not open holds no lock: commit and abort empty its sets
+  pub locks-open : (a : Marked) → List·Memᴰ a (nodes (M .tree)) → (u : ℕ) (m : Mode) → a .held u m ≡ true → M .is-open u ≡ true
+  -- "the committed one .. is the one held if they all aborted"
+  pub committed-if-aborted : held-document (all-aborted M) ≡ committed-document M
+
+-- one call -----------------------------------------------------------------------------
+
+-- demand 1: a call that waits or is refused leaves the state as it was
+abbrev pub NotGranted : Type 0
+NotGranted = (c : Call) (M : State) → is-granted (next c M .outcome) ≡ false → next c M .state ≡ M
+
+-- demand 2: "a 16-bit set with bit t-1 for each such transaction t, and no other", never empty
+pub record WaitSet (w t : ℕ) (ls : List Lock) (M : State) : Type 0 where
+  pub not-empty : w ≡ 0 → ⊥
+  pub sixteen : w < 2 ^ 16
+  pub bits : (u : ℕ) → is-transaction u ≡ true → bit w (u - 1) ≡ blocks t ls M u
+
+abbrev pub Waiting : Type 0
+Waiting = (t : ℕ) (s : Step) (room : Room) (M : State) (w : ℕ) → next (step t s room) M .outcome ≡ waits w
+    → WaitSet w t (needs s (callers-document t (M .tree))) M
+
+-- where no other open transaction holds a mode that clashes, a step does not wait
+abbrev pub NoClashNoWait : Type 0
+NoClashNoWait = (t : ℕ) (s : Step) (room : Room) (M : State)
+    → ((u : ℕ) → is-transaction u ≡ true → blocks t (needs s (callers-document t (M .tree))) M u ≡ false)
+    → (w : ℕ) → next (step t s room) M .outcome ≡ waits w → ⊥
+
+-- a step on a node of the caller's document is not refused by 7
+abbrev pub FoundNotSeven : Type 0
+FoundNotSeven = (t : ℕ) (s : Step) (room : Room) (M : State) → here (target s) (callers-document t (M .tree)) ≡ true
+    → next (step t s room) M .outcome ≡ refused 7 → ⊥

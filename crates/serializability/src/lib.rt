@@ -1,0 +1,1 @@
+// The theorem on lists of calls; there is no code here.

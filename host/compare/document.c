@@ -1,0 +1,257 @@
+#include "document.h"
+
+#include <string.h>
+
+static const char *const names[] = {"a", "b", "c", "d", "ab", "lift", "rope", "speed", "ramp", "_x", "A.b-9", "xml"};
+enum { NAMES = sizeof names / sizeof names[0] };
+
+size_t random_name(struct random *r, uint8_t *out)
+{
+    static const char first[] = "abcXYZ_", later[] = "abcXYZ_019-.";
+    if (!once_in(r, 8)) {
+        /* The first names come more often, so that names meet. */
+        const char *name = names[once_in(r, 3) ? below(r, NAMES) : below(r, 4)];
+        memcpy(out, name, strlen(name));
+        return strlen(name);
+    }
+    size_t length = once_in(r, 2) ? 30 + below(r, 5) : 1 + below(r, 10);
+    for (size_t i = 0; i < length; i++)
+        out[i] = (uint8_t)(i == 0 ? first[below(r, sizeof first - 1)] : later[below(r, sizeof later - 1)]);
+    if (once_in(r, 4))
+        memset(out, 'n', length); /* so that long names meet too */
+    if (once_in(r, 6) && length > 0)
+        out[below(r, (unsigned)length)] = (uint8_t)below(r, 256);
+    return once_in(r, 20) ? 0 : length;
+}
+
+size_t random_text(struct random *r, uint8_t *out)
+{
+    static const char special[] = "<>&\"'\t\n ]]>ab12";
+    size_t length = once_in(r, 4) ? 30 + below(r, 5) : below(r, 6);
+    for (size_t i = 0; i < length; i++)
+        out[i] = (uint8_t)(once_in(r, 3) ? special[below(r, sizeof special - 1)] : (char)(0x20 + below(r, 0x5F)));
+    if (once_in(r, 20) && length > 0)
+        out[below(r, (unsigned)length)] = (uint8_t)below(r, 256);
+    return length;
+}
+
+struct writer {
+    struct random *r;
+    uint8_t *out;
+    size_t length, nodes, most_nodes;
+    int long_contents;
+};
+
+static void put(struct writer *w, const char *bytes)
+{
+    memcpy(w->out + w->length, bytes, strlen(bytes));
+    w->length += strlen(bytes);
+}
+
+static void put_byte(struct writer *w, int byte)
+{
+    w->out[w->length++] = (uint8_t)byte;
+}
+
+static void put_blanks(struct writer *w, int at_least)
+{
+    static const char blanks[] = " \t\n";
+    for (int i = 0; i < at_least || once_in(w->r, 12); i++)
+        put_byte(w, i == 0 && at_least && !once_in(w->r, 8) ? ' ' : blanks[below(w->r, 3)]);
+}
+
+static size_t content_length(struct writer *w)
+{
+    if (once_in(w->r, 10))
+        return w->long_contents ? 31 + below(w->r, 3) : 31 + below(w->r, 2);
+    return 1 + below(w->r, 5);
+}
+
+/* A name that no attribute of one element has twice: serial tells them apart. */
+static void put_name(struct writer *w, int serial)
+{
+    size_t from = w->length;
+    put(w, names[below(w->r, 7)]);
+    if (serial > 0)
+        put_byte(w, '0' + serial % 10);
+    if (once_in(w->r, 12))
+        for (size_t length = content_length(w); w->length - from < length;)
+            put_byte(w, 'n');
+}
+
+static void put_content(struct writer *w, int quote)
+{
+    static const char *const entities[] = {"&amp;", "&lt;", "&gt;", "&quot;", "&apos;"};
+    size_t length = content_length(w);
+    int before = 0, before_that = 0;
+    for (size_t i = 0; i < length; i++) {
+        int byte = once_in(w->r, 8) ? "\t\n ]]>'\""[below(w->r, 8)] : (int)(0x20 + below(w->r, 0x5F));
+        if (once_in(w->r, 10) || byte == '<' || byte == '&' || byte == quote
+            || (byte == '>' && before == ']' && before_that == ']')) {
+            put(w, entities[below(w->r, 5)]);
+            byte = 0;
+        } else {
+            put_byte(w, byte);
+        }
+        before_that = before;
+        before = byte;
+    }
+    w->nodes++;
+}
+
+static void put_element(struct writer *w, unsigned depth)
+{
+    size_t name = w->length + 1;
+    w->nodes++;
+    put(w, "<");
+    put_name(w, 0);
+    size_t name_length = w->length - name;
+    for (int serial = 1; serial < 8 && w->nodes + 3 < w->most_nodes && once_in(w->r, 3); serial++) {
+        int quote = once_in(w->r, 2) ? '\'' : '"';
+        put_blanks(w, 1);
+        put_name(w, serial);
+        w->nodes++;
+        put_blanks(w, 0);
+        put(w, "=");
+        put_blanks(w, 0);
+        put_byte(w, quote);
+        if (!once_in(w->r, 4))
+            put_content(w, quote);
+        put_byte(w, quote);
+    }
+    put_blanks(w, 0);
+    unsigned children = depth == 0 ? (unsigned)w->most_nodes : below(w->r, 6);
+    if (children == 0 && !once_in(w->r, 3)) {
+        put(w, "/>");
+        return;
+    }
+    put(w, ">");
+    for (unsigned i = 0, text_before = 0; i < children && w->nodes + 1 < w->most_nodes; i++) {
+        int text = !text_before && once_in(w->r, 3);
+        if (text)
+            put_content(w, 0);
+        else
+            put_element(w, depth + 1);
+        text_before = text;
+        if (depth == 0 && once_in(w->r, 40))
+            break;
+    }
+    put(w, "</");
+    memmove(w->out + w->length, w->out + name, name_length);
+    w->length += name_length;
+    put_blanks(w, 0);
+    put(w, ">");
+}
+
+static void put_declaration(struct writer *w)
+{
+    if (once_in(w->r, 3))
+        put(w, "<?xml version=\"1.0\"?>");
+    else if (once_in(w->r, 3))
+        put(w, "<?xml version=\"1.0\" encoding=\"UTF-8\"?>");
+}
+
+size_t random_document(struct random *r, uint8_t *out, size_t nodes, int long_contents)
+{
+    struct writer w = {r, out, 0, 1, nodes, long_contents};
+    put_declaration(&w);
+    put_blanks(&w, 0);
+    put_element(&w, 0);
+    put_blanks(&w, 0);
+    return w.length;
+}
+
+static size_t insert_bytes(uint8_t *out, size_t length, size_t place, const char *bytes, size_t count)
+{
+    memmove(out + place + count, out + place, length - place);
+    memcpy(out + place, bytes, count);
+    return length + count;
+}
+
+size_t random_damage(struct random *r, uint8_t *out, size_t length)
+{
+    static const char special[] = "<>&\"'/=?!;] \t\n\rab0:";
+    static const char *const pieces[] = {"<!--x-->", "<![CDATA[x]]>", "&#9;", "<?pi?>", "\r\n", "]]>", "&x;", "<!DOCTYPE a>", "&amp;",
+                                         "<a/>", "</a>", " a=\"\"", " b='c'", "\xC3\xA9", "<?xml version=\"1.0\"?>", "x"};
+    for (unsigned times = 1 + below(r, 2); times > 0 && length > 0; times--) {
+        size_t place = below(r, (unsigned)length);
+        switch (below(r, 6)) {
+        case 0:
+            out[place] = (uint8_t)(once_in(r, 3) ? below(r, 256) : (unsigned char)special[below(r, sizeof special - 1)]);
+            break;
+        case 1:
+            memmove(out + place, out + place + 1, length - place - 1);
+            length--;
+            break;
+        case 2:
+            length = insert_bytes(out, length, place, &special[below(r, sizeof special - 1)], 1);
+            break;
+        case 3: {
+            const char *piece = pieces[below(r, sizeof pieces / sizeof pieces[0])];
+            length = insert_bytes(out, length, place, piece, strlen(piece));
+            break;
+        }
+        case 4:
+            length = place;
+            break;
+        case 5: {
+            /* A piece of the document again, at another place. */
+            char piece[64];
+            size_t count = below(r, sizeof piece);
+            if (place + count <= length) {
+                memcpy(piece, out + place, count);
+                length = insert_bytes(out, length, below(r, (unsigned)length), piece, count);
+            }
+            break;
+        }
+        }
+    }
+    return length;
+}
+
+/* Blanks in the first tag that ends in > or />, so that the document becomes so long. */
+static size_t lengthen(struct random *r, uint8_t *out, size_t length, size_t wanted)
+{
+    size_t place = once_in(r, 2) ? length : 2;
+    if (wanted <= length)
+        return length;
+    memmove(out + place + (wanted - length), out + place, length - place);
+    memset(out + place, ' ', wanted - length);
+    return wanted;
+}
+
+size_t random_limit_document(struct random *r, uint8_t *out)
+{
+    static const char *const pieces[] = {"<b/>", "<b c=''/>", "<b>x</b>", "<b c='d'/>", "<b></b>"};
+    static const size_t piece_nodes[] = {1, 2, 2, 3, 1};
+    struct writer w = {r, out, 0, 2, 0, 0};
+    unsigned shape = below(r, 6);
+    size_t wanted = 1020 + below(r, 8);
+    put(&w, "<a>");
+    if (shape == 5) {
+        /* One inside the other. */
+        for (w.nodes = 2; w.nodes < wanted; w.nodes++)
+            put(&w, "<a>");
+        for (size_t i = 0; i + 1 < wanted; i++)
+            put(&w, "</a>");
+    } else {
+        for (; w.nodes + 3 < wanted; w.nodes += piece_nodes[shape])
+            put(&w, pieces[shape]);
+        while (w.nodes < wanted) {
+            unsigned piece = below(r, 5);
+            put(&w, pieces[piece]);
+            w.nodes += piece_nodes[piece];
+        }
+        put(&w, once_in(r, 4) ? "t</a>" : "</a>");
+    }
+    if (once_in(r, 3))
+        w.length = lengthen(r, out, w.length, 65530 + below(r, 12));
+    if (once_in(r, 3)) {
+        /* Cut off near the end. */
+        size_t cut = below(r, 12);
+        w.length -= cut < w.length ? cut : 0;
+    }
+    if (once_in(r, 3))
+        w.length = random_damage(r, out, w.length);
+    return w.length;
+}

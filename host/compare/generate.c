@@ -1,0 +1,281 @@
+#include "generate.h"
+
+#include <stdlib.h>
+#include <string.h>
+
+#include "document.h"
+
+void generator_init(struct generator *g, uint64_t seed)
+{
+    memset(g, 0, sizeof *g);
+    g->random.state = seed;
+    g->xml = malloc(DOCUMENT_ROOM);
+    if (g->xml == NULL)
+        abort();
+}
+
+void generator_free(struct generator *g)
+{
+    free(g->xml);
+}
+
+int generator_begins(const struct generator *g)
+{
+    return g->calls_left == 0;
+}
+
+static void forget(struct generator *g)
+{
+    g->open = 0;
+    g->known = 1;
+    g->numbers[0] = 0;
+    memset(g->kinds, 0, sizeof g->kinds);
+    memset(g->counts, 0, sizeof g->counts);
+    memset(g->lengths, 0, sizeof g->lengths);
+    g->kinds[0] = NOODLEFEN_DOCUMENT;
+    g->counts[0] = 1;
+}
+
+static void begin_episode(struct generator *g)
+{
+    struct random *r = &g->random;
+    unsigned size = below(r, 100);
+    g->calls_left = 30 + below(r, 300);
+    g->calls_made = 0;
+    g->tree = RANDOM_TREE;
+    if (size < 65)
+        g->nodes = 3 + below(r, 10);
+    else if (size < 85)
+        g->nodes = 20 + below(r, 60);
+    else if (size < 94)
+        g->nodes = 300 + below(r, 700);
+    else
+        g->tree = LIMIT_TREE;
+    g->range = g->tree == LIMIT_TREE ? 1100 : g->nodes + 8;
+    g->only_xml = once_in(r, 8);
+    g->transactions = once_in(r, 8) ? 16 : 1 + below(r, 4);
+}
+
+static uint32_t pick_transaction(struct generator *g, int open)
+{
+    struct random *r = &g->random;
+    if (once_in(r, 50)) {
+        static const uint32_t wrong[] = {0, 17, 32, 33, 256 + 1, 65536 + 1, 0x80000001u, 0xFFFFFFFFu};
+        return wrong[below(r, 8)];
+    }
+    uint32_t t = 1 + below(r, g->transactions);
+    for (unsigned i = 0; i < 20 && !once_in(r, 15) && (int)(g->open >> t & 1) != open; i++)
+        t = 1 + below(r, g->transactions);
+    return t;
+}
+
+static uint16_t pick_number(struct generator *g)
+{
+    struct random *r = &g->random;
+    if (once_in(r, 40))
+        return (uint16_t)random_word(r);
+    if (once_in(r, 20))
+        return (uint16_t)below(r, g->range);
+    return g->numbers[below(r, g->known)];
+}
+
+static uint16_t pick_fresh(struct generator *g)
+{
+    struct random *r = &g->random;
+    return (uint16_t)(once_in(r, 4) ? random_word(r) : once_in(r, 3) ? below(r, g->range) : g->range + below(r, 40));
+}
+
+/* A length that may be one too few, right or one too many for what was seen last, or quite another. */
+static size_t pick_room(struct generator *g, size_t seen, size_t plenty)
+{
+    struct random *r = &g->random;
+    switch (below(r, 8)) {
+    case 0: return 0;
+    case 1: return seen > 0 ? seen - 1 : 0;
+    case 2: return seen;
+    case 3: return seen + 1;
+    case 4: return below(r, (unsigned)plenty);
+    default: return plenty;
+    }
+}
+
+static void pick_load(struct generator *g, struct call *call)
+{
+    struct random *r = &g->random;
+    call->xml = g->xml;
+    if (g->tree == LIMIT_TREE || once_in(r, 12)) {
+        call->xml_length = random_limit_document(r, g->xml);
+    } else if (once_in(r, 30)) {
+        call->xml_length = 0;
+    } else {
+        /* The first of an episode is mostly right, so that there is a tree. */
+        int rough = g->calls_made > 1 && once_in(r, g->only_xml ? 1 : 3);
+        call->xml_length = random_document(r, g->xml, g->nodes, rough && once_in(r, 3));
+        if (rough && once_in(r, 2))
+            call->xml_length = random_damage(r, g->xml, call->xml_length);
+    }
+}
+
+static void pick_content(struct generator *g, struct call *call, int text)
+{
+    struct random *r = &g->random;
+    if (once_in(r, 12))
+        text = !text;
+    call->a_length = text ? random_text(r, call->a) : random_name(r, call->a);
+}
+
+static void pick_insert(struct generator *g, struct call *call)
+{
+    static const uint32_t wrong[] = {0, 1, 5, 6, 256 + 2, 65536 + 3, 0x80000002u, 0xFFFFFFFFu};
+    struct random *r = &g->random;
+    unsigned kind = below(r, 20);
+    call->kind = kind < 8 ? 2 : kind < 12 ? 3 : kind < 19 ? 4 : wrong[below(r, 8)];
+    for (unsigned i = 0; i < 6; i++) {
+        unsigned parent_kind = g->kinds[call->n];
+        if (parent_kind == 2 || (parent_kind == 0 && once_in(r, 2)) || (parent_kind == 3 && call->kind == 4) || (parent_kind == 1 && call->kind == 2) || once_in(r, 12))
+            break;
+        call->n = pick_number(g);
+    }
+    call->m = once_in(r, 8) ? pick_number(g) : pick_fresh(g);
+    if (once_in(r, 2))
+        call->k = call->kind == 3 ? 1 : 1 + below(r, 3);
+    pick_content(g, call, call->kind == 4);
+}
+
+static void pick_arguments(struct generator *g, struct call *call)
+{
+    struct random *r = &g->random;
+    call->n = pick_number(g);
+    call->k = once_in(r, 40) ? 0xFFFFFFFFu : once_in(r, 40) ? (uint32_t)random_word(r)
+            : once_in(r, 3) ? below(r, 2 + g->counts[call->n]) : below(r, 5);
+    switch (call->what) {
+    case CALL_WRITE:
+        call->room = pick_room(g, g->written, 65536);
+        break;
+    case CALL_R:
+        call->room = pick_room(g, g->lengths[call->n], 40);
+        break;
+    case CALL_TT:
+        call->room = pick_room(g, 2 * (size_t)g->counts[call->n], 2200);
+        break;
+    case CALL_RR:
+        call->room = pick_room(g, 2 * (size_t)g->counts[call->n], 2200);
+        call->cells_room = pick_room(g, 33 * (size_t)g->counts[call->n], 34000);
+        break;
+    case CALL_U:
+        pick_content(g, call, g->kinds[call->n] == 4);
+        break;
+    case CALL_D:
+        /* The root goes seldom, or most of the calls would meet an empty tree. */
+        for (unsigned i = 0; i < 4 && call->n <= 1 && !once_in(r, 20); i++)
+            call->n = pick_number(g);
+        break;
+    case CALL_I:
+        pick_insert(g, call);
+        break;
+    case CALL_UU:
+        call->a_length = random_name(r, call->a);
+        call->b_length = random_name(r, call->b);
+        break;
+    default:
+        break;
+    }
+}
+
+static enum call_name pick_call(struct generator *g)
+{
+    static const unsigned weights[CALLS] = {[CALL_START] = 2, [CALL_LOAD] = 20, [CALL_WRITE] = 40, [CALL_BEGIN] = 100,
+        [CALL_COMMIT] = 45, [CALL_ABORT] = 30, [CALL_T] = 60, [CALL_C] = 70, [CALL_R] = 80, [CALL_U] = 90, [CALL_D] = 60,
+        [CALL_I] = 170, [CALL_TT] = 60, [CALL_RR] = 60, [CALL_UU] = 60};
+    unsigned total = 0, at;
+    for (int i = 0; i < CALLS; i++)
+        total += weights[i];
+    at = below(&g->random, total);
+    for (int i = 0; i < CALLS; i++) {
+        if (at < weights[i])
+            return (enum call_name)i;
+        at -= weights[i];
+    }
+    return CALL_WRITE;
+}
+
+void generate(struct generator *g, struct call *call)
+{
+    memset(call, 0, sizeof *call);
+    if (g->calls_left == 0) {
+        begin_episode(g);
+        call->what = CALL_START;
+        return;
+    }
+    g->calls_left--;
+    g->calls_made++;
+    if ((g->calls_made == 1 && !once_in(&g->random, 8)) || (g->only_xml && !once_in(&g->random, 3)))
+        call->what = CALL_LOAD;
+    else if (g->only_xml)
+        call->what = CALL_WRITE;
+    else if (g->open == 0 && (g->known < 3 || once_in(&g->random, 6)))
+        call->what = CALL_LOAD;
+    else if (g->open == 0 && !once_in(&g->random, 4))
+        call->what = CALL_BEGIN;
+    else
+        call->what = pick_call(g);
+    call->t = pick_transaction(g, call->what != CALL_BEGIN);
+    if (call->what == CALL_LOAD)
+        pick_load(g, call);
+    else
+        pick_arguments(g, call);
+}
+
+static void learn_number(struct generator *g, uint16_t number, unsigned kind)
+{
+    if (g->known < sizeof g->numbers / sizeof g->numbers[0])
+        g->numbers[g->known++] = number;
+    g->kinds[number] = (uint8_t)kind;
+    g->counts[number] = 1;
+}
+
+static void unlearn_number(struct generator *g, uint16_t number)
+{
+    for (unsigned i = 1; i < g->known; i++)
+        if (g->numbers[i] == number)
+            g->numbers[i--] = g->numbers[--g->known];
+}
+
+void generator_learn(struct generator *g, const struct call *call, noodlefen_answer answer)
+{
+    uint64_t value = noodlefen_value(answer);
+    if (noodlefen_cause(answer) == NOODLEFEN_NO_NODE && once_in(&g->random, 2))
+        unlearn_number(g, call->n);
+    if (!noodlefen_granted(answer))
+        return;
+    switch (call->what) {
+    case CALL_START:
+        forget(g);
+        break;
+    case CALL_LOAD:
+        forget(g);
+        for (unsigned i = 1; i < value; i++)
+            learn_number(g, (uint16_t)i, 0);
+        g->counts[0] = (uint16_t)value;
+        g->counts[1] = (uint16_t)(value - 1);
+        break;
+    case CALL_WRITE: g->written = value; break;
+    case CALL_BEGIN: g->open |= 1u << call->t; break;
+    case CALL_COMMIT:
+    case CALL_ABORT: g->open &= ~(1u << call->t); break;
+    case CALL_T: g->kinds[call->n] = (uint8_t)noodlefen_kind(answer); break;
+    case CALL_C: g->kinds[(uint16_t)noodlefen_number(answer)] = (uint8_t)noodlefen_kind(answer); break;
+    case CALL_R: g->lengths[call->n] = (uint8_t)value; break;
+    case CALL_U: g->lengths[call->n] = (uint8_t)call->a_length; break;
+    case CALL_I:
+        learn_number(g, call->m, call->kind);
+        g->lengths[call->m] = (uint8_t)call->a_length;
+        g->counts[call->n]++;
+        break;
+    case CALL_TT:
+    case CALL_RR: g->counts[call->n] = (uint16_t)value; break;
+    case CALL_D:
+    case CALL_UU:
+    case CALLS: break;
+    }
+}

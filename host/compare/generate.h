@@ -1,0 +1,39 @@
+/* generate.h: random calls that reach every outcome. */
+#ifndef GENERATE_H
+#define GENERATE_H
+
+#include "call.h"
+#include "random.h"
+
+struct generator {
+    struct random random;
+    /* The episode: calls from a start on, with trees and transactions of one size. */
+    unsigned calls_left, calls_made;
+    int only_xml;              /* loads and writes only */
+    unsigned transactions;     /* those in use are 1 to this */
+    unsigned range;            /* fresh node numbers are mostly below this */
+    unsigned nodes;            /* of the documents to load */
+    enum { RANDOM_TREE, LIMIT_TREE } tree;
+    /* What the answers so far have shown; only a guess at what comes next. */
+    uint32_t open;             /* bit t for an open transaction t */
+    unsigned known;            /* numbers that nodes may have */
+    uint16_t numbers[8192];
+    uint8_t kinds[65536];      /* by number, 0 if not known */
+    uint16_t counts[65536];    /* nodes in the subtree when last seen */
+    uint8_t lengths[65536];    /* bytes of content when last seen */
+    size_t written;            /* bytes of the document when last written */
+    uint8_t *xml;
+};
+
+void generator_init(struct generator *g, uint64_t seed);
+void generator_free(struct generator *g);
+
+/* Whether the next call begins an episode; it is then a start. */
+int generator_begins(const struct generator *g);
+
+void generate(struct generator *g, struct call *call);
+
+/* Tells the generator what the call answered. */
+void generator_learn(struct generator *g, const struct call *call, noodlefen_answer answer);
+
+#endif

@@ -1,0 +1,73 @@
+#include "flat.h"
+
+#include <stdio.h>
+#include <stdlib.h>
+#include <string.h>
+
+static void add(struct flat *flat, const char *bytes, size_t length)
+{
+    while (flat->length + length > flat->room) {
+        flat->room = 2 * flat->room + 256;
+        flat->text = realloc(flat->text, flat->room);
+        if (flat->text == NULL)
+            abort();
+    }
+    memcpy(flat->text + flat->length, bytes, length);
+    flat->length += length;
+}
+
+void flat_add(struct flat *flat, char kind, unsigned depth, const char *content, size_t length)
+{
+    char head[48];
+    /* The length too, for a content may hold line feeds. */
+    int head_length = sprintf(head, "%c %u %lu ", kind, depth, (unsigned long)length);
+    add(flat, head, (size_t)head_length);
+    add(flat, content, length);
+    add(flat, "\n", 1);
+}
+
+void flat_add_value(struct flat *flat, unsigned depth, const char *content, size_t length)
+{
+    if (length == 0)
+        return;
+    flat_add(flat, 't', depth, content, length);
+    for (char *at = flat->text + flat->length - 1 - length; at < flat->text + flat->length - 1; at++)
+        if (*at == '\t' || *at == '\n')
+            *at = ' ';
+}
+
+void flat_free(struct flat *flat)
+{
+    free(flat->text);
+    memset(flat, 0, sizeof *flat);
+}
+
+int flat_equal(const struct flat *one, const struct flat *other)
+{
+    return one->length == other->length && (one->length == 0 || memcmp(one->text, other->text, one->length) == 0);
+}
+
+void flat_of_engine(struct flat *flat, const struct engine *engine, void *e)
+{
+    static uint8_t numbers[2 * NOODLEFEN_NODES], cells[33 * NOODLEFEN_NODES];
+    static uint16_t depths[65536];
+    static uint8_t kinds[65536];
+    engine->begin(e, 1);
+    noodlefen_answer answer = engine->read_tree(e, 1, 0, numbers, sizeof numbers, cells, sizeof cells);
+    depths[0] = 0;
+    kinds[0] = NOODLEFEN_DOCUMENT;
+    for (size_t i = 1; i < noodlefen_value(answer); i++) {
+        uint16_t number = (uint16_t)(numbers[2 * i] + 256 * numbers[2 * i + 1]);
+        noodlefen_answer test = engine->test(e, 1, number);
+        uint16_t parent = (uint16_t)noodlefen_number(test);
+        const char *content = (const char *)cells + 33 * i + 1;
+        size_t length = cells[33 * i];
+        kinds[number] = (uint8_t)noodlefen_kind(test);
+        depths[number] = (uint16_t)(depths[parent] + 1);
+        if (kinds[parent] == NOODLEFEN_ATTRIBUTE)
+            flat_add_value(flat, depths[number], content, length);
+        else
+            flat_add(flat, "  eat"[kinds[number]], depths[number], content, length);
+    }
+    engine->abort(e, 1);
+}

@@ -1,0 +1,384 @@
+/*
+ * panel_test.c: calls the panel library as a panel does, and some ways that no panel should.
+ *
+ * Every lent buffer has guard bytes on both sides. After each call: guards and input unchanged; if it was not granted, state and
+ * buffers unchanged; if it was, the bytes behind the answer unchanged. Last line 'N passed, 0 failed'.
+ */
+#include <stdio.h>
+#include <stdlib.h>
+#include <string.h>
+
+#include "noodlefen.h"
+
+enum name { START, LOAD, WRITE, BEGIN, COMMIT, ABORT, T, C, R, U, D, I, TT, RR, UU, NAMES };
+
+struct call {
+    enum name what;
+    uint32_t t, k, kind;
+    uint16_t n, m;
+    const char *a, *b;          /* U, I: content; UU: names; load: the document */
+    size_t a_length, b_length;  /* 0: the length of the text */
+    size_t room, cells_room;    /* lent for the answer */
+};
+
+enum { GUARD = 64 };
+
+/* Lent bytes with guards, and what they were before the call. */
+struct lent {
+    uint8_t *memory, *before;
+    size_t length, all;
+    uint8_t *bytes;
+};
+
+static unsigned long passed, failed;
+static unsigned long causes_seen[16], granted_seen, waits_seen;
+
+static uint64_t random_state = 1;
+
+static unsigned below(unsigned bound)
+{
+    random_state = random_state * 6364136223846793005u + 1442695040888963407u;
+    return (unsigned)(random_state >> 33) % bound;
+}
+
+static void check(int right, const char *what, int line)
+{
+    if (right) {
+        passed++;
+        return;
+    }
+    failed++;
+    printf("FAILED: %s (call at line %d)\n", what, line);
+}
+
+/* Lends this many bytes, at an odd address if shift is odd. */
+static struct lent lend(size_t length, size_t shift, const void *content)
+{
+    struct lent lent;
+    lent.length = length;
+    lent.all = shift + length + 2 * GUARD;
+    lent.memory = malloc(lent.all);
+    lent.before = malloc(lent.all);
+    if (lent.memory == NULL || lent.before == NULL)
+        abort();
+    for (size_t i = 0; i < lent.all; i++)
+        lent.memory[i] = (uint8_t)(0xC3 ^ i);
+    lent.bytes = lent.memory + GUARD + shift;
+    if (content != NULL && length > 0)
+        memcpy(lent.bytes, content, length);
+    memcpy(lent.before, lent.memory, lent.all);
+    return lent;
+}
+
+/* Whether all bytes but those from the first to the answer's end are as they were. */
+static int kept_but(const struct lent *lent, size_t answered)
+{
+    size_t from = (size_t)(lent->bytes - lent->memory), to = from + answered;
+    return answered <= lent->length && memcmp(lent->memory, lent->before, from) == 0
+        && memcmp(lent->memory + to, lent->before + to, lent->all - to) == 0;
+}
+
+static void give_back(struct lent *lent)
+{
+    free(lent->memory);
+    free(lent->before);
+}
+
+static noodlefen_answer call_library(const struct call *c, const struct lent *s, const struct lent *a, const struct lent *b,
+                                     const struct lent *out, const struct lent *cells)
+{
+    uint8_t *state = s->bytes;
+    size_t length = s->length;
+    switch (c->what) {
+    case START: return noodlefen_start(state, length);
+    case LOAD: return noodlefen_load(state, length, a->bytes, a->length);
+    case WRITE: return noodlefen_write(state, length, out->bytes, out->length);
+    case BEGIN: return noodlefen_begin(state, length, c->t);
+    case COMMIT: return noodlefen_commit(state, length, c->t);
+    case ABORT: return noodlefen_abort(state, length, c->t);
+    case T: return noodlefen_test(state, length, c->t, c->n);
+    case C: return noodlefen_child(state, length, c->t, c->n, c->k);
+    case R: return noodlefen_read(state, length, c->t, c->n, out->bytes, out->length);
+    case U: return noodlefen_update(state, length, c->t, c->n, a->bytes, a->length);
+    case D: return noodlefen_delete(state, length, c->t, c->n);
+    case I: return noodlefen_insert(state, length, c->t, c->m, c->kind, a->bytes, a->length, c->n, c->k);
+    case TT: return noodlefen_test_tree(state, length, c->t, c->n, out->bytes, out->length);
+    case RR: return noodlefen_read_tree(state, length, c->t, c->n, out->bytes, out->length, cells->bytes, cells->length);
+    case UU: return noodlefen_rename_tree(state, length, c->t, c->n, a->bytes, a->length, b->bytes, b->length);
+    case NAMES: break;
+    }
+    abort();
+}
+
+/* The bytes of the two buffers that a granted call answers in. */
+static size_t answered_bytes(const struct call *c, noodlefen_answer answer)
+{
+    size_t value = (size_t)noodlefen_value(answer);
+    if (!noodlefen_granted(answer))
+        return 0;
+    return c->what == R || c->what == WRITE ? value : c->what == TT || c->what == RR ? NOODLEFEN_NUMBER_BYTES * value : 0;
+}
+
+static size_t answered_cells(const struct call *c, noodlefen_answer answer)
+{
+    return noodlefen_granted(answer) && c->what == RR ? NOODLEFEN_CELL_BYTES * (size_t)noodlefen_value(answer) : 0;
+}
+
+/* Makes a call on the state and checks what holds for every call. text takes the first buffer's bytes, if it is not NULL. */
+static noodlefen_answer make(struct lent *state, const struct call *c, int line, char *text)
+{
+    struct lent a = lend(c->a_length > 0 ? c->a_length : c->a != NULL ? strlen(c->a) : 0, 1, c->a);
+    struct lent b = lend(c->b_length > 0 ? c->b_length : c->b != NULL ? strlen(c->b) : 0, 0, c->b);
+    struct lent out = lend(c->room, 1, NULL), cells = lend(c->cells_room, 0, NULL);
+    memcpy(state->before, state->memory, state->all);
+    noodlefen_answer answer = call_library(c, state, &a, &b, &out, &cells);
+    int known = noodlefen_granted(answer) || (noodlefen_waits(answer) && noodlefen_cause(answer) == 0)
+        || (noodlefen_refused(answer) && noodlefen_cause(answer) >= 1 && noodlefen_cause(answer) <= 15);
+    check(known, "an answer that no call gives", line);
+    check(kept_but(state, noodlefen_granted(answer) && c->what != WRITE ? state->length : 0), "state bytes or their guards", line);
+    check(kept_but(&a, 0) && kept_but(&b, 0), "input bytes", line);
+    check(kept_but(&out, answered_bytes(c, answer)), "bytes around the answer", line);
+    check(kept_but(&cells, answered_cells(c, answer)), "bytes around the cells", line);
+    if (text != NULL && noodlefen_granted(answer)) {
+        memcpy(text, out.bytes, answered_bytes(c, answer));
+        text[answered_bytes(c, answer)] = 0;
+    }
+    granted_seen += noodlefen_granted(answer);
+    waits_seen += noodlefen_waits(answer);
+    causes_seen[noodlefen_cause(answer) & 15]++;
+    give_back(&a);
+    give_back(&b);
+    give_back(&out);
+    give_back(&cells);
+    return answer;
+}
+
+static struct lent state;
+
+static noodlefen_answer granted(uint64_t value) { return value << 16; }
+static noodlefen_answer waits(uint64_t set) { return NOODLEFEN_WAITS | set << 16; }
+static noodlefen_answer refused(uint64_t cause, uint64_t offset) { return NOODLEFEN_REFUSED | cause << 8 | offset << 16; }
+
+#define CALL(...) make(&state, &(struct call){__VA_ARGS__}, __LINE__, NULL)
+#define EXPECT(answer, ...) check(CALL(__VA_ARGS__) == (answer), "another answer", __LINE__)
+
+static const char tree_e[] = "<lift rope=\"2\"><speed>6</speed><ramp/></lift>";
+
+static void begin_with(const char *xml)
+{
+    EXPECT(granted(0), .what = START);
+    noodlefen_answer answer = CALL(.what = LOAD, .a = xml);
+    check(noodlefen_granted(answer), "load", __LINE__);
+    EXPECT(granted(0), .what = BEGIN, .t = 1);
+    EXPECT(granted(0), .what = BEGIN, .t = 2);
+}
+
+static void test_transactions(void)
+{
+    begin_with(tree_e);
+    EXPECT(refused(1, 0), .what = BEGIN, .t = 0);
+    EXPECT(refused(1, 0), .what = BEGIN, .t = 17);
+    EXPECT(refused(1, 0), .what = COMMIT, .t = 0xFFFFFFFFu);
+    EXPECT(refused(2, 0), .what = BEGIN, .t = 1);
+    EXPECT(refused(3, 0), .what = ABORT, .t = 16);
+    EXPECT(refused(3, 0), .what = T, .t = 3, .n = 99);
+    EXPECT(refused(15, 0), .what = LOAD, .a = tree_e);
+    EXPECT(granted(0), .what = COMMIT, .t = 1);
+    EXPECT(granted(0), .what = ABORT, .t = 2);
+    EXPECT(refused(3, 0), .what = COMMIT, .t = 1);
+}
+
+static void test_steps(void)
+{
+    char text[65537];
+    begin_with(tree_e);
+    EXPECT(granted(1 + (2ull << 32)), .what = T, .t = 1, .n = 4);
+    EXPECT(granted(0 + (1ull << 32)), .what = T, .t = 1, .n = 0);
+    EXPECT(granted(2 + (3ull << 32)), .what = C, .t = 1, .n = 1, .k = 1);
+    EXPECT(granted(0), .what = C, .t = 1, .n = 1, .k = 4);
+    EXPECT(granted(0), .what = C, .t = 1, .n = 1, .k = 0xFFFFFFFFu);
+    EXPECT(granted(5), .what = R, .t = 1, .n = 4, .room = 5);
+    EXPECT(refused(13, 0), .what = R, .t = 1, .n = 4, .room = 4);
+    EXPECT(refused(13, 0), .what = TT, .t = 1, .n = 1, .room = 11);
+    EXPECT(granted(6), .what = TT, .t = 1, .n = 1, .room = 12);
+    EXPECT(refused(13, 0), .what = RR, .t = 1, .n = 1, .room = 12, .cells_room = 197);
+    EXPECT(refused(13, 0), .what = RR, .t = 1, .n = 1, .room = 11, .cells_room = 198);
+    EXPECT(granted(6), .what = RR, .t = 1, .n = 1, .room = 12, .cells_room = 198);
+    EXPECT(waits(1), .what = U, .t = 2, .n = 5, .a = "7");
+    EXPECT(refused(7, 0), .what = R, .t = 1, .n = 7, .room = 32);
+    EXPECT(refused(8, 0), .what = D, .t = 1, .n = 0);
+    EXPECT(refused(8, 0), .what = I, .t = 1, .m = 9, .kind = 5, .a = "x", .n = 1, .k = 1);
+    EXPECT(refused(9, 0), .what = U, .t = 1, .n = 4, .a = "9");
+    EXPECT(refused(9, 0), .what = U, .t = 1, .n = 5);
+    EXPECT(refused(9, 0), .what = UU, .t = 1, .n = 1, .a = "a", .b = "b c");
+    EXPECT(refused(10, 0), .what = I, .t = 1, .m = 6, .kind = 2, .a = "x", .n = 1, .k = 2);
+    EXPECT(refused(11, 0), .what = I, .t = 1, .m = 9, .kind = 2, .a = "x", .n = 1, .k = 5);
+    EXPECT(granted(0), .what = I, .t = 1, .m = 9, .kind = 2, .a = "x", .n = 1, .k = 4);
+    EXPECT(granted(0), .what = U, .t = 1, .n = 5, .a = "7");
+    EXPECT(granted(1), .what = UU, .t = 1, .n = 0, .a = "speed", .b = "pace");
+    EXPECT(granted(0), .what = D, .t = 1, .n = 2);
+    EXPECT(refused(7, 0), .what = T, .t = 1, .n = 3);
+    EXPECT(granted(0), .what = COMMIT, .t = 1);
+    EXPECT(refused(13, 0), .what = WRITE, .room = 76);
+    EXPECT(granted(77), .what = WRITE, .room = 77);
+    noodlefen_answer answer = make(&state, &(struct call){.what = WRITE, .room = 65536}, __LINE__, text);
+    check(answer == granted(77) && strcmp(text, "<?xml version=\"1.0\" encoding=\"UTF-8\"?>\n"
+          "<lift><pace>7</pace><ramp/><x/></lift>") == 0, "the written settings", __LINE__);
+}
+
+static void test_documents(void)
+{
+    static char big[70000];
+    EXPECT(granted(0), .what = START);
+    EXPECT(refused(14, 0), .what = WRITE, .room = 65536);
+    EXPECT(refused(4, 0), .what = LOAD);
+    EXPECT(refused(4, 5), .what = LOAD, .a = "<a></b>");
+    EXPECT(refused(5, 35), .what = LOAD, .a = "<a>123456789012345678901234567890123</a>");
+    strcpy(big, "<a>");
+    for (int i = 0; i < 1022; i++)
+        strcat(big, "<b/>");
+    strcat(big, "<b/></a>");
+    EXPECT(refused(6, 4091), .what = LOAD, .a = big);
+    strcpy(big + 4091, "</a>");
+    EXPECT(granted(1024), .what = LOAD, .a = big);
+    EXPECT(granted(0), .what = BEGIN, .t = 1);
+    EXPECT(refused(12, 0), .what = I, .t = 1, .m = 2000, .kind = 2, .a = "c", .n = 1, .k = 1);
+    EXPECT(granted(0), .what = D, .t = 1, .n = 1023);
+    EXPECT(refused(12, 0), .what = I, .t = 1, .m = 2000, .kind = 2, .a = "c", .n = 1, .k = 1);
+    EXPECT(granted(0), .what = COMMIT, .t = 1);
+    memset(big, ' ', sizeof big);
+    memcpy(big, "<a/>", 4);
+    EXPECT(granted(2), .what = LOAD, .a = big, .a_length = 65536);
+    EXPECT(refused(4, 65536), .what = LOAD, .a = big, .a_length = 65537);
+}
+
+static const char *const contents[] = {"a", "b", "speed", "lift", "x y", "\n", "9", "<&>", "\x7F",
+                                       "12345678901234567890123456789012", "n2345678901234567890123456789012",
+                                       "123456789012345678901234567890123"};
+
+static struct call random_call(void)
+{
+    static const char *const documents[] = {tree_e, "<a/>", "<a b='c'>d<e/>f</a>", "<a", "<a b='' b=''/>", ""};
+    struct call c = {.what = below(30) == 0 ? (enum name)below(BEGIN) : (enum name)(BEGIN + below(NAMES - BEGIN))};
+    c.t = below(20) == 0 ? below(40) : 1 + below(3);
+    c.n = (uint16_t)below(12);
+    c.m = (uint16_t)below(14);
+    c.k = below(20) == 0 ? 0xFFFFFFFFu : below(5);
+    c.kind = below(6);
+    c.a = c.what == LOAD ? documents[below(6)] : contents[below(12)];
+    c.b = contents[below(12)];
+    c.room = below(4) == 0 ? below(20) : 2100;
+    c.cells_room = below(4) == 0 ? below(200) : 34000;
+    return c;
+}
+
+static void test_random_calls(void)
+{
+    begin_with(tree_e);
+    for (int i = 0; i < (state.length > NOODLEFEN_STATE_BYTES ? 200 : 3000); i++) {
+        struct call c = random_call();
+        make(&state, &c, __LINE__, NULL);
+    }
+}
+
+/* Every call, with arguments that would be granted on tree E. */
+static struct call plain_call(enum name what)
+{
+    static const uint16_t nodes[NAMES] = {[U] = 5, [R] = 5, [D] = 6, [I] = 1, [UU] = 1};
+    struct call c = {.what = what, .t = what == BEGIN ? 3 : 1, .n = nodes[what], .m = 9, .kind = 2, .k = 2,
+                     .a = what == LOAD ? tree_e : "a", .b = "b", .room = 2100, .cells_room = 34000};
+    return c;
+}
+
+static void test_short_states(void)
+{
+    static const size_t lengths[] = {0, 1, 2, 3, 7, 8, 9, 15, 16, 17, 63, 255, 1000, 4096, 65535, 65536, NOODLEFEN_STATE_BYTES / 2,
+                                     NOODLEFEN_STATE_BYTES - 16, NOODLEFEN_STATE_BYTES - 2, NOODLEFEN_STATE_BYTES - 1};
+    begin_with(tree_e);
+    for (size_t i = 0; i < sizeof lengths / sizeof lengths[0]; i++)
+        for (int what = 0; what < NAMES; what++) {
+            struct lent shorter = lend(lengths[i], i, state.bytes);
+            struct call c = plain_call((enum name)what);
+            check(make(&shorter, &c, __LINE__, NULL) == refused(13, 0), "a state too short is not refused", __LINE__);
+            give_back(&shorter);
+        }
+}
+
+/* States that no call left: each call answers 13 or goes on, and keeps to the lent bytes. */
+static void test_damaged_states(void)
+{
+    unsigned long turned_down = 0, tries = 0;
+    struct lent damaged = lend(NOODLEFEN_STATE_BYTES, 0, NULL);
+    for (int round = 0; round < 160; round++) {
+        begin_with(tree_e);
+        for (int i = 0; i < 10; i++) {
+            struct call c = random_call();
+            make(&state, &c, __LINE__, NULL);
+        }
+        for (int what = LOAD; what < NAMES; what++) {
+            memcpy(damaged.bytes, state.bytes, state.length);
+            if (round % 8 == 0) {
+                for (size_t i = 0; i < damaged.length; i++)
+                    damaged.bytes[i] = (uint8_t)(round == 0 ? 0 : round == 8 ? 0xFF : below(256));
+            } else {
+                for (unsigned i = 0, flips = 1 + below(3); i < flips; i++) {
+                    unsigned within[] = {32, 512, 16384, NOODLEFEN_STATE_BYTES};
+                    unsigned place = below(within[below(4)]);
+                    damaged.bytes[place] = (uint8_t)(below(2) ? below(256) : damaged.bytes[place] ^ 1u << below(8));
+                }
+            }
+            for (int i = 0; i < 3; i++) {
+                struct call c = i == 0 ? plain_call((enum name)what) : random_call();
+                if (c.what == START)
+                    continue;
+                tries++;
+                turned_down += make(&damaged, &c, __LINE__, NULL) == refused(13, 0);
+            }
+        }
+    }
+    give_back(&damaged);
+    printf("damaged states: %lu calls, %lu refused for 13\n", tries, turned_down);
+}
+
+static void test_nullable(void)
+{
+    begin_with(tree_e);
+    check(noodlefen_update_nullable(state.bytes, state.length, 1, 5, NULL, 0) == refused(9, 0), "NULL content", __LINE__);
+    check(noodlefen_read_nullable(state.bytes, state.length, 1, 5, NULL, 0) == refused(13, 0), "NULL buffer", __LINE__);
+    check(noodlefen_test_tree_nullable(state.bytes, state.length, 1, 0, NULL, 0) == refused(13, 0), "NULL buffer", __LINE__);
+    check(noodlefen_read_tree_nullable(state.bytes, state.length, 1, 0, NULL, 0, NULL, 0) == refused(13, 0), "NULL buffers", __LINE__);
+    check(noodlefen_rename_tree_nullable(state.bytes, state.length, 1, 0, NULL, 0, NULL, 0) == refused(9, 0), "NULL names", __LINE__);
+    check(noodlefen_insert_nullable(state.bytes, state.length, 1, 9, 2, NULL, 0, 1, 2) == refused(9, 0), "NULL content", __LINE__);
+    check(noodlefen_write_nullable(state.bytes, state.length, NULL, 0) == refused(13, 0), "NULL buffer", __LINE__);
+    EXPECT(granted(0), .what = COMMIT, .t = 1);
+    EXPECT(granted(0), .what = COMMIT, .t = 2);
+    check(noodlefen_load_nullable(state.bytes, state.length, NULL, 0) == refused(4, 0), "NULL document", __LINE__);
+    check(noodlefen_load_nullable(NULL, 0, NULL, 0) == refused(13, 0), "NULL state", __LINE__);
+}
+
+static void test_all(size_t length, size_t shift)
+{
+    state = lend(length, shift, NULL);
+    test_transactions();
+    test_steps();
+    test_documents();
+    test_random_calls();
+    test_nullable();
+    give_back(&state);
+}
+
+int main(void)
+{
+    test_all(NOODLEFEN_STATE_BYTES, 0);
+    test_all(NOODLEFEN_STATE_BYTES, 1);
+    test_all(1048576, 0);
+    state = lend(NOODLEFEN_STATE_BYTES, 3, NULL);
+    test_short_states();
+    test_damaged_states();
+    give_back(&state);
+    check(granted_seen > 0 && waits_seen > 0, "granted or waiting calls are missing", __LINE__);
+    for (int cause = 1; cause <= 15; cause++)
+        check(causes_seen[cause] > 0, "a cause was never given", __LINE__);
+    printf("%lu passed, %lu failed\n", passed, failed);
+    return failed != 0;
+}

@@ -1,0 +1,51 @@
+/* tree.h: documents as linked nodes. */
+#ifndef TREE_H
+#define TREE_H
+
+#include <stddef.h>
+#include <stdint.h>
+
+enum { DOCUMENT = 1, ELEMENT = 2, ATTRIBUTE = 3, TEXT = 4 };
+enum { MOST_NODES = 1024, MOST_CONTENT = 32, MOST_TRANSACTIONS = 16 };
+
+struct node {
+    uint16_t number;
+    int kind;
+    size_t length;
+    uint8_t content[MOST_CONTENT];
+    struct node *parent, *first, *next; /* parent, first child, next sibling */
+
+    /* The rest is used in the held tree only. */
+    uint32_t deleted_by;                     /* the open transaction that deleted this very node, or 0 */
+    unsigned modes[MOST_TRANSACTIONS + 1];   /* modes[t]: the set of lock modes that t was granted here */
+};
+
+/* What a transaction sees of a tree is the tree without the nodes it deleted. The viewer EVERYTHING deleted none. */
+enum { EVERYTHING = 0 };
+
+struct node *node_new(uint16_t number, int kind, const uint8_t *content, size_t length);
+void node_set_content(struct node *node, const uint8_t *content, size_t length);
+void node_attach(struct node *parent, struct node *node, struct node *before); /* before NULL: as the last child */
+void node_detach(struct node *node);
+void node_free(struct node *node);                    /* with all below it; detached first if it has a parent */
+struct node *node_copy(const struct node *node);      /* with all below it, without locks and deletions */
+
+int node_hidden(const struct node *node, uint32_t viewer);                     /* viewer deleted it or an ancestor */
+struct node *node_after(const struct node *top, struct node *node, uint32_t viewer); /* the next below top in document order */
+struct node *node_find(struct node *top, uint16_t number);                     /* NULL if no node is so numbered */
+size_t node_count(struct node *top, uint32_t viewer);
+size_t node_children(const struct node *node, uint32_t viewer);
+struct node *node_child(const struct node *node, uint32_t k, uint32_t viewer);       /* k from 1; NULL if there is none */
+
+int same_bytes(const uint8_t *a, size_t a_length, const uint8_t *b, size_t b_length);
+int name_first_byte(int byte);
+int name_byte(int byte);
+int text_byte(int byte);
+int name_allowed(const uint8_t *bytes, size_t length);
+int content_allowed(int kind, const uint8_t *bytes, size_t length);
+int kind_stands_under(uint32_t kind, int parent_kind);
+
+/* The rule on children, with a new node of the kind as k-th child of the parent that the viewer sees. */
+int place_allowed(const struct node *parent, uint32_t kind, uint32_t k, uint32_t viewer);
+
+#endif
