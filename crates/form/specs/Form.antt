@@ -17,18 +17,17 @@ use Rattle.lookup.specs.Places.{unique}
 
 -- nodes --------------------------------------------------------------------------------
 
--- the marks of a node name nobody or one of sixteen transactions
-abbrev pub fair-marks : Marked → Bool
-fair-marks a = leb (a .writer) 16 && leb (a .inserter) 16 && leb (a .deleter) 16
+-- a kind from low to high, nobody or one of sixteen transactions as the writer, and inserter and deleter at most `most`
+unfoldable pub fair : ℕ → ℕ → ℕ → Marked → Bool
+fair low high most a = between low high (a .now .kind) && (leb (a .writer) 16 && (leb (a .inserter) most && leb (a .deleter) most))
 
 -- a node below the document: element, attribute or text
 unfoldable pub fine : Marked → Bool
-fine a = between element-kind text-kind (a .now .kind) && fair-marks a
+fine a = fair element-kind text-kind 16 a
 
 -- the document: numbered 0, and nobody inserted or deleted it, so that no end takes it out
 unfoldable pub fine-document : Marked → Bool
-fine-document a =
-    eqb (a .now .kind) document-kind && eqb (a .now .number) 0 && leb (a .writer) 16 && eqb (a .inserter) nobody && eqb (a .deleter) nobody
+fine-document a = fair document-kind document-kind nobody a && eqb (a .now .number) 0
 
 -- rows -----------------------------------------------------------------------------------
 

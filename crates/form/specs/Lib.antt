@@ -1,2 +1,4 @@
 pub mod Form
+pub mod Check
+pub mod Start
 pub mod Laws

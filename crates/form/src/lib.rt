@@ -1,1 +1,248 @@
-// The form of the lent bytes.
+// The form of the lent bytes (docs/STATE.md): its check, and the bytes of the beginning.
+ghost use mathlib.Core.Path.{_≡_};
+ghost use Prim.Native.Nat.{ℕ, _+_, _*_, _^_, _<_, _≤_};
+ghost use lib.ListN.{length, getD};
+ghost use Rattle.tree.specs.Lists.{same};
+ghost use Rattle.locks.specs.Words.{bit};
+ghost use Rattle.layout.specs.Layout.{state-size, count, cell, part};
+ghost use Rattle.form.specs.Form.{fair-sizes, apart, form};
+ghost use Rattle.layout.specs.Laws.Bytes.{Filled};
+ghost use Rattle.form.specs.Start.{outline-byte, start-byte, Started};
+ghost use Rattle.form.specs.Check.{fine-header, column, fair-cell, fine-first, fine-nodes, Outlined};
+
+// The bytes that a state takes; those behind are never touched.
+pub const SIZE: usize = 110608;
+
+// The first bytes of a state.
+const MARK: [u8; 8] = *b"NFSTATE1";
+
+const NODES: usize = 1024;
+
+const OUTLINE: usize = 16;
+
+const ENTRY: usize = 6;
+
+const CELLS: usize = 6160;
+
+const CELL: usize = 70;
+
+// Whether s begins with the bytes of b.
+fn begins(s: &[u8], b: &[u8]) -> bool
+    requires { ⌜ length (now b) ≤ length (now s) ⌝ }
+    ensures { λ r. ⌜ r ≡ same (part (now (s .entry)) 0 (length (now (b .entry)))) (now (b .entry)) ⌝ }
+{
+    let mut i: usize = 0;
+    while i < b.len() {
+        if s[i] != b[i] {
+            return false;
+        }
+        i += 1;
+    }
+    true
+}
+
+// Whether the bytes are enough, and begin as those of a state.
+fn header(s: &[u8]) -> bool
+    ensures { λ r. ⌜ r ≡ fine-header (now (s .entry)) ⌝ }
+{
+    if s.len() < SIZE {
+        return false;
+    }
+    if !begins(s, &MARK) {
+        return false;
+    }
+    let n = layout::word(s, 10) as usize;
+    if n < 1 {
+        return false;
+    }
+    n <= NODES
+}
+
+fn has_bit(w: u64, i: usize) -> bool
+    requires { ⌜ i < 64 ⌝ }
+    ensures { λ r. ⌜ r ≡ bit w i ⌝ }
+{
+    (w >> i) % 2 == 1
+}
+
+fn power(i: usize) -> u64
+    requires { ⌜ i < 64 ⌝ }
+    ensures { λ r. ⌜ r ≡ 2 ^ i ⌝ }
+{
+    1 << i
+}
+
+// Whether the words at offset o of the first n entries of the outline are below the limit, and no two alike.
+// Those met are marked in a map of 65,536 bits.
+fn apart(s: &[u8], o: usize, n: usize, limit: usize) -> bool
+    requires { ⌜ (state-size ≤ length (now s)) × (o ≤ 4) × (n ≤ 1024) ⌝ }
+    ensures { λ r. ⌜ r ≡ apart limit (column (now (s .entry)) o n) ⌝ }
+{
+    let mut seen = [0u64; 1024];
+    let mut i: usize = 0;
+    while i < n {
+        let w = layout::word(s, OUTLINE + ENTRY * i + o) as usize;
+        if w >= limit {
+            return false;
+        }
+        let k = w % 1024;
+        let old = seen[k];
+        if has_bit(old, w / 1024) {
+            return false;
+        }
+        seen[k] = old ^ power(w / 1024);
+        i += 1;
+    }
+    true
+}
+
+// Whether both sizes of the cell of slot k are at most 32.
+fn sizes(s: &[u8], k: usize) -> bool
+    requires { ⌜ (state-size ≤ length (now s)) × (k < 1024) ⌝ }
+    ensures { λ r. ⌜ r ≡ fair-sizes (cell (now (s .entry)) k) ⌝ }
+{
+    let c = CELLS + CELL * k;
+    if 32 < s[c + 4] {
+        return false;
+    }
+    s[c + 5] <= 32
+}
+
+// Whether the cell of slot k has a kind from low to high, marks in range and fair sizes.
+fn cell(s: &[u8], k: usize, low: u8, high: u8, most: u8) -> bool
+    requires { ⌜ (state-size ≤ length (now s)) × (k < 1024) ⌝ }
+    ensures { λ r. ⌜ r ≡ fair-cell low high most (cell (now (s .entry)) k) ⌝ }
+{
+    let c = CELLS + CELL * k;
+    if s[c] < low {
+        return false;
+    }
+    if high < s[c] {
+        return false;
+    }
+    if 16 < s[c + 1] {
+        return false;
+    }
+    if most < s[c + 2] {
+        return false;
+    }
+    if most < s[c + 3] {
+        return false;
+    }
+    sizes(s, k)
+}
+
+// Whether the first row is that of the document, which nobody inserted or deleted.
+fn document(s: &[u8]) -> bool
+    requires { ⌜ Outlined (now s) ⌝ }
+    ensures { λ r. ⌜ r ≡ fine-first (now (s .entry)) ⌝ }
+{
+    if layout::word(s, OUTLINE + 2) != 0 {
+        return false;
+    }
+    if layout::word(s, OUTLINE + 4) != 0 {
+        return false;
+    }
+    cell(s, layout::word(s, OUTLINE) as usize, 1, 1, 0)
+}
+
+// Whether the n nodes are those of a tree: the document first, and every other at most one deeper than the node before it.
+fn nodes(s: &[u8], n: usize) -> bool
+    requires { ⌜ (Outlined (now s)) × (n ≡ count (now s)) ⌝ }
+    ensures { λ r. ⌜ r ≡ fine-nodes (now (s .entry)) ⌝ }
+{
+    if !document(s) {
+        return false;
+    }
+    let mut before: usize = 0;
+    let mut i: usize = 1;
+    while i < n {
+        let d = layout::word(s, OUTLINE + ENTRY * i + 2) as usize;
+        if d < 1 {
+            return false;
+        }
+        if before + 1 < d {
+            return false;
+        }
+        if !cell(s, layout::word(s, OUTLINE + ENTRY * i) as usize, 2, 4, 16) {
+            return false;
+        }
+        before = d;
+        i += 1;
+    }
+    true
+}
+
+// Whether the bytes are of the form: exactly those that hold a state.
+pub fn formed(s: &[u8]) -> bool
+    ensures { λ r. ⌜ r ≡ form (now (s .entry)) ⌝ }
+{
+    if !header(s) {
+        return false;
+    }
+    let n = layout::word(s, 10) as usize;
+    if !apart(s, 0, NODES, NODES) {
+        return false;
+    }
+    if !nodes(s, n) {
+        return false;
+    }
+    apart(s, 4, n, 65536)
+}
+
+// The beginning ----------------------------------------------------------------------
+
+// Byte j of the outline at the beginning.
+fn outline_byte(j: usize) -> u8
+    requires { ⌜ j < 6144 ⌝ }
+    ensures { λ r. ⌜ r ≡ outline-byte j ⌝ }
+{
+    if j % 6 == 0 {
+        return (j / 6 % 256) as u8;
+    }
+    if j % 6 == 1 {
+        return (j / 6 / 256) as u8;
+    }
+    0
+}
+
+// Byte j of the header, the outline and the document's kind at the beginning.
+fn start_byte(j: usize) -> u8
+    requires { ⌜ j < 6161 ⌝ }
+    ensures { λ r. ⌜ r ≡ start-byte j ⌝ }
+{
+    if j < 8 {
+        return MARK[j];
+    }
+    if j < OUTLINE {
+        return if j == 10 { 1 } else { 0 };
+    }
+    if j < CELLS {
+        return outline_byte(j - OUTLINE);
+    }
+    1
+}
+
+// Sets the bytes up to the kind of the first cell.
+fn begin(s: &mut [u8])
+    requires { ⌜ state-size ≤ length (now s) ⌝ }
+    ensures { λ r. ⌜ Filled 0 6161 start-byte (now (s .entry)) (now (s .exit)) ⌝ }
+{
+    let mut j: usize = 0;
+    while j < CELLS + 1 {
+        s[j] = start_byte(j);
+        j += 1;
+    }
+}
+
+// Sets the bytes to node 0 alone, with nothing open; false if they are too few, and then nothing is changed.
+pub fn start(s: &mut [u8]) -> bool
+    ensures { λ r. ⌜ Started (now (s .entry)) (now (s .exit)) r ⌝ }
+{
+    if s.len() < SIZE {
+        return false;
+    }
+    begin(s);
+    layout::clear(s, CELLS + 1, SIZE - CELLS - 1);
+    true
+}

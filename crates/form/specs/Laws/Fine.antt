@@ -21,37 +21,49 @@ use Rattle.layout.specs.Layout.{Entry, no-entry}
 use Rattle.lookup.specs.Places.{item, items, number-of, unique}
 use Rattle.lookup.specs.Found.{misfit-on}
 use Rattle.lookup.specs.Laws.Find.{unique-head}
-use Rattle.form.specs.Form.{fair-marks, fine, fine-document, all-fine, fine-tree}
+use Rattle.form.specs.Form.{fair, fine, fine-document, all-fine, fine-tree}
 use Rattle.form.specs.Laws.Rows.{and-of, between-of, between-low, between-high}
 
 -- nodes ------------------------------------------------------------------------------------
 
--- what the form asks of a node below the document
-pub record Fine (a : Marked) : Type 0 where
-  pub low : element-kind ≤ a .now .kind
-  pub high : a .now .kind ≤ text-kind
+pub record Fair (least greatest most : ℕ) (a : Marked) : Type 0 where
+  pub low : least ≤ a .now .kind
+  pub high : a .now .kind ≤ greatest
   pub writer : a .writer ≤ 16
-  pub inserter : a .inserter ≤ 16
-  pub deleter : a .deleter ≤ 16
+  pub inserter : a .inserter ≤ most
+  pub deleter : a .deleter ≤ most
+
+fair-is : (low high most : ℕ) (a : Marked) → fair low high most a ≡ true → Fair low high most a
+unfolding fair
+fair-is low high most a h =
+    let k : between low high (a .now .kind) ≡ true = and-left (between low high (a .now .kind)) _ h in
+    let m : (leb (a .writer) 16 && (leb (a .inserter) most && leb (a .deleter) most)) ≡ true = and-right (between low high (a .now .kind)) _ h in
+    let n : (leb (a .inserter) most && leb (a .deleter) most) ≡ true = and-right (leb (a .writer) 16) _ m in
+    record {
+      low = between-low low high (a .now .kind) k;
+      high = between-high low high (a .now .kind) k;
+      writer = leb-true (a .writer) 16 (and-left (leb (a .writer) 16) _ m);
+      inserter = leb-true (a .inserter) most (and-left (leb (a .inserter) most) _ n);
+      deleter = leb-true (a .deleter) most (and-right (leb (a .inserter) most) _ n);
+    }
+
+is-fair : (low high most : ℕ) (a : Marked) → Fair low high most a → fair low high most a ≡ true
+unfolding fair
+is-fair low high most a h =
+    and-of (between-of low high (a .now .kind) (h .low) (h .high))
+    (and-of (le-leb (a .writer) 16 (h .writer)) (and-of (le-leb (a .inserter) most (h .inserter)) (le-leb (a .deleter) most (h .deleter))))
+
+-- what the form asks of a node below the document
+abbrev pub Fine : Marked → Type 0
+Fine a = Fair element-kind text-kind 16 a
 
 pub fine-is : {a : Marked} → fine a ≡ true → Fine a
 unfolding fine
-fine-is {a} h =
-    let k : between element-kind text-kind (a .now .kind) ≡ true = and-left (between element-kind text-kind (a .now .kind)) (fair-marks a) h in
-    let m : fair-marks a ≡ true = and-right (between element-kind text-kind (a .now .kind)) (fair-marks a) h in
-    let n : (leb (a .writer) 16 && leb (a .inserter) 16) ≡ true = and-left (leb (a .writer) 16 && leb (a .inserter) 16) _ m in
-    record {
-      low = between-low element-kind text-kind (a .now .kind) k;
-      high = between-high element-kind text-kind (a .now .kind) k;
-      writer = leb-true (a .writer) 16 (and-left (leb (a .writer) 16) _ n);
-      inserter = leb-true (a .inserter) 16 (and-right (leb (a .writer) 16) _ n);
-      deleter = leb-true (a .deleter) 16 (and-right (leb (a .writer) 16 && leb (a .inserter) 16) _ m);
-    }
+fine-is {a} h = fair-is element-kind text-kind 16 a h
 
 pub is-fine : (a : Marked) → Fine a → fine a ≡ true
 unfolding fine
-is-fine a h =
-    rw (le-leb element-kind (a .now .kind) (h .low), le-leb (a .now .kind) text-kind (h .high), le-leb (a .writer) 16 (h .writer), le-leb (a .inserter) 16 (h .inserter), le-leb (a .deleter) 16 (h .deleter))
+is-fine a h = is-fair element-kind text-kind 16 a h
 
 -- and of the document
 pub record FineDocument (a : Marked) : Type 0 where
@@ -64,21 +76,22 @@ pub record FineDocument (a : Marked) : Type 0 where
 pub document-is : {a : Marked} → fine-document a ≡ true → FineDocument a
 unfolding fine-document
 document-is {a} h =
-    let i = and-left (eqb (a .now .kind) document-kind && eqb (a .now .number) 0 && leb (a .writer) 16 && eqb (a .inserter) nobody) _ h in
-    let w = and-left (eqb (a .now .kind) document-kind && eqb (a .now .number) 0 && leb (a .writer) 16) _ i in
-    let n = and-left (eqb (a .now .kind) document-kind && eqb (a .now .number) 0) _ w in
+    let f = fair-is document-kind document-kind nobody a (and-left (fair document-kind document-kind nobody a) _ h) in
     record {
-      kind = eqb-true (a .now .kind) document-kind (and-left (eqb (a .now .kind) document-kind) _ n);
-      number = eqb-true (a .now .number) 0 (and-right (eqb (a .now .kind) document-kind) _ n);
-      writer = leb-true (a .writer) 16 (and-right (eqb (a .now .kind) document-kind && eqb (a .now .number) 0) _ w);
-      inserter = eqb-true (a .inserter) nobody (and-right (eqb (a .now .kind) document-kind && eqb (a .now .number) 0 && leb (a .writer) 16) _ i);
-      deleter = eqb-true (a .deleter) nobody (and-right (eqb (a .now .kind) document-kind && eqb (a .now .number) 0 && leb (a .writer) 16 && eqb (a .inserter) nobody) _ h);
+      kind = omega (arith, f .low, f .high);
+      number = eqb-true (a .now .number) 0 (and-right (fair document-kind document-kind nobody a) _ h);
+      writer = f .writer;
+      inserter = omega (arith, f .inserter);
+      deleter = omega (arith, f .deleter);
     }
 
 pub is-document : (a : Marked) → FineDocument a → fine-document a ≡ true
 unfolding fine-document
 is-document a h =
-    rw (eq-eqb (a .now .kind) document-kind (h .kind), eq-eqb (a .now .number) 0 (h .number), le-leb (a .writer) 16 (h .writer), eq-eqb (a .inserter) nobody (h .inserter), eq-eqb (a .deleter) nobody (h .deleter))
+    and-of
+    (is-fair document-kind document-kind nobody a
+    (record { low = omega (arith, h .kind); high = omega (arith, h .kind); writer = h .writer; inserter = omega (arith, h .inserter); deleter = omega (arith, h .deleter) }))
+    (eq-eqb (a .now .number) 0 (h .number))
 
 -- changes of a node --------------------------------------------------------------------------
 

@@ -23,13 +23,13 @@ use Rattle.form.specs.Laws.Rows.{and-of, between-of, between-low, betwee
 -- tests of lists that are given by a rule ---------------------------------------------------------
 
 module _ {A : Type 0} (t : A → Bool) where
-  every-tabulate : (n : ℕ) (f : ℕ → A) → every t (tabulate n f) ≡ true → (i : ℕ) → i < n → t (f i) ≡ true
+  pub every-tabulate : (n : ℕ) (f : ℕ → A) → every t (tabulate n f) ≡ true → (i : ℕ) → i < n → t (f i) ≡ true
   unfolding tabulate
   every-tabulate zero f h i k = absurd (omega arith)
   every-tabulate (suc n) f h zero k = and-left (t (f 0)) _ h
   every-tabulate (suc n) f h (suc i) k = every-tabulate n (λ j. f (suc j)) (and-right (t (f 0)) _ h) i (omega arith)
 
-  tabulate-every : (n : ℕ) (f : ℕ → A) → ((i : ℕ) → i < n → t (f i) ≡ true) → every t (tabulate n f) ≡ true
+  pub tabulate-every : (n : ℕ) (f : ℕ → A) → ((i : ℕ) → i < n → t (f i) ≡ true) → every t (tabulate n f) ≡ true
   unfolding tabulate
   tabulate-every zero f h = refl
   tabulate-every (suc n) f h = and-of (h 0 (omega arith)) (tabulate-every n (λ j. f (suc j)) (λ i k. h (suc i) (omega arith)))

@@ -21,7 +21,7 @@ use Rattle.layout.specs.Layout.{Entry, no-entry, is-open, nodes, Layout, Left, 
 use Rattle.lookup.specs.Places.{item, items, number-of, unique}
 use Rattle.lookup.specs.Found.{misfit-on}
 use Rattle.lookup.specs.Laws.Find.{unique-head}
-use Rattle.form.specs.Form.{fine, fine-document, all-fine, fine-tree, Holds}
+use Rattle.form.specs.Form.{fair, fine, fine-document, all-fine, fine-tree, Holds}
 use Rattle.form.specs.Laws.Rows.{and-of, between-low, between-high}
 use Rattle.form.specs.Laws.Fine.{Fine, FineDocument, is-fine, is-document, Keeps, keeps-written, keeps-granted, keeps-settled, keeps-undone, fine-deleted, fine-inserted}
 use Rattle.form.specs.Laws.Fine.{Root, root-of, tree-of-root, fine-mark, fine-view, fine-put}
@@ -125,7 +125,7 @@ fine-abort t f l h = fine-view (λ a. not (eqb (a .inserter) t)) (undone t) (kee
 -- what is loaded ----------------------------------------------------------------------------------------
 
 fine-unmarked : (a : Node) → between element-kind text-kind (a .kind) ≡ true → fine (unmarked a) ≡ true
-unfolding fine
+unfolding fine fair
 fine-unmarked a h = rw h
 
 children-taken : (kind : ℕ) (kinds : List ℕ) → children-rule kind kinds ≡ true → every (takes kind) kinds ≡ true
@@ -174,5 +174,5 @@ fine-load d h =
     go (node a ks (node b js fs)) r h = absurd (false≢true r)
 
 pub fine-start : fine-tree (start-state .tree) ≡ true
-unfolding tree-of node-0-alone view fine-tree all-fine fine-document
+unfolding tree-of node-0-alone view fine-tree all-fine fine-document fair
 fine-start = refl

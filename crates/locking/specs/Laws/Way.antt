@@ -1,19 +1,23 @@
 -- The loop up the ancestors.
 use mathlib.Core.Path.{_≡_, refl, sym, ap, _∙_}
 use Prim.Native.Nat.{ℕ, zero, suc, _+_, _-_, _≤_, _<_}
-use mathlib.Core.List.{List, [], _∷_, _++_, append-assoc, append-nil}
+use mathlib.Core.List.{List, [], _∷_, _++_, map, append-assoc, append-nil}
 use native.Mathlib.Omega.{arith}
 use native.Mathlib.Numerals.{add-one}
 use mathlib.Core.Bool.{Bool, true, false}
 use lib.Dec.{eqb}
 use borrow.Author.Tests.{eqb-true, eqb-false}
-use lib.ListN.{length, getD, take, set, length-set}
-use lib.Seq.{take-suc-set, getD-set-same, getD-set-other}
+use lib.ListN.{length, getD, take, set, length-set, length-take}
+use lib.Seq.{take-suc-set, getD-set-same, getD-set-other, getD-take}
+use Rattle.tree.specs.Steps.{parent}
+use Rattle.locks.specs.Needs.{Need}
 use Rattle.layout.specs.Layout.{Entry}
-use Rattle.lookup.specs.Places.{depth, climb, above-places}
+use Rattle.lookup.specs.Places.{depth, item, number-of, climb, above-places, ups, numbers-above}
+use Rattle.edits.specs.Rows.{granted-along, granted-up}
 use Rattle.lookup.specs.Laws.Up.{climb-found, climb-passed, climb-start}
 use Rattle.locking.specs.declared.Way.{Way}
-use Rattle.locking.specs.Way.{way-up, way-places, Inside, Climbed}
+use Rattle.locking.specs.Way.{way-up, way-places, way-nodes, Inside, Climbed}
+use Rattle.locking.specs.Grants.{granted-on}
 
 -- count places of the way were found, those before k are still to be looked at, e is the depth of the last one found
 pub record Climbing (l : List Entry) (p e k count : ℕ) (places : List ℕ) : Type 0 where
@@ -65,3 +69,34 @@ module _ {l : List Entry} {p : ℕ} (h : p < length l) where
     inside = record { long = c .long; room = omega (arith, c .room); inside = c .inside };
     places = sym (c .found ∙ rw (z, climb-start l e) (append-nil (take count places)));
   }
+
+-- what the way stands for
+module _ {l : List Entry} {p : ℕ} {w : Way} (c : Climbed l p w) where
+  pub climbed-nodes : way-nodes l w ≡ item l p ∷ ups l p
+  unfolding way-nodes way-up ups
+  climbed-nodes = ap (map (item l)) (c .places)
+
+  pub climbed-grants : (t : ℕ) (n : Need) → granted-on t n (way-places w) l ≡ granted-up t n p l
+  unfolding granted-on way-up
+  climbed-grants t n = ap (λ is. granted-along t (n .node) (n .parent) (n .above) is l) (c .places)
+
+  -- the parent is the second
+  climbed-count : w .count ≡ suc (length (above-places l p))
+  unfolding way-places way-up
+  climbed-count = sym (length-take (w .count) (w .places) ∙ omega (arith, c .inside .long, c .inside .room)) ∙ ap length (c .places)
+
+  pub climbed-top : w .count < 2 → parent (numbers-above l p) ≡ 0
+  unfolding ups
+  climbed-top k = go (above-places l p) climbed-count
+    where
+      go : (is : List ℕ) → w .count ≡ suc (length is) → parent (map number-of (map (item l) is)) ≡ 0
+      go [] e = refl
+      go (i ∷ is) e = absurd (omega arith)
+
+  pub climbed-parent : 2 ≤ w .count → parent (numbers-above l p) ≡ number-of (item l (getD (w .places) 1 0))
+  unfolding ups way-places way-up
+  climbed-parent k = go (above-places l p) climbed-count (c .places)
+    where
+      go : (is : List ℕ) → w .count ≡ suc (length is) → take (w .count) (w .places) ≡ p ∷ is → parent (map number-of (map (item l) is)) ≡ number-of (item l (getD (w .places) 1 0))
+      go [] e f = absurd (omega arith)
+      go (i ∷ is) e f = ap (λ (z : ℕ). number-of (item l z)) (ap (λ (z : List ℕ). getD z 1 0) (sym f) ∙ getD-take (w .count) (w .places) 1 0 k)

@@ -1,0 +1,45 @@
+-- The contract of a call on lent bytes: begin, the nine steps, commit and abort, and load for what its input says.
+use mathlib.Core.Path.{_≡_}
+use Prim.Native.Nat.{ℕ}
+use mathlib.Core.Bool.{false}
+use mathlib.Core.List.{List}
+use lib.ListN.{length, drop}
+use Rattle.tree.specs.Document.{Document}
+use Rattle.tree.specs.Steps.{Value}
+use Rattle.protocol.specs.State.{State}
+use Rattle.protocol.specs.Lent.{Room}
+use Rattle.protocol.specs.Calls.{Call, Outcome, next}
+use Rattle.protocol.specs.Answers.{answer-of, lent-after}
+use Rattle.protocol.specs.History.{is-granted}
+use Rattle.protocol.specs.declared.Answer.{Answer}
+use Rattle.protocol.specs.declared.Answer.the-variants.{Refused}
+use Rattle.layout.specs.Layout.{state-size}
+use Rattle.form.specs.Form.{form, Holds}
+
+-- a call that was lent the state bytes s, left s′ there and answered r
+pub record Performed (s s′ : List ℕ) (r : Answer) (call : Call) : Type 0 where
+  -- "state bytes that are too short, or not of the form .. give 13 before all else"
+  pub unformed : form s ≡ false → (r ≡ Refused 13) × (s′ ≡ s)
+  -- otherwise the answer is the definition's, and what is left holds the definition's next state; `writing` plays no part, since no such call writes
+  pub answer : (M : State) → Holds s M → (writing : Document → Answer) → r ≡ answer-of writing (next call M .outcome)
+  pub state : (M : State) → Holds s M → Holds s′ (next call M .state)
+  -- a wait or a refusal: "left as it was: everything"
+  pub still : (M : State) → Holds s M → is-granted (next call M .outcome) ≡ false → s′ ≡ s
+  -- bytes behind the state are never touched
+  pub long : length s′ ≡ length s
+  pub behind : drop state-size s′ ≡ drop state-size s
+
+-- the call was lent a buffer too, which held b and now holds b′; `lent` is first-lent or second-lent
+pub record Lent (lent : Value → List ℕ) (s b b′ : List ℕ) (call : Call) : Type 0 where
+  pub unformed : form s ≡ false → b′ ≡ b
+  pub filled : (M : State) → Holds s M → b′ ≡ lent-after lent (next call M .outcome) b
+
+-- the room of a step with no lent buffer, with one, and with two
+abbrev pub no-room : Room
+no-room = record { first = 0; second = 0 }
+
+abbrev pub room-of : List ℕ → Room
+room-of b = record { first = length b; second = 0 }
+
+abbrev pub rooms-of : List ℕ → List ℕ → Room
+rooms-of b c = record { first = length b; second = length c }

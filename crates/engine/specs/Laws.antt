@@ -1,0 +1,5 @@
+pub mod Outcomes
+pub mod Seen
+pub mod Admission
+pub mod Judgement
+pub mod Test

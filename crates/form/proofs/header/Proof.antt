@@ -1,0 +1,47 @@
+use native.Mathlib.Omega.{arith}
+use mathlib.Core.Path.{_≡_, sym, _∙_}
+use borrow.Author.Tests.{not-true, not-false}
+use Rattle.layout.specs.Layout.{count}
+use Rattle.form.specs.Laws.Check.{header-short, header-mark, header-none, header-many}
+use borrow.Author.Needs.{needs}
+use Rattle.form.proofs.header.Statement.{statement}
+use Rattle.form.proofs.header.Tie as tie
+
+returns : tie.Need-returns
+returns c = header-short _ (search needs)
+
+slice-aggregate-begins : tie.Need-slice-aggregate-begins
+slice-aggregate-begins c = search needs
+
+begins-requires : tie.Need-begins-requires
+begins-requires c κs = search needs
+
+returns-2 : tie.Need-returns-2
+returns-2 c = header-mark _ (search needs) (sym (c .before .begins .ensures) ∙ not-true _ (c .if2 .taken))
+
+word-requires : tie.Need-word-requires
+word-requires c κs = search needs
+
+cast-n : tie.Need-cast-n
+cast-n c = search needs
+
+returns-3 : tie.Need-returns-3
+unfolding count
+returns-3 c = header-none _ (search needs) (sym (c .before .before .before .begins .ensures) ∙ not-false _ (c .before .before .if2 .left)) _ (c .before .word .ensures) (search needs)
+
+returns-4 : tie.Need-returns-4
+unfolding count
+returns-4 c = header-many _ (search needs) (sym (c .before .before .before .begins .ensures) ∙ not-false _ (c .before .before .if2 .left)) _ (c .before .word .ensures) (search needs)
+
+pub header-spec : {M : Type 1} → statement M
+header-spec =
+    tie.close
+    (tie.spec
+    returns
+    slice-aggregate-begins
+    begins-requires
+    returns-2
+    word-requires
+    cast-n
+    returns-3
+    returns-4)

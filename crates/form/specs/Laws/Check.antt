@@ -1,0 +1,243 @@
+-- The check of the rows, turn by turn, and the check as a whole.
+use mathlib.Core.Path.{_≡_, refl, sym, ap, ap₂, _∙_}
+use Prim.Native.Nat.{ℕ, zero, suc, _+_, _*_, _≤_, _<_}
+use mathlib.Core.Bool.{Bool, true, false, cond, _&&_, and-false}
+use mathlib.Core.List.{List, [], _∷_, map}
+use native.Mathlib.Omega.{arith}
+use native.Mathlib.Nat.{add-zero}
+use native.Mathlib.Numerals.{add-one}
+use lib.ListN.{length, getD, drop, drop-of-length-le}
+use lib.Seq.{drop-cons}
+use lib.Dec.{eqb, leb, ltb}
+use borrow.Author.Tests.{le-leb, lt-leb, leb-true, lt-ltb, ltb-true, eq-eqb, ne-eqb}
+use Rattle.tree.specs.Lists.{every, same, distinct}
+use Rattle.tree.specs.Content.{document-kind, element-kind, text-kind, between}
+use Rattle.tree.specs.Laws.Tests.{and-left, and-right}
+use Rattle.locks.specs.Modes.{no-mode}
+use Rattle.protocol.specs.State.{nobody, Marked}
+use Rattle.protocol.specs.Calls.{node-limit}
+use Rattle.layout.specs.Lists.{tabulate}
+use Rattle.layout.specs.Layout.{state-size, format-mark, entry-at, word, part, count, slot, depth, number, cell, held, decode, Entry, entry, nodes, no-entry}
+use Rattle.layout.specs.Laws.Lists.{length-tabulate, getD-tabulate, tabulate-same, map-tabulate}
+use Rattle.layout.specs.Laws.Nodes.{length-nodes, node-at}
+use Rattle.lookup.specs.Places.{number-of, unique}
+use Rattle.form.specs.Form.{fair, fine, fine-document, fine-below, fine-rows, slots, cells, fair-sizes, apart, form}
+use Rattle.form.specs.Check.{fine-header, column, fair-cell, fine-first, fine-nodes, Outlined}
+use Rattle.form.specs.Laws.Rows.{between-of, between-low, between-high}
+use Rattle.form.specs.Laws.Fresh.{apart-distinct}
+use Rattle.form.specs.Laws.Holds.{every-tabulate, tabulate-every}
+
+-- lists ------------------------------------------------------------------------------------------
+
+-- the sizes and rows from a place on
+unfoldable pub fine-from : ℕ → List (List ℕ) → List Entry → Bool
+fine-from before cs es = every fair-sizes cs && fine-below before es
+
+swap-and : (a b c d e : Bool) → ((a && b) && ((c && d) && e)) ≡ (c && ((d && a) && (b && e)))
+swap-and true b true true e = refl
+swap-and true b true false e = and-false b
+swap-and true b false d e = and-false b
+swap-and false b true true e = refl
+swap-and false b true false e = refl
+swap-and false b false d e = refl
+
+from-cons : (before : ℕ) (c : List ℕ) (cs : List (List ℕ)) (x : Entry) (es : List Entry)
+    → fine-from before (c ∷ cs) (x ∷ es) ≡ (between 1 (suc before) (x .0) && ((fine (x .1) && fair-sizes c) && fine-from (x .0) cs es))
+unfolding fine-from fine-below
+from-cons before c cs x es = swap-and (fair-sizes c) (every fair-sizes cs) (between 1 (suc before) (x .0)) (fine (x .1)) (fine-below (x .0) es)
+
+-- the cell says all of the node that the test asks
+cell-fair : (low high most n : ℕ) (c : List ℕ) (h : ℕ → _) → fair low high most (decode n c h) ≡ fair low high most (decode 0 c (λ t. no-mode))
+unfolding fair decode
+cell-fair low high most n c h = refl
+
+node-fair : (s : List ℕ) (i : ℕ) → (fine (entry s i .1) && fair-sizes (cell s (slot s i))) ≡ fair-cell element-kind text-kind 16 (cell s (slot s i))
+unfolding fine entry fair-cell
+node-fair s i = rw (cell-fair element-kind text-kind 16 (number s i) (cell s (slot s i)) _)
+
+length-cells : (s : List ℕ) → length (cells s) ≡ count s
+unfolding cells
+length-cells s = length-tabulate (count s) (λ i. cell s (slot s i))
+
+cell-is : (s : List ℕ) (i : ℕ) → i < count s → getD (cells s) i [] ≡ cell s (slot s i)
+unfolding cells
+cell-is s i h = getD-tabulate (count s) (λ i. cell s (slot s i)) i [] h
+
+-- the loop over the rows -----------------------------------------------------------------------------
+
+module _ (s : List ℕ) (before i : ℕ) where
+  rows-turn : i < count s
+      → fine-from before (drop i (cells s)) (drop i (nodes s))
+      ≡ (between 1 (suc before) (depth s i) && (fair-cell element-kind text-kind 16 (cell s (slot s i)) && fine-from (depth s i) (drop (i + 1) (cells s)) (drop (i + 1) (nodes s))))
+  unfolding entry
+  rows-turn h =
+      let a : i < length (cells s) = omega (arith, length-cells s) in
+      let b : i < length (nodes s) = omega (arith, length-nodes s) in
+      rw (drop-cons (cells s) i [] a, drop-cons (nodes s) i no-entry b, cell-is s i h, node-at s i h, from-cons before (cell s (slot s i)) (drop (suc i) (cells s)) (entry s i) (drop (suc i) (nodes s)), add-one i)
+      (rw (node-fair s i))
+
+  module _ (d : ℕ) (v : fine-nodes s ≡ fine-from before (drop i (cells s)) (drop i (nodes s))) (h : i < count s) (q : d ≡ word s (entry-at i + 2)) where
+    e : d ≡ depth s i
+    unfolding depth
+    e = q
+
+    pub rows-low : d < 1 → false ≡ fine-nodes s
+    rows-low l = sym (v ∙ rows-turn h ∙ rw (← e, lt-leb 1 d l))
+
+    pub rows-high : 1 ≤ d → before + 1 < d → false ≡ fine-nodes s
+    rows-high l m = sym (v ∙ rows-turn h ∙ rw (← e, le-leb 1 d l, lt-leb d (suc before) (omega arith)))
+
+    module _ (k : ℕ) (g : k ≡ word s (entry-at i)) (l : 1 ≤ d) (m : d ≤ before + 1) where
+      f : k ≡ slot s i
+      unfolding slot
+      f = g
+
+      pub rows-bad : fair-cell element-kind text-kind 16 (cell s k) ≡ false → false ≡ fine-nodes s
+      rows-bad n = sym (v ∙ rows-turn h ∙ rw (← e, ← f, between-of 1 (suc before) d l (omega arith), n))
+
+      pub rows-next : fair-cell element-kind text-kind 16 (cell s k) ≡ true → fine-nodes s ≡ fine-from d (drop (i + 1) (cells s)) (drop (i + 1) (nodes s))
+      rows-next n = v ∙ rows-turn h ∙ rw (← e, ← f, between-of 1 (suc before) d l (omega arith), n)
+
+pub rows-end : (s : List ℕ) (before i : ℕ) → fine-nodes s ≡ fine-from before (drop i (cells s)) (drop i (nodes s)) → count s ≤ i → true ≡ fine-nodes s
+unfolding fine-from fine-below
+rows-end s before i v h =
+    let a : length (cells s) ≤ i = omega (arith, length-cells s) in
+    let b : length (nodes s) ≤ i = omega (arith, length-nodes s) in
+    sym (v ∙ rw (drop-of-length-le (cells s) a, drop-of-length-le (nodes s) b))
+
+-- the first row ----------------------------------------------------------------------------------------
+
+first-swap : (a b c d e f : Bool) → ((a && b) && ((c && (d && e)) && f)) ≡ ((c && (e && (d && a))) && (b && f))
+first-swap a b false d e f = and-false (a && b)
+first-swap a b true false true f = and-false (a && b)
+first-swap a b true false false f = and-false (a && b)
+first-swap a b true true false f = and-false (a && b)
+first-swap true b true true true f = refl
+first-swap false b true true true f = refl
+
+cell-number : (s : List ℕ) → decode (number s 0) (cell s (slot s 0)) (held s (slot s 0)) .now .number ≡ number s 0
+unfolding decode
+cell-number s = refl
+
+first-is : (s : List ℕ) → 1 ≤ count s → fine-nodes s ≡ (fine-first s && fine-from 0 (drop 1 (cells s)) (drop 1 (nodes s)))
+unfolding fine-nodes fine-rows fine-first fine-document fair-cell fine-from entry
+first-is s h =
+    let a : 0 < length (cells s) = omega (arith, length-cells s) in
+    let b : 0 < length (nodes s) = omega (arith, length-nodes s) in
+    ap₂ (λ (cs : List (List ℕ)) (es : List Entry). every fair-sizes cs && fine-rows es) (drop-cons (cells s) 0 [] a) (drop-cons (nodes s) 0 no-entry b)
+    ∙ rw (cell-is s 0 h, node-at s 0 h, cell-fair document-kind document-kind nobody (number s 0) (cell s (slot s 0)) _, cell-number s)
+    (first-swap (fair-sizes (cell s (slot s 0))) (every fair-sizes (drop 1 (cells s))) (eqb (depth s 0) 0)
+    (fair document-kind document-kind nobody (decode 0 (cell s (slot s 0)) (λ t. no-mode))) (eqb (number s 0) 0) (fine-below 0 (drop 1 (nodes s))))
+
+pub first-bad : (s : List ℕ) → 1 ≤ count s → fine-first s ≡ false → false ≡ fine-nodes s
+first-bad s h e = sym (first-is s h ∙ rw e)
+
+pub first-good : (s : List ℕ) → 1 ≤ count s → fine-first s ≡ true → fine-nodes s ≡ fine-from 0 (drop 1 (cells s)) (drop 1 (nodes s))
+first-good s h e = first-is s h ∙ rw e
+
+-- the test of the first row: d, n and k are the words that were read
+module _ (s : List ℕ) (d : ℕ) (e : d ≡ word s 18) where
+  pub first-deep : (d ≡ 0 → ⊥) → false ≡ fine-first s
+  unfolding fine-first depth
+  first-deep h = rw (← e, ne-eqb d 0 h)
+
+  module _ (f : d ≡ 0) (n : ℕ) (g : n ≡ word s 20) where
+    pub first-numbered : (n ≡ 0 → ⊥) → false ≡ fine-first s
+    unfolding fine-first depth number
+    first-numbered h = rw (← e, eq-eqb d 0 f, ← g, ne-eqb n 0 h)
+
+    pub first-cell : n ≡ 0 → (k : ℕ) → k ≡ word s 16 → (r : Bool) → r ≡ fair-cell document-kind document-kind nobody (cell s k) → r ≡ fine-first s
+    unfolding fine-first depth number slot
+    first-cell h k i r j = rw (← e, eq-eqb d 0 f, ← g, eq-eqb n 0 h, ← i) j
+
+-- the slot that was read is in range
+pub slot-small : (s : List ℕ) (i k : ℕ) → Outlined s → i < 1024 → k ≡ word s (entry-at i) → k < 1024
+unfolding slot
+slot-small s i k o h e = rw e (o .slots i h)
+
+-- the whole ----------------------------------------------------------------------------------------------
+
+slots-are : (s : List ℕ) → slots s ≡ column s 0 node-limit
+unfolding slots column slot
+slots-are s = tabulate-same node-limit (slot s) (λ i. word s (entry-at i + 0)) (λ i l. ap (word s) (sym (add-zero (entry-at i))))
+
+-- the numbers of the nodes
+numbers-are : (s : List ℕ) → map (λ x. number-of (x .1)) (nodes s) ≡ column s 4 (count s)
+unfolding nodes column entry decode number
+numbers-are s = sym (map-tabulate (count s) (entry s) (λ i. word s (entry-at i + 4)) (λ x. number-of (x .1)) (λ j l. refl))
+
+-- words of two bytes are below 65,536
+words-small : (s : List ℕ) (o n : ℕ) → ((k : ℕ) → getD s k 0 < 256) → every (λ k. ltb k 65536) (column s o n) ≡ true
+unfolding column word
+words-small s o n h =
+    tabulate-every (λ k. ltb k 65536) n (λ i. word s (entry-at i + o))
+    (λ i l. lt-ltb (word s (entry-at i + o)) 65536 (omega (arith, h (entry-at i + o), h (entry-at i + o + 1))))
+
+-- the form, in the order of the check
+form-is : (s : List ℕ) → form s ≡ (fine-header s && (apart node-limit (column s 0 node-limit) && (fine-nodes s && unique (nodes s))))
+unfolding form fine-header fine-nodes
+form-is s =
+    go (leb state-size (length s) && same (part s 0 8) format-mark && between 1 node-limit (count s)) (apart node-limit (slots s)) _ (every fair-sizes (cells s)) (fine-rows (nodes s)) (unique (nodes s))
+    (ap (apart node-limit) (slots-are s))
+  where
+    go : (h a b z r u : Bool) → a ≡ b → (h && a && z && r && u) ≡ (h && (b && ((z && r) && u)))
+    go false a b z r u e = refl
+    go true true b z r u e = rw (← e)
+    go true false b z r u e = rw (← e)
+
+module _ (s : List ℕ) where
+  header-parts : fine-header s ≡ true → (leb state-size (length s) ≡ true) × (between 1 node-limit (count s) ≡ true)
+  unfolding fine-header
+  header-parts h =
+      (and-left (leb state-size (length s)) _ (and-left (leb state-size (length s) && same (part s 0 8) format-mark) _ h), and-right (leb state-size (length s) && same (part s 0 8) format-mark) _ h)
+
+  pub header-size : fine-header s ≡ true → state-size ≤ length s
+  header-size h = leb-true state-size (length s) (header-parts h .0)
+
+  pub header-room : fine-header s ≡ true → count s ≤ 1024
+  header-room h = between-high 1 node-limit (count s) (header-parts h .1)
+
+  pub outlined : fine-header s ≡ true → apart node-limit (column s 0 node-limit) ≡ true → Outlined s
+  unfolding apart slots
+  outlined h k = record {
+    size = header-size h;
+    some = between-low 1 node-limit (count s) (header-parts h .1);
+    room = header-room h;
+    slots = λ i l. ltb-true (slot s i) node-limit (every-tabulate (λ k. ltb k node-limit) node-limit (slot s) (and-left (every (λ k. ltb k node-limit) (slots s)) _ (ap (apart node-limit) (slots-are s) ∙ k)) i l);
+  }
+
+  -- the header, test by test
+  pub header-short : length s < state-size → false ≡ fine-header s
+  unfolding fine-header
+  header-short h = rw (lt-leb state-size (length s) h)
+
+  module _ (l : state-size ≤ length s) where
+    pub header-mark : same (part s 0 8) format-mark ≡ false → false ≡ fine-header s
+    unfolding fine-header
+    header-mark h = rw (le-leb state-size (length s) l, h)
+
+    module _ (m : same (part s 0 8) format-mark ≡ true) (n : ℕ) (e : n ≡ count s) where
+      pub header-none : n < 1 → false ≡ fine-header s
+      unfolding fine-header
+      header-none h = rw (le-leb state-size (length s) l, m, ← e, lt-leb 1 n h)
+
+      pub header-many : 1 ≤ n → leb n 1024 ≡ fine-header s
+      unfolding fine-header
+      header-many h = rw (le-leb state-size (length s) l, m, ← e, le-leb 1 n h)
+
+  -- the check, part by part
+  pub formed-header : fine-header s ≡ false → false ≡ form s
+  formed-header h = sym (form-is s ∙ rw h)
+
+  module _ (h : fine-header s ≡ true) where
+    pub formed-slots : apart node-limit (column s 0 node-limit) ≡ false → false ≡ form s
+    formed-slots k = sym (form-is s ∙ rw (h, k))
+
+    module _ (k : apart node-limit (column s 0 node-limit) ≡ true) where
+      pub formed-nodes : fine-nodes s ≡ false → false ≡ form s
+      formed-nodes f = sym (form-is s ∙ rw (h, k, f))
+
+      pub formed-numbers : fine-nodes s ≡ true → ((j : ℕ) → getD s j 0 < 256) → (n : ℕ) → n ≡ count s → apart 65536 (column s 4 n) ≡ form s
+      formed-numbers f b n e =
+          ap (λ (m : ℕ). apart 65536 (column s 4 m)) e ∙ apart-distinct 65536 (column s 4 (count s)) (words-small s 4 (count s) b)
+          ∙ sym (form-is s ∙ rw (h, k, f, numbers-are s))

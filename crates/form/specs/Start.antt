@@ -1,0 +1,32 @@
+-- The bytes of the beginning: "node 0 alone and nothing is open".
+use mathlib.Core.Path.{_≡_}
+use Prim.Native.Nat.{ℕ, _-_, _/_, _%_, _≤_, _<_}
+use mathlib.Core.Bool.{Bool, cond}
+use mathlib.Core.List.{List}
+use lib.ListN.{length, getD, drop}
+use lib.Dec.{eqb, leb, ltb}
+use Rattle.tree.specs.Content.{document-kind}
+use Rattle.protocol.specs.State.{start-state}
+use Rattle.layout.specs.Layout.{state-size, format-mark}
+use Rattle.form.specs.Form.{Holds}
+
+-- byte j of the outline: the entry of each place has the slot of its own number, and zeros
+unfoldable pub outline-byte : ℕ → ℕ
+outline-byte j = cond (eqb (j % 6) 0) (j / 6 % 256) (cond (eqb (j % 6) 1) (j / 6 / 256) 0)
+
+-- the format mark, one node, the outline, the kind of the document in the first cell, and zeros
+unfoldable pub start-byte : ℕ → ℕ
+start-byte j =
+    cond (ltb j 8) (getD format-mark j 0)
+    (cond (ltb j 16) (cond (eqb j 10) 1 0)
+    (cond (ltb j 6160) (outline-byte (j - 16))
+    (cond (eqb j 6160) document-kind 0)))
+
+-- start: bytes that are enough are set to the beginning, others are left as they were
+pub record Started (s s′ : List ℕ) (r : Bool) : Type 0 where
+  pub answer : r ≡ leb state-size (length s)
+  pub short : length s < state-size → s′ ≡ s
+  pub bytes : state-size ≤ length s → (j : ℕ) → j < state-size → getD s′ j 0 ≡ start-byte j
+  pub holds : state-size ≤ length s → Holds s′ start-state
+  pub long : length s′ ≡ length s
+  pub behind : drop state-size s′ ≡ drop state-size s
