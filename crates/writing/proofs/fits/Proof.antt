@@ -1,0 +1,26 @@
+use native.Mathlib.Omega.{arith}
+use mathlib.Core.Path.{_∙_}
+use Rattle.writing.specs.Laws.Tallies.{placed-counted}
+use borrow.Author.Needs.{needs}
+use Rattle.writing.proofs.fits.Statement.{statement}
+use Rattle.writing.proofs.fits.Tie as tie
+
+kind-requires : tie.Need-kind-requires
+kind-requires c κs = search needs
+
+cast-parent : tie.Need-cast-parent
+cast-parent c = search needs
+
+tally-children-requires : tie.Need-tally-children-requires
+tally-children-requires c κs = search needs
+
+fits-among-requires : tie.Need-fits-among-requires
+fits-among-requires c κs = (c .tally-children .ensures .1, omega (arith, c .tally-children .ensures .1, c .tally-children .ensures .0 .few))
+
+returns : tie.Need-returns
+returns c = c .fits-among .ensures ∙ placed-counted _ _ (c .before .tally-children .ensures .0) ∙ rw (c .before .before .kind .ensures)
+
+pub fits-spec : {M : Type 1} → statement M
+fits-spec =
+    tie.close
+    (tie.spec kind-requires cast-parent tally-children-requires fits-among-requires returns)

@@ -1,0 +1,64 @@
+use borrow.Author.Needs.{needs}
+use native.Mathlib.Omega.{arith}
+use Prim.Native.Nat.{_-_}
+use mathlib.Core.Path.{_≡_, refl, sym, _∙_}
+use lib.ListN.{length, drop}
+use Rattle.tree.specs.Lists.{same}
+use Rattle.layout.specs.Layout.{nodes}
+use Rattle.lookup.specs.Places.{item}
+use Rattle.writing.specs.Laws.Names.{same-long, same-differs, same-turn, same-end}
+use Rattle.writing.proofs.has_content.Statement.{statement}
+use Rattle.writing.proofs.has_content.Tie as tie
+
+abbrev Inv-loop : tie.InvT-loop
+Inv-loop s p a n j₀ j = same a (item (nodes s) p .now .content) ≡ same (drop j a) (drop j (item (nodes s) p .now .content))
+
+abbrev μ-loop : tie.MeasureT-loop
+μ-loop s p a n j₀ j = length a - j
+
+size-requires : tie.Need-size-requires Inv-loop μ-loop
+size-requires c κs = search needs
+
+returns : tie.Need-returns Inv-loop μ-loop
+returns c = sym (same-long (c .before .before .before .before .args .a .now) (item (nodes (c .before .before .before .before .args .s .now)) (c .before .before .before .before .args .p) .now .content) (λ e. c .if1 .taken (c .before .size .ensures .0 ∙ e)))
+
+loop-holds : tie.Need-loop-holds Inv-loop μ-loop
+loop-holds c = refl
+
+content-requires : tie.Need-content-requires Inv-loop μ-loop
+content-requires c κs = (search needs, search needs, search needs, omega (arith, c .before .before .before .size .ensures .0, c .before .before .if1 .left))
+
+shared-slice-read-if2 : tie.Need-shared-slice-read-if2 Inv-loop μ-loop
+shared-slice-read-if2 c = search needs
+
+returns-2 : tie.Need-returns-2 Inv-loop μ-loop
+returns-2 c = sym (same-differs _ _ (c .before .before .before .before .loop .j) (c .before .before .before .before .loop .inv) (sym (c .before .before .before .before .before .before .size .ensures .0) ∙ c .before .before .before .before .before .if1 .left) (search needs) (λ z. c .if2 .taken (c .before .before .content .ensures ∙ z)))
+
+add-j : tie.Need-add-j Inv-loop μ-loop
+add-j c = search needs
+
+loop-less : tie.Need-loop-less Inv-loop μ-loop
+loop-less c = search needs
+
+loop-again : tie.Need-loop-again Inv-loop μ-loop
+loop-again c = same-turn _ _ (c .before .before .before .before .loop .j) (c .before .before .before .before .loop .inv) (sym (c .before .before .before .before .before .before .size .ensures .0) ∙ c .before .before .before .before .before .if1 .left) (search needs) (sym (c .before .before .content .ensures) ∙ c .if2 .left)
+
+returns-3 : tie.Need-returns-3 Inv-loop μ-loop
+returns-3 c = sym (same-end _ _ (c .before .loop .j) (c .before .loop .inv) (sym (c .before .before .before .size .ensures .0) ∙ c .before .before .if1 .left) (search needs))
+
+pub has-content-spec : {M : Type 1} → statement M
+has-content-spec =
+    tie.close
+    (tie.spec
+    Inv-loop
+    μ-loop
+    size-requires
+    returns
+    loop-holds
+    content-requires
+    shared-slice-read-if2
+    returns-2
+    add-j
+    loop-less
+    loop-again
+    returns-3)

@@ -1,0 +1,22 @@
+use mathlib.Core.Path.{sym, _∙_}
+use Rattle.layout.specs.Layout.{nodes}
+use Rattle.lookup.specs.Places.{item}
+use Rattle.writing.specs.Laws.Names.{named-other, named-element}
+use borrow.Author.Needs.{needs}
+use Rattle.writing.proofs.is_named.Statement.{statement}
+use Rattle.writing.proofs.is_named.Tie as tie
+
+kind-requires : tie.Need-kind-requires
+kind-requires c κs = search needs
+
+returns : tie.Need-returns
+returns c = sym (named-other (c .before .before .before .before .args .a .now) (item (nodes (c .before .before .before .before .args .s .now)) (c .before .before .before .before .args .p)) (λ e. c .if1 .taken (c .before .kind .ensures ∙ e)))
+
+has-content-requires : tie.Need-has-content-requires
+has-content-requires c κs = search needs
+
+returns-2 : tie.Need-returns-2
+returns-2 c = c .has-content .ensures ∙ sym (named-element (c .before .before .before .before .before .args .a .now) (item (nodes (c .before .before .before .before .before .args .s .now)) (c .before .before .before .before .before .args .p)) (sym (c .before .before .kind .ensures) ∙ c .before .if1 .left))
+
+pub is-named-spec : {M : Type 1} → statement M
+is-named-spec = tie.close (tie.spec kind-requires returns has-content-requires returns-2)

@@ -1,0 +1,121 @@
+use borrow.Author.Needs.{needs}
+use native.Mathlib.Omega.{arith}
+use Prim.Native.Nat.{_-_, _≤_, _<_}
+use mathlib.Core.Path.{sym, _∙_}
+use lib.ListN.{length}
+use Rattle.layout.specs.Layout.{nodes}
+use Rattle.lookup.specs.Places.{depth}
+use Rattle.writing.specs.Laws.Renaming.{Renaming, renaming-start, renaming-end, renaming-out, renaming-hidden, renaming-unseen, renaming-seen}
+use Rattle.writing.proofs.rename_rest.Statement.{statement}
+use Rattle.writing.proofs.rename_rest.Tie as tie
+
+abbrev Inv-loop : tie.InvT-loop
+Inv-loop s₀ p t a b m top hits₀ hidden₀ i₀ s hits hidden i = (i ≤ length (nodes s)) × Renaming s₀ s p t a b i hidden hits
+
+abbrev μ-loop : tie.MeasureT-loop
+μ-loop s₀ p t a b m top hits₀ hidden₀ i₀ s hits hidden i = length (nodes s₀) - i
+
+count-requires : tie.Need-count-requires Inv-loop μ-loop
+count-requires c κs = search needs
+
+depth-requires : tie.Need-depth-requires Inv-loop μ-loop
+depth-requires c κs = search needs
+
+add-i : tie.Need-add-i Inv-loop μ-loop
+add-i c = search needs
+
+loop-holds : tie.Need-loop-holds Inv-loop μ-loop
+loop-holds c = (omega (arith, c .before .before .before .before .before .before .before .pre .1), renaming-start _ _ _ _ (c .before .before .before .before .before .before .before .pre .0))
+
+depth-requires-2 : tie.Need-depth-requires-2 Inv-loop μ-loop
+depth-requires-2 c κs = let l = c .before .before .loop in (l .inv .1 .kept .layout, omega (arith, c .before .loop-test .taken, c .before .before .before .before .before .count .ensures, l .inv .1 .kept .many))
+
+same-length : tie.Need-same-length Inv-loop μ-loop
+same-length c = search needs
+
+returns : tie.Need-returns Inv-loop μ-loop
+returns c = let l = c .before .before .before .before .loop in renaming-out (l .inv .1) (omega (arith, c .before .before .before .loop-test .taken, c .before .before .before .before .before .before .before .count .ensures, l .inv .1 .kept .many)) (omega (arith, c .before .depth2 .ensures, c .before .before .before .before .before .depth .ensures, c .if1 .taken))
+
+add-i-2 : tie.Need-add-i-2 Inv-loop μ-loop
+add-i-2 c = search needs
+
+cast-left-out : tie.Need-cast-left-out Inv-loop μ-loop
+cast-left-out c = search needs
+
+left-out-requires : tie.Need-left-out-requires Inv-loop μ-loop
+left-out-requires c κs = search needs
+
+loop-less : tie.Need-loop-less Inv-loop μ-loop
+loop-less c = search needs
+
+loop-again : tie.Need-loop-again Inv-loop μ-loop
+loop-again c = let l = c .before .before .before .before .before .before .loop in
+    let h : l .i < length (nodes (l .s)) = omega (arith, c .before .before .before .before .before .loop-test .taken, c .before .before .before .before .before .before .before .before .before .count .ensures, l .inv .1 .kept .many) in
+    (omega arith, renaming-hidden (l .inv .1) h (omega (arith, c .before .before .before .depth2 .ensures, c .before .before .before .before .before .before .before .depth .ensures, c .before .before .if1 .left)) (rw (← c .before .before .before .depth2 .ensures) (sym (c .before .left-out .ensures) ∙ c .if2 .taken)))
+
+deleter-requires : tie.Need-deleter-requires Inv-loop μ-loop
+deleter-requires c κs = let l = c .before .before .before .before .before .before .before .loop in (l .inv .1 .kept .layout, omega (arith, c .before .before .before .before .before .before .loop-test .taken, c .before .before .before .before .before .before .before .before .before .before .count .ensures, l .inv .1 .kept .many))
+
+cast-hidden : tie.Need-cast-hidden Inv-loop μ-loop
+cast-hidden c = search needs
+
+add-hidden : tie.Need-add-hidden Inv-loop μ-loop
+add-hidden c = search needs
+
+loop-less-2 : tie.Need-loop-less-2 Inv-loop μ-loop
+loop-less-2 c = search needs
+
+loop-again-2 : tie.Need-loop-again-2 Inv-loop μ-loop
+loop-again-2 c = let l = c .before .before .before .before .before .before .before .before .before .loop in
+    let h : l .i < length (nodes (l .s)) = omega (arith, c .before .before .before .before .before .before .before .before .loop-test .taken, c .before .before .before .before .before .before .before .before .before .before .before .before .count .ensures, l .inv .1 .kept .many) in
+    (omega arith, rw (c .before .before .before .before .before .before .depth2 .ensures) (renaming-unseen (l .inv .1) h (omega (arith, c .before .before .before .before .before .before .depth2 .ensures, c .before .before .before .before .before .before .before .before .before .before .depth .ensures, c .before .before .before .before .before .if1 .left)) (rw (← c .before .before .before .before .before .before .depth2 .ensures) (sym (c .before .before .before .before .left-out .ensures) ∙ c .before .before .before .if2 .left)) (sym (c .before .deleter .ensures) ∙ c .if3 .taken)))
+
+rename-requires : tie.Need-rename-requires Inv-loop μ-loop
+rename-requires c κs = let l = c .before .before .before .before .before .before .before .before .before .before .loop in (l .inv .1 .kept .layout, omega (arith, c .before .before .before .before .before .before .before .before .before .loop-test .taken, c .before .before .before .before .before .before .before .before .before .before .before .before .before .count .ensures, l .inv .1 .kept .many), c .before .before .before .before .before .before .before .before .before .before .before .before .before .before .before .before .before .before .pre .2)
+
+add-hits : tie.Need-add-hits Inv-loop μ-loop
+add-hits c = let l = c .before .before .before .before .before .before .before .before .before .before .before .before .before .loop in omega (arith, l .inv .1 .few, c .before .before .rename .ensures .few, c .before .before .before .before .before .before .before .before .before .before .before .before .loop-test .taken, c .before .before .before .before .before .before .before .before .before .before .before .before .before .before .before .before .count .ensures, c .before .before .before .before .before .before .before .before .before .before .before .before .before .before .before .before .before .before .before .before .before .pre .0 .room, c .before .before .before .before .before .before .before .before .before .before .before .before .before .before .before .before .before .before .before .before .before .pre .0 .many)
+
+loop-less-3 : tie.Need-loop-less-3 Inv-loop μ-loop
+loop-less-3 c = search needs
+
+loop-again-3 : tie.Need-loop-again-3 Inv-loop μ-loop
+loop-again-3 c = let l = c .before .before .before .before .before .before .before .before .before .before .before .before .before .loop in
+    let h : l .i < length (nodes (l .s)) = omega (arith, c .before .before .before .before .before .before .before .before .before .before .before .before .loop-test .taken, c .before .before .before .before .before .before .before .before .before .before .before .before .before .before .before .before .count .ensures, l .inv .1 .kept .many) in
+    (omega (arith, c .before .before .rename .ensures .kept .many), renaming-seen (l .inv .1) h (omega (arith, c .before .before .before .before .before .before .before .before .before .before .depth2 .ensures, c .before .before .before .before .before .before .before .before .before .before .before .before .before .before .depth .ensures, c .before .before .before .before .before .before .before .before .before .if1 .left)) (rw (← c .before .before .before .before .before .before .before .before .before .before .depth2 .ensures) (sym (c .before .before .before .before .before .before .before .before .left-out .ensures) ∙ c .before .before .before .before .before .before .before .if2 .left)) (λ e. c .before .before .before .before .if3 .left (c .before .before .before .before .before .deleter .ensures ∙ e)) (c .before .before .rename .ensures))
+
+same-length-2 : tie.Need-same-length-2 Inv-loop μ-loop
+same-length-2 c = search needs
+
+returns-2 : tie.Need-returns-2 Inv-loop μ-loop
+returns-2 c = let l = c .before .loop in renaming-end (l .inv .1) (omega (arith, c .loop-test .left, c .before .before .before .before .count .ensures, l .inv .1 .kept .many)) (omega (arith, l .inv .0, l .inv .1 .few, l .inv .1 .kept .layout .room, l .inv .1 .kept .layout .many))
+
+pub rename-rest-spec : {M : Type 1} → statement M
+rename-rest-spec =
+    tie.close
+    (tie.spec
+    Inv-loop
+    μ-loop
+    count-requires
+    depth-requires
+    add-i
+    loop-holds
+    depth-requires-2
+    same-length
+    returns
+    add-i-2
+    cast-left-out
+    left-out-requires
+    loop-less
+    loop-again
+    deleter-requires
+    cast-hidden
+    add-hidden
+    loop-less-2
+    loop-again-2
+    rename-requires
+    add-hits
+    loop-less-3
+    loop-again-3
+    same-length-2
+    returns-2)

@@ -1,0 +1,106 @@
+use borrow.Author.Needs.{needs}
+use native.Mathlib.Omega.{arith}
+use Prim.Native.Nat.{_-_, _≤_}
+use mathlib.Core.Path.{sym, _∙_}
+use lib.ListN.{length}
+use Rattle.layout.specs.Layout.{nodes}
+use Rattle.writing.specs.Laws.Tallies.{Passing, passing-start, passing-end, passing-out, passing-deeper, passing-deleted, passing-child, counted-count}
+use Rattle.writing.proofs.tally_children.Statement.{statement}
+use Rattle.writing.proofs.tally_children.Tie as tie
+
+abbrev Inv-loop : tie.InvT-loop
+Inv-loop s p t parent m top c₀ i₀ c i = (i ≤ length (nodes s)) × (c .count ≤ i) × Passing t (nodes s) p parent i c
+
+abbrev μ-loop : tie.MeasureT-loop
+μ-loop s p t parent m top c₀ i₀ c i = length (nodes s) - i
+
+count-requires : tie.Need-count-requires Inv-loop μ-loop
+count-requires c κs = search needs
+
+depth-requires : tie.Need-depth-requires Inv-loop μ-loop
+depth-requires c κs = search needs
+
+cast-top : tie.Need-cast-top Inv-loop μ-loop
+cast-top c = search needs
+
+add-i : tie.Need-add-i Inv-loop μ-loop
+add-i c = search needs
+
+loop-holds : tie.Need-loop-holds Inv-loop μ-loop
+loop-holds c = (search needs, search needs, passing-start _ _ _ _)
+
+depth-requires-2 : tie.Need-depth-requires-2 Inv-loop μ-loop
+depth-requires-2 c κs = search needs
+
+cast-d : tie.Need-cast-d Inv-loop μ-loop
+cast-d c = search needs
+
+returns : tie.Need-returns Inv-loop μ-loop
+returns c = let l = c .before .before .before .loop in (passing-out _ _ _ _ (l .i) (l .c) (l .inv .2) (search needs) (omega (arith, c .before .depth2 .ensures, c .before .before .before .before .depth .ensures, c .if1 .taken)), omega (arith, l .inv .0, l .inv .1, c .before .before .before .before .before .before .before .pre .0 .room, c .before .before .before .before .before .before .before .pre .0 .many))
+
+add-i-2 : tie.Need-add-i-2 Inv-loop μ-loop
+add-i-2 c = search needs
+
+add-if2 : tie.Need-add-if2 Inv-loop μ-loop
+add-if2 c = search needs
+
+loop-less : tie.Need-loop-less Inv-loop μ-loop
+loop-less c = search needs
+
+loop-again : tie.Need-loop-again Inv-loop μ-loop
+loop-again c = let l = c .before .before .before .before .loop in (search needs, search needs, passing-deeper _ _ _ _ (l .i) (l .c) (l .inv .2) (search needs) (omega (arith, c .before .before .depth2 .ensures, c .before .before .before .before .before .depth .ensures, c .before .if1 .left, c .if2 .taken)))
+
+deleter-requires : tie.Need-deleter-requires Inv-loop μ-loop
+deleter-requires c κs = (c .before .before .before .before .before .before .before .before .pre .0, omega (arith, c .before .before .before .loop-test .taken, c .before .before .before .before .before .before .count .ensures))
+
+loop-less-2 : tie.Need-loop-less-2 Inv-loop μ-loop
+loop-less-2 c = search needs
+
+loop-again-2 : tie.Need-loop-again-2 Inv-loop μ-loop
+loop-again-2 c = let l = c .before .before .before .before .before .before .loop in (search needs, search needs, passing-deleted _ _ _ _ (l .i) (l .c) (l .inv .2) (search needs) (omega (arith, c .before .before .before .before .depth2 .ensures, c .before .before .before .before .before .before .before .depth .ensures, c .before .before .if2 .left)) (sym (c .before .deleter .ensures) ∙ c .if3 .taken))
+
+kind-requires : tie.Need-kind-requires Inv-loop μ-loop
+kind-requires c κs = (c .before .before .before .before .before .before .before .before .before .before .pre .0, omega (arith, c .before .before .before .before .before .loop-test .taken, c .before .before .before .before .before .before .before .before .count .ensures))
+
+cast-counted : tie.Need-cast-counted Inv-loop μ-loop
+cast-counted c = search needs
+
+counted-requires : tie.Need-counted-requires Inv-loop μ-loop
+counted-requires c κs = let l = c .before .before .before .before .before .before .before .loop in (omega (arith, l .inv .1, c .before .before .before .before .before .before .loop-test .taken, c .before .before .before .before .before .before .before .before .before .count .ensures, c .before .before .before .before .before .before .before .before .before .before .before .pre .0 .room, c .before .before .before .before .before .before .before .before .before .before .before .pre .0 .many), omega (arith, l .inv .1, l .inv .2 .tallying .few, c .before .before .before .before .before .before .loop-test .taken, c .before .before .before .before .before .before .before .before .before .count .ensures, c .before .before .before .before .before .before .before .before .before .before .before .pre .0 .room, c .before .before .before .before .before .before .before .before .before .before .before .pre .0 .many))
+
+loop-less-3 : tie.Need-loop-less-3 Inv-loop μ-loop
+loop-less-3 c = search needs
+
+loop-again-3 : tie.Need-loop-again-3 Inv-loop μ-loop
+loop-again-3 c = let l = c .before .before .before .before .before .before .before .before .loop in (search needs, omega (arith, l .inv .1, counted-count _ _ _ _ (c .counted .ensures)), rw (c .counted .ensures) (passing-child _ _ _ _ (l .i) (l .c) (l .inv .2) (search needs) (omega (arith, c .before .before .before .before .before .before .depth2 .ensures, c .before .before .before .before .before .before .before .before .before .depth .ensures, c .before .before .before .before .if2 .left)) (λ e. c .before .before .if3 .left (c .before .before .before .deleter .ensures ∙ e)) _ (c .before .kind .ensures)))
+
+returns-2 : tie.Need-returns-2 Inv-loop μ-loop
+returns-2 c = let l = c .before .loop in (passing-end _ _ _ _ (l .i) (l .c) (l .inv .2) (search needs), omega (arith, l .inv .0, l .inv .1, c .before .before .before .before .before .pre .0 .room, c .before .before .before .before .before .pre .0 .many))
+
+pub tally-children-spec : {M : Type 1} → statement M
+tally-children-spec =
+    tie.close
+    (tie.spec
+    Inv-loop
+    μ-loop
+    count-requires
+    depth-requires
+    cast-top
+    add-i
+    loop-holds
+    depth-requires-2
+    cast-d
+    returns
+    add-i-2
+    add-if2
+    loop-less
+    loop-again
+    deleter-requires
+    loop-less-2
+    loop-again-2
+    kind-requires
+    cast-counted
+    counted-requires
+    loop-less-3
+    loop-again-3
+    returns-2)

@@ -1,0 +1,41 @@
+-- A new node with the locks of its transaction on it.
+use mathlib.Core.Path.{_≡_, refl, ap, _∙_, fun-ext}
+use Prim.Native.Nat.{ℕ, _+_, _≤_}
+use mathlib.Core.Bool.{Bool, true, false, cond}
+use mathlib.Core.List.{List, _∷_}
+use native.Mathlib.Omega.{arith}
+use lib.ListN.{length, take, drop, length-append, take-append-drop}
+use lib.Dec.{eqb}
+use Rattle.tree.specs.Document.{Node}
+use Rattle.locks.specs.Modes.{Mode, no-mode, union, among, in-word}
+use Rattle.locks.specs.Words.{word-of}
+use Rattle.protocol.specs.State.{inserted-by}
+use Rattle.layout.specs.Lists.{modify, insert}
+use Rattle.layout.specs.Flat.{second}
+use Rattle.layout.specs.Layout.{is-open, Entry, nodes, Left, Kept}
+use Rattle.layout.specs.Fields.{with-modes}
+use Rattle.layout.specs.Laws.Kept.{left-then, left-as}
+use Rattle.outline.specs.Laws.Lists.{modify-insert}
+use Rattle.edits.specs.Rows.{with-held, granted-modes}
+
+-- nobody held anything there
+new-modes : (t : ℕ) (ms : List Mode) (x : Node) → ((m : Mode) → in-word (word-of ms) m ≡ among ms m) → with-modes t (word-of ms) (inserted-by t x) ≡ granted-modes t ms (inserted-by t x)
+new-modes t ms x h = let e : in-word (word-of ms) ≡ among ms = fun-ext h in ap (with-held (inserted-by t x)) (fun-ext (λ u. go e (eqb u t)))
+  where
+    go : in-word (word-of ms) ≡ among ms → (b : Bool) → cond b (in-word (word-of ms)) no-mode ≡ cond b (union no-mode (among ms)) no-mode
+    go e true = e
+    go e false = refl
+
+pub put-left : {s s₁ s₂ : List ℕ} (q d t : ℕ) (x : Node) (ms : List Mode) → ((m : Mode) → in-word (word-of ms) m ≡ among ms m) → (w : ℕ) → w ≡ word-of ms → q ≤ length (nodes s)
+    → Left s s₁ (is-open s) (insert q (d, inserted-by t x) (nodes s)) → Kept s₁ s₂ (modify q (second (with-modes t w)) (nodes s₁))
+    → Left s s₂ (is-open s) (insert q (d, granted-modes t ms (inserted-by t x)) (nodes s))
+put-left {s} q d t x ms h w e l a b =
+    left-as _ _ (modify-insert q (second (with-modes t w)) (d, inserted-by t x) (nodes s) l ∙ rw (e, new-modes t ms x h))
+    (left-then (insert q (d, inserted-by t x) (nodes s)) (modify q (second (with-modes t w))) a b)
+
+length-insert : {A : Type 0} (q : ℕ) (x : A) (l : List A) → length (insert q x l) ≡ length l + 1
+unfolding insert
+length-insert q x l = length-append (take q l) (x ∷ drop q l) ∙ omega (arith, length-append (take q l) (drop q l), ap length (take-append-drop q l))
+
+pub put-long : {s s₁ : List ℕ} {flags : ℕ → Bool} (q : ℕ) (x : Entry) → Left s s₁ flags (insert q x (nodes s)) → length (nodes s₁) ≡ length (nodes s) + 1
+put-long {s} q x a = ap length (a .nodes) ∙ length-insert q x (nodes s)
