@@ -40,6 +40,7 @@ module _ {A B : Type 0} (shown : A → Bool) (g : A → B) where
           first : (fs : Forest A) → prune shown h (flat d fs ++ t) ≡ prune shown 0 (flat d fs ++ t)
           first nil = r h l
           first (node y js gs) = rw (lt-ltb 0 h (omega arith), lt-leb h d l)
+
       go : (b : Bool) →
           map (second g) (prune shown 0 (flat (suc d) ks ++ (flat d fs ++ t))) ≡ flat (suc d) (view shown g ks) ++ map (second g) (prune shown 0 (flat d fs ++ t)) →
           map (second g) (prune shown 0 (flat d fs ++ t)) ≡ flat d (view shown g fs) ++ map (second g) (prune shown 0 t) →
