@@ -536,9 +536,9 @@ impl Cursor {
     }
 
     // The end tag of the innermost open element, from its slash on.
-    fn end(self, s: &[u8], names: &mut [usize; 1024], depth: usize, nodes: usize) -> Child
+    fn end(self, s: &[u8], names: &[usize; 1024], depth: usize, nodes: usize) -> Child
         requires { ⌜ (self .at < length (now s)) × (getD (now s) (self .at) 0 ≡ 47) × Deep (now s) (now names) depth nodes ⌝ }
-        ensures { λ r. ⌜ ChildRead (now (s .entry)) (opened (stack (now (s .entry)) (now (names .entry)) 0 depth)) (self .at) nodes (now (names .exit)) r ⌝ }
+        ensures { λ r. ⌜ ChildRead (now (s .entry)) (opened (stack (now (s .entry)) (now (names .entry)) 0 depth)) (self .at) nodes (now (names .entry)) r ⌝ }
     {
         let from = names[depth - 1];
         let next = Cursor { at: self.at + 1 };
