@@ -124,7 +124,7 @@ module _ (s : List ℕ) (at nodes : ℕ) (x : Attributed s at nodes) where
   pub attribute-many : (seen : List Name) → nodes ≡ node-limit → AttributeRead s seen at nodes (Refused 6 at)
   unfolding births tail peak
   attribute-many seen l = attribute-refused {x = 6} {j = at} (λ n ns.
-    stops-many s (in-tag n ns seen) nodes at (x .inside) (attribute-name n ns seen (b ∷ [])) (depth (n ∷ ns)) attribute-kind (byte b ∷ []) (born-step n ns seen) refl l (omega arith) no-opener-before)
+      stops-many s (in-tag n ns seen) nodes at (x .inside) (attribute-name n ns seen (b ∷ [])) (depth (n ∷ ns)) attribute-kind (byte b ∷ []) (born-step n ns seen) refl l (omega arith) no-opener-before)
 
   module _ (room : nodes < node-limit) (to : ℕ) (r : Run name-byte s at to) where
     -- behind the first byte
@@ -133,8 +133,10 @@ module _ (s : List ℕ) (at nodes : ℕ) (x : Attributed s at nodes) where
     named n ns seen k h = scan-born s (in-tag n ns seen) nodes at (x .inside) (attribute-name n ns seen (b ∷ [])) (depth (n ∷ ns)) attribute-kind (byte b ∷ []) (born-step n ns seen) refl room k h (omega arith)
 
     pub attribute-long : (seen : List Name) → content-limit < to - at → AttributeRead s seen at nodes (Refused 5 (at + 32))
-    attribute-long seen h = attribute-refused {x = 5} {j = at + 32} (λ n ns. record { leads = λ k m. named n ns seen k m
-      ∙ name-long s (attribute-name n ns seen) (nodes + 1) (naming n ns seen) (omega arith) at (x .inside) (start-name b (x .starts)) (omega (arith, r .ends)) })
+    attribute-long seen h = attribute-refused {x = 5} {j = at + 32} (λ n ns. record {
+      leads = λ k m. named n ns seen k m
+          ∙ name-long s (attribute-name n ns seen) (nodes + 1) (naming n ns seen) (omega arith) at (x .inside) (start-name b (x .starts)) (omega (arith, r .ends));
+    })
 
     module _ (short : to - at ≤ content-limit) where
       -- behind the name
@@ -161,9 +163,13 @@ module _ (s : List ℕ) (at nodes : ℕ) (x : Attributed s at nodes) where
       module _ (seen : List Name) (e : used seen (name-at s at) ≡ false) where
         to-sign : (n : Name) (ns : List Name) → Goes s (in-tag n ns seen) nodes at (before-equals n ns (name-at s at ∷ seen)) (nodes + 1) to
         unfolding step
-        to-sign n ns = record { back = λ v y. record { leads = λ k m. whole n ns seen k m
-          ∙ scan-alike s (attribute-name n ns seen (name-at s at)) (before-equals n ns (name-at s at ∷ seen)) (nodes + 1) (to - at) to (λ h. rw (ended h, e)) refl
-          ∙ y .leads (to - at) short } }
+        to-sign n ns = record {
+          back = λ v y. record {
+            leads = λ k m. whole n ns seen k m
+                ∙ scan-alike s (attribute-name n ns seen (name-at s at)) (before-equals n ns (name-at s at ∷ seen)) (nodes + 1) (to - at) to (λ h. rw (ended h, e)) refl
+                ∙ y .leads (to - at) short;
+          };
+        }
 
         pub attribute-unquoted : {j : ℕ} → EqualsRead s to (NoQuote j) → AttributeRead s seen at nodes (Refused 4 j)
         attribute-unquoted {j} (no-quote f) = attribute-refused {x = 4} {j = j} (λ n ns. to-sign n ns .back _ (f n ns (name-at s at ∷ seen) (nodes + 1) (omega arith)))

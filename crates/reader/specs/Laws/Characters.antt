@@ -46,7 +46,7 @@ module _ (s : List ℕ) (stop nodes at k count i : ℕ) (l : nodes ≤ node-limi
         let u : c .at - 1 ≡ i = omega arith in
         characters-past {c = c} (omega arith) (omega arith) (rw u e)
         (λ C R D x v y. t .comes C R D x ∙ scan-quiet s (C k) nodes i h D (ap (step true (C k)) e ∙ x .stops k) l count (omega (arith, x .behind))
-          ∙ subst (λ (j : ℕ). scan-at s D nodes count j ≡ v) p (y .leads count q))
+        ∙ subst (λ (j : ℕ). scan-at s D nodes count j ≡ v) p (y .leads count q))
 
     module _ (other : getD s i 0 ≡ stop → ⊥) where
       pub characters-wrong : begins stop k (getD s i 0) ≡ false → CharactersRead s stop at nodes (Refused 4 i)
@@ -87,7 +87,7 @@ module _ (s : List ℕ) (stop nodes at k count i : ℕ) (l : nodes ≤ node-limi
           landed {C} {R} x a =
               scan-quiet s (C k) nodes i h (R entities) (referring x a) l count (omega (arith, x .due entities))
               ∙ word-scan s R (C 0) (λ b. byte b ∷ []) nodes count (x .words) l (λ y. omega (arith, x .due y)) (λ b. omega (arith, x .calm 0))
-                (drop (i + 1) s) entities (i + 1) refl
+              (drop (i + 1) s) entities (i + 1) refl
               ∙ ap (Landed s (C 0) (λ b. byte b ∷ []) nodes count (i + 1)) (entities-at (drop (i + 1) s))
 
           pub characters-lost : {j : ℕ} → Character s i (NoEntity j) → CharactersRead s stop at nodes (Refused 4 j)
@@ -99,9 +99,11 @@ module _ (s : List ℕ) (stop nodes at k count i : ℕ) (l : nodes ≤ node-limi
 
           pub characters-turn : {b : ℕ} {c : Cursor} → Character s i (Byte b c) → CharactersTo s stop nodes at (brackets k (getD s i 0)) (count + 1) (c .at)
           unfolding tail brackets
-          characters-turn {b} {c} (one-byte n o) = record { comes = λ C R D x. t .comes C R D x
-            ∙ scan-byte s (C k) nodes i h (C (brackets k (getD s i 0))) (getD s i 0) (begun x e n) (x .calm (brackets k (getD s i 0))) l count room
-            ∙ ap (scan-at s (C (brackets k (getD s i 0))) nodes (count + 1)) (sym o) }
+          characters-turn {b} {c} (one-byte n o) = record {
+            comes = λ C R D x. t .comes C R D x
+                ∙ scan-byte s (C k) nodes i h (C (brackets k (getD s i 0))) (getD s i 0) (begun x e n) (x .calm (brackets k (getD s i 0))) l count room
+                ∙ ap (scan-at s (C (brackets k (getD s i 0))) nodes (count + 1)) (sym o);
+          }
           characters-turn {b} {c} (by-reference a r) = record { comes = λ C R D x. t .comes C R D x ∙ go C R D x (entity-at (drop (i + 1) s)) refl r }
             where
               go : (C : ℕ → Config) (R : Words → Config) (D : Config) → Characters stop C R D → (q : Reach) → entity-at (drop (i + 1) s) ≡ q

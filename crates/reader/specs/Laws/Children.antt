@@ -112,8 +112,10 @@ module _ (s os : List ℕ) (deep nodes at : ℕ) (x : Deep s os deep nodes) wher
       module _ (room : nodes < node-limit) (os′ : List ℕ) (k : Kept deep os os′) where
         born-to : {v : Verdict} → scan-at s (tag-name (n ∷ ns) (b ∷ [])) (nodes + 1) 1 (at + 1) ≡ v → Leads s (behind-open n ns) nodes at v
         unfolding births tail peak
-        born-to p = record { leads = λ j m.
-          scan-born s (behind-open n ns) nodes at h (tag-name (n ∷ ns) (b ∷ [])) (depth (n ∷ ns)) element-kind (byte b ∷ []) starts refl room j m (omega arith) ∙ p }
+        born-to p = record {
+          leads = λ j m.
+              scan-born s (behind-open n ns) nodes at h (tag-name (n ∷ ns) (b ∷ [])) (depth (n ∷ ns)) element-kind (byte b ∷ []) starts refl room j m (omega arith) ∙ p;
+        }
 
         -- the names around are those that were there
         around : n ∷ ns ≡ stack s os′ 0 deep

@@ -66,7 +66,7 @@ module _ (s : List ℕ) (stop at nodes : ℕ) (l : nodes ≤ node-limit) where
             go S C R D x true a false o =
                 rw (p, offset-at s at o)
                 (stops-many s S nodes at h (R entities) (x .depth) (x .kind) [] (ap (step true S) (eqb-true (getD s at 0) ampersand a) ∙ x .first-refers) refl q
-                  (omega (arith, x .inner .due entities)) o)
+                (omega (arith, x .inner .due entities)) o)
             go S C R D x false a true o =
                 let b = getD s at 0 in
                 rw (p, offset-before s at o .0)
@@ -75,7 +75,7 @@ module _ (s : List ℕ) (stop at nodes : ℕ) (l : nodes ≤ node-limit) where
                 let b = getD s at 0 in
                 rw (p, offset-at s at o)
                 (stops-many s S nodes at h (C (brackets 0 b)) (x .depth) (x .kind) (byte b ∷ []) (x .first b other (itself (eqb-false b ampersand a))) refl q
-                  (omega (arith, x .inner .calm (brackets 0 b))) o)
+                (omega (arith, x .inner .calm (brackets 0 b))) o)
 
         module _ (room : nodes < node-limit) where
           -- the first character is read as any other, with one node more

@@ -73,7 +73,7 @@ module _ (s : List ℕ) (n : Name) (ns : List Name) (m : ℕ) (l : m ≤ node-li
               let a : agree (x ∷ w) (drop at s) ≡ suc (agree w (drop (suc at) s)) = agree-here x w at h ∙ rw y in
               let p : at + agree (x ∷ w) (drop at s) ≡ suc at + agree w (drop (suc at) s) = omega arith in
               rw p (goes-then (goes-step s (end-name n ns (x ∷ w)) m at h (end-name n ns w) (rw y) refl l) (goes-same s (end-name n ns w) m (at + 1) (suc at) (add-one at))
-                .back _ (f (λ z. e (omega arith))))
+              .back _ (f (λ z. e (omega arith))))
           next h false y =
               let a : agree (x ∷ w) (drop at s) ≡ 0 = agree-here x w at h ∙ rw y in
               let p : at + agree (x ∷ w) (drop at s) ≡ at = omega arith in
@@ -104,7 +104,7 @@ module _ (s : List ℕ) (at from to : ℕ) (r : Run name-byte s from to) (k : �
       pub end-unclosed : (getD s i 0 ≡ greater-than → ⊥) → EndRead s (name-at s from) at (Mismatch i)
       unfolding step
       end-unclosed e = end-mismatch {j = i} (λ ns m l. to-close ns m l .back _
-        (stops-stuck s (end-name (name-at s from) ns []) m i o (rw (no-blank-here s (at + k) i b o, ne-eqb (getD s i 0) greater-than e))))
+          (stops-stuck s (end-name (name-at s from) ns []) m i o (rw (no-blank-here s (at + k) i b o, ne-eqb (getD s i 0) greater-than e))))
 
       pub end-closed : (c : Cursor) → getD s i 0 ≡ greater-than → c .at ≡ i + 1 → EndRead s (name-at s from) at (Behind c)
       unfolding step blank

@@ -52,7 +52,7 @@ module _ (w s : List ℕ) (at n : ℕ) (r : Agreeing w s at n) where
   agree-turn h k e =
       let p : at + (n + 1) ≡ suc (at + n) = omega arith in
       let q : agree (drop n w) (drop (at + n) s) ≡ suc (agree (drop (suc n) w) (drop (suc (at + n)) s)) =
-        rw (drop-cons w n 0 h, drop-cons s (at + n) 0 k, eq-eqb (getD s (at + n) 0) (getD w n 0) e) in
+      rw (drop-cons w n 0 h, drop-cons s (at + n) 0 k, eq-eqb (getD s (at + n) 0) (getD w n 0) e) in
       rw (p, add-one n) (omega (arith, r))
 
   pub agree-differ : n < length w → at + n < length s → (getD s (at + n) 0 ≡ getD w n 0 → ⊥) → Agreement w s at n

@@ -94,8 +94,10 @@ module _ (s os : List ℕ) (lo count at nodes i n : ℕ) (t : AttributesTo s os 
 
   pub attributes-turn : {c d : Cursor} {m : ℕ} → TagRead s behind-part i (Attribute c) → AttributeRead s (stack s os lo count) (c .at) n (Past d m) → lo + count < length os
       → AttributesTo s (set os (lo + count) (c .at)) lo (count + 1) at nodes (d .at) m
-  attributes-turn {c} {d} {m} (tag-attribute p e g h f) (attribute-past q r w x u) z = record { comes = λ nm ns.
-    rw (stack-push s os lo count (c .at) z) (goes-then (t .comes nm ns) (goes-then (f nm ns (stack s os lo count) n l) (u nm ns))) }
+  attributes-turn {c} {d} {m} (tag-attribute p e g h f) (attribute-past q r w x u) z = record {
+    comes = λ nm ns.
+        rw (stack-push s os lo count (c .at) z) (goes-then (t .comes nm ns) (goes-then (f nm ns (stack s os lo count) n l) (u nm ns)));
+  }
 
 pub attribute-here : {s : List ℕ} {i : ℕ} {c : Cursor} (n : ℕ) → n ≤ node-limit → TagRead s behind-part i (Attribute c) → Attributed s (c .at) n × (i ≤ c .at)
 attribute-here n l (tag-attribute d e g h f) = (record { inside = e; starts = h; begins-here = g; few = l }, d)
@@ -112,7 +114,7 @@ naming ns = record { next = λ p b e. rw e; calm = λ p. refl }
 module _ (s : List ℕ) (at nodes to : ℕ) (x : Named s at) (l : nodes ≤ node-limit) (r : Run name-byte s at to) where
   pub element-long : content-limit < to - at → ElementRead s at nodes (Broken 5 (at + 32))
   element-long h = element-broken {x = 5} {j = at + 32}
-    (λ ns. name-long s (tag-name ns) nodes (naming ns) l at (x .inside) (start-name (getD s at 0) (x .starts)) (omega (arith, r .ends)))
+      (λ ns. name-long s (tag-name ns) nodes (naming ns) l at (x .inside) (start-name (getD s at 0) (x .starts)) (omega (arith, r .ends)))
 
   module _ (short : to - at ≤ content-limit) where
     -- behind the name
@@ -123,7 +125,7 @@ module _ (s : List ℕ) (at nodes to : ℕ) (x : Named s at) (l : nodes ≤ node
         let q : at + (to - at) ≡ to = omega (arith, r .ends) in
         (rw (p, q) at (name-short s (tag-name ns) nodes (naming ns) l at (x .inside) (start-name (getD s at 0) (x .starts)) (omega arith)))
         ∙ scan-alike s (tag-name ns (name-at s at)) (behind-part (name-at s at) ns []) nodes (to - at) to
-          (λ h. rw (rw (← r .ends) at (span-behind name-byte s at (omega (arith, r .ends))))) refl
+        (λ h. rw (rw (← r .ends) at (span-behind name-byte s at (omega (arith, r .ends))))) refl
 
     pub element-rest : {y : Tag} → AttributesRead s to nodes y → ElementRead s at nodes y
     element-rest (attributes-opened {c = c} {m = m} o f) =

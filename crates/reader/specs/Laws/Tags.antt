@@ -71,7 +71,7 @@ module _ (s : List ℕ) (i : ℕ) (F : Name → List Name → List Name → Conf
       pub slash-wrong : i + 1 < length s → (getD s (i + 1) 0 ≡ greater-than → ⊥) → TagRead s F i (Wrong (i + 1))
       unfolding step
       slash-wrong k o = tag-wrong {j = i + 1} (λ n ns seen m l. place-slash n ns seen m l e .back _
-        (stops-stuck s (behind-slash ns) m (i + 1) k (rw (ne-eqb (getD s (i + 1) 0) greater-than o))))
+          (stops-stuck s (behind-slash ns) m (i + 1) k (rw (ne-eqb (getD s (i + 1) 0) greater-than o))))
 
       pub slash-close : (c : Cursor) → i + 1 < length s → getD s (i + 1) 0 ≡ greater-than → c .at ≡ i + 1 + 1 → TagRead s F i (Empty c)
       unfolding step
@@ -83,7 +83,7 @@ module _ (s : List ℕ) (i : ℕ) (F : Name → List Name → List Name → Conf
     pub place-wrong : blank (getD s i 0) ≡ false → (getD s i 0 ≡ slash → ⊥) → (getD s i 0 ≡ greater-than → ⊥) → name-start (getD s i 0) ≡ false → TagRead s F i (Wrong i)
     unfolding tag-step
     place-wrong a b d e = tag-wrong {j = i} (λ n ns seen m l. stops-stuck s (F n ns seen) m i h
-      (place .alike n ns seen (getD s i 0) e ∙ rw (a, ne-eqb (getD s i 0) slash b, ne-eqb (getD s i 0) greater-than d)))
+        (place .alike n ns seen (getD s i 0) e ∙ rw (a, ne-eqb (getD s i 0) slash b, ne-eqb (getD s i 0) greater-than d)))
 
 -- behind a name or a value, with the blanks there --------------------------------------------
 
@@ -128,7 +128,7 @@ module _ (s : List ℕ) (at i : ℕ) (r : Run blank s at i) where
     unfolding step tag-step
     part-joined p b d = subst (λ (j : ℕ). TagRead s behind-part j (Wrong i)) p
         (tag-wrong {j = i} (λ n ns seen m l. stops-stuck s (behind-part n ns seen) m i h
-          (rw (no-blank-here, ne-eqb (getD s i 0) slash b, ne-eqb (getD s i 0) greater-than d))))
+        (rw (no-blank-here, ne-eqb (getD s i 0) slash b, ne-eqb (getD s i 0) greater-than d))))
 
     pub part-attribute : (i ≡ at → ⊥) → name-start (getD s i 0) ≡ true → (c : Cursor) → c .at ≡ i → TagRead s behind-part at (Attribute c)
     part-attribute p e c q =
@@ -157,7 +157,7 @@ module _ (s : List ℕ) (at i : ℕ) (r : Run blank s at i) where
     pub sign-wrong : (getD s i 0 ≡ equals-sign → ⊥) → EqualsRead s at (NoQuote i)
     unfolding step
     sign-wrong e = no-quote {j = i} (λ n ns seen m l. to-sign n ns seen m l .back _
-      (stops-stuck s (before-equals n ns seen) m i h (rw (no-blank-here s at i r h, ne-eqb (getD s i 0) equals-sign e))))
+        (stops-stuck s (before-equals n ns seen) m i h (rw (no-blank-here s at i r h, ne-eqb (getD s i 0) equals-sign e))))
 
     module _ (e : getD s i 0 ≡ equals-sign) (j : ℕ) (q : Run blank s (i + 1) j) where
       to-quote : (n : Name) (ns seen : List Name) (m : ℕ) → m ≤ node-limit → Goes s (before-equals n ns seen) m at (behind-equals n ns seen) m j
@@ -174,7 +174,7 @@ module _ (s : List ℕ) (at i : ℕ) (r : Run blank s at i) where
         pub quote-wrong : (getD s j 0 ≡ quotation-mark → ⊥) → (getD s j 0 ≡ apostrophe → ⊥) → EqualsRead s at (NoQuote j)
         unfolding step
         quote-wrong a b = no-quote {j = j} (λ n ns seen m l. to-quote n ns seen m l .back _
-          (stops-stuck s (behind-equals n ns seen) m j k
+            (stops-stuck s (behind-equals n ns seen) m j k
             (rw (no-blank-here s (i + 1) j q k, ne-eqb (getD s j 0) quotation-mark a, ne-eqb (getD s j 0) apostrophe b))))
 
         pub quote-read : (x : Quote) (c : Cursor) → getD s j 0 ≡ mark x → c .at ≡ j + 1 → EqualsRead s at (Quoted (mark x) c)

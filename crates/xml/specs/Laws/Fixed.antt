@@ -83,7 +83,7 @@ common (a ∷ w) b x y (c ∷ l) = go (eqb c a) (eqb (getD l (length w) 0) b) (c
   where
     go : (t u : Bool) → reach (chain w (fork b x y)) l ≡ cond u (reach (chain w (then b x)) l) (reach (chain w y) l)
         → reached (cond t (begun (chain w (fork b x y))) no-word) (λ z. reach z l)
-          ≡ cond u (reached (cond t (begun (chain w (then b x))) no-word) (λ z. reach z l)) (reached (cond t (begun (chain w y)) no-word) (λ z. reach z l))
+        ≡ cond u (reached (cond t (begun (chain w (then b x))) no-word) (λ z. reach z l)) (reached (cond t (begun (chain w y)) no-word) (λ z. reach z l))
     go true true h = ap one-more h
     go true false h = ap one-more h
     go false true h = refl
@@ -112,9 +112,9 @@ entities-at l =
     let p = chain (bytes "pos") (last 59 apostrophe) in
     let a = common (97 ∷ []) 109 m p l ∙ choose (eqb (getD l 1 0) 109) (one-word (bytes "amp") 59 ampersand l) (one-word (bytes "apos") 59 apostrophe l) in
     let q = common [] 108 (chain (bytes "t") (last 59 less-than)) (chain (bytes "quot") (last 59 quotation-mark)) l
-      ∙ choose (eqb (getD l 0 0) 108) (one-word (bytes "lt") 59 less-than l) (one-word (bytes "quot") 59 quotation-mark l) in
+    ∙ choose (eqb (getD l 0 0) 108) (one-word (bytes "lt") 59 less-than l) (one-word (bytes "quot") 59 quotation-mark l) in
     let g = common [] 103 (chain (bytes "t") (last 59 greater-than)) (fork 108 (chain (bytes "t") (last 59 less-than)) (chain (bytes "quot") (last 59 quotation-mark))) l
-      ∙ choose (eqb (getD l 0 0) 103) (one-word (bytes "gt") 59 greater-than l) q in
+    ∙ choose (eqb (getD l 0 0) 103) (one-word (bytes "gt") 59 greater-than l) q in
     common [] 97 (fork 109 m p) more-entities l ∙ choose (eqb (getD l 0 0) 97) a g
 
 -- the declarations, behind <?, by the byte behind the version ---------------------------------

@@ -66,7 +66,7 @@ limited-counted long b i n k u v h f g = go (ltb node-limit n) (opener b) (leb i
   where
     go : (o q x : Bool) → leb input-limit i ≡ x → (y : Bool)
         → cond (o && q) (bad 6 (i - 1)) (cond x (bad 4 i) (cond y (bad 5 i) (cond o (bad 6 i) u)))
-          ≡ limited long (cond (o && q) (bad 6 (i - 1)) (cond y (bad 5 i) (cond o (bad 6 i) v)))
+        ≡ limited long (cond (o && q) (bad 6 (i - 1)) (cond y (bad 5 i) (cond o (bad 6 i) v)))
     go true true x e y = sym (limited-below long 6 (i - 1) (omega arith))
     go true false true e true = let p : i ≡ input-limit = omega (arith, leb-true input-limit i e) in ap (bad 4) p ∙ sym (limited-at long 5 i (omega arith))
     go true false true e false = let p : i ≡ input-limit = omega (arith, leb-true input-limit i e) in ap (bad 4) p ∙ sym (limited-at long 6 i (omega arith))
@@ -94,7 +94,7 @@ judge-scan c n k b i (a ∷ l) (suc m) e h =
     go : (x : Move)
         → ((d : Config) (n′ k′ : ℕ) → suc i ≤ input-limit → judge d n′ k′ a (suc i) l ≡ limited (ltb input-limit (suc i + length l)) (scan d n′ k′ a (suc i) (take m l)))
         → judge-move x n k b i (λ d n′ k′. judge d n′ k′ a (suc i) l)
-          ≡ limited (ltb input-limit (suc i + length l)) (scan-move x n k b i (λ d n′ k′. scan d n′ k′ a (suc i) (take m l)))
+        ≡ limited (ltb input-limit (suc i + length l)) (scan-move x n k b i (λ d n′ k′. scan d n′ k′ a (suc i) (take m l)))
     go stuck f = sym (limited-four (ltb input-limit (suc i + length l)) i h)
     go (move d v) f =
         limited-counted (ltb input-limit (suc i + length l)) b i (n + births v) (extent k v d) (judge d (n + births v) (tail k v) a (suc i) l)

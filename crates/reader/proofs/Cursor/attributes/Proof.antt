@@ -105,11 +105,17 @@ loop-again : tie.Need-loop-again Inv-loop μ-loop
 loop-again c = let x = subst (λ (r : Part). TagRead (c .before .before .before .before .before .before .before .before .before .before .before .args .s .now) behind-part (c .before .before .before .before .before .before .before .before .before .loop .i) r) (c .before .before .before .before .before .before .c3 .given .1) (c .before .before .before .before .before .before .before .before .part .ensures) in
     let p = attribute-here _ (c .before .before .before .before .before .before .before .before .before .loop .inv .3) x in
     let z = subst (λ (r : Read). AttributeRead (c .before .before .before .before .before .before .before .before .before .before .before .args .s .now) (stack (c .before .before .before .before .before .before .before .before .before .before .before .args .s .now) (c .before .before .before .before .before .before .before .before .before .loop .names) (c .before .before .before .before .before .before .before .before .before .before .before .args .lo) (c .before .before .before .before .before .before .before .before .before .loop .count)) (c .before .before .before .before .before .before .c3 .given .0 .0 .at) (c .before .before .before .before .before .before .before .before .before .loop .n) r) (c .before .next .given .1) (c .before .before .before .attribute .ensures) in
-    let a = attribute-behind z in
-    (omega (arith, p .1, a .0), a .1, omega (arith, a .2), a .3, omega (arith, a .2),
+    let a = attribute-behind z in (
+      omega (arith, p .1, a .0),
+      a .1,
+      omega (arith, a .2),
+      a .3,
+      omega (arith, a .2),
       placed-at _ _ _ _ (omega arith) (placed-push _ _ _ _ (c .before .before .before .before .before .before .before .before .before .loop .inv .5) (omega (arith, p .0 .inside)) (search needs)),
       kept-set _ _ _ _ _ (c .before .before .before .before .before .before .before .before .before .loop .inv .6) (omega arith),
-      attributes-turn _ _ _ _ _ _ _ _ (c .before .before .before .before .before .before .before .before .before .loop .inv .7) (c .before .before .before .before .before .before .before .before .before .loop .inv .0) (c .before .before .before .before .before .before .before .before .before .loop .inv .2) (c .before .before .before .before .before .before .before .before .before .loop .inv .3) x z (search needs), search (needs, c .before .before .before .before .before .before .before .before .before .loop .inv .8))
+      attributes-turn _ _ _ _ _ _ _ _ (c .before .before .before .before .before .before .before .before .before .loop .inv .7) (c .before .before .before .before .before .before .before .before .before .loop .inv .0) (c .before .before .before .before .before .before .before .before .before .loop .inv .2) (c .before .before .before .before .before .before .before .before .before .loop .inv .3) x z (search needs),
+      search (needs, c .before .before .before .before .before .before .before .before .before .loop .inv .8),
+    )
 
 pub attributes-spec : {M : Type 1} → statement M
 attributes-spec =

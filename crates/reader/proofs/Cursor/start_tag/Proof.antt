@@ -32,9 +32,11 @@ add-t12 c = search needs
 
 -- src/lib.rt:473:13
 returns : tie.Need-returns
-returns c = let a = c .before .before .before .before .args in
-    (element-long _ _ _ _ (c .before .before .before .before .pre .0) (c .before .before .before .before .pre .2) (c .before .before .name .ensures) (c .if1 .taken), kept-set _ _ _ _ _ (kept-same _ _) (search needs),
-      getD-set-same (a .names .now) (a .depth) (a .self .at) 0 (omega (arith, c .before .before .before .before .pre .4)))
+returns c = let a = c .before .before .before .before .args in (
+  element-long _ _ _ _ (c .before .before .before .before .pre .0) (c .before .before .before .before .pre .2) (c .before .before .name .ensures) (c .if1 .taken),
+  kept-set _ _ _ _ _ (kept-same _ _) (search needs),
+  getD-set-same (a .names .now) (a .depth) (a .self .at) 0 (omega (arith, c .before .before .before .before .pre .4)),
+)
 
 -- src/lib.rt:475:34
 add-attributes : tie.Need-add-attributes
@@ -46,10 +48,11 @@ attributes-requires c κs = (search needs, search needs, search needs, placed-pu
 
 -- src/lib.rt:465:5
 returns-2 : tie.Need-returns-2
-returns-2 c = let a = c .before .before .before .before .before .before .args in
-    (element-rest _ _ _ _ (c .before .before .before .before .before .before .pre .0) (c .before .before .before .before .before .before .pre .2) (c .before .before .before .before .name .ensures) (c .before .before .if1 .left) (c .attributes .ensures .0),
-      kept-less _ _ _ _ _ (kept-set _ _ _ (a .depth) (a .self .at) (kept-same _ _) (search needs)) (c .attributes .ensures .1) (omega arith),
-      c .attributes .ensures .1 .kept (a .depth) (omega arith) ∙ getD-set-same (a .names .now) (a .depth) (a .self .at) 0 (omega (arith, c .before .before .before .before .before .before .pre .4)))
+returns-2 c = let a = c .before .before .before .before .before .before .args in (
+  element-rest _ _ _ _ (c .before .before .before .before .before .before .pre .0) (c .before .before .before .before .before .before .pre .2) (c .before .before .before .before .name .ensures) (c .before .before .if1 .left) (c .attributes .ensures .0),
+  kept-less _ _ _ _ _ (kept-set _ _ _ (a .depth) (a .self .at) (kept-same _ _) (search needs)) (c .attributes .ensures .1) (omega arith),
+  c .attributes .ensures .1 .kept (a .depth) (omega arith) ∙ getD-set-same (a .names .now) (a .depth) (a .self .at) 0 (omega (arith, c .before .before .before .before .before .before .pre .4)),
+)
 
 pub start-tag-spec : {M : Type 1} → statement M
 start-tag-spec =

@@ -52,9 +52,13 @@ add-start-tag c = search needs
 
 -- src/lib.rt:531:15
 start-tag-requires : tie.Need-start-tag-requires
-start-tag-requires c κs = let d = c .before .before .before .before .before .before .before .before .pre .1 in
-    (record { inside = c .before .before .before .before .before .before .if1 .left; starts = sym (c .before .before .before .is-name-start .ensures) ∙ not-false _ (c .before .before .if3 .left) }, omega (arith, d .room),
-      omega (arith, d .few, c .before .if4 .left), d .names, d .long)
+start-tag-requires c κs = let d = c .before .before .before .before .before .before .before .before .pre .1 in (
+  record { inside = c .before .before .before .before .before .before .if1 .left; starts = sym (c .before .before .before .is-name-start .ensures) ∙ not-false _ (c .before .before .if3 .left) },
+  omega (arith, d .room),
+  omega (arith, d .few, c .before .if4 .left),
+  d .names,
+  d .long,
+)
 
 -- src/lib.rt:532:25
 enum-known-c : tie.Need-enum-known-c
