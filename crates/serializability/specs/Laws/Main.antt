@@ -75,7 +75,7 @@ unfolding history state-after
 history-append M [] b = refl
 history-append M (c ∷ a) b = rw (history-append (next c M .state) a b)
 
-state-append : (M : State) (a b : List Call) → state-after M (a ++ b) ≡ state-after (state-after M a) b
+pub state-append : (M : State) (a b : List Call) → state-after M (a ++ b) ≡ state-after (state-after M a) b
 unfolding state-after
 state-append M [] b = refl
 state-append M (c ∷ a) b = state-append (next c M .state) a b

@@ -1,0 +1,70 @@
+-- What the exported functions ensure.
+use mathlib.Core.Path.{_≡_}
+use Prim.Native.Nat.{ℕ}
+use mathlib.Core.List.{List}
+use Rattle.tree.specs.Steps.{T, C, R, U, D, I, TT, RR, UU}
+use Rattle.protocol.specs.Lent.{Room, first-lent, second-lent}
+use Rattle.protocol.specs.Calls.{Input, Call, start, load, begin, commit, abort, step, write}
+use Rattle.protocol.specs.Answers.{code-of}
+use Rattle.protocol.specs.declared.Answer.{Answer}
+use Rattle.engine.specs.Contract.{Performed, Lent, rooms-of}
+use Rattle.ends.specs.Ends.{Restarted}
+use Rattle.xml.specs.Reading.{ReadsAs}
+use Rattle.traces.specs.Exchange.{Request, Exchange}
+use Rattle.traces.specs.Written.{Written}
+
+-- the call of protocol that a request makes, with this room in its buffers; load's input is what its bytes stand for
+pub data Makes (room : Room) : Request → Call → Type 0 where
+  makes-start : Makes room Request.start start
+  makes-load : {x : List ℕ} {i : Input} → ReadsAs x i → Makes room (Request.load x) (load i)
+  makes-write : Makes room Request.write write
+  makes-begin : {t : ℕ} → Makes room (Request.begin t) (begin t)
+  makes-commit : {t : ℕ} → Makes room (Request.commit t) (commit t)
+  makes-abort : {t : ℕ} → Makes room (Request.abort t) (abort t)
+  makes-test : {t n : ℕ} → Makes room (Request.test t n) (step t (T n) room)
+  makes-child : {t n k : ℕ} → Makes room (Request.child t n k) (step t (C n k) room)
+  makes-read : {t n : ℕ} → Makes room (Request.read t n) (step t (R n) room)
+  makes-update : {t n : ℕ} {b : List ℕ} → Makes room (Request.update t n b) (step t (U n b) room)
+  makes-delete : {t n : ℕ} → Makes room (Request.delete t n) (step t (D n) room)
+  makes-insert : {t m kind n k : ℕ} {b : List ℕ} → Makes room (Request.insert t m kind b n k) (step t (I m kind b n k) room)
+  makes-test-tree : {t n : ℕ} → Makes room (Request.test-tree t n) (step t (TT n) room)
+  makes-read-tree : {t n : ℕ} → Makes room (Request.read-tree t n) (step t (RR n) room)
+  makes-rename-tree : {t n : ℕ} {a b : List ℕ} → Makes room (Request.rename-tree t n a b) (step t (UU n a b) room)
+
+-- the call that was made
+abbrev pub MakesCall : Exchange → Call → Type 0
+MakesCall x c = Makes (rooms-of (x .first .before) (x .second .before)) (x .request) c
+
+-- begin, the steps, commit, abort and load: the answer, the state and the buffers
+pub record Step (x : Exchange) (r : Answer) (c : Call) : Type 0 where
+  pub performed : Performed (x .state .before) (x .state .after) r c
+  pub first : Lent first-lent (x .state .before) (x .first .before) (x .first .after) c
+  pub second : Lent second-lent (x .state .before) (x .second .before) (x .second .after) c
+
+-- start has no buffer
+pub record Start (x : Exchange) (r : Answer) : Type 0 where
+  pub restarted : Restarted (x .state .before) (x .state .after) r
+  pub first : x .first .after ≡ x .first .before
+  pub second : x .second .after ≡ x .second .before
+
+-- write leaves the state as it was, and has one buffer
+pub record Write (x : Exchange) (r : Answer) : Type 0 where
+  pub written : Written (x .state .before) (x .first .before) (x .first .after) r
+  pub state : x .state .after ≡ x .state .before
+  pub second : x .second .after ≡ x .second .before
+
+-- what a call ensures that answers r
+unfoldable pub Ensured : Exchange → Answer → Call → Type 0
+Ensured x r start = Start x r
+Ensured x r write = Write x r
+Ensured x r (load i) = Step x r (load i)
+Ensured x r (begin t) = Step x r (begin t)
+Ensured x r (commit t) = Step x r (commit t)
+Ensured x r (abort t) = Step x r (abort t)
+Ensured x r (step t s room) = Step x r (step t s room)
+
+-- the contract of every exported function: the number is that of an answer, which is what the definitions have for the call
+pub record Contract (x : Exchange) : Type 0 where
+  pub answer : Answer
+  pub code : x .code ≡ code-of answer
+  pub ensured : (c : Call) → MakesCall x c → Ensured x answer c

@@ -1,0 +1,54 @@
+-- What a panel program hands over in a call, and what it gets back: numbers and bytes alone (include/noodlefen.h).
+use Prim.Native.Nat.{ℕ, _/_, _%_}
+use mathlib.Core.List.{List, []}
+
+-- the numbers and the bytes that a call is given, beside the state and the buffers for its answer
+pub data Request : Type 0 where
+  start : Request
+  load : (xml : List ℕ) → Request
+  write : Request
+  begin commit abort : (t : ℕ) → Request
+  test : (t n : ℕ) → Request
+  child : (t n k : ℕ) → Request
+  read : (t n : ℕ) → Request
+  update : (t n : ℕ) (bytes : List ℕ) → Request
+  delete : (t n : ℕ) → Request
+  insert : (t m kind : ℕ) (bytes : List ℕ) (n k : ℕ) → Request
+  test-tree read-tree : (t n : ℕ) → Request
+  rename-tree : (t n : ℕ) (from to : List ℕ) → Request
+
+-- lent bytes, before the call and after it
+pub record Memory : Type 0 where
+  pub before : List ℕ
+  pub after : List ℕ
+
+-- a call that was made: the state, the buffers for its answer (out, numbers, cells; empty where it has none), and the number answered
+pub record Exchange : Type 0 where
+  pub request : Request
+  pub state : Memory
+  pub first : Memory
+  pub second : Memory
+  pub code : ℕ
+
+abbrev pub memory : List ℕ → List ℕ → Memory
+memory b b′ = record { before = b; after = b′ }
+
+-- calls with no buffer, with one, and with two
+abbrev pub with-none : Request → (s s′ : List ℕ) → ℕ → Exchange
+with-none q s s′ r = record { request = q; state = memory s s′; first = memory [] []; second = memory [] []; code = r }
+
+abbrev pub with-one : Request → (s s′ b b′ : List ℕ) → ℕ → Exchange
+with-one q s s′ b b′ r = record { request = q; state = memory s s′; first = memory b b′; second = memory [] []; code = r }
+
+abbrev pub with-two : Request → (s s′ b b′ d d′ : List ℕ) → ℕ → Exchange
+with-two q s s′ b b′ d d′ r = record { request = q; state = memory s s′; first = memory b b′; second = memory d d′; code = r }
+
+-- what the number tells: bits 0 to 7 the outcome (0 granted, 1 waits, 2 refused), bits 8 to 15 the cause, bits 16 to 63 the value
+abbrev pub outcome : ℕ → ℕ
+outcome code = code % 256
+
+abbrev pub cause : ℕ → ℕ
+cause code = code / 256 % 256
+
+abbrev pub value : ℕ → ℕ
+value code = code / 65536

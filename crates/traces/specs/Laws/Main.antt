@@ -1,0 +1,108 @@
+-- THE THEOREM: every list of calls on one lent state that begins with a granted start, from the contracts of the calls.
+use mathlib.Core.Path.{_≡_, refl, sym, ap, ap₂, _∙_, subst}
+use Prim.Native.Nat.{ℕ}
+use mathlib.Core.Bool.{Bool, true, false}
+use mathlib.Core.List.{List, [], _∷_, _++_, List·Memᴰ, List·Memᴰ·head, List·Memᴰ·tail, List·Memᴰ·not-nil}
+use native.Mathlib.Omega.{arith}
+use lib.ListN.{length}
+use lib.Dec.{leb}
+use borrow.Author.Tests.{leb-true, leb-false}
+use Rattle.protocol.specs.State.{State}
+use Rattle.protocol.specs.Calls.{Call, start, next}
+use Rattle.protocol.specs.History.{state-after}
+use Rattle.protocol.specs.Answers.{code-of}
+use Rattle.layout.specs.Layout.{state-size}
+use Rattle.engine.specs.Contract.{rooms-of}
+use Rattle.form.specs.Form.{Holds}
+use Rattle.serializability.specs.Theorem.{reached}
+use Rattle.serializability.specs.Laws.Main.{state-append, plain-committed, demand-3}
+use Rattle.serializability.specs.Laws.Reached.{always-reached}
+use Rattle.traces.specs.Exchange.{Request, Exchange}
+use Rattle.traces.specs.Contract as contract
+use Rattle.traces.specs.Contract.{Makes, makes-start, MakesCall, Ensured, Contract}
+use Rattle.traces.specs.Theorem.{Linked, Trace, Made, no-call, call-then, Demand1, Demand2, WritesPlain, Each, Delivered}
+use Rattle.traces.specs.Laws.Causes.{makes-one, makes-only}
+use Rattle.traces.specs.Laws.OneCall.{demand-1, demand-2, granted-text}
+
+-- the calls that were made ----------------------------------------------------------------
+
+made-some : (xs : List Exchange) → (cs : List Call) × Made xs cs
+made-some [] = ([], no-call)
+made-some (x ∷ xs) = let m = makes-one _ (x .request) in let k = made-some xs in (m .0 ∷ k .0, call-then (m .1) (k .1))
+
+made-only : {xs : List Exchange} {cs ds : List Call} → Made xs cs → Made xs ds → cs ≡ ds
+made-only no-call no-call = refl
+made-only (call-then m k) (call-then n l) = ap₂ (λ (c : Call) (cs : List Call). c ∷ cs) (makes-only _ m n) (made-only k l)
+
+-- demand 1 --------------------------------------------------------------------------------
+
+each-demand : (s : List ℕ) (xs : List Exchange) → Linked s xs → (y : Exchange) → List·Memᴰ y xs → Demand1 y
+each-demand s [] l y i = absurd (List·Memᴰ·not-nil i)
+each-demand s (x ∷ xs) l y (List·Memᴰ·head e) = rw e (demand-1 x (l .0))
+each-demand s (x ∷ xs) l y (List·Memᴰ·tail i) = each-demand (x .state .after) xs (l .2) y i
+
+-- demands 2 and 3 --------------------------------------------------------------------------
+
+module _ (M : State) where
+  -- of one call, behind the calls `before`
+  abbrev Both : List Call → Exchange → Call → Type 0
+  Both before x c = Demand2 (reached M before) x c × WritesPlain M before x c
+
+  both : (before : List Call) (x : Exchange) (c : Call) → Contract x → MakesCall x c → Holds (x .state .before) (reached M before) → Both before x c
+  both before x c k m h =
+      let d = demand-2 (reached M before) x c k m h (always-reached M before .documents-legal (λ u. false)) in
+      (d, λ e g. rw (← plain-committed M before) (granted-text (reached M before) x c d e g))
+
+  further : (before : List Call) (c : Call) → reached M (before ++ (c ∷ [])) ≡ next c (reached M before) .state
+  unfolding state-after
+  further before c = state-append M (start ∷ before) (c ∷ [])
+
+  each-both : (before : List Call) (s : List ℕ) (xs : List Exchange) (cs : List Call) → Holds s (reached M before) → Linked s xs → Made xs cs → Each Both before xs cs
+  each-both before s [] [] h l no-call = tt
+  each-both before s (x ∷ xs) (c ∷ cs) h l (call-then m k) =
+      let b = both before x c (l .0) m (rw (l .1) h) in
+      (b, each-both (before ++ (c ∷ [])) (x .state .after) xs cs (rw (further before c) (b .0 .left)) (l .2) k)
+
+each-part : (P Q : List Call → Exchange → Call → Type 0) → ((before : List Call) (x : Exchange) (c : Call) → P before x c → Q before x c)
+    → (before : List Call) (xs : List Exchange) (cs : List Call) → Each P before xs cs → Each Q before xs cs
+each-part P Q f before [] [] h = tt
+each-part P Q f before [] (c ∷ cs) h = h
+each-part P Q f before (x ∷ xs) [] h = h
+each-part P Q f before (x ∷ xs) (c ∷ cs) h = (f before x c (h .0), each-part P Q f (before ++ (c ∷ [])) xs cs (h .1))
+
+-- the start --------------------------------------------------------------------------------
+
+started : (M : State) (x : Exchange) (xs : List Exchange) → Trace x xs → Holds (x .state .after) (reached M [])
+unfolding state-after Ensured code-of
+started M x xs t = go (leb state-size (length (x .state .before))) refl
+  where
+    k : contract.Start x (t .contract .answer)
+    k = t .contract .ensured start (subst (λ (q : Request). Makes (rooms-of (x .first .before) (x .second .before)) q start) (sym (t .starts)) makes-start)
+
+    go : (f : Bool) → leb state-size (length (x .state .before)) ≡ f → Holds (x .state .after) (next start M .state)
+    go true f = k .restarted .state (leb-true state-size (length (x .state .before)) f) M
+    go false f =
+        let u = k .restarted .short (leb-false state-size (length (x .state .before)) f) in
+        let c : x .code ≡ 3330 = t .contract .code ∙ ap code-of (u .0) in
+        absurd (omega (arith, t .is-granted))
+
+-- THE THEOREM
+pub delivered : (M : State) (x : Exchange) (xs : List Exchange) → Trace x xs → Delivered M x xs
+delivered M x xs t =
+    let m = made-some xs in
+    let h = started M x xs t in
+    let b = each-both M [] (x .state .after) xs (m .0) h (t .linked) (m .1) in
+    record {
+      calls = m .0;
+      made = m .1;
+      only = λ cs k. made-only k (m .1);
+      demand-1 = all-calls;
+      started = h;
+      demand-2 = each-part (Both M) (λ before y c. Demand2 (reached M before) y c) (λ before y c p. p .0) [] xs (m .0) b;
+      demand-3 = demand-3 M (m .0);
+      writes = each-part (Both M) (WritesPlain M) (λ before y c p. p .1) [] xs (m .0) b;
+    }
+  where
+    all-calls : (y : Exchange) → List·Memᴰ y (x ∷ xs) → Demand1 y
+    all-calls y (List·Memᴰ·head e) = rw e (demand-1 x (t .contract))
+    all-calls y (List·Memᴰ·tail i) = each-demand (x .state .after) xs (t .linked) y i

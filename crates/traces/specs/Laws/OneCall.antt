@@ -1,0 +1,265 @@
+-- Demands 1 and 2 on one call, from its contract.
+use mathlib.Core.Path.{_≡_, refl, sym, ap, _∙_}
+use Prim.Native.Nat.{ℕ, suc, _≤_}
+use mathlib.Core.Bool.{Bool, true, false, cond, _&&_, false≢true}
+use mathlib.Core.List.{List, [], _∷_}
+use native.Mathlib.Omega.{arith}
+use lib.ListN.{length, drop, length-append}
+use lib.Dec.{leb}
+use borrow.Author.Tests.{leb-true, leb-false}
+use Rattle.tree.specs.Forest.{Forest, nil, node, rows, view}
+use Rattle.tree.specs.Document.{Node, Document, legal, lines}
+use Rattle.tree.specs.Steps.{Step, Value, done, how-many}
+use Rattle.protocol.specs.State.{State, start-state, shown, as-shown, document-of, committed-document}
+use Rattle.protocol.specs.Lent.{filled, first-lent, second-lent}
+use Rattle.protocol.specs.Calls.{node-limit, Call, start, load, begin, commit, abort, step, write, Outcome, granted, written, waits, refused, refused-at, next}
+use Rattle.protocol.specs.History.{is-granted}
+use Rattle.protocol.specs.Answers.{code-of, answer-of, granted-answer, lent-after}
+use Rattle.protocol.specs.declared.Answer.{Answer}
+use Rattle.protocol.specs.declared.Answer.the-variants.{Done, Count, Refused}
+use Rattle.layout.specs.Flat.{flat}
+use Rattle.layout.specs.Layout.{state-size}
+use Rattle.form.specs.Form.{form, Holds}
+use Rattle.form.specs.Laws.Holds.{form-holds, holds-form}
+use Rattle.serializability.specs.Laws.OneCall.{waiting}
+use Rattle.xml.specs.Writing as xml
+use Rattle.xml.specs.Laws.Expressible.{read-back}
+use Rattle.traces.specs.Exchange.{Exchange, outcome, value}
+use Rattle.traces.specs.Written.{writing, text-after}
+use Rattle.traces.specs.Contract as contract
+use Rattle.traces.specs.Contract.{MakesCall, Ensured, Contract}
+use Rattle.traces.specs.Theorem.{Same, Demand1, first-after, Demand2}
+use Rattle.traces.specs.Laws.Codes.{Listed, Told, told, not-written}
+use Rattle.traces.specs.Laws.Causes.{makes-one, listed}
+
+-- demand 1 ------------------------------------------------------------------------------
+
+-- by an outcome that the number tells
+told-demand : (x : Exchange) (o : Outcome) → Told (x .code) o → (is-granted o ≡ false → Same (x .state) × Same (x .first) × Same (x .second))
+    → length (x .state .after) ≡ length (x .state .before) → drop state-size (x .state .after) ≡ drop state-size (x .state .before) → Demand1 x
+told-demand x o t k l b = record {
+  outcomes = t .outcomes;
+  causes = t .causes;
+  no-cause = t .no-cause;
+  still = λ n. k (t .not-granted n);
+  long = l;
+  behind = b;
+}
+
+kept-buffer : (lent : Value → List ℕ) (o : Outcome) (b : List ℕ) → is-granted o ≡ false → lent-after lent o b ≡ b
+unfolding lent-after
+kept-buffer lent (granted v) b h = absurd (false≢true (sym h))
+kept-buffer lent (written d) b h = refl
+kept-buffer lent (waits w) b h = refl
+kept-buffer lent (refused c) b h = refl
+kept-buffer lent (refused-at c i) b h = refl
+
+-- the refusal of bytes that are no state
+told-13 : Told (code-of (Refused 13)) (refused 13)
+unfolding answer-of
+told-13 = told (refused 13) (omega arith, omega arith)
+
+module _ (x : Exchange) (r : Answer) (e : x .code ≡ code-of r) where
+  -- the number is that of an outcome
+  tells : (o : Outcome) → Listed o → r ≡ answer-of (λ d. Done) o → Told (x .code) o
+  tells o l f = rw (e, f) (told o l)
+
+  step-demand : (c : Call) → contract.Step x r c → ((M : State) → Listed (next c M .outcome)) → Demand1 x
+  step-demand c h l = go (form (x .state .before)) refl
+    where
+      go : (f : Bool) → form (x .state .before) ≡ f → Demand1 x
+      go false f =
+          let u = h .performed .unformed f in
+          told-demand x (refused 13) (rw (e, u .0) told-13) (λ _. (u .1, h .first .unformed f, h .second .unformed f)) (h .performed .long) (h .performed .behind)
+      go true f =
+          let M = form-holds (x .state .before) f in
+          let o = next c (M .0) .outcome in
+          told-demand x o (tells o (l (M .0)) (h .performed .answer (M .0) (M .1) (λ d. Done)))
+          (λ g. (
+            h .performed .still (M .0) (M .1) g,
+            h .first .filled (M .0) (M .1) ∙ kept-buffer first-lent o (x .first .before) g,
+            h .second .filled (M .0) (M .1) ∙ kept-buffer second-lent o (x .second .before) g,
+          ))
+          (h .performed .long) (h .performed .behind)
+
+  start-demand : contract.Start x r → Demand1 x
+  unfolding next answer-of
+  start-demand h = go (leb state-size (length (x .state .before))) refl
+    where
+      go : (f : Bool) → leb state-size (length (x .state .before)) ≡ f → Demand1 x
+      go false f =
+          let u = h .restarted .short (leb-false state-size (length (x .state .before)) f) in
+          told-demand x (refused 13) (rw (e, u .0) told-13) (λ _. (u .1, h .first, h .second)) (h .restarted .long) (h .restarted .behind)
+      go true f =
+          told-demand x (granted done) (tells (granted done) tt (h .restarted .answer (leb-true state-size (length (x .state .before)) f) start-state (λ d. Done)))
+          (λ g. absurd (false≢true (sym g))) (h .restarted .long) (h .restarted .behind)
+
+  -- a write of d: its outcome as a number tells it, and what it leaves
+  writing-demand : (d : Document) → r ≡ writing (length (x .first .before)) d → x .first .after ≡ text-after d (x .first .before) → Same (x .state) → Same (x .second) → Demand1 x
+  unfolding writing text-after answer-of granted-answer
+  writing-demand d a f s k = go (xml.expressible d) (leb (length (xml.write d)) (length (x .first .before))) a f
+    where
+      go : (p q : Bool) → r ≡ cond p (cond q (Count (length (xml.write d))) (Refused 13)) (Refused 14)
+          → x .first .after ≡ cond (p && q) (filled (xml.write d) (x .first .before)) (x .first .before) → Demand1 x
+      go true true a f =
+          told-demand x (granted (how-many (length (xml.write d)))) (tells (granted (how-many (length (xml.write d)))) tt a) (λ g. absurd (false≢true (sym g))) (ap length s) (ap (drop state-size) s)
+      go true false a f = told-demand x (refused 13) (tells (refused 13) (omega arith, omega arith) a) (λ _. (s, f, k)) (ap length s) (ap (drop state-size) s)
+      go false q a f = told-demand x (refused 14) (tells (refused 14) (omega arith, omega arith) a) (λ _. (s, f, k)) (ap length s) (ap (drop state-size) s)
+
+  write-demand : contract.Write x r → Demand1 x
+  write-demand h = go (form (x .state .before)) refl
+    where
+      go : (f : Bool) → form (x .state .before) ≡ f → Demand1 x
+      go false f =
+          let u = h .written .unformed f in
+          told-demand x (refused 13) (rw (e, u .0) told-13) (λ _. (h .state, u .1, h .second)) (ap length (h .state)) (ap (drop state-size) (h .state))
+      go true f =
+          let M = form-holds (x .state .before) f in
+          writing-demand (committed-document (M .0)) (h .written .answer (M .0) (M .1)) (h .written .filled (M .0) (M .1)) (h .state) (h .second)
+
+  ensured-demand : (c : Call) → ((M : State) → Listed (next c M .outcome)) → Ensured x r c → Demand1 x
+  unfolding Ensured
+  ensured-demand start l h = start-demand h
+  ensured-demand write l h = write-demand h
+  ensured-demand (load i) l h = step-demand (load i) h l
+  ensured-demand (begin t) l h = step-demand (begin t) h l
+  ensured-demand (commit t) l h = step-demand (commit t) h l
+  ensured-demand (abort t) l h = step-demand (abort t) h l
+  ensured-demand (step t s room) l h = step-demand (step t s room) h l
+
+-- on any bytes
+pub demand-1 : (x : Exchange) → Contract x → Demand1 x
+demand-1 x k = let m = makes-one _ (x .request) in ensured-demand x (k .answer) (k .code) (m .0) (listed (m .1)) (k .ensured (m .0) (m .1))
+
+-- demand 2 ------------------------------------------------------------------------------
+
+is-wait : Outcome → Bool
+is-wait (granted v) = false
+is-wait (written d) = false
+is-wait (waits w) = true
+is-wait (refused c) = false
+is-wait (refused-at c i) = false
+
+-- where nothing is written
+same-first : (r : Answer) (o : Outcome) (b : List ℕ) → ((w : Document → Answer) → r ≡ answer-of w o) → lent-after first-lent o b ≡ first-after o b
+unfolding lent-after first-after
+same-first r (granted v) b h = refl
+same-first r (written d) b h = absurd (not-written r d h)
+same-first r (waits w) b h = refl
+same-first r (refused c) b h = refl
+same-first r (refused-at c i) b h = refl
+
+-- no document shown has more nodes than are held
+view-length : {A B K : Type 0} (seen : A → Bool) (g : A → B) (key : B → K) (p : List K) (e : ℕ) (f : Forest A) → length (rows key p (view seen g f)) ≤ length (flat e f)
+unfolding rows view flat
+view-length seen g key p e nil = omega arith
+view-length seen g key p e (node a ks fs) =
+    go (seen a) (view-length seen g key (key (g a) ∷ p) (suc e) ks) (view-length seen g key p e fs)
+  where
+    go : (b : Bool) → length (rows key (key (g a) ∷ p) (view seen g ks)) ≤ length (flat (suc e) ks) → length (rows key p (view seen g fs)) ≤ length (flat e fs)
+        → length (rows key p (cond b (node (g a) (view seen g ks) (view seen g fs)) (view seen g fs))) ≤ length (flat e (node a ks fs))
+    go true h k =
+        omega (
+          arith,
+          length-append (rows key (key (g a) ∷ p) (view seen g ks)) (rows key p (view seen g fs)),
+          length-append (flat (suc e) ks) (flat e fs),
+        )
+    go false h k = omega (arith, length-append (flat (suc e) ks) (flat e fs))
+
+few-lines : {s : List ℕ} {M : State} → Holds s M → length (lines (committed-document M)) ≤ node-limit
+unfolding lines document-of
+few-lines {s} {M} h = omega (arith, view-length (shown (λ u. false)) (as-shown (λ u. false)) (λ (a : Node). a .number) [] 0 (M .tree), h .layout .many, h .layout .room, ap length (h .rows))
+
+-- what a granted write gave: the tests that it passed
+pub granted-write : (out : List ℕ) (d : Document) → outcome (code-of (writing (length out) d)) ≡ 0
+    → (xml.expressible d ≡ true) × (text-after d out ≡ filled (xml.write d) out)
+unfolding writing text-after code-of
+granted-write out d h = go (xml.expressible d) refl (leb (length (xml.write d)) (length out)) h
+  where
+    go : (p : Bool) → xml.expressible d ≡ p → (q : Bool)
+        → outcome (code-of (cond p (cond q (Count (length (xml.write d))) (Refused 13)) (Refused 14))) ≡ 0
+        → (xml.expressible d ≡ true) × (cond (p && q) (filled (xml.write d) out) out ≡ filled (xml.write d) out)
+    go true e true h = (e, refl)
+    go true e false h = absurd (omega arith)
+    go false e q h = absurd (omega arith)
+
+write-no-wait : (out : List ℕ) (d : Document) → outcome (code-of (writing (length out) d)) ≡ 1 → ⊥
+unfolding writing code-of
+write-no-wait out d h = go (xml.expressible d) (leb (length (xml.write d)) (length out)) h
+  where
+    go : (p q : Bool) → outcome (code-of (cond p (cond q (Count (length (xml.write d))) (Refused 13)) (Refused 14))) ≡ 1 → ⊥
+    go true true h = omega arith
+    go true false h = omega arith
+    go false q h = omega arith
+
+module _ (M : State) (x : Exchange) (r : Answer) (e : x .code ≡ code-of r) (b : Holds (x .state .before) M) where
+  step-meets : (c : Call) → contract.Step x r c → Listed (next c M .outcome) → Demand2 M x c
+  unfolding next
+  step-meets c h l = record {
+    held = b;
+    left = h .performed .state M b;
+    formed = holds-form (h .performed .state M b);
+    answer = e ∙ ap code-of (given (writing (length (x .first .before))));
+    first = h .first .filled M b ∙ same-first r (next c M .outcome) (x .first .before) given;
+    second = h .second .filled M b;
+    wait-set = λ t s room k w. waiting t s room M (value (x .code)) (ap (λ (y : Call). next y M .outcome) (sym k) ∙ tells x r e (next c M .outcome) l (given (λ d. Done)) .waiting w);
+    read-back = λ k g. absurd (not-written r (committed-document M) (λ w. given w ∙ ap (λ (y : Call). answer-of w (next y M .outcome)) k));
+  }
+    where
+      given : (w : Document → Answer) → r ≡ answer-of w (next c M .outcome)
+      given w = h .performed .answer M b w
+
+  start-meets : contract.Start x r → Demand2 M x start
+  unfolding next first-after lent-after first-lent second-lent is-wait
+  start-meets h = record {
+    held = b;
+    left = h .restarted .state (b .layout .size) M;
+    formed = holds-form (h .restarted .state (b .layout .size) M);
+    answer = e ∙ ap code-of (given (writing (length (x .first .before))));
+    first = h .first;
+    second = h .second;
+    wait-set = λ t s room k w. absurd (no-wait w);
+    read-back = λ k g. absurd (not-written r (committed-document M) (λ w. given w ∙ ap (λ (y : Call). answer-of w (next y M .outcome)) k));
+  }
+    where
+      given : (w : Document → Answer) → r ≡ answer-of w (next start M .outcome)
+      given w = h .restarted .answer (b .layout .size) M w
+
+      no-wait : outcome (x .code) ≡ 1 → ⊥
+      no-wait w = false≢true (ap is-wait (tells x r e (granted done) tt (given (λ d. Done)) .waiting w))
+
+  write-meets : contract.Write x r → legal (committed-document M) ≡ true → Demand2 M x write
+  unfolding next first-after lent-after answer-of
+  write-meets h l = record {
+    held = b;
+    left = rw (h .state) b;
+    formed = rw (h .state) (holds-form b);
+    answer = e ∙ ap code-of (h .written .answer M b);
+    first = h .written .filled M b;
+    second = h .second;
+    wait-set = λ t s room k w. absurd (write-no-wait (x .first .before) (committed-document M) (rw (e, h .written .answer M b) at w));
+    read-back = λ k g. read-back (committed-document M) l (granted-write (x .first .before) (committed-document M) (rw (e, h .written .answer M b) at g) .0) (few-lines b);
+  }
+
+  ensured-meets : (c : Call) → Listed (next c M .outcome) → legal (committed-document M) ≡ true → Ensured x r c → Demand2 M x c
+  unfolding Ensured
+  ensured-meets start l g h = start-meets h
+  ensured-meets write l g h = write-meets h g
+  ensured-meets (load i) l g h = step-meets (load i) h l
+  ensured-meets (begin t) l g h = step-meets (begin t) h l
+  ensured-meets (commit t) l g h = step-meets (commit t) h l
+  ensured-meets (abort t) l g h = step-meets (abort t) h l
+  ensured-meets (step t s room) l g h = step-meets (step t s room) h l
+
+-- on bytes that hold a state whose committed document is by the rules
+pub demand-2 : (M : State) (x : Exchange) (c : Call) → Contract x → MakesCall x c → Holds (x .state .before) M → legal (committed-document M) ≡ true → Demand2 M x c
+demand-2 M x c k m b g = ensured-meets M x (k .answer) (k .code) b c (listed m M) g (k .ensured c m)
+
+-- a granted write puts the text of the committed document before the rest of the buffer
+pub granted-text : (M : State) (x : Exchange) (c : Call) → Demand2 M x c → c ≡ write → outcome (x .code) ≡ 0
+    → x .first .after ≡ filled (xml.write (committed-document M)) (x .first .before)
+unfolding next first-after answer-of
+granted-text M x c h k g =
+    let o : next c M .outcome ≡ written (committed-document M) = ap (λ (y : Call). next y M .outcome) k in
+    let a : x .code ≡ code-of (writing (length (x .first .before)) (committed-document M)) = h .answer ∙ rw o in
+    h .first ∙ rw o (granted-write (x .first .before) (committed-document M) (rw a at g) .1)

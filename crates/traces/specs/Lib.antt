@@ -1,0 +1,5 @@
+pub mod Exchange
+pub mod Written
+pub mod Contract
+pub mod Theorem
+pub mod Laws

@@ -1,0 +1,111 @@
+-- What is claimed of every list of calls on one lent state: demands 1, 2 and 3. `delivered` (Laws/Main.antt) proves it from the contracts
+-- of the exported functions alone.
+use mathlib.Core.Path.{_≡_}
+use Prim.Native.Nat.{ℕ, _≤_}
+use mathlib.Core.Bool.{true}
+use mathlib.Core.List.{List, [], _∷_, _++_, List·Memᴰ}
+use lib.ListN.{length, drop}
+use Rattle.tree.specs.Steps.{Step}
+use Rattle.locks.specs.Needs.{needs}
+use Rattle.protocol.specs.State.{State, callers-document, committed-document}
+use Rattle.protocol.specs.Lent.{Room, filled, first-lent, second-lent}
+use Rattle.protocol.specs.Calls.{Call, step, write, Outcome, granted, written, waits, refused, refused-at, next}
+use Rattle.protocol.specs.History.{plain}
+use Rattle.protocol.specs.Answers.{code-of, answer-of, lent-after}
+use Rattle.layout.specs.Layout.{state-size}
+use Rattle.form.specs.Form.{form, Holds}
+use Rattle.serializability.specs.Theorem.{since-start, reached, WaitSet, Demand3}
+use Rattle.xml.specs.Writing as xml
+use Rattle.xml.specs.Laws.Expressible.{ReadBack}
+use Rattle.traces.specs.Exchange.{Request, Exchange, Memory, outcome, cause, value}
+use Rattle.traces.specs.Written.{writing, text-after}
+use Rattle.traces.specs.Contract.{MakesCall, Contract}
+
+-- lists of calls -----------------------------------------------------------------------
+
+-- each call meets its contract, and gets the state as the call before left it; s is the state at first
+abbrev pub Linked : List ℕ → List Exchange → Type 0
+Linked s [] = Unit {0}
+Linked s (x ∷ xs) = Contract x × (x .state .before ≡ s) × Linked (x .state .after) xs
+
+-- "the list begins with a granted start; its calls follow in every order, each with any arguments, waiting and refused ones too"
+pub record Trace (x : Exchange) (xs : List Exchange) : Type 0 where
+  pub starts : x .request ≡ Request.start
+  pub is-granted : outcome (x .code) ≡ 0
+  pub contract : Contract x
+  pub linked : Linked (x .state .after) xs
+
+-- the calls of protocol that were made
+pub data Made : List Exchange → List Call → Type 0 where
+  no-call : Made [] []
+  call-then : {x : Exchange} {xs : List Exchange} {c : Call} {cs : List Call} → MakesCall x c → Made xs cs → Made (x ∷ xs) (c ∷ cs)
+
+-- demand 1 -----------------------------------------------------------------------------
+
+abbrev pub Same : Memory → Type 0
+Same m = m .after ≡ m .before
+
+-- of one call, on any bytes
+pub record Demand1 (x : Exchange) : Type 0 where
+  -- granted, a wait, or a refusal by one of the fifteen causes
+  pub outcomes : outcome (x .code) ≤ 2
+  pub causes : outcome (x .code) ≡ 2 → (1 ≤ cause (x .code)) × (cause (x .code) ≤ 15)
+  pub no-cause : (outcome (x .code) ≡ 2 → ⊥) → cause (x .code) ≡ 0
+  -- a wait or a refusal: "left as it was: everything"
+  pub still : (outcome (x .code) ≡ 0 → ⊥) → Same (x .state) × Same (x .first) × Same (x .second)
+  -- bytes behind the state are never touched
+  pub long : length (x .state .after) ≡ length (x .state .before)
+  pub behind : drop state-size (x .state .after) ≡ drop state-size (x .state .before)
+
+-- demand 2 -----------------------------------------------------------------------------
+
+-- the first buffer afterwards, by the definitions; it held b
+unfoldable pub first-after : Outcome → List ℕ → List ℕ
+first-after (granted v) b = filled (first-lent v) b
+first-after (written d) b = text-after d b
+first-after (waits set) b = b
+first-after (refused cause) b = b
+first-after (refused-at cause offset) b = b
+
+-- of the call c in the state M
+pub record Demand2 (M : State) (x : Exchange) (c : Call) : Type 0 where
+  -- the bytes hold M, and then the definition's next state; they are of the form, so 13 is never given for the state
+  pub held : Holds (x .state .before) M
+  pub left : Holds (x .state .after) (next c M .state)
+  pub formed : form (x .state .after) ≡ true
+  -- the answer is the definition's, and so is what stands in the buffers
+  pub answer : x .code ≡ code-of (answer-of (writing (length (x .first .before))) (next c M .outcome))
+  pub first : x .first .after ≡ first-after (next c M .outcome) (x .first .before)
+  pub second : x .second .after ≡ lent-after second-lent (next c M .outcome) (x .second .before)
+  -- a wait names exactly the open transactions that hold a clashing mode
+  pub wait-set : (t : ℕ) (s : Step) (room : Room) → c ≡ step t s room → outcome (x .code) ≡ 1
+      → WaitSet (value (x .code)) t (needs s (callers-document t (M .tree))) M
+  -- what a granted write gave is read back as the same tree, numbered anew
+  pub read-back : c ≡ write → outcome (x .code) ≡ 0 → ReadBack (committed-document M)
+
+-- demand 3 -----------------------------------------------------------------------------
+
+-- "a granted write gives what writing the plain document of the calls before it gives"
+abbrev pub WritesPlain : State → List Call → Exchange → Call → Type 0
+WritesPlain M before x c = c ≡ write → outcome (x .code) ≡ 0 → x .first .after ≡ filled (xml.write (plain (since-start M before))) (x .first .before)
+
+-- all of them --------------------------------------------------------------------------
+
+-- each exchange with its call, and with the calls before it
+abbrev pub Each : (List Call → Exchange → Call → Type 0) → List Call → List Exchange → List Call → Type 0
+Each P before [] [] = Unit {0}
+Each P before [] (c ∷ cs) = ⊥
+Each P before (x ∷ xs) [] = ⊥
+Each P before (x ∷ xs) (c ∷ cs) = P before x c × Each P (before ++ (c ∷ [])) xs cs
+
+-- of the calls that x, a granted start, and xs make. M is any state: the definition's start leads from each to the same
+pub record Delivered (M : State) (x : Exchange) (xs : List Exchange) : Type 0 where
+  -- the calls that xs makes: these and no others
+  pub calls : List Call
+  pub made : Made xs calls
+  pub only : (cs : List Call) → Made xs cs → cs ≡ calls
+  pub demand-1 : (y : Exchange) → List·Memᴰ y (x ∷ xs) → Demand1 y
+  pub started : Holds (x .state .after) (reached M [])
+  pub demand-2 : Each (λ before y c. Demand2 (reached M before) y c) [] xs calls
+  pub demand-3 : Demand3 M calls
+  pub writes : Each (WritesPlain M) [] xs calls

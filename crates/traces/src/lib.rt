@@ -1,0 +1,1 @@
+// Lists of calls on lent bytes, and the theorem on them; there is no code here.
