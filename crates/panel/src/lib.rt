@@ -1,5 +1,5 @@
 // The calls of the library as C programs see them (include/noodlefen.h). Every contract is `Contract` of traces/specs/Contract.antt.
-ghost use Rattle.traces.specs.Exchange.{Request, with-none};
+ghost use Rattle.traces.specs.Exchange.{Request, with-none, with-one, with-two};
 ghost use Rattle.traces.specs.Contract.{Contract};
 
 // The state is set to the beginning.
@@ -44,5 +44,98 @@ pub extern "C" fn noodlefen_test(state: &mut [u8], t: u32, n: u16) -> u64
     ensures { λ r. ⌜ Contract (with-none (Request.test t n) (now (state .entry)) (now (state .exit)) r) ⌝ }
 {
     let answer = engine::test(state, t, n);
+    protocol::code(answer)
+}
+
+// C(n, k): the number and the kind of the k-th child of node n, or none.
+#[no_mangle]
+pub extern "C" fn noodlefen_child(state: &mut [u8], t: u32, n: u16, k: u32) -> u64
+    ensures { λ r. ⌜ Contract (with-none (Request.child t n k) (now (state .entry)) (now (state .exit)) r) ⌝ }
+{
+    let answer = read_steps::child(state, t, n, k);
+    protocol::code(answer)
+}
+
+// R(n): the content of node n, into out.
+#[no_mangle]
+pub extern "C" fn noodlefen_read(state: &mut [u8], t: u32, n: u16, out: &mut [u8]) -> u64
+    ensures { λ r. ⌜ Contract (with-one (Request.read t n) (now (state .entry)) (now (state .exit)) (now (out .entry)) (now (out .exit)) r) ⌝ }
+{
+    let answer = read_steps::read(state, t, n, out);
+    protocol::code(answer)
+}
+
+// U(n, bytes): node n has the bytes as its content.
+#[no_mangle]
+pub extern "C" fn noodlefen_update(state: &mut [u8], t: u32, n: u16, bytes: &[u8]) -> u64
+    ensures { λ r. ⌜ Contract (with-none (Request.update t n (now (bytes .entry))) (now (state .entry)) (now (state .exit)) r) ⌝ }
+{
+    let answer = write_steps::update(state, t, n, bytes);
+    protocol::code(answer)
+}
+
+// D(n): node n and all below it are deleted.
+#[no_mangle]
+pub extern "C" fn noodlefen_delete(state: &mut [u8], t: u32, n: u16) -> u64
+    ensures { λ r. ⌜ Contract (with-none (Request.delete t n) (now (state .entry)) (now (state .exit)) r) ⌝ }
+{
+    let answer = write_steps::delete(state, t, n);
+    protocol::code(answer)
+}
+
+// I(m, kind, bytes, n, k): a new node m becomes the k-th child of node n.
+#[no_mangle]
+pub extern "C" fn noodlefen_insert(
+    state: &mut [u8],
+    t: u32,
+    m: u16,
+    kind: u32,
+    bytes: &[u8],
+    n: u16,
+    k: u32,
+) -> u64
+    ensures { λ r. ⌜ Contract (with-none (Request.insert t m kind (now (bytes .entry)) n k) (now (state .entry)) (now (state .exit)) r) ⌝ }
+{
+    let answer = write_steps::insert(state, t, m, kind, bytes, n, k);
+    protocol::code(answer)
+}
+
+// TT(n): the numbers of node n and all below it, in document order.
+#[no_mangle]
+pub extern "C" fn noodlefen_test_tree(state: &mut [u8], t: u32, n: u16, numbers: &mut [u8]) -> u64
+    ensures { λ r. ⌜ Contract (with-one (Request.test-tree t n) (now (state .entry)) (now (state .exit)) (now (numbers .entry)) (now (numbers .exit)) r) ⌝ }
+{
+    let answer = read_steps::test_tree(state, t, n, numbers);
+    protocol::code(answer)
+}
+
+// RR(n): as TT, and a cell with the content of each.
+#[no_mangle]
+pub extern "C" fn noodlefen_read_tree(
+    state: &mut [u8],
+    t: u32,
+    n: u16,
+    numbers: &mut [u8],
+    cells: &mut [u8],
+) -> u64
+    ensures { λ r. ⌜ Contract (with-two (Request.read-tree t n) (now (state .entry)) (now (state .exit))
+        (now (numbers .entry)) (now (numbers .exit)) (now (cells .entry)) (now (cells .exit)) r) ⌝ }
+{
+    let answer = read_steps::read_tree(state, t, n, numbers, cells);
+    protocol::code(answer)
+}
+
+// UU(n, from, to): each element in the subtree of node n that is named so gets the other name.
+#[no_mangle]
+pub extern "C" fn noodlefen_rename_tree(
+    state: &mut [u8],
+    t: u32,
+    n: u16,
+    from: &[u8],
+    to: &[u8],
+) -> u64
+    ensures { λ r. ⌜ Contract (with-none (Request.rename-tree t n (now (from .entry)) (now (to .entry))) (now (state .entry)) (now (state .exit)) r) ⌝ }
+{
+    let answer = write_steps::rename_tree(state, t, n, from, to);
     protocol::code(answer)
 }
