@@ -1,8 +1,8 @@
 -- What is claimed of every list of calls on one lent state: demands 1, 2 and 3. `delivered` (Laws/Main.antt) proves it from the contracts
 -- of the exported functions alone.
 use mathlib.Core.Path.{_≡_}
-use Prim.Native.Nat.{ℕ, _≤_}
-use mathlib.Core.Bool.{true}
+use Prim.Native.Nat.{ℕ, _≤_, _<_}
+use mathlib.Core.Bool.{true, false}
 use mathlib.Core.List.{List, [], _∷_, _++_, List·Memᴰ}
 use lib.ListN.{length, drop}
 use Rattle.tree.specs.Steps.{Step}
@@ -12,6 +12,7 @@ use Rattle.protocol.specs.Lent.{Room, filled, first-lent, second-lent}
 use Rattle.protocol.specs.Calls.{Call, step, write, Outcome, granted, written, waits, refused, refused-at, next}
 use Rattle.protocol.specs.History.{plain}
 use Rattle.protocol.specs.Answers.{code-of, answer-of, lent-after}
+use Rattle.protocol.specs.declared.Answer.the-variants.{Refused}
 use Rattle.layout.specs.Layout.{state-size}
 use Rattle.form.specs.Form.{form, Holds}
 use Rattle.serializability.specs.Theorem.{since-start, reached, WaitSet, Demand3}
@@ -56,6 +57,15 @@ pub record Demand1 (x : Exchange) : Type 0 where
   -- bytes behind the state are never touched
   pub long : length (x .state .after) ≡ length (x .state .before)
   pub behind : drop state-size (x .state .after) ≡ drop state-size (x .state .before)
+
+-- bytes that no call left -------------------------------------------------------------
+
+-- "state bytes that are too short, or (except at start) not of the form written in docs/, give 13 before all else", and
+-- "1,048,576 bytes of state are never too short"; what a call left is of the form (`formed` below)
+pub record OtherBytes (x : Exchange) : Type 0 where
+  pub short : length (x .state .before) < state-size → x .code ≡ code-of (Refused 13)
+  pub unformed : form (x .state .before) ≡ false → (x .request ≡ Request.start → ⊥) → x .code ≡ code-of (Refused 13)
+  pub enough : x .request ≡ Request.start → 1048576 ≤ length (x .state .before) → outcome (x .code) ≡ 0
 
 -- demand 2 -----------------------------------------------------------------------------
 

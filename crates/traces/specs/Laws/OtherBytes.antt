@@ -1,0 +1,68 @@
+-- Calls on bytes that no call left: 13 before all else.
+use mathlib.Core.Path.{_≡_, refl, sym, ap, _∙_}
+use Prim.Native.Nat.{ℕ, _≤_, _<_}
+use mathlib.Core.Bool.{Bool, true, false}
+use mathlib.Core.List.{List}
+use native.Mathlib.Omega.{arith}
+use lib.ListN.{length}
+use Rattle.tree.specs.Steps.{done}
+use Rattle.protocol.specs.State.{start-state}
+use Rattle.protocol.specs.Lent.{Room}
+use Rattle.protocol.specs.Calls.{Call, start, load, begin, commit, abort, step, write, next}
+use Rattle.protocol.specs.Answers.{code-of, answer-of, granted-answer}
+use Rattle.protocol.specs.declared.Answer.{Answer}
+use Rattle.protocol.specs.declared.Answer.the-variants.{Done, Refused}
+use Rattle.layout.specs.Layout.{state-size}
+use Rattle.form.specs.Form.{form}
+use Rattle.form.specs.Laws.Holds.{form-layout}
+use Rattle.traces.specs.Exchange.{Request, Exchange, outcome}
+use Rattle.traces.specs.Contract.{Makes, makes-start, MakesCall, Ensured, Contract}
+use Rattle.traces.specs.Theorem.{OtherBytes}
+use Rattle.traces.specs.Laws.Causes.{makes-one}
+
+-- bytes that are too short are not of the form
+short-form : (s : List ℕ) → length s < state-size → form s ≡ false
+short-form s h = go (form s) refl
+  where
+    go : (f : Bool) → form s ≡ f → f ≡ false
+    go true e = let l = form-layout e .size in absurd (omega arith)
+    go false e = refl
+
+only-start : {room : Room} {q : Request} → Makes room q start → q ≡ Request.start
+only-start makes-start = refl
+
+module _ (x : Exchange) (r : Answer) where
+  unformed-answer : (c : Call) → MakesCall x c → Ensured x r c → form (x .state .before) ≡ false → (x .request ≡ Request.start → ⊥) → r ≡ Refused 13
+  unfolding Ensured
+  unformed-answer start m h f n = absurd (n (only-start m))
+  unformed-answer write m h f n = h .written .unformed f .0
+  unformed-answer (load i) m h f n = h .performed .unformed f .0
+  unformed-answer (begin t) m h f n = h .performed .unformed f .0
+  unformed-answer (commit t) m h f n = h .performed .unformed f .0
+  unformed-answer (abort t) m h f n = h .performed .unformed f .0
+  unformed-answer (step t s room) m h f n = h .performed .unformed f .0
+
+  short-answer : (c : Call) → Ensured x r c → length (x .state .before) < state-size → r ≡ Refused 13
+  unfolding Ensured
+  short-answer start h l = h .restarted .short l .0
+  short-answer write h l = h .written .unformed (short-form (x .state .before) l) .0
+  short-answer (load i) h l = h .performed .unformed (short-form (x .state .before) l) .0
+  short-answer (begin t) h l = h .performed .unformed (short-form (x .state .before) l) .0
+  short-answer (commit t) h l = h .performed .unformed (short-form (x .state .before) l) .0
+  short-answer (abort t) h l = h .performed .unformed (short-form (x .state .before) l) .0
+  short-answer (step t s room) h l = h .performed .unformed (short-form (x .state .before) l) .0
+
+  start-answer : Ensured x r start → 1048576 ≤ length (x .state .before) → r ≡ Done
+  unfolding Ensured next answer-of granted-answer
+  start-answer h l = h .restarted .answer (omega arith) start-state (λ d. Done)
+
+pub other-bytes : (x : Exchange) → Contract x → OtherBytes x
+unfolding code-of
+other-bytes x k = record {
+  short = λ l. k .code ∙ ap code-of (short-answer x (k .answer) (m .0) (k .ensured (m .0) (m .1)) l);
+  unformed = λ f n. k .code ∙ ap code-of (unformed-answer x (k .answer) (m .0) (m .1) (k .ensured (m .0) (m .1)) f n);
+  enough = λ q l. ap outcome (k .code ∙ ap code-of (start-answer x (k .answer) (k .ensured start (rw q makes-start)) l));
+}
+  where
+    m : (c : Call) × MakesCall x c
+    m = makes-one _ (x .request)
