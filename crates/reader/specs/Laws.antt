@@ -7,3 +7,4 @@ pub mod Attributes
 pub mod StartTags
 pub mod EndTags
 pub mod Children
+pub mod Root

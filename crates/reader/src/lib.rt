@@ -14,7 +14,8 @@ ghost use Rattle.reader.specs.Steps.{Run, Agreement, Refers, Character, 
 ghost use Rattle.reader.specs.Elements.{stack, Placed, Attributed, AttributeRead};
 ghost use Rattle.reader.specs.Elements.{Kept, AttributesRead, Named, ElementRead, EndRead};
 ghost use Rattle.reader.specs.Children.{opened, Behind, Beginning, Deep, ChildRead};
-ghost use Rattle.xml.specs.Laws.Automaton.{closed};
+ghost use Rattle.reader.specs.Prolog.{RootRead};
+ghost use Rattle.xml.specs.Laws.Automaton.{closed, prolog};
 
 // Of each byte: 3 a name's first byte, 2 another byte of a name, 1 another byte that may stand for itself, 0 any other.
 const CLASS: [u8; 256] = [
@@ -453,6 +454,12 @@ pub enum Child {
     Stopped(u8, usize),
 }
 
+// At the first byte of the root element's name, or the offset where there is none.
+pub enum Prolog {
+    Root(Cursor),
+    NoRoot(usize),
+}
+
 impl Cursor {
     // Over blanks.
     pub fn blanks(self, s: &[u8]) -> Cursor
@@ -812,5 +819,29 @@ impl Cursor {
             Read::Refused(x, j) => Child::Stopped(x, j),
             Read::Past(c, m) => c.tag(s, names, depth, m),
         }
+    }
+
+    // Blanks, the < of the root element and the first byte of its name.
+    pub fn root(self, s: &[u8]) -> Prolog
+        requires { ⌜ self .at ≤ length (now s) ⌝ }
+        ensures { λ r. ⌜ RootRead (now (s .entry)) prolog (self .at) r ⌝ }
+    {
+        let behind = self.blanks(s);
+        let at = behind.at;
+        if at >= s.len() {
+            return Prolog::NoRoot(at);
+        }
+        if s[at] != b'<' {
+            return Prolog::NoRoot(at);
+        }
+        let name = at + 1;
+        if name >= s.len() {
+            return Prolog::NoRoot(name);
+        }
+        let b = s[name];
+        if is_name_start(b) {
+            return Prolog::Root(Cursor { at: name });
+        }
+        Prolog::NoRoot(name)
     }
 }
