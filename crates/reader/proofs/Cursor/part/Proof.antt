@@ -7,7 +7,7 @@ use Rattle.reader.proofs.Cursor.part.Reads as reads
 use Rattle.reader.proofs.Cursor.part.Lts as lts
 use Rattle.reader.proofs.Cursor.blanks.Reads as blanks-reads
 use Rattle.reader.proofs.Cursor.slash.Reads as slash-reads
-use Rattle.reader.proofs.is_name_start.Reads as is-name-start-reads
+use Rattle.tree.proofs.name_start.Reads as name-start-reads
 
 -- src/lib.rt:326:13
 blanks-requires : tie.Need-blanks-requires
@@ -42,16 +42,16 @@ returns-4 : tie.Need-returns-4
 returns-4 c = part-joined _ _ _ (c .before .before .before .before .before .blanks .ensures) (c .before .before .before .before .if1 .left) (c .if4 .taken) (c .before .if3 .left) (c .before .before .if2 .left)
 
 -- src/lib.rt:341:12
-is-name-start-requires : tie.Need-is-name-start-requires
-is-name-start-requires c κs = search needs
+name-start-requires : tie.Need-name-start-requires
+name-start-requires c κs = search needs
 
 -- src/lib.rt:342:13
 returns-5 : tie.Need-returns-5
-returns-5 c = part-attribute _ _ _ (c .before .before .before .before .before .before .before .blanks .ensures) (c .before .before .before .before .before .before .if1 .left) (c .before .before .if4 .left) (sym (c .before .is-name-start .ensures) ∙ c .if5 .taken) _ refl
+returns-5 c = part-attribute _ _ _ (c .before .before .before .before .before .before .before .blanks .ensures) (c .before .before .before .before .before .before .if1 .left) (c .before .before .if4 .left) (sym (c .before .name-start .ensures) ∙ c .if5 .taken) _ refl
 
 -- src/lib.rt:321:5
 returns-6 : tie.Need-returns-6
-returns-6 c = part-wrong _ _ _ (c .before .before .before .before .before .before .before .blanks .ensures) (c .before .before .before .before .before .before .if1 .left) (c .before .before .if4 .left) (c .before .before .before .if3 .left) (c .before .before .before .before .if2 .left) (sym (c .before .is-name-start .ensures) ∙ c .if5 .left)
+returns-6 c = part-wrong _ _ _ (c .before .before .before .before .before .before .before .blanks .ensures) (c .before .before .before .before .before .before .if1 .left) (c .before .before .if4 .left) (c .before .before .before .if3 .left) (c .before .before .before .before .if2 .left) (sym (c .before .name-start .ensures) ∙ c .if5 .left)
 
 pub part-spec : {M : Type 1} → statement M
 part-spec =
@@ -65,6 +65,6 @@ part-spec =
     slash-requires
     returns-3
     returns-4
-    is-name-start-requires
+    name-start-requires
     returns-5
     returns-6)
