@@ -145,3 +145,6 @@ module _ {s : List ℕ} {t n c : ℕ} (r : Rejected s t n c) (st : Step) (on : t
 -- a step by the number that it was called with
 pub performed-as : {s s′ : List ℕ} {r : Answer} {t n m : ℕ} (st : ℕ → Step) (room : Room) → n ≡ m → Performed s s′ r (step t (st n) room) → Performed s s′ r (step t (st m) room)
 performed-as st room e h = rw (← e) h
+
+pub lent-as : {s b b′ : List ℕ} {t n m : ℕ} (st : ℕ → Step) (room : Room) (lent : Value → List ℕ) → n ≡ m → Lent lent s b b′ (step t (st n) room) → Lent lent s b b′ (step t (st m) room)
+lent-as st room lent e h = rw (← e) h

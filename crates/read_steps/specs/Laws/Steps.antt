@@ -1,0 +1,153 @@
+-- C, R, TT and RR on the node at p.
+use mathlib.Core.Path.{_≡_, refl, sym, ap, _∙_}
+use Prim.Native.Nat.{ℕ, zero, suc, _*_, _≤_, _<_}
+use mathlib.Core.Bool.{true, false, _&&_, and-false}
+use mathlib.Core.List.{List, [], _∷_, map}
+use native.Mathlib.Omega.{arith}
+use lib.ListN.{length, length-map}
+use lib.Dec.{leb}
+use borrow.Author.Tests.{eq-eqb, ne-eqb, le-leb, lt-leb}
+use Rattle.tree.specs.Content.{document-kind}
+use Rattle.tree.specs.Steps.{C, R, TT, RR, content-is, numbers-are, cells-are}
+use Rattle.tree.specs.Laws.Lists.{map-map}
+use Rattle.protocol.specs.Lent.{Room, list-bytes, cells, first-lent, second-lent, has-room, filled}
+use Rattle.protocol.specs.State.{Marked}
+use Rattle.protocol.specs.Calls.{Call, step, refused}
+use Rattle.protocol.specs.Answers.{granted-answer}
+use Rattle.protocol.specs.declared.Answer.the-variants.{Count}
+use Rattle.layout.specs.Layout.{nodes, Layout}
+use Rattle.lookup.specs.Places.{item, number-of, subtree}
+use Rattle.lookup.specs.Found.{kth-child}
+use Rattle.edits.specs.Rows.{stepped}
+use Rattle.reading.specs.declared.Subtree.{Subtree}
+use Rattle.reading.specs.Subtree.{nodes-of, Selected}
+use Rattle.read_steps.specs.Numbers.{number-at}
+use Rattle.read_steps.specs.Laws.Lengths.{length-numbers, length-cells}
+use Rattle.engine.specs.Contract.{Performed, Lent, no-room, room-of, rooms-of}
+use Rattle.engine.specs.Admission.{Admitted}
+use Rattle.engine.specs.Laws.Outcomes.{Stays, Grants, performed-grants, lent-grants}
+use Rattle.engine.specs.Laws.Judgement.{stays-misfit}
+use Rattle.read_steps.specs.Laws.Reads.{Reads}
+
+module _ {s : List ℕ} {t p : ℕ} (a : Admitted s t p) where
+  pub reads-child : (k : ℕ) → Reads s t p (C (number-at s p) k)
+  unfolding stepped
+  reads-child k = record { fits = record { admitted = a; on = refl; fits = refl; new = refl }; placed = refl; spare = refl; rows = refl }
+
+  pub reads-numbers : Reads s t p (TT (number-at s p))
+  unfolding stepped
+  reads-numbers = record { fits = record { admitted = a; on = refl; fits = refl; new = refl }; placed = refl; spare = refl; rows = refl }
+
+  pub reads-cells : Reads s t p (RR (number-at s p))
+  unfolding stepped
+  reads-cells = record { fits = record { admitted = a; on = refl; fits = refl; new = refl }; placed = refl; spare = refl; rows = refl }
+
+  -- R, by the kind that was read
+  module _ (x : ℕ) (v : x ≡ item (nodes s) p .now .kind) where
+    pub reads-content : (x ≡ document-kind → ⊥) → Reads s t p (R (number-at s p))
+    unfolding stepped
+    reads-content n = record {
+      fits = record { admitted = a; on = refl; fits = rw (← v, ne-eqb x document-kind n); new = refl };
+      placed = refl;
+      spare = refl;
+      rows = refl;
+    }
+
+    -- 8
+    pub reads-document : (room : Room) → x ≡ document-kind → Stays s (refused 8) (step t (R (number-at s p)) room)
+    reads-document room e = stays-misfit a (R (number-at s p)) refl room 8 (rw (← v, eq-eqb x document-kind e)) (λ z. omega arith)
+
+-- room for the answer ----------------------------------------------------------------------
+
+fitting : (a b c d : ℕ) → a ≤ b → c ≤ d → (leb a b && leb c d) ≡ true
+fitting a b c d h k = rw (le-leb a b h, le-leb c d k)
+
+short-first : (a b c d : ℕ) → b < a → (leb a b && leb c d) ≡ false
+short-first a b c d h = rw (lt-leb a b h)
+
+short-second : (a b c d : ℕ) → d < c → (leb a b && leb c d) ≡ false
+short-second a b c d h = rw (lt-leb c d h) (and-false (leb a b))
+
+-- C has no lent buffer
+pub child-fits : (k : ℕ) (cs : List Marked) → has-room (kth-child k cs) no-room ≡ true
+unfolding kth-child first-lent second-lent
+child-fits k [] = refl
+child-fits zero (c ∷ cs) = refl
+child-fits (suc zero) (c ∷ cs) = refl
+child-fits (suc (suc k)) (c ∷ cs) = child-fits (suc k) cs
+
+-- R: n is the length of the content
+module _ {n : ℕ} (b o : List ℕ) (e : n ≡ length b) where
+  pub content-fits : n ≤ length o → has-room (content-is b) (room-of o) ≡ true
+  unfolding first-lent second-lent
+  content-fits h = fitting (length b) (length o) 0 0 (omega arith) (omega arith)
+
+  pub content-short : length o < n → has-room (content-is b) (room-of o) ≡ false
+  unfolding first-lent second-lent
+  content-short h = short-first (length b) (length o) 0 0 (omega arith)
+
+-- TT and RR: the nodes that they answer, and each with its content
+abbrev seen : List ℕ → ℕ → ℕ → List Marked
+seen s t p = subtree t (nodes s) p
+
+abbrev numbered : Marked → ℕ × List ℕ
+numbered a = (number-of a, a .now .content)
+
+-- by the subtree that was selected
+module _ (s : List ℕ) {t p : ℕ} {w : Subtree} (c : Selected (nodes s) t p w) where
+  numbers-long : length (list-bytes (map number-of (seen s t p))) ≡ 2 * (w .count)
+  numbers-long = length-numbers (seen s t p) ∙ rw (← c .many)
+
+  module _ (o : List ℕ) where
+    pub numbers-fit : 2 * (w .count) ≤ length o → has-room (numbers-are (map number-of (seen s t p))) (room-of o) ≡ true
+    unfolding first-lent second-lent
+    numbers-fit h = fitting (length (list-bytes (map number-of (seen s t p)))) (length o) 0 0 (omega (arith, numbers-long)) (omega arith)
+
+    pub numbers-short : length o < 2 * (w .count) → has-room (numbers-are (map number-of (seen s t p))) (room-of o) ≡ false
+    unfolding first-lent second-lent
+    numbers-short h = short-first (length (list-bytes (map number-of (seen s t p)))) (length o) 0 0 (omega (arith, numbers-long))
+
+  firsts : list-bytes (map (λ x. x .0) (map numbered (seen s t p))) ≡ list-bytes (map number-of (seen s t p))
+  firsts = ap list-bytes (map-map (λ x. x .0) numbered number-of (seen s t p) (λ a m. refl))
+
+  firsts-long : length (list-bytes (map (λ x. x .0) (map numbered (seen s t p)))) ≡ 2 * (w .count)
+  firsts-long = ap length firsts ∙ numbers-long
+
+  module _ (h : Layout s) (o q : List ℕ) where
+    cells-long : length (cells (map numbered (seen s t p))) ≡ 33 * (w .count)
+    cells-long = sym (ap (λ l. length (cells (map numbered l))) (c .nodes)) ∙ length-cells w h (c .inside)
+
+    pub cells-fit : 2 * (w .count) ≤ length o → 33 * (w .count) ≤ length q → has-room (cells-are (map numbered (seen s t p))) (rooms-of o q) ≡ true
+    unfolding first-lent second-lent
+    cells-fit i j = fitting _ (length o) _ (length q) (omega (arith, firsts-long)) (omega (arith, cells-long))
+
+    pub cells-short-first : length o < 2 * (w .count) → has-room (cells-are (map numbered (seen s t p))) (rooms-of o q) ≡ false
+    unfolding first-lent second-lent
+    cells-short-first i = short-first _ (length o) _ (length q) (omega (arith, firsts-long))
+
+    pub cells-short-second : length q < 33 * (w .count) → has-room (cells-are (map numbered (seen s t p))) (rooms-of o q) ≡ false
+    unfolding first-lent second-lent
+    cells-short-second j = short-second _ (length o) _ (length q) (omega (arith, cells-long))
+
+  numbers-filled : (o o′ : List ℕ) → o′ ≡ filled (list-bytes (map number-of (nodes-of (nodes s) w))) o → o′ ≡ filled (list-bytes (map number-of (seen s t p))) o
+  numbers-filled o o′ e = e ∙ ap (λ l. filled (list-bytes (map number-of l)) o) (c .nodes)
+
+  -- granted: the count, and the lent buffers
+  module _ {s′ : List ℕ} {call : Call} {o o′ : List ℕ} (e : o′ ≡ filled (list-bytes (map number-of (nodes-of (nodes s) w))) o) where
+    pub numbers-granted : Grants s s′ (numbers-are (map number-of (seen s t p))) call → Performed s s′ (Count (w .count)) call × Lent first-lent s o o′ call
+    unfolding granted-answer first-lent
+    numbers-granted g = (performed-grants g (Count (w .count)) (ap Count (c .many ∙ sym (length-map (seen s t p) number-of))), lent-grants g first-lent o o′ (numbers-filled o o′ e))
+
+    pub cells-granted : {q q′ : List ℕ} → q′ ≡ filled (cells (map numbered (nodes-of (nodes s) w))) q → Grants s s′ (cells-are (map numbered (seen s t p))) call
+        → Performed s s′ (Count (w .count)) call × Lent first-lent s o o′ call × Lent second-lent s q q′ call
+    unfolding granted-answer first-lent second-lent
+    cells-granted {q} {q′} i g = (
+      performed-grants g (Count (w .count)) (ap Count (c .many ∙ sym (length-map (seen s t p) numbered))),
+      lent-grants g first-lent o o′ (numbers-filled o o′ e ∙ ap (λ b. filled b o) (sym firsts)),
+      lent-grants g second-lent q q′ (i ∙ ap (λ l. filled (cells (map numbered l)) q) (c .nodes)),
+    )
+
+pub content-granted : {s s′ : List ℕ} {call : Call} {n : ℕ} {b o o′ : List ℕ} → Grants s s′ (content-is b) call → n ≡ length b → o′ ≡ filled b o
+    → Performed s s′ (Count n) call × Lent first-lent s o o′ call
+unfolding granted-answer first-lent
+content-granted {n = n} {o = o} {o′ = o′} g e i = (performed-grants g (Count n) (ap Count e), lent-grants g first-lent o o′ i)
