@@ -3,9 +3,6 @@ use Rattle.reader.specs.Laws.Characters.{plain-less-than, plain-ampersan
 use borrow.Author.Needs.{needs}
 use Rattle.reader.proofs.is_plain.Statement.{statement}
 use Rattle.reader.proofs.is_plain.Tie as tie
-use Rattle.reader.proofs.is_plain.Reads as reads
-use Rattle.reader.proofs.is_plain.Lts as lts
-use Rattle.tree.proofs.text_byte.Reads as text-byte-reads
 
 returns : tie.Need-returns
 returns c = plain-less-than _ (c .if1 .taken)
