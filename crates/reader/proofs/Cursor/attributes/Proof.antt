@@ -90,7 +90,8 @@ returns-4 c =
     let attribute = c .before .before .before .attribute in (
       attributes-bad _ _ _ _ _ _ _ _ (loop .inv .7) (loop .inv .0) (loop .inv .2) (loop .inv .3)
           (subst (λ (r : Part). TagRead (args .s .now) behind-part (loop .i) r) (c3 .given .1) (part .ensures))
-          (subst (λ (r : Read). AttributeRead (args .s .now) (stack (args .s .now) (loop .names) (args .lo) (loop .count)) (c3 .given .0 .0 .at) (loop .n) r) (c .before .x .given .1) (attribute .ensures)),
+          (subst (λ (r : Read). AttributeRead (args .s .now) (stack (args .s .now) (loop .names) (args .lo) (loop .count)) (c3 .given .0 .0 .at) (loop .n) r) (c .before .x .given .1)
+          (attribute .ensures)),
       loop .inv .6,
     )
 
@@ -119,7 +120,8 @@ loop-less c =
     let p = attribute-here _ (loop .inv .3) (subst (λ (r : Part). TagRead (args .s .now) behind-part (loop .i) r) (c3 .given .1) (part .ensures)) in
     let a =
     attribute-behind
-    (subst (λ (r : Read). AttributeRead (args .s .now) (stack (args .s .now) (loop .names) (args .lo) (loop .count)) (c3 .given .0 .0 .at) (loop .n) r) (c .before .next .given .1) (attribute .ensures)) in
+    (subst (λ (r : Read). AttributeRead (args .s .now) (stack (args .s .now) (loop .names) (args .lo) (loop .count)) (c3 .given .0 .0 .at) (loop .n) r) (c .before .next .given .1)
+    (attribute .ensures)) in
     omega (arith, p .1, a .0, a .1)
 
 loop-again : tie.Need-loop-again Inv-loop μ-loop
