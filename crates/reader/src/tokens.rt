@@ -3,6 +3,7 @@ use super::Cursor;
 use super::Reference;
 use super::agreement;
 use super::is_blank;
+use super::is_name_byte;
 use super::peek;
 ghost use Prim.Native.Nat.{_<_, _≤_};
 ghost use lib.ListN.{length, drop};
@@ -36,7 +37,7 @@ impl Cursor {
         let mut i = self.at;
         while i < s.len() {
             let b = s[i];
-            if !tree::name_byte(b) {
+            if !is_name_byte(b) {
                 break;
             }
             i += 1;
