@@ -2,9 +2,6 @@ use Rattle.judging.specs.Laws.Element.{epilog-wrong, epilog-over}
 use borrow.Author.Needs.{needs}
 use Rattle.judging.proofs.behind_root.Statement.{statement}
 use Rattle.judging.proofs.behind_root.Tie as tie
-use Rattle.judging.proofs.behind_root.Reads as reads
-use Rattle.judging.proofs.behind_root.Lts as lts
-use Rattle.reader.proofs.Cursor.blanks.Reads as blanks-reads
 
 blanks-requires : tie.Need-blanks-requires
 blanks-requires c κs = search needs

@@ -2,10 +2,6 @@ use Rattle.judging.specs.Laws.Declaration.{declared-whole, declared-part
 use borrow.Author.Needs.{needs}
 use Rattle.judging.proofs.declared.Statement.{statement}
 use Rattle.judging.proofs.declared.Tie as tie
-use Rattle.judging.proofs.declared.Reads as reads
-use Rattle.judging.proofs.declared.Lts as lts
-use Rattle.reader.proofs.Cursor.root.Reads as root-reads
-use Rattle.reader.proofs.agreement.Reads as agreement-reads
 
 agreement-requires : tie.Need-agreement-requires
 agreement-requires c κs = search needs

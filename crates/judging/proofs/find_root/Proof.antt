@@ -3,11 +3,6 @@ use Rattle.judging.specs.Laws.Declaration.{start-plain, start-short, sta
 use borrow.Author.Needs.{needs}
 use Rattle.judging.proofs.find_root.Statement.{statement}
 use Rattle.judging.proofs.find_root.Tie as tie
-use Rattle.judging.proofs.find_root.Reads as reads
-use Rattle.judging.proofs.find_root.Lts as lts
-use Rattle.judging.proofs.declared.Reads as declared-reads
-use Rattle.reader.proofs.Cursor.root.Reads as root-reads
-use Rattle.reader.proofs.peek.Reads as peek-reads
 
 peek-requires : tie.Need-peek-requires
 peek-requires c κs = search needs
@@ -37,8 +32,14 @@ declared-requires : tie.Need-declared-requires
 declared-requires c κs = search needs
 
 returns-3 : tie.Need-returns-3
-returns-3 c = start-short _ (sym (c .before .before .before .before .before .before .before .peek .ensures) ∙ c .before .before .before .before .before .if1 .left) (sym (c .before .before .before .before .before .before .peek2 .ensures) ∙ c .before .before .before .before .if2 .left) (sym (c .before .before .before .peek3 .ensures) ∙ c .before .before .if3 .taken)
-    (c .declared .ensures)
+returns-3 c =
+    let peek = c .before .before .before .before .before .before .before .peek in
+    let peek2 = c .before .before .before .before .before .before .peek2 in
+    let if1 = c .before .before .before .before .before .if1 in
+    let if2 = c .before .before .before .before .if2 in
+    let peek3 = c .before .before .before .peek3 in
+    let if3 = c .before .before .if3 in
+    start-short _ (sym (peek .ensures) ∙ if1 .left) (sym (peek2 .ensures) ∙ if2 .left) (sym (peek3 .ensures) ∙ if3 .taken) (c .declared .ensures)
 
 slice-aggregate-declared-2 : tie.Need-slice-aggregate-declared-2
 slice-aggregate-declared-2 c = search needs
@@ -47,8 +48,14 @@ declared-requires-2 : tie.Need-declared-requires-2
 declared-requires-2 c κs = search needs
 
 returns-4 : tie.Need-returns-4
-returns-4 c = start-long _ (sym (c .before .before .before .before .before .before .before .peek .ensures) ∙ c .before .before .before .before .before .if1 .left) (sym (c .before .before .before .before .before .before .peek2 .ensures) ∙ c .before .before .before .before .if2 .left) (λ e. c .before .before .if3 .left (c .before .before .before .peek3 .ensures ∙ e))
-    (c .declared2 .ensures)
+returns-4 c =
+    let peek = c .before .before .before .before .before .before .before .peek in
+    let peek2 = c .before .before .before .before .before .before .peek2 in
+    let if1 = c .before .before .before .before .before .if1 in
+    let if2 = c .before .before .before .before .if2 in
+    let peek3 = c .before .before .before .peek3 in
+    let if3 = c .before .before .if3 in
+    start-long _ (sym (peek .ensures) ∙ if1 .left) (sym (peek2 .ensures) ∙ if2 .left) (λ e. if3 .left (peek3 .ensures ∙ e)) (c .declared2 .ensures)
 
 pub find-root-spec : {M : Type 1} → statement M
 find-root-spec =

@@ -2,10 +2,6 @@ use Rattle.judging.specs.Laws.Whole.{taken-length, judged-long, judged-s
 use borrow.Author.Needs.{needs}
 use Rattle.judging.proofs.judge.Statement.{statement}
 use Rattle.judging.proofs.judge.Tie as tie
-use Rattle.judging.proofs.judge.Reads as reads
-use Rattle.judging.proofs.judge.Lts as lts
-use Rattle.judging.proofs.limit.Reads as limit-reads
-use Rattle.judging.proofs.unlimited.Reads as unlimited-reads
 
 slice-aggregate-first : tie.Need-slice-aggregate-first
 slice-aggregate-first c = taken-length 65537 (c .before .before .before .args .x .now) (c .before .if1 .taken)

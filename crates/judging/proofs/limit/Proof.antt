@@ -2,8 +2,6 @@ use Rattle.judging.specs.Laws.Whole.{limit-accepted, limit-long, limit-f
 use borrow.Author.Needs.{needs}
 use Rattle.judging.proofs.limit.Statement.{statement}
 use Rattle.judging.proofs.limit.Tie as tie
-use Rattle.judging.proofs.limit.Reads as reads
-use Rattle.judging.proofs.limit.Lts as lts
 
 enum-known-said : tie.Need-enum-known-said
 enum-known-said c = search needs

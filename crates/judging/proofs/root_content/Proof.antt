@@ -10,10 +10,6 @@ use Rattle.reader.specs.Children.{ChildRead}
 use Rattle.judging.specs.Laws.Element.{ContentTo, content-start, content-deep, content-stopped, content-turn, content-over}
 use Rattle.judging.proofs.root_content.Statement.{statement}
 use Rattle.judging.proofs.root_content.Tie as tie
-use Rattle.judging.proofs.root_content.Reads as reads
-use Rattle.judging.proofs.root_content.Lts as lts
-use Rattle.judging.proofs.behind_root.Reads as behind-root-reads
-use Rattle.reader.proofs.Cursor.child.Reads as child-reads
 
 abbrev Inv-loop : tie.InvT-loop
 Inv-loop s names₀ nodes i₀ depth₀ n₀ names i depth n = (i ≤ length s) × ContentTo s names₀ names i₀ nodes i depth n
@@ -31,26 +27,34 @@ enum-known-x : tie.Need-enum-known-x Inv-loop μ-loop
 enum-known-x c = search needs
 
 returns : tie.Need-returns Inv-loop μ-loop
-returns c = let a = c .before .before .before .before .before .before .before .before .args in
+returns c =
+    let a = c .before .before .before .before .before .before .before .before .args in
     let l = c .before .before .before .before .before .before .loop in
+    let child = c .before .before .before .child in
     content-stopped _ _ _ _ _ _ _ _ (l .inv .1)
-    (subst (λ (r : Child). ChildRead (a .s .now) (closed (stack (a .s .now) (l .names) 0 (l .depth))) (l .i) (l .n) (c .before .before .before .child .last .1 .1 .0) r) (c .before .x .given .1) (c .before .before .before .child .ensures))
+    (subst (λ (r : Child). ChildRead (a .s .now) (closed (stack (a .s .now) (l .names) 0 (l .depth))) (l .i) (l .n) (child .last .1 .1 .0) r) (c .before .x .given .1) (child .ensures))
 
 enum-known-next : tie.Need-enum-known-next Inv-loop μ-loop
 enum-known-next c = search needs
 
 loop-less : tie.Need-loop-less Inv-loop μ-loop
-loop-less c = let a = c .before .before .before .before .before .before .before .before .args in
+loop-less c =
+    let a = c .before .before .before .before .before .before .before .before .args in
     let l = c .before .before .before .before .before .before .loop in
-    let z = content-turn _ _ _ _ _ _ _ _ (l .inv .1)
-    (subst (λ (r : Child). ChildRead (a .s .now) (closed (stack (a .s .now) (l .names) 0 (l .depth))) (l .i) (l .n) (c .before .before .before .child .last .1 .1 .0) r) (c .before .next .given .1) (c .before .before .before .child .ensures)) in
+    let child = c .before .before .before .child in
+    let z =
+    content-turn _ _ _ _ _ _ _ _ (l .inv .1)
+    (subst (λ (r : Child). ChildRead (a .s .now) (closed (stack (a .s .now) (l .names) 0 (l .depth))) (l .i) (l .n) (child .last .1 .1 .0) r) (c .before .next .given .1) (child .ensures)) in
     omega (arith, z .1, z .2)
 
 loop-again : tie.Need-loop-again Inv-loop μ-loop
-loop-again c = let a = c .before .before .before .before .before .before .before .before .args in
+loop-again c =
+    let a = c .before .before .before .before .before .before .before .before .args in
     let l = c .before .before .before .before .before .before .loop in
-    let z = content-turn _ _ _ _ _ _ _ _ (l .inv .1)
-    (subst (λ (r : Child). ChildRead (a .s .now) (closed (stack (a .s .now) (l .names) 0 (l .depth))) (l .i) (l .n) (c .before .before .before .child .last .1 .1 .0) r) (c .before .next .given .1) (c .before .before .before .child .ensures)) in
+    let child = c .before .before .before .child in
+    let z =
+    content-turn _ _ _ _ _ _ _ _ (l .inv .1)
+    (subst (λ (r : Child). ChildRead (a .s .now) (closed (stack (a .s .now) (l .names) 0 (l .depth))) (l .i) (l .n) (child .last .1 .1 .0) r) (c .before .next .given .1) (child .ensures)) in
     (z .2, z .0)
 
 behind-root-requires : tie.Need-behind-root-requires Inv-loop μ-loop

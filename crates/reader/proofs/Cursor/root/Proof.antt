@@ -3,10 +3,6 @@ use mathlib.Core.Path.{refl, sym, _∙_}
 use borrow.Author.Needs.{needs}
 use Rattle.reader.proofs.Cursor.root.Statement.{statement}
 use Rattle.reader.proofs.Cursor.root.Tie as tie
-use Rattle.reader.proofs.Cursor.root.Reads as reads
-use Rattle.reader.proofs.Cursor.root.Lts as lts
-use Rattle.reader.proofs.Cursor.blanks.Reads as blanks-reads
-use Rattle.tree.proofs.name_start.Reads as name-start-reads
 
 blanks-requires : tie.Need-blanks-requires
 blanks-requires c κs = search needs
@@ -29,14 +25,24 @@ returns-3 c = name-over _ _ _ (c .before .before .before .before .blanks .ensure
 shared-slice-read-b : tie.Need-shared-slice-read-b
 shared-slice-read-b c = search needs
 
-name-start-requires : tie.Need-name-start-requires
-name-start-requires c κs = search needs
+is-name-start-requires : tie.Need-is-name-start-requires
+is-name-start-requires c κs = search needs
 
 returns-4 : tie.Need-returns-4
-returns-4 c = name-right _ _ _ (c .before .before .before .before .before .before .before .blanks .ensures) (c .before .before .before .before .before .before .if1 .left) (c .before .before .before .before .if2 .left) (c .before .before .before .if3 .left) _ (sym (c .before .name-start .ensures) ∙ c .if4 .taken) refl
+returns-4 c =
+    let blanks = c .before .before .before .before .before .before .before .blanks in
+    let if1 = c .before .before .before .before .before .before .if1 in
+    let if2 = c .before .before .before .before .if2 in
+    let if3 = c .before .before .before .if3 in
+    name-right _ _ _ (blanks .ensures) (if1 .left) (if2 .left) (if3 .left) _ (sym (c .before .is-name-start .ensures) ∙ c .if4 .taken) refl
 
 returns-5 : tie.Need-returns-5
-returns-5 c = name-wrong _ _ _ (c .before .before .before .before .before .before .before .blanks .ensures) (c .before .before .before .before .before .before .if1 .left) (c .before .before .before .before .if2 .left) (c .before .before .before .if3 .left) (sym (c .before .name-start .ensures) ∙ c .if4 .left)
+returns-5 c =
+    let blanks = c .before .before .before .before .before .before .before .blanks in
+    let if1 = c .before .before .before .before .before .before .if1 in
+    let if2 = c .before .before .before .before .if2 in
+    let if3 = c .before .before .before .if3 in
+    name-wrong _ _ _ (blanks .ensures) (if1 .left) (if2 .left) (if3 .left) (sym (c .before .is-name-start .ensures) ∙ c .if4 .left)
 
 pub root-spec : {M : Type 1} → statement M
 root-spec =
@@ -49,6 +55,6 @@ root-spec =
     add-name
     returns-3
     shared-slice-read-b
-    name-start-requires
+    is-name-start-requires
     returns-4
     returns-5)
