@@ -1,16 +1,12 @@
 use borrow.Author.Needs.{needs}
-use native.Mathlib.Omega.{arith}
-use Prim.Native.Nat.{ℕ, _+_, _-_, _≤_, _<_}
-use mathlib.Core.Path.{_≡_, sym, _∙_}
+use Prim.Native.Nat.{_-_, _≤_}
+use mathlib.Core.Path.{sym, _∙_}
 use borrow.Author.Tests.{not-true, not-false}
 use lib.ListN.{length}
 use Rattle.tree.specs.Content.{name-byte}
 use Rattle.reader.specs.Laws.Runs.{Running, run-start, run-turn, run-stop, run-end}
 use Rattle.reader.proofs.Cursor.name.Statement.{statement}
 use Rattle.reader.proofs.Cursor.name.Tie as tie
-use Rattle.reader.proofs.Cursor.name.Reads as reads
-use Rattle.reader.proofs.Cursor.name.Lts as lts
-use Rattle.reader.proofs.is_name_byte.Reads as is-name-byte-reads
 
 abbrev Inv-loop : tie.InvT-loop
 Inv-loop s i₀ i = (i ≤ length s) × Running name-byte s i₀ i
