@@ -5,6 +5,7 @@ use mathlib.Core.Bool.{Bool, true, false, cond, _&&_, false≢true}
 use mathlib.Core.List.{List, [], _∷_}
 use native.Mathlib.Omega.{arith}
 use lib.ListN.{length, drop, length-append}
+use lib.Seq.{take-append-seam}
 use lib.Dec.{leb}
 use borrow.Author.Tests.{leb-true, leb-false}
 use Rattle.tree.specs.Forest.{Forest, nil, node, rows, view}
@@ -28,7 +29,7 @@ use Rattle.traces.specs.Exchange.{Exchange, outcome, value}
 use Rattle.traces.specs.Written.{writing, text-after}
 use Rattle.traces.specs.Contract as contract
 use Rattle.traces.specs.Contract.{MakesCall, Ensured, Contract}
-use Rattle.traces.specs.Theorem.{Same, Demand1, first-after, Demand2}
+use Rattle.traces.specs.Theorem.{Same, Outcomes, first-after, Demand2}
 use Rattle.traces.specs.Laws.Codes.{Listed, Told, told, not-written}
 use Rattle.traces.specs.Laws.Causes.{makes-one, listed}
 
@@ -36,7 +37,7 @@ use Rattle.traces.specs.Laws.Causes.{makes-one, listed}
 
 -- by an outcome that the number tells
 told-demand : (x : Exchange) (o : Outcome) → Told (x .code) o → (is-granted o ≡ false → Same (x .state) × Same (x .first) × Same (x .second))
-    → length (x .state .after) ≡ length (x .state .before) → drop state-size (x .state .after) ≡ drop state-size (x .state .before) → Demand1 x
+    → length (x .state .after) ≡ length (x .state .before) → drop state-size (x .state .after) ≡ drop state-size (x .state .before) → Outcomes x
 told-demand x o t k l b = record {
   outcomes = t .outcomes;
   causes = t .causes;
@@ -64,10 +65,10 @@ module _ (x : Exchange) (r : Answer) (e : x .code ≡ code-of r) where
   tells : (o : Outcome) → Listed o → r ≡ answer-of (λ d. Done) o → Told (x .code) o
   tells o l f = rw (e, f) (told o l)
 
-  step-demand : (c : Call) → contract.Step x r c → ((M : State) → Listed (next c M .outcome)) → Demand1 x
+  step-demand : (c : Call) → contract.OnState x r c → ((M : State) → Listed (next c M .outcome)) → Outcomes x
   step-demand c h l = go (form (x .state .before)) refl
     where
-      go : (f : Bool) → form (x .state .before) ≡ f → Demand1 x
+      go : (f : Bool) → form (x .state .before) ≡ f → Outcomes x
       go false f =
           let u = h .performed .unformed f in
           told-demand x (refused 13) (rw (e, u .0) told-13) (λ _. (u .1, h .first .unformed f, h .second .unformed f)) (h .performed .long) (h .performed .behind)
@@ -82,11 +83,11 @@ module _ (x : Exchange) (r : Answer) (e : x .code ≡ code-of r) where
           ))
           (h .performed .long) (h .performed .behind)
 
-  start-demand : contract.Start x r → Demand1 x
+  start-demand : contract.Start x r → Outcomes x
   unfolding next answer-of
   start-demand h = go (leb state-size (length (x .state .before))) refl
     where
-      go : (f : Bool) → leb state-size (length (x .state .before)) ≡ f → Demand1 x
+      go : (f : Bool) → leb state-size (length (x .state .before)) ≡ f → Outcomes x
       go false f =
           let u = h .restarted .short (leb-false state-size (length (x .state .before)) f) in
           told-demand x (refused 13) (rw (e, u .0) told-13) (λ _. (u .1, h .first, h .second)) (h .restarted .long) (h .restarted .behind)
@@ -95,21 +96,21 @@ module _ (x : Exchange) (r : Answer) (e : x .code ≡ code-of r) where
           (λ g. absurd (false≢true (sym g))) (h .restarted .long) (h .restarted .behind)
 
   -- a write of d: its outcome as a number tells it, and what it leaves
-  writing-demand : (d : Document) → r ≡ writing (length (x .first .before)) d → x .first .after ≡ text-after d (x .first .before) → Same (x .state) → Same (x .second) → Demand1 x
+  writing-demand : (d : Document) → r ≡ writing (length (x .first .before)) d → x .first .after ≡ text-after d (x .first .before) → Same (x .state) → Same (x .second) → Outcomes x
   unfolding writing text-after answer-of granted-answer
   writing-demand d a f s k = go (xml.expressible d) (leb (length (xml.write d)) (length (x .first .before))) a f
     where
       go : (p q : Bool) → r ≡ cond p (cond q (Count (length (xml.write d))) (Refused 13)) (Refused 14)
-          → x .first .after ≡ cond (p && q) (filled (xml.write d) (x .first .before)) (x .first .before) → Demand1 x
+          → x .first .after ≡ cond (p && q) (filled (xml.write d) (x .first .before)) (x .first .before) → Outcomes x
       go true true a f =
           told-demand x (granted (how-many (length (xml.write d)))) (tells (granted (how-many (length (xml.write d)))) tt a) (λ g. absurd (false≢true (sym g))) (ap length s) (ap (drop state-size) s)
       go true false a f = told-demand x (refused 13) (tells (refused 13) (omega arith, omega arith) a) (λ _. (s, f, k)) (ap length s) (ap (drop state-size) s)
       go false q a f = told-demand x (refused 14) (tells (refused 14) (omega arith, omega arith) a) (λ _. (s, f, k)) (ap length s) (ap (drop state-size) s)
 
-  write-demand : contract.Write x r → Demand1 x
+  write-demand : contract.Write x r → Outcomes x
   write-demand h = go (form (x .state .before)) refl
     where
-      go : (f : Bool) → form (x .state .before) ≡ f → Demand1 x
+      go : (f : Bool) → form (x .state .before) ≡ f → Outcomes x
       go false f =
           let u = h .written .unformed f in
           told-demand x (refused 13) (rw (e, u .0) told-13) (λ _. (h .state, u .1, h .second)) (ap length (h .state)) (ap (drop state-size) (h .state))
@@ -117,7 +118,7 @@ module _ (x : Exchange) (r : Answer) (e : x .code ≡ code-of r) where
           let M = form-holds (x .state .before) f in
           writing-demand (committed-document (M .0)) (h .written .answer (M .0) (M .1)) (h .written .filled (M .0) (M .1)) (h .state) (h .second)
 
-  ensured-demand : (c : Call) → ((M : State) → Listed (next c M .outcome)) → Ensured x r c → Demand1 x
+  ensured-demand : (c : Call) → ((M : State) → Listed (next c M .outcome)) → Ensured x r c → Outcomes x
   unfolding Ensured
   ensured-demand start l h = start-demand h
   ensured-demand write l h = write-demand h
@@ -128,8 +129,8 @@ module _ (x : Exchange) (r : Answer) (e : x .code ≡ code-of r) where
   ensured-demand (step t s room) l h = step-demand (step t s room) h l
 
 -- on any bytes
-pub demand-1 : (x : Exchange) → Contract x → Demand1 x
-demand-1 x k = let m = makes-one _ (x .request) in ensured-demand x (k .answer) (k .code) (m .0) (listed (m .1)) (k .ensured (m .0) (m .1))
+pub outcomes-of : (x : Exchange) → Contract x → Outcomes x
+outcomes-of x k = let m = makes-one _ (x .request) in ensured-demand x (k .answer) (k .code) (m .0) (listed (m .1)) (k .ensured (m .0) (m .1))
 
 -- demand 2 ------------------------------------------------------------------------------
 
@@ -172,14 +173,15 @@ few-lines {s} {M} h = omega (arith, view-length (shown (λ u. false)) (as-shown 
 
 -- what a granted write gave: the tests that it passed
 pub granted-write : (out : List ℕ) (d : Document) → outcome (code-of (writing (length out) d)) ≡ 0
-    → (xml.expressible d ≡ true) × (text-after d out ≡ filled (xml.write d) out)
+    → (xml.expressible d ≡ true) × (text-after d out ≡ filled (xml.write d) out) × (value (code-of (writing (length out) d)) ≡ length (xml.write d))
 unfolding writing text-after code-of
 granted-write out d h = go (xml.expressible d) refl (leb (length (xml.write d)) (length out)) h
   where
     go : (p : Bool) → xml.expressible d ≡ p → (q : Bool)
         → outcome (code-of (cond p (cond q (Count (length (xml.write d))) (Refused 13)) (Refused 14))) ≡ 0
         → (xml.expressible d ≡ true) × (cond (p && q) (filled (xml.write d) out) out ≡ filled (xml.write d) out)
-    go true e true h = (e, refl)
+        × (value (code-of (cond p (cond q (Count (length (xml.write d))) (Refused 13)) (Refused 14))) ≡ length (xml.write d))
+    go true e true h = (e, refl, omega arith)
     go true e false h = absurd (omega arith)
     go false e q h = absurd (omega arith)
 
@@ -193,7 +195,7 @@ write-no-wait out d h = go (xml.expressible d) (leb (length (xml.write d)) (leng
     go false q h = omega arith
 
 module _ (M : State) (x : Exchange) (r : Answer) (e : x .code ≡ code-of r) (b : Holds (x .state .before) M) where
-  step-meets : (c : Call) → contract.Step x r c → Listed (next c M .outcome) → Demand2 M x c
+  step-meets : (c : Call) → contract.OnState x r c → Listed (next c M .outcome) → Demand2 M x c
   unfolding next
   step-meets c h l = record {
     held = b;
@@ -202,6 +204,7 @@ module _ (M : State) (x : Exchange) (r : Answer) (e : x .code ≡ code-of r) (b 
     answer = e ∙ ap code-of (given (writing (length (x .first .before))));
     first = h .first .filled M b ∙ same-first r (next c M .outcome) (x .first .before) given;
     second = h .second .filled M b;
+    grants = λ _. tells x r e (next c M .outcome) l (given (λ d. Done)) .grants;
     wait-set = λ t s room k w. waiting t s room M (value (x .code)) (ap (λ (y : Call). next y M .outcome) (sym k) ∙ tells x r e (next c M .outcome) l (given (λ d. Done)) .waiting w);
     read-back = λ k g. absurd (not-written r (committed-document M) (λ w. given w ∙ ap (λ (y : Call). answer-of w (next y M .outcome)) k));
   }
@@ -218,6 +221,7 @@ module _ (M : State) (x : Exchange) (r : Answer) (e : x .code ≡ code-of r) (b 
     answer = e ∙ ap code-of (given (writing (length (x .first .before))));
     first = h .first;
     second = h .second;
+    grants = λ _. tells x r e (granted done) tt (given (λ d. Done)) .grants;
     wait-set = λ t s room k w. absurd (no-wait w);
     read-back = λ k g. absurd (not-written r (committed-document M) (λ w. given w ∙ ap (λ (y : Call). answer-of w (next y M .outcome)) k));
   }
@@ -237,8 +241,11 @@ module _ (M : State) (x : Exchange) (r : Answer) (e : x .code ≡ code-of r) (b 
     answer = e ∙ ap code-of (h .written .answer M b);
     first = h .written .filled M b;
     second = h .second;
+    grants = λ n. absurd (n refl);
     wait-set = λ t s room k w. absurd (write-no-wait (x .first .before) (committed-document M) (rw (e, h .written .answer M b) at w));
-    read-back = λ k g. read-back (committed-document M) l (granted-write (x .first .before) (committed-document M) (rw (e, h .written .answer M b) at g) .0) (few-lines b);
+    read-back = λ k g.
+        let w = granted-write (x .first .before) (committed-document M) (rw (e, h .written .answer M b) at g) in
+        (rw (e, h .written .answer M b, w .2, h .written .filled M b, w .1) (take-append-seam (xml.write (committed-document M)) (drop (length (xml.write (committed-document M))) (x .first .before))), read-back (committed-document M) l (w .0) (few-lines b));
   }
 
   ensured-meets : (c : Call) → Listed (next c M .outcome) → legal (committed-document M) ≡ true → Ensured x r c → Demand2 M x c
