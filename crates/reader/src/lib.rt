@@ -190,14 +190,13 @@ fn same_name(s: &[u8], from: usize, to: usize, other: usize) -> bool
     requires { ⌜ (from ≤ to) × (other ≤ length (now s)) × Run name-byte (now s) from to ⌝ }
     ensures { λ r. ⌜ r ≡ same (name-at (now (s .entry)) other) (name-at (now (s .entry)) from) ⌝ }
 {
-    let start = Cursor { at: other };
-    let end = start.name(s);
-    let n = end.at - other;
+    let word = &s[from..to];
+    let n = agreement(s, other, word);
     if n != to - from {
         return false;
     }
-    let word = &s[from..to];
-    agreement(s, other, word) == n
+    let next = peek(s, other + n);
+    !is_name_byte(next)
 }
 
 // Whether a name is among the count names whose offsets stand from lo on.
