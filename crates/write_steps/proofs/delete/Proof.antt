@@ -1,0 +1,45 @@
+use mathlib.Core.Path.{refl}
+use Rattle.tree.specs.Steps.{D}
+use Rattle.engine.specs.Contract.{no-room}
+use Rattle.engine.specs.Laws.Admission.{admission-at, admission-refused, performed-rejected, performed-as}
+use borrow.Author.Needs.{needs}
+use Rattle.write_steps.proofs.delete.Statement.{statement}
+use Rattle.write_steps.proofs.delete.Tie as tie
+
+admit-requires : tie.Need-admit-requires
+admit-requires c κs = search needs
+
+enum-known-place : tie.Need-enum-known-place
+enum-known-place c = search needs
+
+enum-known-place-2 : tie.Need-enum-known-place-2
+enum-known-place-2 c = search needs
+
+delete-at-requires : tie.Need-delete-at-requires
+delete-at-requires c κs = admission-at _ _ _ _ _ (c .before .before .place2 .given .1) (c .before .before .before .before .admit .ensures) .0
+
+same-length : tie.Need-same-length
+same-length c = search needs
+
+returns : tie.Need-returns
+returns c = performed-rejected (admission-refused _ _ _ _ _ (c .before .place .given .1) (c .before .before .before .admit .ensures)) (D _) refl no-room
+
+same-length-2 : tie.Need-same-length-2
+same-length-2 c = search needs
+
+returns-2 : tie.Need-returns-2
+returns-2 c = performed-as D no-room (admission-at _ _ _ _ _ (c .before .before .before .before .before .place2 .given .1)
+    (c .before .before .before .before .before .before .before .admit .ensures) .1) (c .before .before .delete-at .ensures)
+
+pub delete-spec : {M : Type 1} → statement M
+delete-spec =
+    tie.close
+    (tie.spec
+    admit-requires
+    enum-known-place
+    enum-known-place-2
+    delete-at-requires
+    same-length
+    returns
+    same-length-2
+    returns-2)

@@ -1,0 +1,4 @@
+pub mod Ends
+pub mod Contents
+pub mod Renames
+pub mod Inserts
