@@ -14,7 +14,7 @@ use Rattle.layout.specs.Flat.{flat}
 use Rattle.layout.specs.Layout.{state-size, is-open, Entry, nodes, Layout, Left}
 use Rattle.xml.specs.Bytes.{ampersand, slash, equals-sign, greater-than, Quote, mark}
 use Rattle.xml.specs.Shape.{Label, Shape, element, attribute, text, size, longest, document}
-use Rattle.xml.specs.Grammar.{Name, Blanks, Named, Entity, Value, behind, inside, Part, Spells}
+use Rattle.xml.specs.Grammar.{Name, Blanks, Named, Entity, Value, behind, inside, Part, Root, Spells}
 use Rattle.reader.specs.declared.Cursor.{Cursor}
 
 -- rows -----------------------------------------------------------------------------------
@@ -173,6 +173,15 @@ pub record QuoteAt (x : List ℕ) (at : ℕ) (c : Cursor) : Type 0 where
 pub record EndsAt (x : List ℕ) (at : ℕ) (c : Cursor) : Type 0 where
   pub forward : at < c .at
   pub closes : (n : Name) {u t : List ℕ} → every name-byte n ≡ true → drop at x ≡ slash ∷ (n ++ u) → Blanks u (greater-than ∷ t) → (drop (c .at) x ≡ t) × (c .at ≤ length x)
+
+-- the root element, with the blanks around it, stands at i
+pub record Undeclared (x : List ℕ) (i : ℕ) : Type 0 where
+  pub root : {f : Shape} → Spells x f → (i ≤ length x) × Root true (drop i x) f
+
+-- c is at the name of the root element
+pub record RootAt (x : List ℕ) (c : Cursor) : Type 0 where
+  pub inside : {f : Shape} → Spells x f → c .at ≤ length x
+  pub root : {f : Shape} → Spells x f → AtElement 1 (drop (c .at) x) (listed 1 f [])
 
 -- the whole: node 0 alone before, and the document of the input after
 pub record Begun (x s : List ℕ) : Type 0 where

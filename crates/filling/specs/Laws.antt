@@ -4,3 +4,4 @@ pub mod Decoding
 pub mod Tokens
 pub mod Texts
 pub mod Places
+pub mod Prolog

@@ -6,7 +6,10 @@ ghost use mathlib.Core.List.{[], _∷_};
 ghost use Prim.Native.Nat.{_+_, _<_, _≤_};
 ghost use lib.ListN.{length};
 ghost use Rattle.layout.specs.Layout.{nodes, Layout};
+ghost use Rattle.xml.specs.Shape.{Shape};
+ghost use Rattle.xml.specs.Grammar.{Spells};
 ghost use Rattle.filling.specs.Fill.{Put, Decodes, Fits, TextPut, QuoteAt, EndsAt};
+ghost use Rattle.filling.specs.Fill.{Behind, InTag, AtAttribute, AtElement, Filling, Same, Undeclared, RootAt, Begun, Filled};
 
 const ELEMENT: u8 = 2;
 
@@ -96,4 +99,125 @@ fn end_tag(from: Cursor, x: &[u8]) -> Cursor
     let end = name.name(x);
     let close = end.blanks(x);
     Cursor { at: close.at + 1 }
+}
+
+// An attribute from the first byte of its name to behind its value.
+fn attribute(from: Cursor, s: &mut [u8], x: &[u8], depth: u16) -> Cursor
+    requires { ⌜ Filling AtAttribute (now x) (now s) (from .at) depth ⌝ }
+    ensures { λ r. ⌜ Filling InTag (now (x .entry)) (now (s .exit)) (r .at) depth × Same (now (s .entry)) (now (s .exit)) × (from .at < r .at) ⌝ }
+{
+    let at = from.at;
+    let end = from.name(x);
+    let to = end.at;
+    let name = &x[at..to];
+    put(s, depth, ATTRIBUTE, name);
+    let open = quote(end, x);
+    let i = open.at;
+    let stop = x[i];
+    let value = Cursor { at: i + 1 };
+    text(value, s, x, stop, depth + 1)
+}
+
+// Behind a tag: the cursor, and the depth of the nodes there.
+pub struct Level {
+    pub at: usize,
+    pub depth: u16,
+}
+
+// A start tag from behind its name on; attributes and children are at this depth.
+fn attributes(from: Cursor, s: &mut [u8], x: &[u8], depth: u16) -> Level
+    requires { ⌜ Filling InTag (now x) (now s) (from .at) depth ⌝ }
+    ensures { λ r. ⌜ Filling Behind (now (x .entry)) (now (s .exit)) (r .at) (r .depth) × Same (now (s .entry)) (now (s .exit)) × (from .at < r .at) ⌝ }
+{
+    let mut i = from.at;
+    loop {
+        let here = Cursor { at: i };
+        let next = here.blanks(x);
+        let at = next.at;
+        let b = reader::peek(x, at);
+        if b == b'>' {
+            return Level { at: at + 1, depth };
+        }
+        if b == b'/' {
+            return Level { at: at + 2, depth: depth - 1 };
+        }
+        let behind = attribute(next, s, x, depth);
+        i = behind.at;
+    }
+}
+
+// A start tag from the first byte of its name on.
+fn start_tag(from: Cursor, s: &mut [u8], x: &[u8], depth: u16) -> Level
+    requires { ⌜ Filling AtElement (now x) (now s) (from .at) depth ⌝ }
+    ensures { λ r. ⌜ Filling Behind (now (x .entry)) (now (s .exit)) (r .at) (r .depth) × Same (now (s .entry)) (now (s .exit)) × (from .at < r .at) ⌝ }
+{
+    let at = from.at;
+    let end = from.name(x);
+    let to = end.at;
+    let name = &x[at..to];
+    put(s, depth, ELEMENT, name);
+    attributes(end, s, x, depth + 1)
+}
+
+// A text, which may be empty, and the tag behind it.
+fn child(from: Cursor, s: &mut [u8], x: &[u8], depth: u16) -> Level
+    requires { ⌜ Filling Behind (now x) (now s) (from .at) depth × (1 < depth) ⌝ }
+    ensures { λ r. ⌜ Filling Behind (now (x .entry)) (now (s .exit)) (r .at) (r .depth) × Same (now (s .entry)) (now (s .exit)) × (from .at < r .at) ⌝ }
+{
+    let tag = text(from, s, x, b'<', depth);
+    let at = tag.at;
+    if reader::peek(x, at) == b'/' {
+        let end = end_tag(tag, x);
+        return Level { at: end.at, depth: depth - 1 };
+    }
+    start_tag(tag, s, x, depth)
+}
+
+// What stands behind an element, up to the end of the root element.
+fn children(from: Level, s: &mut [u8], x: &[u8])
+    requires { ⌜ Filling Behind (now x) (now s) (from .at) (from .depth) ⌝ }
+    ensures { λ r. ⌜ Filled (now (x .entry)) (now (s .entry)) (now (s .exit)) ⌝ }
+{
+    let mut at = from.at;
+    let mut depth = from.depth;
+    while 1 < depth {
+        let here = Cursor { at };
+        let next = child(here, s, x, depth);
+        at = next.at;
+        depth = next.depth;
+    }
+}
+
+// The offset behind the declaration, 0 where there is none.
+fn declaration(x: &[u8]) -> usize
+    ensures { λ r. ⌜ Undeclared (now (x .entry)) r ⌝ }
+{
+    if reader::peek(x, 1) != b'?' {
+        return 0;
+    }
+    if reader::peek(x, 19) == b'?' {
+        return 21;
+    }
+    38
+}
+
+// The name of the root element.
+fn root(x: &[u8]) -> Cursor
+    requires { ⌜ (f : Shape) × Spells (now x) f ⌝ }
+    ensures { λ r. ⌜ RootAt (now (x .entry)) r ⌝ }
+{
+    let at = declaration(x);
+    let start = Cursor { at };
+    let open = start.blanks(x);
+    Cursor { at: open.at + 1 }
+}
+
+// The table with node 0 alone filled with the nodes of the input.
+pub fn fill(s: &mut [u8], x: &[u8])
+    requires { ⌜ Begun (now x) (now s) ⌝ }
+    ensures { λ r. ⌜ Filled (now (x .entry)) (now (s .entry)) (now (s .exit)) ⌝ }
+{
+    let name = root(x);
+    let first = start_tag(name, s, x, 1);
+    children(first, s, x);
 }

@@ -104,6 +104,13 @@ module _ {x s : List ℕ} {at d : ℕ} (F : Filling AtAttribute x s at d) (to : 
         })
         (omega (arith, quote-there .0)) (omega (arith, F .deep))
 
+opened-rows : {d o : ℕ} {n : Name} {s t : List ℕ} {f : Shape} {l k : List Row} → d ≡ suc o → k ≡ listed d f l → every name-byte n ≡ true → Part true (inside n) s f t → Behind o t l → Behind d s k
+opened-rows e r h p z = rw (r, e) (behind-child h p z)
+
+emptied-rows : (d : ℕ) {e o : ℕ} {s t : List ℕ} {f : Shape} {l k : List Row} → k ≡ listed d f l → f ≡ nil → e ≡ o → s ≡ t → Behind o t l → Behind e s k
+unfolding listed
+emptied-rows d r n e u z = rw (r, n, e, u) z
+
 -- what comes next in a start tag ------------------------------------------------------------------
 
 module _ {x s : List ℕ} {i d : ℕ} (F : Filling InTag x s i d) (at : ℕ) (r : Run blank x i at) where
@@ -126,7 +133,7 @@ module _ {x s : List ℕ} {i d : ℕ} (F : Filling InTag x s i d) (at : ℕ) (r 
     pub tag-opened : Filling Behind x s (at + 1) d
     tag-opened =
         let y = open-part rest-there refl in
-        moved F (at + 1) d (rw (T .rows, T .below) (behind-child (T .spelled) (y .1) (T .after))) (omega (arith, y .0)) (F .deep)
+        moved F (at + 1) d (opened-rows (T .below) (T .rows) (T .spelled) (y .1) (T .after)) (omega (arith, y .0)) (F .deep)
 
   module _ (e : getD x at 0 ≡ slash) where
     empty-part : {y t : List ℕ} {f : Shape} → TagRest (T .name) y f t → drop at x ≡ y → (at + 1 < length x) × (drop (at + 2) x ≡ t) × (f ≡ nil)
@@ -142,11 +149,10 @@ module _ {x s : List ℕ} {i d : ℕ} (F : Filling InTag x s i d) (at : ℕ) (r 
         absurd (false≢true (ap name-start (sym e ∙ n) ∙ f .3))
 
     pub tag-emptied : Filling Behind x s (at + 2) (d - 1)
-    unfolding listed
     tag-emptied =
         let y = empty-part rest-there refl in
         let z : d - 1 ≡ T .outer = omega (arith, T .below) in
-        moved F (at + 2) (d - 1) (rw (y .1, z, T .rows, y .2) (T .after)) (omega (arith, y .0)) (omega (arith, F .deep))
+        moved F (at + 2) (d - 1) (emptied-rows d (T .rows) (y .2) z (y .1) (T .after)) (omega (arith, y .0)) (omega (arith, F .deep))
 
   module _ (n₁ : getD x at 0 ≡ greater-than → ⊥) (n₂ : getD x at 0 ≡ slash → ⊥) where
     attribute-part-at : {y t : List ℕ} {f : Shape} → TagRest (T .name) y f t → drop at x ≡ y → Behind (T .outer) t (T .later) → AtAttribute d (drop at x) (listed d f (T .later))

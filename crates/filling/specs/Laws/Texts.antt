@@ -27,8 +27,11 @@ put-none : {s : List ℕ} → Layout s → (d : ℕ) → Put s s (texts d [])
 unfolding texts
 put-none {s} h d = record { layout = h; long = refl; behind = refl; opens = refl; nodes = sym (rows-done s) }
 
-length-bytes : (n : ℕ) (b : List ℕ) → n ≤ content-limit → length b ≡ content-limit → length (take n b) ≡ n
+pub length-bytes : (n : ℕ) (b : List ℕ) → n ≤ content-limit → length b ≡ content-limit → length (take n b) ≡ n
 length-bytes n b h e = length-take-le n b (omega arith)
+
+pub bytes-short : (n : ℕ) (b : List ℕ) → n ≤ content-limit → length b ≡ content-limit → length (take n b) ≤ content-limit
+bytes-short n b h e = omega (arith, length-bytes n b h e)
 
 -- the function `text` ------------------------------------------------------------------------
 
