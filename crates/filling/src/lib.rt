@@ -41,14 +41,23 @@ fn decode(from: Cursor, x: &[u8], stop: u8, buffer: &mut [u8; 32]) -> Content
     let mut n: usize = 0;
     while i < x.len() {
         if x[i] == stop {
-            return Content { length: n, next: Cursor { at: i + 1 } };
+            return Content {
+                length: n,
+                next: Cursor { at: i + 1 },
+            };
         }
         if n == 32 {
-            return Content { length: n, next: Cursor { at: i } };
+            return Content {
+                length: n,
+                next: Cursor { at: i },
+            };
         }
         let here = Cursor { at: i };
         match here.character(x) {
-            Reference::NoEntity(lost) => return Content { length: n, next: here },
+            Reference::NoEntity(lost) => return Content {
+                length: n,
+                next: here,
+            },
             Reference::Byte(b, next) => {
                 buffer[n] = b;
                 n += 1;
@@ -56,7 +65,10 @@ fn decode(from: Cursor, x: &[u8], stop: u8, buffer: &mut [u8; 32]) -> Content
             }
         }
     }
-    Content { length: n, next: Cursor { at: i } }
+    Content {
+        length: n,
+        next: Cursor { at: i },
+    }
 }
 
 // A value or a text put behind the last node, where it is not empty; the cursor behind it.
@@ -139,7 +151,10 @@ fn attributes(from: Cursor, s: &mut [u8], x: &[u8], depth: u16) -> Level
             return Level { at: at + 1, depth };
         }
         if b == b'/' {
-            return Level { at: at + 2, depth: depth - 1 };
+            return Level {
+                at: at + 2,
+                depth: depth - 1,
+            };
         }
         let behind = attribute(next, s, x, depth);
         i = behind.at;
@@ -168,7 +183,10 @@ fn child(from: Cursor, s: &mut [u8], x: &[u8], depth: u16) -> Level
     let at = tag.at;
     if reader::peek(x, at) == b'/' {
         let end = end_tag(tag, x);
-        return Level { at: end.at, depth: depth - 1 };
+        return Level {
+            at: end.at,
+            depth: depth - 1,
+        };
     }
     start_tag(tag, s, x, depth)
 }
@@ -203,7 +221,7 @@ fn declaration(x: &[u8]) -> usize
 
 // The name of the root element.
 fn root(x: &[u8]) -> Cursor
-    requires { ⌜ (f : Shape) × Spells (now x) f ⌝ }
+    requires { ⌜ ((f : Shape) × Spells (now x) f) ⌝ }
     ensures { λ r. ⌜ RootAt (now (x .entry)) r ⌝ }
 {
     let at = declaration(x);

@@ -2,18 +2,12 @@ use borrow.Author.Needs.{needs}
 use native.Mathlib.Omega.{arith}
 use Prim.Native.Nat.{_-_, _≤_}
 use mathlib.Core.Path.{sym, _∙_}
-use native.Mathlib.Omega.{arith}
 use lib.ListN.{length}
 use Rattle.filling.specs.Fill.{InTag, Filling, Same}
 use Rattle.filling.specs.Laws.Texts.{same-then, same-same}
 use Rattle.filling.specs.Laws.Places.{tag-opened, tag-emptied, tag-attribute}
 use Rattle.filling.proofs.attributes.Statement.{statement}
 use Rattle.filling.proofs.attributes.Tie as tie
-use Rattle.filling.proofs.attributes.Reads as reads
-use Rattle.filling.proofs.attributes.Lts as lts
-use Rattle.filling.proofs.attribute.Reads as attribute-reads
-use Rattle.reader.proofs.Cursor.blanks.Reads as blanks-reads
-use Rattle.reader.proofs.peek.Reads as peek-reads
 
 abbrev Inv-loop : tie.InvT-loop
 Inv-loop s₀ x depth i₀ s i = (i₀ ≤ i) × Same s₀ s × Filling InTag x s i depth
@@ -21,60 +15,47 @@ Inv-loop s₀ x depth i₀ s i = (i₀ ≤ i) × Same s₀ s × Filling InTag x 
 abbrev μ-loop : tie.MeasureT-loop
 μ-loop s₀ x depth i₀ s i = length x - i
 
--- src/lib.rt:131:5
 loop-holds : tie.Need-loop-holds Inv-loop μ-loop
 loop-holds c = (search needs, same-same _, c .before .before .pre)
 
--- src/lib.rt:133:13
 blanks-requires : tie.Need-blanks-requires Inv-loop μ-loop
 blanks-requires c κs = c .loop .inv .2 .inside
 
--- src/lib.rt:135:13
 peek-requires : tie.Need-peek-requires Inv-loop μ-loop
 peek-requires c κs = search needs
 
--- src/lib.rt:137:32
 add-t12 : tie.Need-add-t12 Inv-loop μ-loop
 add-t12 c = search needs
 
--- src/lib.rt:137:13
 same-length : tie.Need-same-length Inv-loop μ-loop
 same-length c = c .before .before .before .loop .inv .1 .long
 
--- src/lib.rt:137:13
 returns : tie.Need-returns Inv-loop μ-loop
 returns c = let l = c .before .before .before .loop .inv in
     let r = c .before .before .blanks .ensures in
     (tag-opened (l .2) _ r (sym (c .before .peek .ensures) ∙ c .if1 .taken), l .1, omega (arith, l .0, r .ends))
 
--- src/lib.rt:140:32
 add-t13 : tie.Need-add-t13 Inv-loop μ-loop
 add-t13 c = search needs
 
--- src/lib.rt:140:47
 sub-t14 : tie.Need-sub-t14 Inv-loop μ-loop
 sub-t14 c = omega (arith, c .before .before .before .before .loop .inv .2 .rest .below)
 
--- src/lib.rt:140:13
 same-length-2 : tie.Need-same-length-2 Inv-loop μ-loop
 same-length-2 c = c .before .before .before .before .loop .inv .1 .long
 
--- src/lib.rt:140:13
 returns-2 : tie.Need-returns-2 Inv-loop μ-loop
 returns-2 c = let l = c .before .before .before .before .loop .inv in
     let r = c .before .before .before .blanks .ensures in
     (tag-emptied (l .2) _ r (sym (c .before .before .peek .ensures) ∙ c .if2 .taken), l .1, omega (arith, l .0, r .ends))
 
--- src/lib.rt:142:13
 attribute-requires : tie.Need-attribute-requires Inv-loop μ-loop
 attribute-requires c κs = let e = c .before .before .before .peek .ensures in
     tag-attribute (c .before .before .before .before .before .loop .inv .2) _ (c .before .before .before .before .blanks .ensures) (λ z. c .before .before .if1 .left (e ∙ z)) (λ z. c .before .if2 .left (e ∙ z))
 
--- src/lib.rt:131:5
 loop-less : tie.Need-loop-less Inv-loop μ-loop
 loop-less c = let e = c .before .before .attribute .ensures in omega (arith, c .before .before .before .before .before .before .before .blanks .ensures .ends, e .2, e .0 .inside)
 
--- src/lib.rt:131:5
 loop-again : tie.Need-loop-again Inv-loop μ-loop
 loop-again c = let e = c .before .before .attribute .ensures in
     let l = c .before .before .before .before .before .before .before .before .loop .inv in

@@ -1,39 +1,26 @@
 use native.Mathlib.Omega.{arith}
 use mathlib.Core.Path.{sym, _∙_}
-use native.Mathlib.Omega.{arith}
 use Rattle.filling.specs.Laws.Texts.{text-fits, text-put, text-same, same-then}
 use Rattle.filling.specs.Laws.Places.{in-element, end-inside, end-put, start-there}
 use borrow.Author.Needs.{needs}
 use Rattle.filling.proofs.child.Statement.{statement}
 use Rattle.filling.proofs.child.Tie as tie
-use Rattle.filling.proofs.child.Reads as reads
-use Rattle.filling.proofs.child.Lts as lts
-use Rattle.filling.proofs.end_tag.Reads as end-tag-reads
-use Rattle.filling.proofs.start_tag.Reads as start-tag-reads
-use Rattle.filling.proofs.text.Reads as text-reads
-use Rattle.reader.proofs.peek.Reads as peek-reads
 
--- src/lib.rt:165:9
 text-requires : tie.Need-text-requires
 text-requires c κs = let p = c .before .before .before .pre in (p .0 .inside, p .0 .layout, text-fits (in-element (p .0) (p .1)))
 
--- src/lib.rt:167:8
 peek-requires : tie.Need-peek-requires
 peek-requires c κs = search needs
 
--- src/lib.rt:168:13
 end-tag-requires : tie.Need-end-tag-requires
 end-tag-requires c κs = let p = c .before .before .before .before .before .before .before .before .pre in end-inside (text-put (in-element (p .0) (p .1)) (c .before .before .before .before .text .ensures)) (sym (c .before .peek .ensures) ∙ c .if1 .taken)
 
--- src/lib.rt:169:43
 sub-t12 : tie.Need-sub-t12
 sub-t12 c = search needs
 
--- src/lib.rt:169:9
 same-length : tie.Need-same-length
 same-length c = search needs
 
--- src/lib.rt:169:9
 returns : tie.Need-returns
 returns c = let p = c .before .before .before .before .before .before .before .before .before .pre in
     let t = c .before .before .before .before .before .text .ensures in
@@ -41,15 +28,12 @@ returns c = let p = c .before .before .before .before .before .before .before .b
     let e = c .end-tag .ensures in
     (end-put (text-put G t) (sym (c .before .before .peek .ensures) ∙ c .before .if1 .taken) _ e, text-same G t, omega (arith, t .forward, e .forward))
 
--- src/lib.rt:171:5
 start-tag-requires : tie.Need-start-tag-requires
 start-tag-requires c κs = let p = c .before .before .before .before .before .before .before .before .before .pre in start-there (text-put (in-element (p .0) (p .1)) (c .before .before .before .before .before .text .ensures)) (λ z. c .before .if1 .left (c .before .before .peek .ensures ∙ z))
 
--- src/lib.rt:161:1
 same-length-2 : tie.Need-same-length-2
 same-length-2 c = search needs
 
--- src/lib.rt:161:1
 returns-2 : tie.Need-returns-2
 returns-2 c = let p = c .before .before .before .before .before .before .before .before .before .before .before .before .pre in
     let t = c .before .before .before .before .before .before .before .before .text .ensures in

@@ -1,8 +1,7 @@
 use borrow.Author.Needs.{needs}
 use native.Mathlib.Omega.{arith}
-use Prim.Native.Nat.{ℕ, _+_, _-_, _≤_, _<_}
+use Prim.Native.Nat.{_-_, _≤_}
 use mathlib.Core.Path.{_≡_, refl, subst}
-use native.Mathlib.Omega.{arith}
 use lib.ListN.{length, take, length-set}
 use Rattle.reader.specs.declared.Reference.{Reference}
 use Rattle.reader.specs.Steps.{Character}
@@ -10,9 +9,6 @@ use Rattle.reader.specs.Laws.Characters.{character-inside}
 use Rattle.filling.specs.Laws.Decoding.{Decoding, decode-start, decode-stop, decode-end, decode-lost, decode-full, decode-turn}
 use Rattle.filling.proofs.decode.Statement.{statement}
 use Rattle.filling.proofs.decode.Tie as tie
-use Rattle.filling.proofs.decode.Reads as reads
-use Rattle.filling.proofs.decode.Lts as lts
-use Rattle.reader.proofs.Cursor.character.Reads as character-reads
 
 abbrev Inv-loop : tie.InvT-loop
 Inv-loop x stop buffer₀ i₀ n₀ buffer i n = (i₀ ≤ i) × (i ≤ length x) × (n ≤ 32) × (length buffer ≡ 32) × Decoding x stop i₀ i (take n buffer)
@@ -20,67 +16,53 @@ Inv-loop x stop buffer₀ i₀ n₀ buffer i n = (i₀ ≤ i) × (i ≤ length x
 abbrev μ-loop : tie.MeasureT-loop
 μ-loop x stop buffer₀ i₀ n₀ buffer i n = length x - i
 
--- src/lib.rt:39:5
 loop-holds : tie.Need-loop-holds Inv-loop μ-loop
 loop-holds c = (search needs, search needs, search needs, search needs, decode-start _ _ _)
 
--- src/lib.rt:40:12
 shared-slice-read-if1 : tie.Need-shared-slice-read-if1 Inv-loop μ-loop
 shared-slice-read-if1 c = search needs
 
--- src/lib.rt:41:60
 add-t15 : tie.Need-add-t15 Inv-loop μ-loop
 add-t15 c = search needs
 
--- src/lib.rt:41:13
 returns : tie.Need-returns Inv-loop μ-loop
 returns c = let l = c .before .before .before .loop in (l .inv .3, decode-stop _ _ _ _ _ _ (l .inv .4) (l .inv .0) (l .inv .2) _ refl (search needs) (c .if1 .taken))
 
--- src/lib.rt:44:13
 returns-2 : tie.Need-returns-2 Inv-loop μ-loop
 returns-2 c = let l = c .before .before .before .before .loop in (l .inv .3, decode-full _ _ _ _ _ _ (l .inv .4) (l .inv .0) (l .inv .2) (search needs) (c .before .if1 .left) _ refl (c .if2 .taken) (l .inv .3))
 
--- src/lib.rt:47:15
 character-requires : tie.Need-character-requires Inv-loop μ-loop
 character-requires c κs = search needs
 
--- src/lib.rt:48:33
 enum-known-lost : tie.Need-enum-known-lost Inv-loop μ-loop
 enum-known-lost c = search needs
 
--- src/lib.rt:48:42
 returns-3 : tie.Need-returns-3 Inv-loop μ-loop
 returns-3 c = let l = c .before .before .before .before .before .before .before .before .loop in
     let x = subst (λ (r : Reference). Character (c .before .before .before .before .before .before .before .before .before .before .args .x .now) (l .i) r) (c .before .lost .given .1) (c .before .before .before .character .ensures) in
     (l .inv .3, decode-lost _ _ _ _ _ _ (l .inv .4) (l .inv .0) (l .inv .2) (search needs) (c .before .before .before .before .before .if1 .left) _ refl x)
 
--- src/lib.rt:49:29
 enum-known-b : tie.Need-enum-known-b Inv-loop μ-loop
 enum-known-b c = search needs
 
--- src/lib.rt:50:17
 element-write-buffer : tie.Need-element-write-buffer Inv-loop μ-loop
 element-write-buffer c = search needs
 
--- src/lib.rt:51:17
 add-n : tie.Need-add-n Inv-loop μ-loop
 add-n c = search needs
 
--- src/lib.rt:39:5
 loop-less : tie.Need-loop-less Inv-loop μ-loop
 loop-less c = let l = c .before .before .before .before .before .before .before .before .loop in
     let x = subst (λ (r : Reference). Character (c .before .before .before .before .before .before .before .before .before .before .args .x .now) (l .i) r) (c .before .b .given .1) (c .before .before .before .character .ensures) in
     let y = character-inside (search needs) x in
     omega (arith, y .0, y .1)
 
--- src/lib.rt:39:5
 loop-again : tie.Need-loop-again Inv-loop μ-loop
 loop-again c = let l = c .before .before .before .before .before .before .before .before .loop in
     let x = subst (λ (r : Reference). Character (c .before .before .before .before .before .before .before .before .before .before .args .x .now) (l .i) r) (c .before .b .given .1) (c .before .before .before .character .ensures) in
     let y = character-inside (search needs) x in
     (omega (arith, y .0), y .1, search needs, simp length-set (l .inv .3), decode-turn _ _ _ _ _ _ (l .inv .4) (l .inv .0) (l .inv .2) (search needs) (c .before .before .before .before .before .if1 .left) x (search needs))
 
--- src/lib.rt:33:1
 returns-4 : tie.Need-returns-4 Inv-loop μ-loop
 returns-4 c = let l = c .before .loop in (l .inv .3, decode-end _ _ _ _ _ _ (l .inv .4) (l .inv .0) (l .inv .2) _ refl (search needs) (search needs))
 

@@ -1,30 +1,21 @@
-use native.Mathlib.Omega.{arith}
 use mathlib.Core.Path.{refl}
 use Rattle.filling.specs.Laws.Tokens.{no-quote, at-quote}
 use borrow.Author.Needs.{needs}
 use Rattle.filling.proofs.quote.Statement.{statement}
 use Rattle.filling.proofs.quote.Tie as tie
-use Rattle.filling.proofs.quote.Reads as reads
-use Rattle.filling.proofs.quote.Lts as lts
-use Rattle.reader.proofs.Cursor.blanks.Reads as blanks-reads
 
--- src/lib.rt:81:9
 blanks-requires : tie.Need-blanks-requires
 blanks-requires c κs = search needs
 
--- src/lib.rt:84:9
 returns : tie.Need-returns
 returns c = no-quote _ _ _ (c .before .blanks .ensures) _ refl (c .if1 .taken)
 
--- src/lib.rt:86:31
 add-t6 : tie.Need-add-t6
 add-t6 c = search needs
 
--- src/lib.rt:87:5
 blanks-requires-2 : tie.Need-blanks-requires-2
 blanks-requires-2 c κs = search needs
 
--- src/lib.rt:77:1
 returns-2 : tie.Need-returns-2
 returns-2 c = at-quote _ _ _ (c .before .before .blanks .ensures) _ (c .blanks2 .ensures)
 

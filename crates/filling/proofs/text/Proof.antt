@@ -3,37 +3,26 @@ use Rattle.filling.specs.Laws.Texts.{length-bytes, bytes-short, text-non
 use borrow.Author.Needs.{needs}
 use Rattle.filling.proofs.text.Statement.{statement}
 use Rattle.filling.proofs.text.Tie as tie
-use Rattle.filling.proofs.text.Reads as reads
-use Rattle.filling.proofs.text.Lts as lts
-use Rattle.filling.proofs.decode.Reads as decode-reads
-use Rattle.filling.proofs.put.Reads as put-reads
 
--- src/lib.rt:66:9
 decode-requires : tie.Need-decode-requires
 decode-requires c κs = search needs
 
--- src/lib.rt:70:9
 returns : tie.Need-returns
 returns c = text-none (c .before .before .decode .ensures .1) (c .before .before .before .before .before .before .pre .1) (c .if1 .taken)
 
--- src/lib.rt:72:17
 array-share-prefix-buffer : tie.Need-array-share-prefix-buffer
 array-share-prefix-buffer c = search needs
 
--- src/lib.rt:72:9
 slice-aggregate-bytes : tie.Need-slice-aggregate-bytes
 slice-aggregate-bytes c = let e = c .before .before .before .decode .ensures in sym (length-bytes _ _ (e .1 .few) (e .0))
 
--- src/lib.rt:73:5
 put-requires : tie.Need-put-requires
 put-requires c κs = let e = c .before .before .before .before .decode .ensures in
     (c .before .before .before .before .before .before .before .before .pre .1, text-room (e .1) (e .0) (c .before .before .if1 .left) (c .before .before .before .before .before .before .before .before .pre .2), bytes-short _ _ (e .1 .few) (e .0))
 
--- src/lib.rt:61:1
 same-length : tie.Need-same-length
 same-length c = search needs
 
--- src/lib.rt:61:1
 returns-2 : tie.Need-returns-2
 returns-2 c = let e = c .before .before .before .before .before .before .before .decode .ensures in text-some (e .1) (e .0) (c .before .before .before .before .before .if1 .left) (c .before .before .put .ensures)
 

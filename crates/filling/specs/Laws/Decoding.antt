@@ -1,22 +1,19 @@
 -- Values and texts, decoded character by character.
-use Prim.Native.Nat.{ℕ, zero, suc, _+_, _-_, _≤_, _<_}
-use mathlib.Core.Path.{_≡_, refl, sym, ap, ap₂, _∙_, subst}
-use mathlib.Core.Bool.{Bool, true, false, cond, not, _&&_, false≢true}
+use Prim.Native.Nat.{ℕ, suc, _+_, _≤_, _<_}
+use mathlib.Core.Path.{_≡_, refl, sym, ap, _∙_}
+use mathlib.Core.Bool.{Bool, true, false, false≢true}
 use mathlib.Core.List.{List, [], _∷_, _++_, append-assoc, append-nil}
 use native.Mathlib.Omega.{arith}
 use native.Mathlib.Numerals.{add-one}
-use lib.Dec.{eqb}
-use lib.ListN.{length, getD, take, drop, set, length-drop, length-append, drop-of-length-le}
+use lib.ListN.{length, getD, take, drop, set, length-append, drop-of-length-le}
 use lib.Seq.{drop-cons, drop-drop, take-suc-set, length-take-le}
-use borrow.Author.Tests.{eqb-true, eq-eqb}
 use Rattle.tree.specs.Content.{content-limit, text-byte}
-use Rattle.xml.specs.Bytes.{ampersand, less-than, greater-than, Quote, double, single, mark, value-literal, text-literal, brackets}
+use Rattle.xml.specs.Bytes.{ampersand, less-than, Quote, double, single, mark, value-literal, text-literal}
 use Rattle.xml.specs.Grammar.{Entity, entity-amp, entity-apos, entity-gt, entity-lt, entity-quot, Value, value-close, value-byte, value-entity}
 use Rattle.xml.specs.Grammar.{Chars, chars-end, chars-byte, chars-entity}
 use Rattle.xml.specs.Laws.Tokens.{Reach, got, lost}
 use Rattle.xml.specs.Laws.Fixed.{agree, word-at, entity-at}
 use Rattle.reader.specs.declared.Cursor.{Cursor}
-use Rattle.reader.specs.declared.Reference.{Reference}
 use Rattle.reader.specs.declared.Reference.the-variants.{Byte, NoEntity}
 use Rattle.reader.specs.Steps.{Refers, refers, no-entity, Character, one-byte, by-reference}
 use Rattle.filling.specs.Fill.{Characters, stop-here, byte-then, reference-then, Decodes}

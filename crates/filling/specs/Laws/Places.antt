@@ -1,33 +1,33 @@
 -- From one place of the reading to the next.
-use Prim.Native.Nat.{ℕ, zero, suc, _+_, _-_, _≤_, _<_}
-use mathlib.Core.Path.{_≡_, refl, sym, ap, ap₂, _∙_, subst}
-use mathlib.Core.Bool.{Bool, true, false, false≢true}
+use Prim.Native.Nat.{ℕ, suc, _+_, _-_, _≤_, _<_}
+use mathlib.Core.Path.{_≡_, refl, sym, ap, _∙_}
+use mathlib.Core.Bool.{true, false≢true}
 use mathlib.Core.List.{List, [], _∷_, _++_}
 use native.Mathlib.Omega.{arith}
 use native.Mathlib.Numerals.{add-one}
-use lib.ListN.{length, getD, take, drop, length-append}
+use lib.ListN.{length, getD, take, drop}
 use Rattle.tree.specs.Lists.{every}
-use Rattle.tree.specs.Forest.{nil, node}
+use Rattle.tree.specs.Forest.{nil}
 use Rattle.tree.specs.Content.{content-limit, element-kind, attribute-kind, name-start, name-byte}
 use Rattle.protocol.specs.State.{tree-of}
 use Rattle.protocol.specs.Calls.{node-limit}
 use Rattle.layout.specs.Flat.{flat}
-use Rattle.layout.specs.Layout.{nodes, Layout}
-use Rattle.xml.specs.Bytes.{slash, less-than, equals-sign, greater-than, blank, Quote, mark}
-use Rattle.xml.specs.Shape.{Label, Shape, element, attribute, text, document}
-use Rattle.xml.specs.Grammar.{Name, Blanks, Named, name, Chars, text-node, Spells}
+use Rattle.layout.specs.Layout.{nodes}
+use Rattle.xml.specs.Bytes.{slash, less-than, greater-than, blank, mark}
+use Rattle.xml.specs.Shape.{Shape, element, attribute, document}
+use Rattle.xml.specs.Grammar.{Name, Named, name}
 use Rattle.xml.specs.Grammar.{behind, inside, opened, Part, text-part, markup, element-part, end-tag}
 use Rattle.xml.specs.Laws.Tokens.{span}
 use Rattle.xml.specs.Laws.Unique.{one-tree}
 use Rattle.reader.specs.declared.Cursor.{Cursor}
 use Rattle.reader.specs.Steps.{Run}
-use Rattle.filling.specs.Fill.{Row, listed, texts, Short, Characters, stop-here, Behind, behind-root, behind-child, InTag, AtAttribute, AtElement, AtText}
-use Rattle.filling.specs.Fill.{AtTag, begins, ends, Filling, Same, Put, QuoteAt, EndsAt, TextPut, Filled}
+use Rattle.filling.specs.Fill.{Row, listed, texts, Short, stop-here, Behind, behind-root, behind-child, InTag, AtAttribute, AtElement, AtText}
+use Rattle.filling.specs.Fill.{AtTag, begins, ends, Filling, Same, Put, QuoteAt, EndsAt, Filled}
 use Rattle.filling.specs.Laws.Rows.{listed-text, rows-done}
 use Rattle.filling.specs.Laws.Runs.{run-drop, over-name, name-spelled, tag-no-name, equals-no-name, blanks-no-name, TagRest, rest-open, rest-empty, rest-attribute, tag-rest}
 use Rattle.filling.specs.Laws.Decoding.{value-characters, text-characters}
 use Rattle.filling.specs.Laws.Tokens.{next-byte}
-use Rattle.filling.specs.Laws.Texts.{filled-by, moved, put-same}
+use Rattle.filling.specs.Laws.Texts.{filled-by, moved}
 
 -- names ------------------------------------------------------------------------------------
 

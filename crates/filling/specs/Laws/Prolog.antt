@@ -1,15 +1,14 @@
 -- Up to the root element, and the beginning of the filling.
-use Prim.Native.Nat.{ℕ, zero, suc, _+_, _≤_, _<_}
+use Prim.Native.Nat.{ℕ, _+_, _≤_, _<_}
 use mathlib.Core.Path.{_≡_, refl, sym, ap, _∙_}
-use mathlib.Core.Bool.{Bool, true, false, false≢true}
-use mathlib.Core.List.{List, [], _∷_, _++_}
+use mathlib.Core.Bool.{true, false≢true}
+use mathlib.Core.List.{List, [], _∷_}
 use native.Mathlib.Omega.{arith}
 use lib.ListN.{length, getD, drop}
-use Rattle.tree.specs.Forest.{nil, node}
 use Rattle.tree.specs.Content.{name-start}
 use Rattle.layout.specs.Layout.{nodes}
 use Rattle.xml.specs.Bytes.{less-than, blank}
-use Rattle.xml.specs.Shape.{Shape, size}
+use Rattle.xml.specs.Shape.{Shape}
 use Rattle.xml.specs.Grammar.{Blanks, no-blank, blank-then, Named, name, Root, root, bare, declared-short, declared-long, Spells}
 use Rattle.xml.specs.Laws.Tokens.{span}
 use Rattle.xml.specs.Laws.Transitions.{for-blanks}
@@ -80,28 +79,29 @@ module _ (x : List ℕ) (i at : ℕ) (r : Run blank x i at) where
   unfolding listed
   root-place (root {n = n} {u = u} {v = v} {t = t} {f = f} b m p z) e =
       let w : drop at x ≡ less-than ∷ u = run-drop blank x i at r ∙ rw e (over-blanks b (open-no-blank u)) in
-      let y = next-byte x at less-than u w in
-      (y .0,
-      record {
-        name = n;
-        behind-name = v;
-        later = listed 2 f [];
-        named = rw (y .2) m;
-        after = record {
+      let y = next-byte x at less-than u w in (
+        y .0,
+        record {
           name = n;
-          seen = [];
-          children = f;
-          next = t;
-          later = [];
-          outer = 1;
-          below = refl;
-          spelled = name-spelled m;
-          part = p;
-          after = behind-root z;
+          behind-name = v;
+          later = listed 2 f [];
+          named = rw (y .2) m;
+          after = record {
+            name = n;
+            seen = [];
+            children = f;
+            next = t;
+            later = [];
+            outer = 1;
+            below = refl;
+            spelled = name-spelled m;
+            part = p;
+            after = behind-root z;
+            rows = refl;
+          };
           rows = refl;
-        };
-        rows = refl;
-      })
+        },
+      )
 
   pub root-at : Undeclared x i → (c : Cursor) → c .at ≡ at + 1 → RootAt x c
   root-at d c e = record {

@@ -1,7 +1,7 @@
 -- Rows put behind the nodes held, and that the rows of an input are the nodes of its document.
-use Prim.Native.Nat.{ℕ, zero, suc, _+_, _≤_, _<_, max}
-use mathlib.Core.Path.{_≡_, refl, sym, ap, ap₂, _∙_, subst}
-use mathlib.Core.Bool.{Bool, true, false}
+use Prim.Native.Nat.{ℕ, suc, _+_, _≤_}
+use mathlib.Core.Path.{_≡_, refl, sym, ap, _∙_}
+use mathlib.Core.Bool.{true}
 use mathlib.Core.List.{List, [], _∷_, _++_, append-assoc, append-nil}
 use native.Mathlib.Omega.{arith}
 use lib.ListN.{length, length-append}
@@ -10,8 +10,8 @@ use Rattle.tree.specs.Content.{content-limit}
 use Rattle.tree.specs.Document.{node-0-alone}
 use Rattle.protocol.specs.State.{unmarked, tree-of}
 use Rattle.layout.specs.Flat.{flat}
-use Rattle.layout.specs.Layout.{Entry, nodes, Left}
-use Rattle.xml.specs.Shape.{Label, Shape, size, longest, numbered, document}
+use Rattle.layout.specs.Layout.{Entry, nodes}
+use Rattle.xml.specs.Shape.{Shape, size, longest, numbered, document}
 use Rattle.xml.specs.Grammar.{text-node}
 use Rattle.filling.specs.Fill.{Row, listed, texts, entries, with-rows, Short, Put}
 

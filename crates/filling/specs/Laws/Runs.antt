@@ -1,17 +1,15 @@
 -- Blanks and names as runs of bytes, and what comes next in a start tag.
-use Prim.Native.Nat.{ℕ, zero, suc, _+_, _-_, _≤_, _<_}
-use mathlib.Core.Path.{_≡_, refl, sym, ap, ap₂, _∙_, subst}
-use mathlib.Core.Bool.{Bool, true, false, cond, _&&_, false≢true}
+use Prim.Native.Nat.{ℕ, suc}
+use mathlib.Core.Path.{_≡_, refl, sym, ap, _∙_}
+use mathlib.Core.Bool.{Bool, true, false, cond, false≢true}
 use mathlib.Core.List.{List, [], _∷_, _++_}
-use native.Mathlib.Omega.{arith}
-use native.Mathlib.Numerals.{add-one}
-use lib.ListN.{length, getD, take, drop, length-drop}
+use lib.ListN.{take, drop}
 use lib.Seq.{drop-drop}
 use Rattle.tree.specs.Lists.{every}
 use Rattle.tree.specs.Forest.{nil, node}
 use Rattle.tree.specs.Content.{name-start, name-byte}
 use Rattle.tree.specs.Laws.Tests.{and-left, and-right}
-use Rattle.xml.specs.Bytes.{slash, equals-sign, greater-than, quotation-mark, apostrophe, blank, Quote, double, single, mark}
+use Rattle.xml.specs.Bytes.{slash, equals-sign, greater-than, blank, Quote, double, single, mark}
 use Rattle.xml.specs.Shape.{Shape, attribute}
 use Rattle.xml.specs.Grammar.{Name, Blanks, no-blank, blank-then, NameBytes, no-name-byte, name-byte-then, Named, name, Value, text-node}
 use Rattle.xml.specs.Grammar.{Place, behind, spaced, inside, opened, Part, spacing, empty, full, more, attribute-part, text-part, markup, element-part, end-tag}

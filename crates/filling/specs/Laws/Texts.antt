@@ -1,16 +1,16 @@
 -- A value or a text, decoded and put behind the last node.
-use Prim.Native.Nat.{ℕ, zero, suc, _+_, _-_, _≤_, _<_}
-use mathlib.Core.Path.{_≡_, refl, sym, ap, ap₂, _∙_, subst}
+use Prim.Native.Nat.{ℕ, _+_, _≤_, _<_}
+use mathlib.Core.Path.{_≡_, refl, sym, ap, _∙_}
 use mathlib.Core.List.{List, [], _∷_, _++_}
 use native.Mathlib.Omega.{arith}
 use lib.ListN.{length, take, drop, length-append}
 use lib.Seq.{length-take-le}
 use Rattle.tree.specs.Content.{content-limit}
 use Rattle.protocol.specs.Calls.{node-limit}
-use Rattle.layout.specs.Layout.{is-open, nodes, Layout, Left}
+use Rattle.layout.specs.Layout.{nodes, Layout}
 use Rattle.xml.specs.Shape.{text}
 use Rattle.reader.specs.declared.Cursor.{Cursor}
-use Rattle.filling.specs.Fill.{Row, texts, entries, with-rows, Characters, Put, Same, Decodes, Fits, TextPut, AtText, Filling, Short}
+use Rattle.filling.specs.Fill.{Row, texts, with-rows, Put, Same, Decodes, Fits, TextPut, AtText, Filling, Short}
 use Rattle.filling.specs.Laws.Rows.{rows-done, rows-behind, many-put, short-behind}
 
 texts-some : (d : ℕ) (c : List ℕ) → 0 < length c → texts d c ≡ (d, text c) ∷ []

@@ -1,23 +1,21 @@
 -- The functions that read a part of a tag, and the one that puts a node behind the last.
-use Prim.Native.Nat.{ℕ, zero, suc, _+_, _-_, _≤_, _<_}
-use mathlib.Core.Path.{_≡_, refl, sym, ap, ap₂, _∙_, subst}
-use mathlib.Core.Bool.{Bool, true, false}
+use Prim.Native.Nat.{ℕ, suc, _+_, _≤_, _<_}
+use mathlib.Core.Path.{_≡_, sym, ap, _∙_}
 use mathlib.Core.List.{List, [], _∷_, _++_}
 use native.Mathlib.Omega.{arith}
 use native.Mathlib.Numerals.{add-one}
-use lib.ListN.{length, getD, take, drop, length-drop}
+use lib.ListN.{length, getD, drop, length-drop}
 use lib.Seq.{drop-cons, take-length, drop-length}
-use Rattle.tree.specs.Lists.{every}
 use Rattle.tree.specs.Content.{name-byte}
 use Rattle.protocol.specs.State.{inserted-by}
 use Rattle.layout.specs.Lists.{insert}
-use Rattle.layout.specs.Layout.{Entry, is-open, nodes, Left}
+use Rattle.layout.specs.Layout.{is-open, nodes, Left}
 use Rattle.layout.specs.Laws.Kept.{left-as}
-use Rattle.xml.specs.Bytes.{slash, equals-sign, greater-than, blank, Quote, mark}
-use Rattle.xml.specs.Grammar.{Name, Blanks}
+use Rattle.xml.specs.Bytes.{slash, equals-sign, greater-than, blank}
+use Rattle.xml.specs.Grammar.{Blanks}
 use Rattle.reader.specs.declared.Cursor.{Cursor}
 use Rattle.reader.specs.Steps.{Run}
-use Rattle.filling.specs.Fill.{Row, entries, with-rows, Put, QuoteAt, EndsAt}
+use Rattle.filling.specs.Fill.{entries, with-rows, Put, QuoteAt, EndsAt}
 use Rattle.filling.specs.Laws.Runs.{run-drop, over-blanks, blanks-no-name, equals-no-blank, close-no-blank, close-no-name, quote-no-blank, over-spelled}
 
 -- the byte at i and what stands behind it
