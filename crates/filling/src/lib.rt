@@ -40,7 +40,8 @@ fn decode(from: Cursor, x: &[u8], stop: u8, buffer: &mut [u8; 32]) -> Content
     let mut i = from.at;
     let mut n: usize = 0;
     while i < x.len() {
-        if x[i] == stop {
+        let b = x[i];
+        if b == stop {
             return Content {
                 length: n,
                 next: Cursor { at: i + 1 },
@@ -58,8 +59,8 @@ fn decode(from: Cursor, x: &[u8], stop: u8, buffer: &mut [u8; 32]) -> Content
                 length: n,
                 next: here,
             },
-            Reference::Byte(b, next) => {
-                buffer[n] = b;
+            Reference::Byte(value, next) => {
+                buffer[n] = value;
                 n += 1;
                 i = next.at;
             }

@@ -26,7 +26,9 @@ quote-requires : tie.Need-quote-requires
 quote-requires c κs = search needs
 
 shared-slice-read-stop : tie.Need-shared-slice-read-stop
-shared-slice-read-stop c = quote-inside (c .before .before .before .before .before .before .before .before .before .before .pre) _ (c .before .before .before .before .before .before .before .name .ensures) (c .before .before .before .before .put .ensures) _ (c .before .quote .ensures)
+shared-slice-read-stop c = let p = c .before .before .before .before in
+    let n = p .before .before .before in
+    quote-inside (n .before .before .before .pre) _ (n .name .ensures) (p .put .ensures) _ (c .before .quote .ensures)
 
 add-t14 : tie.Need-add-t14
 add-t14 c = search needs
@@ -35,7 +37,9 @@ add-text : tie.Need-add-text
 add-text c = search needs
 
 text-requires : tie.Need-text-requires
-text-requires c κs = let G = attribute-put (c .before .before .before .before .before .before .before .before .before .before .before .pre) _ (c .before .before .before .before .before .before .before .before .name .ensures) (c .before .before .before .before .before .put .ensures) _ (c .before .before .quote .ensures) in
+text-requires c κs = let p = c .before .before .before .before .before in
+    let n = p .before .before .before in
+    let G = attribute-put (n .before .before .before .pre) _ (n .name .ensures) (p .put .ensures) _ (c .before .before .quote .ensures) in
     (G .inside, G .layout, text-fits G)
 
 same-length : tie.Need-same-length

@@ -51,7 +51,8 @@ returns-2 c = let l = c .before .before .before .before .loop .inv in
 
 attribute-requires : tie.Need-attribute-requires Inv-loop μ-loop
 attribute-requires c κs = let e = c .before .before .before .peek .ensures in
-    tag-attribute (c .before .before .before .before .before .loop .inv .2) _ (c .before .before .before .before .blanks .ensures) (λ z. c .before .before .if1 .left (e ∙ z)) (λ z. c .before .if2 .left (e ∙ z))
+    tag-attribute (c .before .before .before .before .before .loop .inv .2) _ (c .before .before .before .before .blanks .ensures)
+    (λ z. c .before .before .if1 .left (e ∙ z)) (λ z. c .before .if2 .left (e ∙ z))
 
 loop-less : tie.Need-loop-less Inv-loop μ-loop
 loop-less c = let e = c .before .before .attribute .ensures in omega (arith, c .before .before .before .before .before .before .before .blanks .ensures .ends, e .2, e .0 .inside)

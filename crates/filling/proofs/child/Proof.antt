@@ -13,7 +13,8 @@ peek-requires : tie.Need-peek-requires
 peek-requires c κs = search needs
 
 end-tag-requires : tie.Need-end-tag-requires
-end-tag-requires c κs = let p = c .before .before .before .before .before .before .before .before .pre in end-inside (text-put (in-element (p .0) (p .1)) (c .before .before .before .before .text .ensures)) (sym (c .before .peek .ensures) ∙ c .if1 .taken)
+end-tag-requires c κs = let p = c .before .before .before .before .before .before .before .before .pre in
+    end-inside (text-put (in-element (p .0) (p .1)) (c .before .before .before .before .text .ensures)) (sym (c .before .peek .ensures) ∙ c .if1 .taken)
 
 sub-t12 : tie.Need-sub-t12
 sub-t12 c = search needs
@@ -29,7 +30,9 @@ returns c = let p = c .before .before .before .before .before .before .before .b
     (end-put (text-put G t) (sym (c .before .before .peek .ensures) ∙ c .before .if1 .taken) _ e, text-same G t, omega (arith, t .forward, e .forward))
 
 start-tag-requires : tie.Need-start-tag-requires
-start-tag-requires c κs = let p = c .before .before .before .before .before .before .before .before .before .pre in start-there (text-put (in-element (p .0) (p .1)) (c .before .before .before .before .before .text .ensures)) (λ z. c .before .if1 .left (c .before .before .peek .ensures ∙ z))
+start-tag-requires c κs = let p = c .before .before .before .before .before .before .before .before .before .pre in
+    start-there (text-put (in-element (p .0) (p .1)) (c .before .before .before .before .before .text .ensures))
+    (λ z. c .before .if1 .left (c .before .before .peek .ensures ∙ z))
 
 same-length-2 : tie.Need-same-length-2
 same-length-2 c = search needs

@@ -19,17 +19,18 @@ abbrev μ-loop : tie.MeasureT-loop
 loop-holds : tie.Need-loop-holds Inv-loop μ-loop
 loop-holds c = (search needs, search needs, search needs, search needs, decode-start _ _ _)
 
-shared-slice-read-if1 : tie.Need-shared-slice-read-if1 Inv-loop μ-loop
-shared-slice-read-if1 c = search needs
+shared-slice-read-b : tie.Need-shared-slice-read-b Inv-loop μ-loop
+shared-slice-read-b c = search needs
 
-add-t15 : tie.Need-add-t15 Inv-loop μ-loop
-add-t15 c = search needs
+add-t16 : tie.Need-add-t16 Inv-loop μ-loop
+add-t16 c = search needs
 
 returns : tie.Need-returns Inv-loop μ-loop
 returns c = let l = c .before .before .before .loop in (l .inv .3, decode-stop _ _ _ _ _ _ (l .inv .4) (l .inv .0) (l .inv .2) _ refl (search needs) (c .if1 .taken))
 
 returns-2 : tie.Need-returns-2 Inv-loop μ-loop
-returns-2 c = let l = c .before .before .before .before .loop in (l .inv .3, decode-full _ _ _ _ _ _ (l .inv .4) (l .inv .0) (l .inv .2) (search needs) (c .before .if1 .left) _ refl (c .if2 .taken) (l .inv .3))
+returns-2 c = let l = c .before .before .before .before .loop in
+    (l .inv .3, decode-full _ _ _ _ _ _ (l .inv .4) (l .inv .0) (l .inv .2) (search needs) (c .before .if1 .left) _ refl (c .if2 .taken) (l .inv .3))
 
 character-requires : tie.Need-character-requires Inv-loop μ-loop
 character-requires c κs = search needs
@@ -38,12 +39,13 @@ enum-known-lost : tie.Need-enum-known-lost Inv-loop μ-loop
 enum-known-lost c = search needs
 
 returns-3 : tie.Need-returns-3 Inv-loop μ-loop
-returns-3 c = let l = c .before .before .before .before .before .before .before .before .loop in
-    let x = subst (λ (r : Reference). Character (c .before .before .before .before .before .before .before .before .before .before .args .x .now) (l .i) r) (c .before .lost .given .1) (c .before .before .before .character .ensures) in
+returns-3 c = let m = c .before .before .before .before .before .before .before .before in
+    let l = m .loop in
+    let x = subst (λ (r : Reference). Character (m .before .before .args .x .now) (l .i) r) (c .before .lost .given .1) (c .before .before .before .character .ensures) in
     (l .inv .3, decode-lost _ _ _ _ _ _ (l .inv .4) (l .inv .0) (l .inv .2) (search needs) (c .before .before .before .before .before .if1 .left) _ refl x)
 
-enum-known-b : tie.Need-enum-known-b Inv-loop μ-loop
-enum-known-b c = search needs
+enum-known-value : tie.Need-enum-known-value Inv-loop μ-loop
+enum-known-value c = search needs
 
 element-write-buffer : tie.Need-element-write-buffer Inv-loop μ-loop
 element-write-buffer c = search needs
@@ -52,16 +54,23 @@ add-n : tie.Need-add-n Inv-loop μ-loop
 add-n c = search needs
 
 loop-less : tie.Need-loop-less Inv-loop μ-loop
-loop-less c = let l = c .before .before .before .before .before .before .before .before .loop in
-    let x = subst (λ (r : Reference). Character (c .before .before .before .before .before .before .before .before .before .before .args .x .now) (l .i) r) (c .before .b .given .1) (c .before .before .before .character .ensures) in
+loop-less c = let m = c .before .before .before .before .before .before .before .before in
+    let l = m .loop in
+    let x = subst (λ (r : Reference). Character (m .before .before .args .x .now) (l .i) r) (c .before .value .given .1) (c .before .before .before .character .ensures) in
     let y = character-inside (search needs) x in
     omega (arith, y .0, y .1)
 
 loop-again : tie.Need-loop-again Inv-loop μ-loop
-loop-again c = let l = c .before .before .before .before .before .before .before .before .loop in
-    let x = subst (λ (r : Reference). Character (c .before .before .before .before .before .before .before .before .before .before .args .x .now) (l .i) r) (c .before .b .given .1) (c .before .before .before .character .ensures) in
-    let y = character-inside (search needs) x in
-    (omega (arith, y .0), y .1, search needs, simp length-set (l .inv .3), decode-turn _ _ _ _ _ _ (l .inv .4) (l .inv .0) (l .inv .2) (search needs) (c .before .before .before .before .before .if1 .left) x (search needs))
+loop-again c = let m = c .before .before .before .before .before .before .before .before in
+    let l = m .loop in
+    let x = subst (λ (r : Reference). Character (m .before .before .args .x .now) (l .i) r) (c .before .value .given .1) (c .before .before .before .character .ensures) in
+    let y = character-inside (search needs) x in (
+      omega (arith, y .0),
+      y .1,
+      search needs,
+      simp length-set (l .inv .3),
+      decode-turn _ _ _ _ _ _ (l .inv .4) (l .inv .0) (l .inv .2) (search needs) (c .before .before .before .before .before .if1 .left) x (search needs),
+    )
 
 returns-4 : tie.Need-returns-4 Inv-loop μ-loop
 returns-4 c = let l = c .before .loop in (l .inv .3, decode-end _ _ _ _ _ _ (l .inv .4) (l .inv .0) (l .inv .2) _ refl (search needs) (search needs))
@@ -73,14 +82,14 @@ decode-spec =
     Inv-loop
     μ-loop
     loop-holds
-    shared-slice-read-if1
-    add-t15
+    shared-slice-read-b
+    add-t16
     returns
     returns-2
     character-requires
     enum-known-lost
     returns-3
-    enum-known-b
+    enum-known-value
     element-write-buffer
     add-n
     loop-less

@@ -26,13 +26,15 @@ add-attributes : tie.Need-add-attributes
 add-attributes c = search needs
 
 attributes-requires : tie.Need-attributes-requires
-attributes-requires c κs = element-put (c .before .before .before .before .before .before .before .before .before .pre) _ (c .before .before .before .before .before .before .name .ensures) (c .before .before .before .put .ensures)
+attributes-requires c κs = let n = c .before .before .before .before .before .before in element-put (n .before .before .before .pre) _ (n .name .ensures) (c .before .before .before .put .ensures)
 
 same-length : tie.Need-same-length
 same-length c = search needs
 
 returns : tie.Need-returns
-returns c = let e = c .before .before .attributes .ensures in (e .0, same-then (put-same _ (c .before .before .before .before .before .before .put .ensures)) (e .1), omega (arith, c .before .before .before .before .before .before .before .before .before .name .ensures .ends, e .2))
+returns c = let e = c .before .before .attributes .ensures in
+    let p = c .before .before .before .before .before .before in
+    (e .0, same-then (put-same _ (p .put .ensures)) (e .1), omega (arith, p .before .before .before .name .ensures .ends, e .2))
 
 pub start-tag-spec : {M : Type 1} → statement M
 start-tag-spec =

@@ -18,13 +18,15 @@ slice-aggregate-bytes c = let e = c .before .before .before .decode .ensures in 
 
 put-requires : tie.Need-put-requires
 put-requires c κs = let e = c .before .before .before .before .decode .ensures in
-    (c .before .before .before .before .before .before .before .before .pre .1, text-room (e .1) (e .0) (c .before .before .if1 .left) (c .before .before .before .before .before .before .before .before .pre .2), bytes-short _ _ (e .1 .few) (e .0))
+    let p = c .before .before .before .before .before .before .before .before .pre in
+    (p .1, text-room (e .1) (e .0) (c .before .before .if1 .left) (p .2), bytes-short _ _ (e .1 .few) (e .0))
 
 same-length : tie.Need-same-length
 same-length c = search needs
 
 returns-2 : tie.Need-returns-2
-returns-2 c = let e = c .before .before .before .before .before .before .before .decode .ensures in text-some (e .1) (e .0) (c .before .before .before .before .before .if1 .left) (c .before .before .put .ensures)
+returns-2 c = let e = c .before .before .before .before .before .before .before .decode .ensures in
+    text-some (e .1) (e .0) (c .before .before .before .before .before .if1 .left) (c .before .before .put .ensures)
 
 pub text-spec : {M : Type 1} → statement M
 text-spec =

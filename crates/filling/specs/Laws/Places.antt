@@ -104,7 +104,8 @@ module _ {x s : List ℕ} {at d : ℕ} (F : Filling AtAttribute x s at d) (to : 
         })
         (omega (arith, quote-there .0)) (omega (arith, F .deep))
 
-opened-rows : {d o : ℕ} {n : Name} {s t : List ℕ} {f : Shape} {l k : List Row} → d ≡ suc o → k ≡ listed d f l → every name-byte n ≡ true → Part true (inside n) s f t → Behind o t l → Behind d s k
+opened-rows : {d o : ℕ} {n : Name} {s t : List ℕ} {f : Shape} {l k : List Row} → d ≡ suc o → k ≡ listed d f l
+    → every name-byte n ≡ true → Part true (inside n) s f t → Behind o t l → Behind d s k
 opened-rows e r h p z = rw (r, e) (behind-child h p z)
 
 emptied-rows : (d : ℕ) {e o : ℕ} {s t : List ℕ} {f : Shape} {l k : List Row} → k ≡ listed d f l → f ≡ nil → e ≡ o → s ≡ t → Behind o t l → Behind e s k

@@ -58,7 +58,8 @@ at-end x at i c j r k e = record {
 }
 
 -- a node put behind the last
-pub put-last : {s s′ : List ℕ} (p d kind : ℕ) (b : List ℕ) → p ≡ length (nodes s) → Left s s′ (is-open s) (insert p (d, inserted-by 0 (record { number = p; kind = kind; content = b })) (nodes s))
+pub put-last : {s s′ : List ℕ} (p d kind : ℕ) (b : List ℕ) → p ≡ length (nodes s)
+    → Left s s′ (is-open s) (insert p (d, inserted-by 0 (record { number = p; kind = kind; content = b })) (nodes s))
     → Put s s′ ((d, record { kind = kind; content = b }) ∷ [])
 unfolding insert entries
 put-last {s} {s′} p d kind b e l =

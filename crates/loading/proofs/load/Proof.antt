@@ -25,7 +25,8 @@ same-length-2 : tie.Need-same-length-2
 same-length-2 c = search needs
 
 returns-2 : tie.Need-returns-2
-returns-2 c = λ i r. load-open (sym (c .before .before .before .before .formed .ensures) ∙ not-false _ (c .before .before .before .if1 .left)) (sym (c .before .any-open .ensures) ∙ c .if2 .taken) i
+returns-2 c = λ i r. load-open (sym (c .before .before .before .before .formed .ensures) ∙ not-false _ (c .before .before .before .if1 .left))
+    (sym (c .before .any-open .ensures) ∙ c .if2 .taken) i
 
 judge-requires : tie.Need-judge-requires
 judge-requires c κs = search needs
@@ -40,7 +41,8 @@ enum-known-count : tie.Need-enum-known-count
 enum-known-count c = search needs
 
 replace-requires : tie.Need-replace-requires
-replace-requires c κs = (form-layout (sym (c .before .before .before .before .before .before .before .before .before .formed .ensures) ∙ not-false _ (c .before .before .before .before .before .before .before .before .if1 .left)) .size, (_, stands _ _ _ (c .before .before .count .given .1) (c .before .before .before .before .judge .ensures)))
+replace-requires c κs = let f = c .before .before .before .before .before .before .before .before in
+    (form-layout (sym (f .before .formed .ensures) ∙ not-false _ (f .if1 .left)) .size, (_, stands _ _ _ (c .before .before .count .given .1) (c .before .before .before .before .judge .ensures)))
 
 cast-t19 : tie.Need-cast-t19
 cast-t19 c = omega (arith, stands _ _ _ (c .before .before .before .before .before .count .given .1) (c .before .before .before .before .before .before .before .judge .ensures) .most)
@@ -49,14 +51,18 @@ same-length-3 : tie.Need-same-length-3
 same-length-3 c = search needs
 
 returns-3 : tie.Need-returns-3
-returns-3 c = λ i r. load-failed (sym (c .before .before .before .before .before .before .before .before .formed .ensures) ∙ not-false _ (c .before .before .before .before .before .before .before .if1 .left)) (sym (c .before .before .before .before .before .any-open .ensures) ∙ c .before .before .before .before .if2 .left) _ _
+returns-3 c = let o = c .before .before .before .before in
+    let f = o .before .before .before in
+    λ i r. load-failed (sym (f .before .formed .ensures) ∙ not-false _ (f .if1 .left)) (sym (o .before .any-open .ensures) ∙ o .if2 .left) _ _
     (fails _ _ _ _ (c .before .cause .given .1) (c .before .before .before .judge .ensures)) i r
 
 same-length-4 : tie.Need-same-length-4
 same-length-4 c = search needs
 
 returns-4 : tie.Need-returns-4
-returns-4 c = λ i r. load-granted (sym (c .before .before .before .before .before .before .before .before .before .before .before .before .formed .ensures) ∙ not-false _ (c .before .before .before .before .before .before .before .before .before .before .before .if1 .left)) (sym (c .before .before .before .before .before .before .before .before .before .any-open .ensures) ∙ c .before .before .before .before .before .before .before .before .if2 .left) _
+returns-4 c = let o = c .before .before .before .before .before .before .before .before in
+    let f = o .before .before .before in
+    λ i r. load-granted (sym (f .before .formed .ensures) ∙ not-false _ (f .if1 .left)) (sym (o .before .any-open .ensures) ∙ o .if2 .left) _
     (stands _ _ _ (c .before .before .before .before .before .count .given .1) (c .before .before .before .before .before .before .before .judge .ensures)) (c .before .before .replace .ensures) i r
 
 pub load-spec : {M : Type 1} → statement M
