@@ -1,16 +1,13 @@
--- Classes of bytes as the reader's table has them.
+-- Bytes that may stand in a value or a text.
 use Prim.Native.Nat.{ℕ}
-use mathlib.Core.Bool.{Bool, cond, not, _&&_, _||_}
+use mathlib.Core.Bool.{Bool, not, _&&_, _||_}
 use lib.Dec.{eqb}
-use Rattle.tree.specs.Content.{name-start, name-byte, text-byte}
+use Rattle.tree.specs.Content.{text-byte}
 use Rattle.xml.specs.Bytes.{less-than, greater-than, ampersand}
 
 -- a byte of a text that no markup begins with
 unfoldable pub plain : ℕ → Bool
 plain b = text-byte b && not (eqb b less-than) && not (eqb b ampersand)
-
-unfoldable pub class-of : ℕ → ℕ
-class-of b = cond (name-start b) 3 (cond (name-byte b) 2 (cond (plain b) 1 0))
 
 -- a byte that stands for itself in a value or a text that ends with stop, k bytes ] just before it, if it is not stop
 unfoldable pub literal : ℕ → ℕ → ℕ → Bool

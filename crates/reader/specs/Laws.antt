@@ -1,4 +1,3 @@
-pub mod Tables
 pub mod Runs
 pub mod Characters
 pub mod Contents
@@ -7,3 +6,4 @@ pub mod Attributes
 pub mod StartTags
 pub mod EndTags
 pub mod Children
+pub mod Root

@@ -2,4 +2,5 @@ pub mod Classes
 pub mod Steps
 pub mod Elements
 pub mod Children
+pub mod Prolog
 pub mod Laws

@@ -19,3 +19,4 @@ pub mod Scan
 pub mod Goes
 pub mod Tokens
 pub mod Fixed
+pub mod Examples

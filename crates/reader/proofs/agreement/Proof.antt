@@ -1,12 +1,9 @@
 use borrow.Author.Needs.{needs}
-use native.Mathlib.Omega.{arith}
-use Prim.Native.Nat.{ℕ, _+_, _-_, _≤_, _<_}
+use Prim.Native.Nat.{_+_, _-_, _≤_}
 use lib.ListN.{length}
 use Rattle.reader.specs.Laws.Runs.{Agreeing, agree-start, agree-turn, agree-differ, agree-short, agree-whole}
 use Rattle.reader.proofs.agreement.Statement.{statement}
 use Rattle.reader.proofs.agreement.Tie as tie
-use Rattle.reader.proofs.agreement.Reads as reads
-use Rattle.reader.proofs.agreement.Lts as lts
 
 abbrev Inv-loop : tie.InvT-loop
 Inv-loop s at word n₀ n = (n ≤ length word) × (at + n ≤ length s) × Agreeing word s at n
@@ -14,47 +11,36 @@ Inv-loop s at word n₀ n = (n ≤ length word) × (at + n ≤ length s) × Agre
 abbrev μ-loop : tie.MeasureT-loop
 μ-loop s at word n₀ n = length word - n
 
--- src/lib.rt:99:5
 loop-holds : tie.Need-loop-holds Inv-loop μ-loop
 loop-holds c = (search needs, search needs, agree-start _ _ _)
 
--- src/lib.rt:100:12
 add-if1 : tie.Need-add-if1 Inv-loop μ-loop
 add-if1 c = search needs
 
--- src/lib.rt:101:13
 returns : tie.Need-returns Inv-loop μ-loop
 returns c = search (agree-short, needs)
 
--- src/lib.rt:103:14
 add-if2 : tie.Need-add-if2 Inv-loop μ-loop
 add-if2 c = search needs
 
--- src/lib.rt:103:12
 shared-slice-read-if2 : tie.Need-shared-slice-read-if2 Inv-loop μ-loop
 shared-slice-read-if2 c = search needs
 
--- src/lib.rt:103:25
 shared-slice-read-if2-2 : tie.Need-shared-slice-read-if2-2 Inv-loop μ-loop
 shared-slice-read-if2-2 c = search needs
 
--- src/lib.rt:104:13
 returns-2 : tie.Need-returns-2 Inv-loop μ-loop
 returns-2 c = search (agree-differ, needs)
 
--- src/lib.rt:106:9
 add-n : tie.Need-add-n Inv-loop μ-loop
 add-n c = search needs
 
--- src/lib.rt:99:5
 loop-less : tie.Need-loop-less Inv-loop μ-loop
 loop-less c = search needs
 
--- src/lib.rt:99:5
 loop-again : tie.Need-loop-again Inv-loop μ-loop
 loop-again c = (search needs, search needs, search (agree-turn, needs))
 
--- src/lib.rt:94:1
 returns-3 : tie.Need-returns-3 Inv-loop μ-loop
 returns-3 c = search (agree-whole, needs)
 

@@ -1,18 +1,13 @@
 use Rattle.reader.specs.Laws.Characters.{brackets-first, brackets-more, brackets-none}
 use Rattle.reader.proofs.brackets_after.Statement.{statement}
 use Rattle.reader.proofs.brackets_after.Tie as tie
-use Rattle.reader.proofs.brackets_after.Reads as reads
-use Rattle.reader.proofs.brackets_after.Lts as lts
 
--- src/lib.rt:116:13
 returns : tie.Need-returns
 returns c = brackets-first _ _ (c .before .if1 .taken) (c .if2 .taken)
 
--- src/lib.rt:118:9
 returns-2 : tie.Need-returns-2
 returns-2 c = brackets-more _ _ (c .before .if1 .taken) (c .if2 .left)
 
--- src/lib.rt:111:1
 returns-3 : tie.Need-returns-3
 returns-3 c = brackets-none _ _ (c .if1 .left)
 

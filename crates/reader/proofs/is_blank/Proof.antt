@@ -1,23 +1,16 @@
-use borrow.Author.Needs.{needs}
-use native.Mathlib.Omega.{arith}
 use borrow.Author.Tests.{ne-eqb}
 use Rattle.xml.specs.Bytes.{blank}
 use Rattle.reader.proofs.is_blank.Statement.{statement}
 use Rattle.reader.proofs.is_blank.Tie as tie
-use Rattle.reader.proofs.is_blank.Reads as reads
-use Rattle.reader.proofs.is_blank.Lts as lts
 
--- src/lib.rt:35:9
 returns : tie.Need-returns
 unfolding blank
 returns c = rw (c .if1 .taken)
 
--- src/lib.rt:38:9
 returns-2 : tie.Need-returns-2
 unfolding blank
 returns-2 c = rw (ne-eqb _ _ (c .before .if1 .left), c .if2 .taken)
 
--- src/lib.rt:31:1
 returns-3 : tie.Need-returns-3
 unfolding blank
 returns-3 c = rw (ne-eqb _ _ (c .before .if1 .left), ne-eqb _ _ (c .if2 .left))

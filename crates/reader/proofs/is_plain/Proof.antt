@@ -1,22 +1,20 @@
-use native.Mathlib.Omega.{arith}
-use mathlib.Core.Path.{_∙_, ap}
-use Prim.Native.Nat.{ℕ}
-use lib.Dec.{leb}
-use Rattle.reader.specs.Laws.Tables.{class-plain}
+use mathlib.Core.Path.{_∙_}
+use Rattle.reader.specs.Laws.Characters.{plain-less-than, plain-ampersand, plain-text}
 use borrow.Author.Needs.{needs}
 use Rattle.reader.proofs.is_plain.Statement.{statement}
 use Rattle.reader.proofs.is_plain.Tie as tie
-use Rattle.reader.proofs.is_plain.Reads as reads
-use Rattle.reader.proofs.is_plain.Lts as lts
-use Rattle.reader.proofs.class.Reads as class-reads
 
--- src/lib.rt:65:10
-class-requires : tie.Need-class-requires
-class-requires c κs = search needs
-
--- src/lib.rt:62:1
 returns : tie.Need-returns
-returns c = ap (leb 1) (c .class .ensures) ∙ class-plain _ (search needs)
+returns c = plain-less-than _ (c .if1 .taken)
+
+returns-2 : tie.Need-returns-2
+returns-2 c = plain-ampersand _ (c .if2 .taken)
+
+text-byte-requires : tie.Need-text-byte-requires
+text-byte-requires c κs = search needs
+
+returns-3 : tie.Need-returns-3
+returns-3 c = c .text-byte .ensures ∙ plain-text _ (c .before .before .if1 .left) (c .before .if2 .left)
 
 pub is-plain-spec : {M : Type 1} → statement M
-is-plain-spec = tie.close (tie.spec class-requires returns)
+is-plain-spec = tie.close (tie.spec returns returns-2 text-byte-requires returns-3)

@@ -3,27 +3,19 @@ use mathlib.Core.Path.{_∙_}
 use borrow.Author.Needs.{needs}
 use Rattle.reader.proofs.may_stand.Statement.{statement}
 use Rattle.reader.proofs.may_stand.Tie as tie
-use Rattle.reader.proofs.may_stand.Reads as reads
-use Rattle.reader.proofs.may_stand.Lts as lts
-use Rattle.reader.proofs.is_plain.Reads as is-plain-reads
 
--- src/lib.rt:100:9
 returns : tie.Need-returns
 returns c = begins-reference _ _ _ (c .if1 .taken)
 
--- src/lib.rt:103:9
 is-plain-requires : tie.Need-is-plain-requires
 is-plain-requires c κs = search needs
 
--- src/lib.rt:103:9
 returns-2 : tie.Need-returns-2
 returns-2 c = c .is-plain .ensures ∙ begins-plain _ _ _ (c .before .before .if1 .left) (c .before .if2 .taken)
 
--- src/lib.rt:106:9
 returns-3 : tie.Need-returns-3
 returns-3 c = begins-value _ _ _ (c .before .before .if1 .left) (c .before .if2 .left) (c .if3 .taken)
 
--- src/lib.rt:96:1
 returns-4 : tie.Need-returns-4
 returns-4 c = begins-text _ _ _ (c .before .before .if1 .left) (c .before .if2 .left) (c .if3 .left)
 

@@ -1,21 +1,15 @@
-use native.Mathlib.Omega.{arith}
 use mathlib.Core.Path.{sym}
 use lib.ListN.{List·getD-eq-default}
 use borrow.Author.Needs.{needs}
 use Rattle.reader.proofs.peek.Statement.{statement}
 use Rattle.reader.proofs.peek.Tie as tie
-use Rattle.reader.proofs.peek.Reads as reads
-use Rattle.reader.proofs.peek.Lts as lts
 
--- src/lib.rt:72:23
 shared-slice-read-result : tie.Need-shared-slice-read-result
 shared-slice-read-result c = search needs
 
--- src/lib.rt:69:1
 returns : tie.Need-returns
 returns c = search needs
 
--- src/lib.rt:69:1
 returns-2 : tie.Need-returns-2
 returns-2 c = sym (List·getD-eq-default (c .before .args .s .now) 0 (c .if1 .left))
 

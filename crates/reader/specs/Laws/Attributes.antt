@@ -124,13 +124,15 @@ module _ (s : List ℕ) (at nodes : ℕ) (x : Attributed s at nodes) where
   pub attribute-many : (seen : List Name) → nodes ≡ node-limit → AttributeRead s seen at nodes (Refused 6 at)
   unfolding births tail peak
   attribute-many seen l = attribute-refused {x = 6} {j = at} (λ n ns.
-      stops-many s (in-tag n ns seen) nodes at (x .inside) (attribute-name n ns seen (b ∷ [])) (depth (n ∷ ns)) attribute-kind (byte b ∷ []) (born-step n ns seen) refl l (omega arith) no-opener-before)
+      stops-many s (in-tag n ns seen) nodes at (x .inside) (attribute-name n ns seen (b ∷ [])) (depth (n ∷ ns)) attribute-kind (byte b ∷ []) (born-step n ns seen) refl l
+      (omega arith) no-opener-before)
 
   module _ (room : nodes < node-limit) (to : ℕ) (r : Run name-byte s at to) where
     -- behind the first byte
     named : (n : Name) (ns seen : List Name) (k : ℕ) → k ≤ content-limit → scan-at s (in-tag n ns seen) nodes k at ≡ scan-at s (attribute-name n ns seen (b ∷ [])) (nodes + 1) 1 (at + 1)
     unfolding births tail peak
-    named n ns seen k h = scan-born s (in-tag n ns seen) nodes at (x .inside) (attribute-name n ns seen (b ∷ [])) (depth (n ∷ ns)) attribute-kind (byte b ∷ []) (born-step n ns seen) refl room k h (omega arith)
+    named n ns seen k h =
+        scan-born s (in-tag n ns seen) nodes at (x .inside) (attribute-name n ns seen (b ∷ [])) (depth (n ∷ ns)) attribute-kind (byte b ∷ []) (born-step n ns seen) refl room k h (omega arith)
 
     pub attribute-long : (seen : List Name) → content-limit < to - at → AttributeRead s seen at nodes (Refused 5 (at + 32))
     attribute-long seen h = attribute-refused {x = 5} {j = at + 32} (λ n ns. record {
@@ -140,7 +142,8 @@ module _ (s : List ℕ) (at nodes : ℕ) (x : Attributed s at nodes) where
 
     module _ (short : to - at ≤ content-limit) where
       -- behind the name
-      whole : (n : Name) (ns seen : List Name) (k : ℕ) → k ≤ content-limit → scan-at s (in-tag n ns seen) nodes k at ≡ scan-at s (attribute-name n ns seen (name-at s at)) (nodes + 1) (to - at) to
+      whole : (n : Name) (ns seen : List Name) (k : ℕ) → k ≤ content-limit
+          → scan-at s (in-tag n ns seen) nodes k at ≡ scan-at s (attribute-name n ns seen (name-at s at)) (nodes + 1) (to - at) to
       whole n ns seen k m =
           let p : span name-byte (drop at s) ≡ to - at = omega (arith, r .ends) in
           let q : at + (to - at) ≡ to = omega (arith, r .ends) in

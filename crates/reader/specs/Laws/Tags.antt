@@ -182,7 +182,8 @@ module _ (s : List ℕ) (at i : ℕ) (r : Run blank s at i) where
         quote-read x c o p =
             let u : j + 1 - 1 ≡ j = omega arith in
             quoted {c = c} x (omega (arith, r .ends, q .ends)) (omega arith) (rw (p, u) (before x o))
-            (λ n ns seen m l. goes-then (to-quote n ns seen m l) (rw p (goes-step s (behind-equals n ns seen) m j k (behind-quote n ns seen x) (ap (step true (behind-equals n ns seen)) o ∙ opens x n ns seen) refl l)))
+            (λ n ns seen m l. goes-then (to-quote n ns seen m l)
+            (rw p (goes-step s (behind-equals n ns seen) m j k (behind-quote n ns seen x) (ap (step true (behind-equals n ns seen)) o ∙ opens x n ns seen) refl l)))
           where
             opens : (x : Quote) (n : Name) (ns seen : List Name) → step true (behind-equals n ns seen) (mark x) ≡ to (behind-quote n ns seen x)
             opens double n ns seen = refl

@@ -182,7 +182,7 @@ Landed s d w n k i (lost m) = bad 4 (i + m)
 
 module _ (s : List ℕ) (C : Words → Config) (d : Config) (w : ℕ → List Event) (n k : ℕ) (f : Wording C d w) (l : n ≤ node-limit)
     (o : (x : Words) → k + pending (phase (C x)) ≤ content-limit) (e : (b : ℕ) → extent k (w b) d ≤ content-limit) where
-  landed-more : (i : ℕ) (r : Reach) → Landed s d w n k (suc i) r ≡ Landed s d w n k i (one-more r)
+  pub landed-more : (i : ℕ) (r : Reach) → Landed s d w n k (suc i) r ≡ Landed s d w n k i (one-more r)
   landed-more i (got b m) = ap (λ (j : ℕ). scan-at s d n (tail k (w b)) j) (omega arith)
   landed-more i (lost m) = ap (bad 4) (omega arith)
 

@@ -1,9 +1,9 @@
 use Rattle.reader.specs.Laws.StartTags.{placed-at}
-use Prim.Native.Nat.{ℕ, _+_, _-_, _≤_, _<_}
-use mathlib.Core.Path.{_≡_, refl, sym, _∙_, subst}
+use Prim.Native.Nat.{_+_, _-_, _≤_}
+use mathlib.Core.Path.{_≡_, subst}
 use native.Mathlib.Omega.{arith}
 use borrow.Author.Needs.{needs}
-use lib.ListN.{length, getD}
+use lib.ListN.{length}
 use Rattle.xml.specs.Laws.Automaton.{behind-part}
 use Rattle.reader.specs.declared.Part.{Part}
 use Rattle.reader.specs.declared.Read.{Read}
@@ -13,10 +13,6 @@ use Rattle.reader.specs.Laws.StartTags.{AttributesTo, attributes-start, 
 use Rattle.reader.specs.Laws.StartTags.{attribute-here, attribute-behind, kept-same, kept-set, placed-push}
 use Rattle.reader.proofs.Cursor.attributes.Statement.{statement}
 use Rattle.reader.proofs.Cursor.attributes.Tie as tie
-use Rattle.reader.proofs.Cursor.attributes.Reads as reads
-use Rattle.reader.proofs.Cursor.attributes.Lts as lts
-use Rattle.reader.proofs.Cursor.attribute.Reads as attribute-reads
-use Rattle.reader.proofs.Cursor.part.Reads as part-reads
 
 abbrev Inv-loop : tie.InvT-loop
 Inv-loop s names₀ lo nodes i₀ count₀ n₀ names i count n =
@@ -26,95 +22,130 @@ Inv-loop s names₀ lo nodes i₀ count₀ n₀ names i count n =
 abbrev μ-loop : tie.MeasureT-loop
 μ-loop s names₀ lo nodes i₀ count₀ n₀ names i count n = length s - i
 
--- src/lib.rt:443:9
 loop-holds : tie.Need-loop-holds Inv-loop μ-loop
 loop-holds c = (search needs, search needs, search needs, search needs, search needs, placed-at _ _ _ _ (omega arith) (c .before .pre .3), kept-same _ _, attributes-start _ _ _ _ _, c .before .pre .4)
 
--- src/lib.rt:445:19
 part-requires : tie.Need-part-requires Inv-loop μ-loop
 part-requires c κs = search needs
 
--- src/lib.rt:446:29
 enum-known-j : tie.Need-enum-known-j Inv-loop μ-loop
 enum-known-j c = search needs
 
--- src/lib.rt:446:35
 returns : tie.Need-returns Inv-loop μ-loop
-returns c = (attributes-wrong _ _ _ _ _ _ _ _ (c .before .before .before .before .loop .inv .7) (c .before .before .before .before .loop .inv .0) (c .before .before .before .before .loop .inv .2) (c .before .before .before .before .loop .inv .3) (subst (λ (r : Part). TagRead (c .before .before .before .before .before .before .args .s .now) behind-part (c .before .before .before .before .loop .i) r) (c .before .j .given .1) (c .before .before .before .part .ensures)), c .before .before .before .before .loop .inv .6)
+returns c =
+    let args = c .before .before .before .before .before .before .args in
+    let loop = c .before .before .before .before .loop in
+    let part = c .before .before .before .part in (
+      attributes-wrong _ _ _ _ _ _ _ _ (loop .inv .7) (loop .inv .0) (loop .inv .2) (loop .inv .3)
+          (subst (λ (r : Part). TagRead (args .s .now) behind-part (loop .i) r) (c .before .j .given .1) (part .ensures)),
+      loop .inv .6,
+    )
 
--- src/lib.rt:447:28
 enum-known-c : tie.Need-enum-known-c Inv-loop μ-loop
 enum-known-c c = search needs
 
--- src/lib.rt:447:34
 returns-2 : tie.Need-returns-2 Inv-loop μ-loop
-returns-2 c = (attributes-open _ _ _ _ _ _ _ _ (c .before .before .before .before .loop .inv .7) (c .before .before .before .before .loop .inv .0) (c .before .before .before .before .loop .inv .2) (c .before .before .before .before .loop .inv .3) (subst (λ (r : Part). TagRead (c .before .before .before .before .before .before .args .s .now) behind-part (c .before .before .before .before .loop .i) r) (c .before .c .given .1) (c .before .before .before .part .ensures)), c .before .before .before .before .loop .inv .6)
+returns-2 c =
+    let args = c .before .before .before .before .before .before .args in
+    let loop = c .before .before .before .before .loop in
+    let part = c .before .before .before .part in (
+      attributes-open _ _ _ _ _ _ _ _ (loop .inv .7) (loop .inv .0) (loop .inv .2) (loop .inv .3)
+          (subst (λ (r : Part). TagRead (args .s .now) behind-part (loop .i) r) (c .before .c .given .1) (part .ensures)),
+      loop .inv .6,
+    )
 
--- src/lib.rt:448:29
 enum-known-c-2 : tie.Need-enum-known-c-2 Inv-loop μ-loop
 enum-known-c-2 c = search needs
 
--- src/lib.rt:448:35
 returns-3 : tie.Need-returns-3 Inv-loop μ-loop
-returns-3 c = (attributes-empty _ _ _ _ _ _ _ _ (c .before .before .before .before .loop .inv .7) (c .before .before .before .before .loop .inv .0) (c .before .before .before .before .loop .inv .2) (c .before .before .before .before .loop .inv .3) (subst (λ (r : Part). TagRead (c .before .before .before .before .before .before .args .s .now) behind-part (c .before .before .before .before .loop .i) r) (c .before .c2 .given .1) (c .before .before .before .part .ensures)), c .before .before .before .before .loop .inv .6)
+returns-3 c =
+    let args = c .before .before .before .before .before .before .args in
+    let loop = c .before .before .before .before .loop in
+    let part = c .before .before .before .part in (
+      attributes-empty _ _ _ _ _ _ _ _ (loop .inv .7) (loop .inv .0) (loop .inv .2) (loop .inv .3)
+          (subst (λ (r : Part). TagRead (args .s .now) behind-part (loop .i) r) (c .before .c2 .given .1) (part .ensures)),
+      loop .inv .6,
+    )
 
--- src/lib.rt:449:33
 enum-known-c-3 : tie.Need-enum-known-c-3 Inv-loop μ-loop
 enum-known-c-3 c = search needs
 
--- src/lib.rt:450:27
 attribute-requires : tie.Need-attribute-requires Inv-loop μ-loop
-attribute-requires c κs = (attribute-here _ (c .before .before .before .before .before .loop .inv .3) (subst (λ (r : Part). TagRead (c .before .before .before .before .before .before .before .args .s .now) behind-part (c .before .before .before .before .before .loop .i) r) (c .before .before .c3 .given .1) (c .before .before .before .before .part .ensures)) .0, search needs, c .before .before .before .before .before .loop .inv .5)
+attribute-requires c κs =
+    let args = c .before .before .before .before .before .before .before .args in
+    let loop = c .before .before .before .before .before .loop in
+    let part = c .before .before .before .before .part in
+    let c3 = c .before .before .c3 in
+    (attribute-here _ (loop .inv .3) (subst (λ (r : Part). TagRead (args .s .now) behind-part (loop .i) r) (c3 .given .1) (part .ensures)) .0, search needs, loop .inv .5)
 
--- src/lib.rt:451:39
 enum-known-x : tie.Need-enum-known-x Inv-loop μ-loop
 enum-known-x c = search needs
 
--- src/lib.rt:451:48
 returns-4 : tie.Need-returns-4 Inv-loop μ-loop
-returns-4 c = (attributes-bad _ _ _ _ _ _ _ _ (c .before .before .before .before .before .before .before .before .before .loop .inv .7) (c .before .before .before .before .before .before .before .before .before .loop .inv .0) (c .before .before .before .before .before .before .before .before .before .loop .inv .2) (c .before .before .before .before .before .before .before .before .before .loop .inv .3) (subst (λ (r : Part). TagRead (c .before .before .before .before .before .before .before .before .before .before .before .args .s .now) behind-part (c .before .before .before .before .before .before .before .before .before .loop .i) r) (c .before .before .before .before .before .before .c3 .given .1) (c .before .before .before .before .before .before .before .before .part .ensures)) (subst (λ (r : Read). AttributeRead (c .before .before .before .before .before .before .before .before .before .before .before .args .s .now) (stack (c .before .before .before .before .before .before .before .before .before .before .before .args .s .now) (c .before .before .before .before .before .before .before .before .before .loop .names) (c .before .before .before .before .before .before .before .before .before .before .before .args .lo) (c .before .before .before .before .before .before .before .before .before .loop .count)) (c .before .before .before .before .before .before .c3 .given .0 .0 .at) (c .before .before .before .before .before .before .before .before .before .loop .n) r) (c .before .x .given .1) (c .before .before .before .attribute .ensures)), c .before .before .before .before .before .before .before .before .before .loop .inv .6)
+returns-4 c =
+    let args = c .before .before .before .before .before .before .before .before .before .before .before .args in
+    let loop = c .before .before .before .before .before .before .before .before .before .loop in
+    let part = c .before .before .before .before .before .before .before .before .part in
+    let c3 = c .before .before .before .before .before .before .c3 in
+    let attribute = c .before .before .before .attribute in (
+      attributes-bad _ _ _ _ _ _ _ _ (loop .inv .7) (loop .inv .0) (loop .inv .2) (loop .inv .3)
+          (subst (λ (r : Part). TagRead (args .s .now) behind-part (loop .i) r) (c3 .given .1) (part .ensures))
+          (subst (λ (r : Read). AttributeRead (args .s .now) (stack (args .s .now) (loop .names) (args .lo) (loop .count)) (c3 .given .0 .0 .at) (loop .n) r) (c .before .x .given .1)
+          (attribute .ensures)),
+      loop .inv .6,
+    )
 
--- src/lib.rt:452:36
 enum-known-next : tie.Need-enum-known-next Inv-loop μ-loop
 enum-known-next c = search needs
 
--- src/lib.rt:453:35
 add-names : tie.Need-add-names Inv-loop μ-loop
 add-names c = search needs
 
--- src/lib.rt:453:29
 mul-names : tie.Need-mul-names Inv-loop μ-loop
 mul-names c = search needs
 
--- src/lib.rt:453:29
 element-write-names : tie.Need-element-write-names Inv-loop μ-loop
 element-write-names c = search needs
 
--- src/lib.rt:454:29
 add-count : tie.Need-add-count Inv-loop μ-loop
 add-count c = search needs
 
--- src/lib.rt:443:9
 loop-less : tie.Need-loop-less Inv-loop μ-loop
-loop-less c = let p = attribute-here _ (c .before .before .before .before .before .before .before .before .before .loop .inv .3) (subst (λ (r : Part). TagRead (c .before .before .before .before .before .before .before .before .before .before .before .args .s .now) behind-part (c .before .before .before .before .before .before .before .before .before .loop .i) r) (c .before .before .before .before .before .before .c3 .given .1) (c .before .before .before .before .before .before .before .before .part .ensures)) in
-    let a = attribute-behind (subst (λ (r : Read). AttributeRead (c .before .before .before .before .before .before .before .before .before .before .before .args .s .now) (stack (c .before .before .before .before .before .before .before .before .before .before .before .args .s .now) (c .before .before .before .before .before .before .before .before .before .loop .names) (c .before .before .before .before .before .before .before .before .before .before .before .args .lo) (c .before .before .before .before .before .before .before .before .before .loop .count)) (c .before .before .before .before .before .before .c3 .given .0 .0 .at) (c .before .before .before .before .before .before .before .before .before .loop .n) r) (c .before .next .given .1) (c .before .before .before .attribute .ensures)) in
+loop-less c =
+    let args = c .before .before .before .before .before .before .before .before .before .before .before .args in
+    let loop = c .before .before .before .before .before .before .before .before .before .loop in
+    let part = c .before .before .before .before .before .before .before .before .part in
+    let c3 = c .before .before .before .before .before .before .c3 in
+    let attribute = c .before .before .before .attribute in
+    let p = attribute-here _ (loop .inv .3) (subst (λ (r : Part). TagRead (args .s .now) behind-part (loop .i) r) (c3 .given .1) (part .ensures)) in
+    let a =
+    attribute-behind
+    (subst (λ (r : Read). AttributeRead (args .s .now) (stack (args .s .now) (loop .names) (args .lo) (loop .count)) (c3 .given .0 .0 .at) (loop .n) r) (c .before .next .given .1)
+    (attribute .ensures)) in
     omega (arith, p .1, a .0, a .1)
 
--- src/lib.rt:443:9
 loop-again : tie.Need-loop-again Inv-loop μ-loop
-loop-again c = let x = subst (λ (r : Part). TagRead (c .before .before .before .before .before .before .before .before .before .before .before .args .s .now) behind-part (c .before .before .before .before .before .before .before .before .before .loop .i) r) (c .before .before .before .before .before .before .c3 .given .1) (c .before .before .before .before .before .before .before .before .part .ensures) in
-    let p = attribute-here _ (c .before .before .before .before .before .before .before .before .before .loop .inv .3) x in
-    let z = subst (λ (r : Read). AttributeRead (c .before .before .before .before .before .before .before .before .before .before .before .args .s .now) (stack (c .before .before .before .before .before .before .before .before .before .before .before .args .s .now) (c .before .before .before .before .before .before .before .before .before .loop .names) (c .before .before .before .before .before .before .before .before .before .before .before .args .lo) (c .before .before .before .before .before .before .before .before .before .loop .count)) (c .before .before .before .before .before .before .c3 .given .0 .0 .at) (c .before .before .before .before .before .before .before .before .before .loop .n) r) (c .before .next .given .1) (c .before .before .before .attribute .ensures) in
+loop-again c =
+    let args = c .before .before .before .before .before .before .before .before .before .before .before .args in
+    let loop = c .before .before .before .before .before .before .before .before .before .loop in
+    let part = c .before .before .before .before .before .before .before .before .part in
+    let c3 = c .before .before .before .before .before .before .c3 in
+    let attribute = c .before .before .before .attribute in
+    let x = subst (λ (r : Part). TagRead (args .s .now) behind-part (loop .i) r) (c3 .given .1) (part .ensures) in
+    let p = attribute-here _ (loop .inv .3) x in
+    let z =
+    subst (λ (r : Read). AttributeRead (args .s .now) (stack (args .s .now) (loop .names) (args .lo) (loop .count)) (c3 .given .0 .0 .at) (loop .n) r) (c .before .next .given .1)
+    (attribute .ensures) in
     let a = attribute-behind z in (
       omega (arith, p .1, a .0),
       a .1,
       omega (arith, a .2),
       a .3,
       omega (arith, a .2),
-      placed-at _ _ _ _ (omega arith) (placed-push _ _ _ _ (c .before .before .before .before .before .before .before .before .before .loop .inv .5) (omega (arith, p .0 .inside)) (search needs)),
-      kept-set _ _ _ _ _ (c .before .before .before .before .before .before .before .before .before .loop .inv .6) (omega arith),
-      attributes-turn _ _ _ _ _ _ _ _ (c .before .before .before .before .before .before .before .before .before .loop .inv .7) (c .before .before .before .before .before .before .before .before .before .loop .inv .0) (c .before .before .before .before .before .before .before .before .before .loop .inv .2) (c .before .before .before .before .before .before .before .before .before .loop .inv .3) x z (search needs),
-      search (needs, c .before .before .before .before .before .before .before .before .before .loop .inv .8),
+      placed-at _ _ _ _ (omega arith) (placed-push _ _ _ _ (loop .inv .5) (omega (arith, p .0 .inside)) (search needs)),
+      kept-set _ _ _ _ _ (loop .inv .6) (omega arith),
+      attributes-turn _ _ _ _ _ _ _ _ (loop .inv .7) (loop .inv .0) (loop .inv .2) (loop .inv .3) x z (search needs),
+      search (needs, loop .inv .8),
     )
 
 pub attributes-spec : {M : Type 1} → statement M

@@ -1,16 +1,12 @@
 use borrow.Author.Needs.{needs}
-use native.Mathlib.Omega.{arith}
-use Prim.Native.Nat.{ℕ, _+_, _-_, _≤_, _<_}
-use mathlib.Core.Path.{_≡_, sym, _∙_}
+use Prim.Native.Nat.{_-_, _≤_}
+use mathlib.Core.Path.{sym, _∙_}
 use borrow.Author.Tests.{not-true, not-false}
 use lib.ListN.{length}
 use Rattle.xml.specs.Bytes.{blank}
 use Rattle.reader.specs.Laws.Runs.{Running, run-start, run-turn, run-stop, run-end}
 use Rattle.reader.proofs.Cursor.blanks.Statement.{statement}
 use Rattle.reader.proofs.Cursor.blanks.Tie as tie
-use Rattle.reader.proofs.Cursor.blanks.Reads as reads
-use Rattle.reader.proofs.Cursor.blanks.Lts as lts
-use Rattle.reader.proofs.is_blank.Reads as is-blank-reads
 
 abbrev Inv-loop : tie.InvT-loop
 Inv-loop s i₀ i = (i ≤ length s) × Running blank s i₀ i
@@ -18,35 +14,27 @@ Inv-loop s i₀ i = (i ≤ length s) × Running blank s i₀ i
 abbrev μ-loop : tie.MeasureT-loop
 μ-loop s i₀ i = length s - i
 
--- src/lib.rt:128:9
 loop-holds : tie.Need-loop-holds Inv-loop μ-loop
 loop-holds c = (search needs, run-start _ _ _)
 
--- src/lib.rt:129:21
 shared-slice-read-b : tie.Need-shared-slice-read-b Inv-loop μ-loop
 shared-slice-read-b c = search needs
 
--- src/lib.rt:130:17
 is-blank-requires : tie.Need-is-blank-requires Inv-loop μ-loop
 is-blank-requires c κs = search needs
 
--- src/lib.rt:133:13
 add-i : tie.Need-add-i Inv-loop μ-loop
 add-i c = search needs
 
--- src/lib.rt:128:9
 loop-less : tie.Need-loop-less Inv-loop μ-loop
 loop-less c = search needs
 
--- src/lib.rt:128:9
 loop-again : tie.Need-loop-again Inv-loop μ-loop
 loop-again c = (search needs, run-turn _ _ _ _ (c .before .before .before .before .loop .inv .1) (search needs) (sym (c .before .is-blank .ensures) ∙ not-false _ (c .if1 .left)))
 
--- src/lib.rt:123:5
 returns : tie.Need-returns Inv-loop μ-loop
 returns c = run-end _ _ _ _ (c .before .loop .inv .1) (search needs) (search needs)
 
--- src/lib.rt:123:5
 returns-2 : tie.Need-returns-2 Inv-loop μ-loop
 returns-2 c = run-stop _ _ _ _ (c .before .before .before .before .loop .inv .1) (search needs) (sym (c .before .is-blank .ensures) ∙ not-true _ (c .if1 .taken))
 

@@ -3,27 +3,19 @@ use mathlib.Core.Path.{refl}
 use borrow.Author.Needs.{needs}
 use Rattle.reader.proofs.Cursor.character.Statement.{statement}
 use Rattle.reader.proofs.Cursor.character.Tie as tie
-use Rattle.reader.proofs.Cursor.character.Reads as reads
-use Rattle.reader.proofs.Cursor.character.Lts as lts
-use Rattle.reader.proofs.Cursor.reference.Reads as reference-reads
 
--- src/lib.rt:214:17
 shared-slice-read-b : tie.Need-shared-slice-read-b
 shared-slice-read-b c = search needs
 
--- src/lib.rt:215:33
 add-t8 : tie.Need-add-t8
 add-t8 c = search needs
 
--- src/lib.rt:217:13
 reference-requires : tie.Need-reference-requires
 reference-requires c κs = search needs
 
--- src/lib.rt:217:13
 returns : tie.Need-returns
 returns c = by-reference (c .before .if1 .taken) (c .reference .ensures)
 
--- src/lib.rt:209:5
 returns-2 : tie.Need-returns-2
 returns-2 c = one-byte (c .if1 .left) refl
 

@@ -2,8 +2,8 @@ use Rattle.reader.specs.declared.Reference.{Reference}
 use Rattle.reader.specs.Steps.{Character}
 use mathlib.Core.Path.{subst}
 use native.Mathlib.Omega.{arith}
-use Prim.Native.Nat.{ℕ, _+_, _-_, _≤_, _<_}
-use mathlib.Core.Path.{_≡_, refl, sym, _∙_}
+use Prim.Native.Nat.{_-_, _≤_}
+use mathlib.Core.Path.{refl, sym, _∙_}
 use borrow.Author.Needs.{needs}
 use borrow.Author.Tests.{not-true, not-false}
 use lib.ListN.{length}
@@ -11,11 +11,6 @@ use Rattle.reader.specs.Laws.Characters.{CharactersTo, characters-start,
 use Rattle.reader.specs.Laws.Characters.{characters-lost, characters-turn, character-inside}
 use Rattle.reader.proofs.Cursor.characters.Statement.{statement}
 use Rattle.reader.proofs.Cursor.characters.Tie as tie
-use Rattle.reader.proofs.Cursor.characters.Reads as reads
-use Rattle.reader.proofs.Cursor.characters.Lts as lts
-use Rattle.reader.proofs.Cursor.character.Reads as character-reads
-use Rattle.reader.proofs.brackets_after.Reads as brackets-after-reads
-use Rattle.reader.proofs.may_stand.Reads as may-stand-reads
 
 abbrev Inv-loop : tie.InvT-loop
 Inv-loop s stop nodes i₀ count₀ k₀ i count k = (i₀ ≤ i) × (i ≤ length s) × (count ≤ 32) × CharactersTo s stop nodes i₀ k count i
@@ -23,72 +18,90 @@ Inv-loop s stop nodes i₀ count₀ k₀ i count k = (i₀ ≤ i) × (i ≤ leng
 abbrev μ-loop : tie.MeasureT-loop
 μ-loop s stop nodes i₀ count₀ k₀ i count k = length s - i
 
--- src/lib.rt:230:9
 loop-holds : tie.Need-loop-holds Inv-loop μ-loop
 loop-holds c = (search needs, search needs, search needs, characters-start _ _ _ _)
 
--- src/lib.rt:231:21
 shared-slice-read-b : tie.Need-shared-slice-read-b Inv-loop μ-loop
 shared-slice-read-b c = search needs
 
--- src/lib.rt:233:48
 add-t16 : tie.Need-add-t16 Inv-loop μ-loop
 add-t16 c = search needs
 
--- src/lib.rt:233:17
 returns : tie.Need-returns Inv-loop μ-loop
-returns c = characters-stop _ _ _ _ _ _ _ (search needs) (c .before .before .before .loop .inv .3) (search needs) _ (c .before .before .before .loop .inv .0) (c .if1 .taken) (c .before .before .before .loop .inv .2) refl
+returns c =
+    let loop = c .before .before .before .loop in
+    characters-stop _ _ _ _ _ _ _ (search needs) (loop .inv .3) (search needs) _ (loop .inv .0) (c .if1 .taken) (loop .inv .2) refl
 
--- src/lib.rt:235:17
 may-stand-requires : tie.Need-may-stand-requires Inv-loop μ-loop
 may-stand-requires c κs = search needs
 
--- src/lib.rt:236:17
 returns-2 : tie.Need-returns-2 Inv-loop μ-loop
-returns-2 c = characters-wrong _ _ _ _ _ _ _ (search needs) (c .before .before .before .before .before .loop .inv .3) (search needs) (c .before .before .if1 .left) (sym (c .before .may-stand .ensures) ∙ not-true _ (c .if2 .taken))
+returns-2 c =
+    let loop = c .before .before .before .before .before .loop in
+    let if1 = c .before .before .if1 in
+    characters-wrong _ _ _ _ _ _ _ (search needs) (loop .inv .3) (search needs) (if1 .left) (sym (c .before .may-stand .ensures) ∙ not-true _ (c .if2 .taken))
 
--- src/lib.rt:239:17
 returns-3 : tie.Need-returns-3 Inv-loop μ-loop
-returns-3 c = characters-full _ _ _ _ _ _ _ (search needs) (c .before .before .before .before .before .before .loop .inv .3) (search needs) (c .before .before .before .if1 .left) (sym (c .before .before .may-stand .ensures) ∙ not-false _ (c .before .if2 .left)) (c .if3 .taken)
+returns-3 c =
+    let loop = c .before .before .before .before .before .before .loop in
+    let if1 = c .before .before .before .if1 in
+    let may-stand = c .before .before .may-stand in
+    characters-full _ _ _ _ _ _ _ (search needs) (loop .inv .3) (search needs) (if1 .left) (sym (may-stand .ensures) ∙ not-false _ (c .before .if2 .left)) (c .if3 .taken)
 
--- src/lib.rt:242:19
 character-requires : tie.Need-character-requires Inv-loop μ-loop
 character-requires c κs = search needs
 
--- src/lib.rt:243:37
 enum-known-j : tie.Need-enum-known-j Inv-loop μ-loop
 enum-known-j c = search needs
 
--- src/lib.rt:243:43
 returns-4 : tie.Need-returns-4 Inv-loop μ-loop
-returns-4 c = let x = subst (λ (r : Reference). Character (c .before .before .before .before .before .before .before .before .before .before .before .before .args .s .now) (c .before .before .before .before .before .before .before .before .before .before .loop .i) r) (c .before .j .given .1) (c .before .before .before .character .ensures) in
-    characters-lost _ _ _ _ _ _ _ (search needs) (c .before .before .before .before .before .before .before .before .before .before .loop .inv .3) (search needs) (c .before .before .before .before .before .before .before .if1 .left) (sym (c .before .before .before .before .before .before .may-stand .ensures) ∙ not-false _ (c .before .before .before .before .before .if2 .left)) (search needs) x
+returns-4 c =
+    let args = c .before .before .before .before .before .before .before .before .before .before .before .before .args in
+    let loop = c .before .before .before .before .before .before .before .before .before .before .loop in
+    let if1 = c .before .before .before .before .before .before .before .if1 in
+    let may-stand = c .before .before .before .before .before .before .may-stand in
+    let if2 = c .before .before .before .before .before .if2 in
+    let character = c .before .before .before .character in
+    let x = subst (λ (r : Reference). Character (args .s .now) (loop .i) r) (c .before .j .given .1) (character .ensures) in
+    characters-lost _ _ _ _ _ _ _ (search needs) (loop .inv .3) (search needs) (if1 .left) (sym (may-stand .ensures) ∙ not-false _ (if2 .left)) (search needs) x
 
--- src/lib.rt:244:36
 enum-known-next : tie.Need-enum-known-next Inv-loop μ-loop
 enum-known-next c = search needs
 
--- src/lib.rt:248:13
 add-count : tie.Need-add-count Inv-loop μ-loop
 add-count c = search needs
 
--- src/lib.rt:249:13
 brackets-after-requires : tie.Need-brackets-after-requires Inv-loop μ-loop
 brackets-after-requires c κs = search needs
 
--- src/lib.rt:230:9
 loop-less : tie.Need-loop-less Inv-loop μ-loop
-loop-less c = let x = subst (λ (r : Reference). Character (c .before .before .before .before .before .before .before .before .before .before .before .before .before .args .s .now) (c .before .before .before .before .before .before .before .before .before .before .before .loop .i) r) (c .before .before .next .given .1) (c .before .before .before .before .character .ensures) in
+loop-less c =
+    let args = c .before .before .before .before .before .before .before .before .before .before .before .before .before .args in
+    let loop = c .before .before .before .before .before .before .before .before .before .before .before .loop in
+    let character = c .before .before .before .before .character in
+    let next = c .before .before .next in
+    let x = subst (λ (r : Reference). Character (args .s .now) (loop .i) r) (next .given .1) (character .ensures) in
     let y = character-inside (search needs) x in
     omega (arith, y .0, y .1)
 
--- src/lib.rt:230:9
 loop-again : tie.Need-loop-again Inv-loop μ-loop
-loop-again c = let x = subst (λ (r : Reference). Character (c .before .before .before .before .before .before .before .before .before .before .before .before .before .args .s .now) (c .before .before .before .before .before .before .before .before .before .before .before .loop .i) r) (c .before .before .next .given .1) (c .before .before .before .before .character .ensures) in
-    let y = character-inside (search needs) x in
-    (omega (arith, y .0), y .1, search needs, rw (c .brackets-after .ensures) (characters-turn _ _ _ _ _ _ _ (search needs) (c .before .before .before .before .before .before .before .before .before .before .before .loop .inv .3) (search needs) (c .before .before .before .before .before .before .before .before .if1 .left) (sym (c .before .before .before .before .before .before .before .may-stand .ensures) ∙ not-false _ (c .before .before .before .before .before .before .if2 .left)) (search needs) x))
+loop-again c =
+    let args = c .before .before .before .before .before .before .before .before .before .before .before .before .before .args in
+    let loop = c .before .before .before .before .before .before .before .before .before .before .before .loop in
+    let if1 = c .before .before .before .before .before .before .before .before .if1 in
+    let may-stand = c .before .before .before .before .before .before .before .may-stand in
+    let if2 = c .before .before .before .before .before .before .if2 in
+    let character = c .before .before .before .before .character in
+    let next = c .before .before .next in
+    let x = subst (λ (r : Reference). Character (args .s .now) (loop .i) r) (next .given .1) (character .ensures) in
+    let y = character-inside (search needs) x in (
+      omega (arith, y .0),
+      y .1,
+      search needs,
+      rw (c .brackets-after .ensures)
+          (characters-turn _ _ _ _ _ _ _ (search needs) (loop .inv .3) (search needs) (if1 .left) (sym (may-stand .ensures) ∙ not-false _ (if2 .left)) (search needs) x),
+    )
 
--- src/lib.rt:223:5
 returns-5 : tie.Need-returns-5 Inv-loop μ-loop
 returns-5 c = characters-end _ _ _ _ _ _ _ (search needs) (c .before .loop .inv .3) (search needs)
 

@@ -4,50 +4,43 @@ use mathlib.Core.Path.{refl, sym, _∙_}
 use borrow.Author.Needs.{needs}
 use Rattle.reader.proofs.Cursor.content.Statement.{statement}
 use Rattle.reader.proofs.Cursor.content.Tie as tie
-use Rattle.reader.proofs.Cursor.content.Reads as reads
-use Rattle.reader.proofs.Cursor.content.Lts as lts
-use Rattle.reader.proofs.Cursor.characters.Reads as characters-reads
-use Rattle.reader.proofs.may_stand.Reads as may-stand-reads
 
--- src/lib.rt:262:13
 returns : tie.Need-returns
 returns c = content-end _ _ _ _ (search needs) (search needs)
 
--- src/lib.rt:264:17
 shared-slice-read-b : tie.Need-shared-slice-read-b
 shared-slice-read-b c = search needs
 
--- src/lib.rt:266:44
 add-t12 : tie.Need-add-t12
 add-t12 c = search needs
 
--- src/lib.rt:266:13
 returns-2 : tie.Need-returns-2
 returns-2 c = content-empty _ _ _ _ (search needs) (search needs) _ (c .if2 .taken) refl
 
--- src/lib.rt:268:13
 may-stand-requires : tie.Need-may-stand-requires
 may-stand-requires c κs = search needs
 
--- src/lib.rt:269:13
 returns-3 : tie.Need-returns-3
 returns-3 c = content-wrong _ _ _ _ (search needs) (search needs) (c .before .before .if2 .left) (sym (c .before .may-stand .ensures) ∙ not-true _ (c .if3 .taken))
 
--- src/lib.rt:272:13
 returns-4 : tie.Need-returns-4
-returns-4 c = content-many _ _ _ _ (search needs) (search needs) (c .before .before .before .if2 .left) (sym (c .before .before .may-stand .ensures) ∙ not-false _ (c .before .if3 .left)) (c .if4 .taken) _ (search needs)
+returns-4 c =
+    let if2 = c .before .before .before .if2 in
+    let may-stand = c .before .before .may-stand in
+    content-many _ _ _ _ (search needs) (search needs) (if2 .left) (sym (may-stand .ensures) ∙ not-false _ (c .before .if3 .left)) (c .if4 .taken) _ (search needs)
 
--- src/lib.rt:274:34
 add-characters : tie.Need-add-characters
 add-characters c = search needs
 
--- src/lib.rt:274:9
 characters-requires : tie.Need-characters-requires
 characters-requires c κs = search needs
 
--- src/lib.rt:256:5
 returns-5 : tie.Need-returns-5
-returns-5 c = content-rest _ _ _ _ (search needs) (search needs) (c .before .before .before .before .if2 .left) (sym (c .before .before .before .may-stand .ensures) ∙ not-false _ (c .before .before .if3 .left)) (search needs) (c .characters .ensures)
+returns-5 c =
+    let if2 = c .before .before .before .before .if2 in
+    let may-stand = c .before .before .before .may-stand in
+    let if3 = c .before .before .if3 in
+    content-rest _ _ _ _ (search needs) (search needs) (if2 .left) (sym (may-stand .ensures) ∙ not-false _ (if3 .left)) (search needs) (c .characters .ensures)
 
 pub content-spec : {M : Type 1} → statement M
 content-spec =

@@ -9,49 +9,46 @@ use Prim.Native.Nat.{_+_, _-_}
 use borrow.Author.Needs.{needs}
 use Rattle.reader.proofs.Cursor.end.Statement.{statement}
 use Rattle.reader.proofs.Cursor.end.Tie as tie
-use Rattle.reader.proofs.Cursor.end.Reads as reads
-use Rattle.reader.proofs.Cursor.end.Lts as lts
-use Rattle.reader.proofs.Cursor.end_tag.Reads as end-tag-reads
 
--- src/lib.rt:543:26
 sub-from : tie.Need-sub-from
 sub-from c = search needs
 
--- src/lib.rt:543:20
 mul-from : tie.Need-mul-from
 mul-from c = search needs
 
--- src/lib.rt:543:20
 element-copy-out-from : tie.Need-element-copy-out-from
 element-copy-out-from c = search needs
 
--- src/lib.rt:544:33
 add-t10 : tie.Need-add-t10
 add-t10 c = search needs
 
--- src/lib.rt:545:15
 end-tag-requires : tie.Need-end-tag-requires
 end-tag-requires c κs = (search needs, c .before .before .before .pre .2 .names .placed (c .before .before .before .args .depth - 1) (omega (arith, c .before .before .before .pre .2 .some)))
 
--- src/lib.rt:546:27
 enum-known-j : tie.Need-enum-known-j
 enum-known-j c = search needs
 
--- src/lib.rt:547:25
 enum-known-c : tie.Need-enum-known-c
 enum-known-c c = search needs
 
--- src/lib.rt:547:44
 sub-t17 : tie.Need-sub-t17
 sub-t17 c = search needs
 
--- src/lib.rt:539:5
 returns : tie.Need-returns
-returns c = let a = c .before .before .before .before .before .before .before .args in end-wrong (a .s .now) (a .names .now) (a .depth) (a .nodes) (a .self .at) (c .before .before .before .before .before .before .before .pre .2) (c .before .before .before .before .before .before .before .pre .0) (c .before .before .before .before .before .before .before .pre .1) (subst (λ (r : End). EndRead (a .s .now) (name-at (a .s .now) (getD (a .names .now) (a .depth - 1) 0)) (a .self .at + 1) r) (c .before .j .given .1) (c .before .before .before .end-tag .ensures))
+returns c =
+    let a = c .before .before .before .before .before .before .before .args in
+    let pre = c .before .before .before .before .before .before .before .pre in
+    let end-tag = c .before .before .before .end-tag in
+    end-wrong (a .s .now) (a .names .now) (a .depth) (a .nodes) (a .self .at) (pre .2) (pre .0) (pre .1)
+    (subst (λ (r : End). EndRead (a .s .now) (name-at (a .s .now) (getD (a .names .now) (a .depth - 1) 0)) (a .self .at + 1) r) (c .before .j .given .1) (end-tag .ensures))
 
--- src/lib.rt:539:5
 returns-2 : tie.Need-returns-2
-returns-2 c = let a = c .before .before .before .before .before .before .before .args in end-right (a .s .now) (a .names .now) (a .depth) (a .nodes) (a .self .at) (c .before .before .before .before .before .before .before .pre .2) (c .before .before .before .before .before .before .before .pre .0) (c .before .before .before .before .before .before .before .pre .1) (subst (λ (r : End). EndRead (a .s .now) (name-at (a .s .now) (getD (a .names .now) (a .depth - 1) 0)) (a .self .at + 1) r) (c .before .c .given .1) (c .before .before .before .end-tag .ensures))
+returns-2 c =
+    let a = c .before .before .before .before .before .before .before .args in
+    let pre = c .before .before .before .before .before .before .before .pre in
+    let end-tag = c .before .before .before .end-tag in
+    end-right (a .s .now) (a .names .now) (a .depth) (a .nodes) (a .self .at) (pre .2) (pre .0) (pre .1)
+    (subst (λ (r : End). EndRead (a .s .now) (name-at (a .s .now) (getD (a .names .now) (a .depth - 1) 0)) (a .self .at + 1) r) (c .before .c .given .1) (end-tag .ensures))
 
 pub end-spec : {M : Type 1} → statement M
 end-spec =

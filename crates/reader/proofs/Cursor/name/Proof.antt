@@ -1,16 +1,12 @@
 use borrow.Author.Needs.{needs}
-use native.Mathlib.Omega.{arith}
-use Prim.Native.Nat.{ℕ, _+_, _-_, _≤_, _<_}
-use mathlib.Core.Path.{_≡_, sym, _∙_}
+use Prim.Native.Nat.{_-_, _≤_}
+use mathlib.Core.Path.{sym, _∙_}
 use borrow.Author.Tests.{not-true, not-false}
 use lib.ListN.{length}
 use Rattle.tree.specs.Content.{name-byte}
 use Rattle.reader.specs.Laws.Runs.{Running, run-start, run-turn, run-stop, run-end}
 use Rattle.reader.proofs.Cursor.name.Statement.{statement}
 use Rattle.reader.proofs.Cursor.name.Tie as tie
-use Rattle.reader.proofs.Cursor.name.Reads as reads
-use Rattle.reader.proofs.Cursor.name.Lts as lts
-use Rattle.reader.proofs.is_name_byte.Reads as is-name-byte-reads
 
 abbrev Inv-loop : tie.InvT-loop
 Inv-loop s i₀ i = (i ≤ length s) × Running name-byte s i₀ i
@@ -24,8 +20,8 @@ loop-holds c = (search needs, run-start _ _ _)
 shared-slice-read-b : tie.Need-shared-slice-read-b Inv-loop μ-loop
 shared-slice-read-b c = search needs
 
-is-name-byte-requires : tie.Need-is-name-byte-requires Inv-loop μ-loop
-is-name-byte-requires c κs = search needs
+name-byte-requires : tie.Need-name-byte-requires Inv-loop μ-loop
+name-byte-requires c κs = search needs
 
 add-i : tie.Need-add-i Inv-loop μ-loop
 add-i c = search needs
@@ -34,13 +30,13 @@ loop-less : tie.Need-loop-less Inv-loop μ-loop
 loop-less c = search needs
 
 loop-again : tie.Need-loop-again Inv-loop μ-loop
-loop-again c = (search needs, run-turn _ _ _ _ (c .before .before .before .before .loop .inv .1) (search needs) (sym (c .before .is-name-byte .ensures) ∙ not-false _ (c .if1 .left)))
+loop-again c = (search needs, run-turn _ _ _ _ (c .before .before .before .before .loop .inv .1) (search needs) (sym (c .before .name-byte .ensures) ∙ not-false _ (c .if1 .left)))
 
 returns : tie.Need-returns Inv-loop μ-loop
 returns c = run-end _ _ _ _ (c .before .loop .inv .1) (search needs) (search needs)
 
 returns-2 : tie.Need-returns-2 Inv-loop μ-loop
-returns-2 c = run-stop _ _ _ _ (c .before .before .before .before .loop .inv .1) (search needs) (sym (c .before .is-name-byte .ensures) ∙ not-true _ (c .if1 .taken))
+returns-2 c = run-stop _ _ _ _ (c .before .before .before .before .loop .inv .1) (search needs) (sym (c .before .name-byte .ensures) ∙ not-true _ (c .if1 .taken))
 
 pub name-spec : {M : Type 1} → statement M
 name-spec =
@@ -50,7 +46,7 @@ name-spec =
     μ-loop
     loop-holds
     shared-slice-read-b
-    is-name-byte-requires
+    name-byte-requires
     add-i
     loop-less
     loop-again

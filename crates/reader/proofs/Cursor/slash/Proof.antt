@@ -3,32 +3,24 @@ use mathlib.Core.Path.{refl}
 use borrow.Author.Needs.{needs}
 use Rattle.reader.proofs.Cursor.slash.Statement.{statement}
 use Rattle.reader.proofs.Cursor.slash.Tie as tie
-use Rattle.reader.proofs.Cursor.slash.Reads as reads
-use Rattle.reader.proofs.Cursor.slash.Lts as lts
 
--- src/lib.rt:352:18
 add-at : tie.Need-add-at
 add-at c = search needs
 
--- src/lib.rt:354:13
 returns : tie.Need-returns
 returns c = record { reads = λ F p. slash-end _ _ F p (c .before .before .pre .0) (c .before .before .pre .1) (c .if1 .taken) }
 
--- src/lib.rt:356:12
 shared-slice-read-if2 : tie.Need-shared-slice-read-if2
 shared-slice-read-if2 c = search needs
 
--- src/lib.rt:357:13
 returns-2 : tie.Need-returns-2
 returns-2 c = record { reads = λ F p. slash-wrong _ _ F p (c .before .before .before .before .pre .0) (c .before .before .before .before .pre .1) (c .before .before .if1 .left) (c .if2 .taken) }
 
--- src/lib.rt:359:34
 add-t4 : tie.Need-add-t4
 add-t4 c = search needs
 
--- src/lib.rt:348:5
 returns-3 : tie.Need-returns-3
-returns-3 c = record { reads = λ F p. slash-close _ _ F p (c .before .before .before .before .pre .0) (c .before .before .before .before .pre .1) _ (c .before .before .if1 .left) (c .if2 .left) refl }
+returns-3 c = let pre = c .before .before .before .before .pre in record { reads = λ F p. slash-close _ _ F p (pre .0) (pre .1) _ (c .before .before .if1 .left) (c .if2 .left) refl }
 
 pub slash-spec : {M : Type 1} → statement M
 slash-spec = tie.close (tie.spec add-at returns shared-slice-read-if2 returns-2 add-t4 returns-3)

@@ -5,32 +5,22 @@ use mathlib.Core.Path.{_∙_}
 use borrow.Author.Needs.{needs}
 use Rattle.reader.proofs.Cursor.start_tag.Statement.{statement}
 use Rattle.reader.proofs.Cursor.start_tag.Tie as tie
-use Rattle.reader.proofs.Cursor.start_tag.Reads as reads
-use Rattle.reader.proofs.Cursor.start_tag.Lts as lts
-use Rattle.reader.proofs.Cursor.attributes.Reads as attributes-reads
-use Rattle.reader.proofs.Cursor.name.Reads as name-reads
 
--- src/lib.rt:470:9
 mul-names : tie.Need-mul-names
 mul-names c = search needs
 
--- src/lib.rt:470:9
 element-write-names : tie.Need-element-write-names
 element-write-names c = search needs
 
--- src/lib.rt:471:13
 name-requires : tie.Need-name-requires
 name-requires c κs = search needs
 
--- src/lib.rt:472:12
 sub-if1 : tie.Need-sub-if1
 sub-if1 c = search needs
 
--- src/lib.rt:473:35
 add-t12 : tie.Need-add-t12
 add-t12 c = search needs
 
--- src/lib.rt:473:13
 returns : tie.Need-returns
 returns c = let a = c .before .before .before .before .args in (
   element-long _ _ _ _ (c .before .before .before .before .pre .0) (c .before .before .before .before .pre .2) (c .before .before .name .ensures) (c .if1 .taken),
@@ -38,21 +28,24 @@ returns c = let a = c .before .before .before .before .args in (
   getD-set-same (a .names .now) (a .depth) (a .self .at) 0 (omega (arith, c .before .before .before .before .pre .4)),
 )
 
--- src/lib.rt:475:34
 add-attributes : tie.Need-add-attributes
 add-attributes c = search needs
 
--- src/lib.rt:475:9
 attributes-requires : tie.Need-attributes-requires
-attributes-requires c κs = (search needs, search needs, search needs, placed-push _ _ _ _ (c .before .before .before .before .before .pre .3) (omega (arith, c .before .before .before .before .before .pre .0 .inside)) (omega (arith, c .before .before .before .before .before .pre .4)), search needs)
+attributes-requires c κs =
+    let pre = c .before .before .before .before .before .pre in
+    (search needs, search needs, search needs, placed-push _ _ _ _ (pre .3) (omega (arith, pre .0 .inside)) (omega (arith, pre .4)), search needs)
 
--- src/lib.rt:465:5
 returns-2 : tie.Need-returns-2
-returns-2 c = let a = c .before .before .before .before .before .before .args in (
-  element-rest _ _ _ _ (c .before .before .before .before .before .before .pre .0) (c .before .before .before .before .before .before .pre .2) (c .before .before .before .before .name .ensures) (c .before .before .if1 .left) (c .attributes .ensures .0),
-  kept-less _ _ _ _ _ (kept-set _ _ _ (a .depth) (a .self .at) (kept-same _ _) (search needs)) (c .attributes .ensures .1) (omega arith),
-  c .attributes .ensures .1 .kept (a .depth) (omega arith) ∙ getD-set-same (a .names .now) (a .depth) (a .self .at) 0 (omega (arith, c .before .before .before .before .before .before .pre .4)),
-)
+returns-2 c =
+    let a = c .before .before .before .before .before .before .args in
+    let pre = c .before .before .before .before .before .before .pre in
+    let name = c .before .before .before .before .name in
+    let if1 = c .before .before .if1 in (
+      element-rest _ _ _ _ (pre .0) (pre .2) (name .ensures) (if1 .left) (c .attributes .ensures .0),
+      kept-less _ _ _ _ _ (kept-set _ _ _ (a .depth) (a .self .at) (kept-same _ _) (search needs)) (c .attributes .ensures .1) (omega arith),
+      c .attributes .ensures .1 .kept (a .depth) (omega arith) ∙ getD-set-same (a .names .now) (a .depth) (a .self .at) 0 (omega (arith, pre .4)),
+    )
 
 pub start-tag-spec : {M : Type 1} → statement M
 start-tag-spec =

@@ -1,0 +1,97 @@
+use borrow.Author.Needs.{needs}
+use native.Mathlib.Omega.{arith}
+use Prim.Native.Nat.{_-_, _≤_}
+use mathlib.Core.Path.{_≡_, refl, subst}
+use lib.ListN.{length, take, length-set}
+use Rattle.reader.specs.declared.Reference.{Reference}
+use Rattle.reader.specs.Steps.{Character}
+use Rattle.reader.specs.Laws.Characters.{character-inside}
+use Rattle.filling.specs.Laws.Decoding.{Decoding, decode-start, decode-stop, decode-end, decode-lost, decode-full, decode-turn}
+use Rattle.filling.proofs.decode.Statement.{statement}
+use Rattle.filling.proofs.decode.Tie as tie
+
+abbrev Inv-loop : tie.InvT-loop
+Inv-loop x stop buffer₀ i₀ n₀ buffer i n = (i₀ ≤ i) × (i ≤ length x) × (n ≤ 32) × (length buffer ≡ 32) × Decoding x stop i₀ i (take n buffer)
+
+abbrev μ-loop : tie.MeasureT-loop
+μ-loop x stop buffer₀ i₀ n₀ buffer i n = length x - i
+
+loop-holds : tie.Need-loop-holds Inv-loop μ-loop
+loop-holds c = (search needs, search needs, search needs, search needs, decode-start _ _ _)
+
+shared-slice-read-b : tie.Need-shared-slice-read-b Inv-loop μ-loop
+shared-slice-read-b c = search needs
+
+add-t16 : tie.Need-add-t16 Inv-loop μ-loop
+add-t16 c = search needs
+
+returns : tie.Need-returns Inv-loop μ-loop
+returns c = let l = c .before .before .before .loop in (l .inv .3, decode-stop _ _ _ _ _ _ (l .inv .4) (l .inv .0) (l .inv .2) _ refl (search needs) (c .if1 .taken))
+
+returns-2 : tie.Need-returns-2 Inv-loop μ-loop
+returns-2 c = let l = c .before .before .before .before .loop in
+    (l .inv .3, decode-full _ _ _ _ _ _ (l .inv .4) (l .inv .0) (l .inv .2) (search needs) (c .before .if1 .left) _ refl (c .if2 .taken) (l .inv .3))
+
+character-requires : tie.Need-character-requires Inv-loop μ-loop
+character-requires c κs = search needs
+
+enum-known-lost : tie.Need-enum-known-lost Inv-loop μ-loop
+enum-known-lost c = search needs
+
+returns-3 : tie.Need-returns-3 Inv-loop μ-loop
+returns-3 c = let m = c .before .before .before .before .before .before .before .before in
+    let l = m .loop in
+    let x = subst (λ (r : Reference). Character (m .before .before .args .x .now) (l .i) r) (c .before .lost .given .1) (c .before .before .before .character .ensures) in
+    (l .inv .3, decode-lost _ _ _ _ _ _ (l .inv .4) (l .inv .0) (l .inv .2) (search needs) (c .before .before .before .before .before .if1 .left) _ refl x)
+
+enum-known-value : tie.Need-enum-known-value Inv-loop μ-loop
+enum-known-value c = search needs
+
+element-write-buffer : tie.Need-element-write-buffer Inv-loop μ-loop
+element-write-buffer c = search needs
+
+add-n : tie.Need-add-n Inv-loop μ-loop
+add-n c = search needs
+
+loop-less : tie.Need-loop-less Inv-loop μ-loop
+loop-less c = let m = c .before .before .before .before .before .before .before .before in
+    let l = m .loop in
+    let x = subst (λ (r : Reference). Character (m .before .before .args .x .now) (l .i) r) (c .before .value .given .1) (c .before .before .before .character .ensures) in
+    let y = character-inside (search needs) x in
+    omega (arith, y .0, y .1)
+
+loop-again : tie.Need-loop-again Inv-loop μ-loop
+loop-again c = let m = c .before .before .before .before .before .before .before .before in
+    let l = m .loop in
+    let x = subst (λ (r : Reference). Character (m .before .before .args .x .now) (l .i) r) (c .before .value .given .1) (c .before .before .before .character .ensures) in
+    let y = character-inside (search needs) x in (
+      omega (arith, y .0),
+      y .1,
+      search needs,
+      simp length-set (l .inv .3),
+      decode-turn _ _ _ _ _ _ (l .inv .4) (l .inv .0) (l .inv .2) (search needs) (c .before .before .before .before .before .if1 .left) x (search needs),
+    )
+
+returns-4 : tie.Need-returns-4 Inv-loop μ-loop
+returns-4 c = let l = c .before .loop in (l .inv .3, decode-end _ _ _ _ _ _ (l .inv .4) (l .inv .0) (l .inv .2) _ refl (search needs) (search needs))
+
+pub decode-spec : {M : Type 1} → statement M
+decode-spec =
+    tie.close
+    (tie.spec
+    Inv-loop
+    μ-loop
+    loop-holds
+    shared-slice-read-b
+    add-t16
+    returns
+    returns-2
+    character-requires
+    enum-known-lost
+    returns-3
+    enum-known-value
+    element-write-buffer
+    add-n
+    loop-less
+    loop-again
+    returns-4)

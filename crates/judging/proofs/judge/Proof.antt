@@ -1,0 +1,37 @@
+use Rattle.judging.specs.Laws.Whole.{taken-length, judged-long, judged-short}
+use borrow.Author.Needs.{needs}
+use Rattle.judging.proofs.judge.Statement.{statement}
+use Rattle.judging.proofs.judge.Tie as tie
+
+slice-aggregate-first : tie.Need-slice-aggregate-first
+slice-aggregate-first c = taken-length 65537 (c .before .before .before .args .x .now) (c .before .if1 .taken)
+
+unlimited-requires : tie.Need-unlimited-requires
+unlimited-requires c κs = search needs
+
+limit-requires : tie.Need-limit-requires
+limit-requires c κs = search needs
+
+returns : tie.Need-returns
+returns c = judged-long _ _ _ (c .before .before .before .if1 .taken) (c .before .unlimited .ensures) (c .limit .ensures)
+
+unlimited-requires-2 : tie.Need-unlimited-requires-2
+unlimited-requires-2 c κs = search needs
+
+limit-requires-2 : tie.Need-limit-requires-2
+limit-requires-2 c κs = search needs
+
+returns-2 : tie.Need-returns-2
+returns-2 c = judged-short _ _ _ (c .before .before .if1 .left) (c .before .unlimited2 .ensures) (c .limit2 .ensures)
+
+pub judge-spec : {M : Type 1} → statement M
+judge-spec =
+    tie.close
+    (tie.spec
+    slice-aggregate-first
+    unlimited-requires
+    limit-requires
+    returns
+    unlimited-requires-2
+    limit-requires-2
+    returns-2)

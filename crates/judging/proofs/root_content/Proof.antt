@@ -1,0 +1,80 @@
+use borrow.Author.Needs.{needs}
+use Prim.Native.Nat.{_-_, _≤_}
+use mathlib.Core.Path.{subst}
+use native.Mathlib.Omega.{arith}
+use lib.ListN.{length}
+use Rattle.xml.specs.Laws.Automaton.{closed}
+use Rattle.reader.specs.declared.Child.{Child}
+use Rattle.reader.specs.Elements.{stack}
+use Rattle.reader.specs.Children.{ChildRead}
+use Rattle.judging.specs.Laws.Element.{ContentTo, content-start, content-deep, content-stopped, content-turn, content-over}
+use Rattle.judging.proofs.root_content.Statement.{statement}
+use Rattle.judging.proofs.root_content.Tie as tie
+
+abbrev Inv-loop : tie.InvT-loop
+Inv-loop s names₀ nodes i₀ depth₀ n₀ names i depth n = (i ≤ length s) × ContentTo s names₀ names i₀ nodes i depth n
+
+abbrev μ-loop : tie.MeasureT-loop
+μ-loop s names₀ nodes i₀ depth₀ n₀ names i depth n = length s - i
+
+loop-holds : tie.Need-loop-holds Inv-loop μ-loop
+loop-holds c = (c .before .pre .0 .inside, content-start _ _ _ _ (c .before .pre .0) (c .before .pre .1))
+
+child-requires : tie.Need-child-requires Inv-loop μ-loop
+child-requires c κs = (c .before .before .loop .inv .1 .begins-here, content-deep _ _ _ _ _ _ _ _ (c .before .before .loop .inv .1) (c .before .loop-test .taken))
+
+enum-known-x : tie.Need-enum-known-x Inv-loop μ-loop
+enum-known-x c = search needs
+
+returns : tie.Need-returns Inv-loop μ-loop
+returns c =
+    let a = c .before .before .before .before .before .before .before .before .args in
+    let l = c .before .before .before .before .before .before .loop in
+    let child = c .before .before .before .child in
+    content-stopped _ _ _ _ _ _ _ _ (l .inv .1)
+    (subst (λ (r : Child). ChildRead (a .s .now) (closed (stack (a .s .now) (l .names) 0 (l .depth))) (l .i) (l .n) (child .last .1 .1 .0) r) (c .before .x .given .1) (child .ensures))
+
+enum-known-next : tie.Need-enum-known-next Inv-loop μ-loop
+enum-known-next c = search needs
+
+loop-less : tie.Need-loop-less Inv-loop μ-loop
+loop-less c =
+    let a = c .before .before .before .before .before .before .before .before .args in
+    let l = c .before .before .before .before .before .before .loop in
+    let child = c .before .before .before .child in
+    let z =
+    content-turn _ _ _ _ _ _ _ _ (l .inv .1)
+    (subst (λ (r : Child). ChildRead (a .s .now) (closed (stack (a .s .now) (l .names) 0 (l .depth))) (l .i) (l .n) (child .last .1 .1 .0) r) (c .before .next .given .1) (child .ensures)) in
+    omega (arith, z .1, z .2)
+
+loop-again : tie.Need-loop-again Inv-loop μ-loop
+loop-again c =
+    let a = c .before .before .before .before .before .before .before .before .args in
+    let l = c .before .before .before .before .before .before .loop in
+    let child = c .before .before .before .child in
+    let z =
+    content-turn _ _ _ _ _ _ _ _ (l .inv .1)
+    (subst (λ (r : Child). ChildRead (a .s .now) (closed (stack (a .s .now) (l .names) 0 (l .depth))) (l .i) (l .n) (child .last .1 .1 .0) r) (c .before .next .given .1) (child .ensures)) in
+    (z .2, z .0)
+
+behind-root-requires : tie.Need-behind-root-requires Inv-loop μ-loop
+behind-root-requires c κs = (c .before .loop .inv .0, c .before .loop .inv .1 .few)
+
+returns-2 : tie.Need-returns-2 Inv-loop μ-loop
+returns-2 c = content-over _ _ _ _ _ _ _ _ (c .before .before .loop .inv .1) (c .before .loop-test .left) _ (c .behind-root .ensures)
+
+pub root-content-spec : {M : Type 1} → statement M
+root-content-spec =
+    tie.close
+    (tie.spec
+    Inv-loop
+    μ-loop
+    loop-holds
+    child-requires
+    enum-known-x
+    returns
+    enum-known-next
+    loop-less
+    loop-again
+    behind-root-requires
+    returns-2)

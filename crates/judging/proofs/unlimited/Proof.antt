@@ -1,0 +1,41 @@
+use mathlib.Core.Path.{subst}
+use Rattle.xml.specs.Laws.Automaton.{at-start}
+use Rattle.reader.specs.declared.Prolog.{Prolog}
+use Rattle.reader.specs.Prolog.{RootRead}
+use Rattle.judging.specs.Laws.Whole.{no-root-is, root-is, root-named}
+use borrow.Author.Needs.{needs}
+use Rattle.judging.proofs.unlimited.Statement.{statement}
+use Rattle.judging.proofs.unlimited.Tie as tie
+
+find-root-requires : tie.Need-find-root-requires
+find-root-requires c κs = search needs
+
+enum-known-j : tie.Need-enum-known-j
+enum-known-j c = search needs
+
+enum-known-c : tie.Need-enum-known-c
+enum-known-c c = search needs
+
+root-element-requires : tie.Need-root-element-requires
+root-element-requires c κs =
+    let args = c .before .before .before .before .before .args in
+    let find-root = c .before .before .before .find-root in
+    root-named (subst (λ (r : Prolog). RootRead (args .s .now) at-start 0 r) (c .before .c .given .1) (find-root .ensures))
+
+returns : tie.Need-returns
+returns c =
+    let args = c .before .before .before .before .before .args in
+    let find-root = c .before .before .before .find-root in
+    no-root-is _ (subst (λ (r : Prolog). RootRead (args .s .now) at-start 0 r) (c .before .j .given .1) (find-root .ensures))
+
+returns-2 : tie.Need-returns-2
+returns-2 c =
+    let args = c .before .before .before .before .before .before .args in
+    let find-root = c .before .before .before .before .find-root in
+    let c-here = c .before .before .c in
+    root-is _ _ (subst (λ (r : Prolog). RootRead (args .s .now) at-start 0 r) (c-here .given .1) (find-root .ensures)) (c .root-element .ensures)
+
+pub unlimited-spec : {M : Type 1} → statement M
+unlimited-spec =
+    tie.close
+    (tie.spec find-root-requires enum-known-j enum-known-c root-element-requires returns returns-2)

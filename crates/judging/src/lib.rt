@@ -1,0 +1,146 @@
+// Judges a whole input by the grammar and the limits: the declaration, the root element, what is behind it, the length.
+use reader::Child;
+use reader::Cursor;
+use reader::Prolog;
+use reader::Tag;
+ghost use mathlib.Core.Path.{_≡_};
+ghost use mathlib.Core.List.{[], _∷_};
+ghost use Prim.Native.Nat.{_+_, _≤_};
+ghost use lib.ListN.{length, getD};
+ghost use Rattle.xml.specs.Laws.Automaton.{at-start, epilog, closed, tag-name};
+ghost use Rattle.xml.specs.Laws.Judge.{judgement};
+ghost use Rattle.xml.specs.Laws.Scan.{scan, scan-at, limited};
+ghost use Rattle.xml.specs.Laws.Goes.{Leads};
+ghost use Rattle.xml.specs.Laws.Fixed.{word-at};
+ghost use Rattle.reader.specs.Elements.{stack, Named};
+ghost use Rattle.reader.specs.Children.{Beginning, Deep};
+ghost use Rattle.reader.specs.Prolog.{RootRead};
+ghost use Rattle.judging.specs.Judged.{verdict, DeclaredRead};
+
+// The number of nodes, node 0 included; or a cause and its offset.
+pub enum Judged {
+    Accepted(usize),
+    Rejected(u8, usize),
+}
+
+// Behind the root element, to the end of the input.
+fn behind_root(c: Cursor, s: &[u8], nodes: usize) -> Judged
+    requires { ⌜ (c .at ≤ length (now s)) × (nodes ≤ 1024) ⌝ }
+    ensures { λ r. ⌜ Leads (now (s .entry)) epilog nodes (c .at) (verdict r) ⌝ }
+{
+    let end = c.blanks(s);
+    let at = end.at;
+    if at < s.len() {
+        return Judged::Rejected(4, at);
+    }
+    Judged::Accepted(nodes)
+}
+
+// The content of the root element, and what is behind it.
+fn root_content(c: Cursor, s: &[u8], names: &mut [usize; 1024], nodes: usize) -> Judged
+    requires { ⌜ Beginning (now s) (c .at) × Deep (now s) (now names) 1 nodes ⌝ }
+    ensures { λ r. ⌜ Leads (now (s .entry)) (closed (stack (now (s .entry)) (now (names .entry)) 0 1)) nodes (c .at) (verdict r) ⌝ }
+{
+    let mut i = c.at;
+    let mut depth: usize = 1;
+    let mut n = nodes;
+    while 0 < depth {
+        let here = Cursor { at: i };
+        match here.child(s, names, depth, n) {
+            Child::Stopped(x, j) => return Judged::Rejected(x, j),
+            Child::At(next, d, m) => {
+                i = next.at;
+                depth = d;
+                n = m;
+            }
+        }
+    }
+    let end = Cursor { at: i };
+    behind_root(end, s, n)
+}
+
+// The root element from the first byte of its name on, and what is behind it.
+fn root_element(c: Cursor, s: &[u8]) -> Judged
+    requires { ⌜ Named (now s) (c .at) ⌝ }
+    ensures { λ r. ⌜ scan-at (now (s .entry)) (tag-name [] (getD (now (s .entry)) (c .at) 0 ∷ [])) 2 1 (c .at + 1) ≡ verdict r ⌝ }
+{
+    let mut names = [0usize; 1024];
+    match c.start_tag(s, &mut names, 0, 2) {
+        Tag::Broken(x, j) => Judged::Rejected(x, j),
+        Tag::Emptied(next, m) => behind_root(next, s, m),
+        Tag::Opened(next, m) => root_content(next, s, &mut names, m),
+    }
+}
+
+// A declaration, compared whole, and the way to the root element.
+fn declared(s: &[u8], word: &[u8]) -> Prolog
+    ensures { λ r. ⌜ DeclaredRead (now (s .entry)) (word-at (now (word .entry)) 0 (now (s .entry))) r ⌝ }
+{
+    let n = reader::agreement(s, 0, word);
+    if n == word.len() {
+        let behind = Cursor { at: n };
+        return behind.root(s);
+    }
+    Prolog::NoRoot(n)
+}
+
+// From the first byte of the input to the root element's name; the byte behind the version tells which declaration it can be.
+fn find_root(s: &[u8]) -> Prolog
+    ensures { λ r. ⌜ RootRead (now (s .entry)) at-start 0 r ⌝ }
+{
+    let first = reader::peek(s, 0);
+    let second = reader::peek(s, 1);
+    let start = Cursor { at: 0 };
+    if first != b'<' {
+        return start.root(s);
+    }
+    if second != b'?' {
+        return start.root(s);
+    }
+    let behind = reader::peek(s, 19);
+    if behind == b'?' {
+        return declared(s, b"<?xml version=\"1.0\"?>");
+    }
+    declared(s, b"<?xml version=\"1.0\" encoding=\"UTF-8\"?>")
+}
+
+// The whole input, of any length.
+fn unlimited(s: &[u8]) -> Judged
+    ensures { λ r. ⌜ scan at-start 1 0 0 0 (now (s .entry)) ≡ verdict r ⌝ }
+{
+    match find_root(s) {
+        Prolog::NoRoot(j) => Judged::Rejected(4, j),
+        Prolog::Root(c) => root_element(c, s),
+    }
+}
+
+// The limit of 65,536 bytes, on what is said of the first 65,537; long tells whether there are so many.
+fn limit(long: bool, said: Judged) -> Judged
+    ensures { λ r. ⌜ limited long (verdict said) ≡ verdict r ⌝ }
+{
+    match said {
+        Judged::Accepted(n) => {
+            if long {
+                return Judged::Rejected(4, 65536);
+            }
+            Judged::Accepted(n)
+        }
+        Judged::Rejected(x, i) => {
+            if i >= 65536 {
+                return Judged::Rejected(4, 65536);
+            }
+            Judged::Rejected(x, i)
+        }
+    }
+}
+
+// What load says of an input.
+pub fn judge(x: &[u8]) -> Judged
+    ensures { λ r. ⌜ judgement (now (x .entry)) ≡ verdict r ⌝ }
+{
+    if x.len() > 65536 {
+        let first = &x[..65537];
+        return limit(true, unlimited(first));
+    }
+    limit(false, unlimited(x))
+}

@@ -1,0 +1,48 @@
+use borrow.Author.Needs.{needs}
+use Prim.Native.Nat.{_-_, _≤_}
+use mathlib.Core.Path.{sym, _∙_}
+use Rattle.layout.specs.Layout.{is-open}
+use Rattle.loading.specs.Laws.Opens.{Asking, ask-start, ask-open, ask-turn, ask-none}
+use Rattle.loading.proofs.any_open.Statement.{statement}
+use Rattle.loading.proofs.any_open.Tie as tie
+
+abbrev Inv-loop : tie.InvT-loop
+Inv-loop s t₀ t = (1 ≤ t) × (t ≤ 17) × Asking (is-open s) t
+
+abbrev μ-loop : tie.MeasureT-loop
+μ-loop s t₀ t = 17 - t
+
+loop-holds : tie.Need-loop-holds Inv-loop μ-loop
+loop-holds c = (search needs, search needs, ask-start _)
+
+is-open-requires : tie.Need-is-open-requires Inv-loop μ-loop
+is-open-requires c κs = search needs
+
+returns : tie.Need-returns Inv-loop μ-loop
+returns c = ask-open _ _ (c .before .before .before .loop .inv .2) (search needs) (sym (c .before .is-open .ensures) ∙ c .if1 .taken)
+
+add-t : tie.Need-add-t Inv-loop μ-loop
+add-t c = search needs
+
+loop-less : tie.Need-loop-less Inv-loop μ-loop
+loop-less c = search needs
+
+loop-again : tie.Need-loop-again Inv-loop μ-loop
+loop-again c = (search needs, search needs, ask-turn _ _ (c .before .before .before .loop .inv .2) (search needs) (sym (c .before .is-open .ensures) ∙ c .if1 .left))
+
+returns-2 : tie.Need-returns-2 Inv-loop μ-loop
+returns-2 c = ask-none _ _ (c .before .loop .inv .2) (search needs)
+
+pub any-open-spec : {M : Type 1} → statement M
+any-open-spec =
+    tie.close
+    (tie.spec
+    Inv-loop
+    μ-loop
+    loop-holds
+    is-open-requires
+    returns
+    add-t
+    loop-less
+    loop-again
+    returns-2)

@@ -1,0 +1,3 @@
+pub mod Opens
+pub mod Judgement
+pub mod Load

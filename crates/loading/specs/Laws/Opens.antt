@@ -1,0 +1,66 @@
+-- Whether any transaction is open.
+use Prim.Native.Nat.{ℕ, zero, suc, _+_, _-_, _≤_, _<_}
+use mathlib.Core.Path.{_≡_, refl, sym, _∙_, fun-ext}
+use mathlib.Core.Bool.{Bool, true, false, _||_}
+use mathlib.Core.List.{List}
+use native.Mathlib.Omega.{arith}
+use native.Mathlib.Numerals.{add-one}
+use lib.Dec.{leb}
+use borrow.Author.Tests.{leb-true, leb-false}
+use Rattle.tree.specs.Lists.{any}
+use Rattle.tree.specs.Laws.Tests.{or-left, or-right}
+use Rattle.protocol.specs.State.{is-transaction, transactions}
+use Rattle.layout.specs.Layout.{is-open}
+use Rattle.form.specs.Laws.Rows.{between-low, between-high}
+
+-- any of n numbers from t on
+unfoldable pub any-from : (ℕ → Bool) → ℕ → ℕ → Bool
+any-from q t zero = false
+any-from q t (suc n) = q t || any-from q (suc t) n
+
+all-sixteen : (q : ℕ → Bool) → any q transactions ≡ any-from q 1 16
+unfolding any-from
+all-sixteen q = refl
+
+-- those from t on are left to ask
+unfoldable pub Asking : (ℕ → Bool) → ℕ → Type 0
+Asking q t = any q transactions ≡ any-from q t (17 - t)
+
+pub ask-start : (q : ℕ → Bool) → Asking q 1
+unfolding Asking
+ask-start q = all-sixteen q
+
+module _ (q : ℕ → Bool) (t : ℕ) (a : Asking q t) where
+  module _ (h : t ≤ 16) where
+    split : any-from q t (17 - t) ≡ (q t || any-from q (suc t) (16 - t))
+    unfolding any-from
+    split = let e : 17 - t ≡ suc (16 - t) = omega arith in rw e
+
+    pub ask-open : q t ≡ true → true ≡ any q transactions
+    unfolding Asking
+    ask-open e = sym (a ∙ split ∙ rw e)
+
+    pub ask-turn : q t ≡ false → Asking q (t + 1)
+    unfolding Asking
+    ask-turn e = let p : 17 - suc t ≡ 16 - t = omega arith in rw (add-one t, p) (a ∙ split ∙ rw e)
+
+  pub ask-none : 16 < t → false ≡ any q transactions
+  unfolding Asking any-from
+  ask-none h = let e : 17 - t ≡ 0 = omega arith in sym (a ∙ rw e)
+
+none-from : (q : ℕ → Bool) (n t u : ℕ) → any-from q t n ≡ false → t ≤ u → u < t + n → q u ≡ false
+unfolding any-from
+none-from q zero t u h l m = absurd (omega arith)
+none-from q (suc n) t u h l m = go (leb u t) refl (λ k. none-from q n (suc t) u (or-right (q t) (any-from q (suc t) n) h) k (omega arith))
+  where
+    go : (b : Bool) → leb u t ≡ b → (suc t ≤ u → q u ≡ false) → q u ≡ false
+    go true e f = let p : u ≡ t = omega (arith, leb-true u t e) in rw p (or-left (q t) (any-from q (suc t) n) h)
+    go false e f = f (omega (arith, leb-false u t e))
+
+pub none-open : (s : List ℕ) → any (is-open s) transactions ≡ false → is-open s ≡ (λ u. false)
+unfolding is-open
+none-open s h = fun-ext (λ u. go u (is-transaction u) refl)
+  where
+    go : (u : ℕ) (b : Bool) → is-transaction u ≡ b → is-open s u ≡ false
+    go u true e = none-from (is-open s) 16 1 u (sym (all-sixteen (is-open s)) ∙ h) (between-low 1 16 u e) (omega (arith, between-high 1 16 u e))
+    go u false e = rw e

@@ -1,0 +1,39 @@
+-- Load: the state is replaced by the document that the input stands for.
+use Prim.Native.Nat.{ℕ, suc, _≤_}
+use mathlib.Core.Path.{_≡_}
+use mathlib.Core.Bool.{true, false}
+use mathlib.Core.List.{List}
+use lib.ListN.{length, drop}
+use Rattle.tree.specs.Content.{content-limit}
+use Rattle.tree.specs.Document.{lines}
+use Rattle.protocol.specs.State.{tree-of}
+use Rattle.protocol.specs.Calls.{node-limit, loadable, Input, unreadable, stands-for}
+use Rattle.layout.specs.Flat.{flat}
+use Rattle.layout.specs.Layout.{state-size, is-open, nodes, Layout}
+use Rattle.xml.specs.Shape.{Shape, size, longest, document}
+use Rattle.xml.specs.Grammar.{Spells}
+use Rattle.xml.specs.Reading.{input-limit, ReadsAs}
+
+-- the input stands for a document of n nodes, and for nothing else
+pub record Stands (x : List ℕ) (n : ℕ) : Type 0 where
+  pub shape : Shape
+  pub spelled : Spells x shape
+  pub few : suc (size shape) ≤ node-limit
+  pub short : longest shape ≤ content-limit
+  pub fits : loadable (document shape) ≡ true
+  pub count : n ≡ length (lines (document shape))
+  pub most : n ≤ node-limit
+  pub only : (i : Input) → ReadsAs x i → i ≡ stands-for (document shape) fits
+
+-- the input is refused by this cause at this offset
+pub record Fails (x : List ℕ) (cause offset : ℕ) : Type 0 where
+  pub most : offset ≤ input-limit
+  pub only : (i : Input) → ReadsAs x i → i ≡ unreadable cause offset
+
+-- nothing is open, and the nodes are those of the input's document
+pub record Replaced (x s s′ : List ℕ) : Type 0 where
+  pub layout : Layout s′
+  pub long : length s′ ≡ length s
+  pub behind : drop state-size s′ ≡ drop state-size s
+  pub closed : is-open s′ ≡ (λ u. false)
+  pub nodes : (f : Shape) → Spells x f → nodes s′ ≡ flat 0 (tree-of (document f))

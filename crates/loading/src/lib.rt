@@ -1,0 +1,56 @@
+// Load: the input is judged, and where it is accepted the state is replaced by its document.
+use judging::Judged;
+use protocol::Answer;
+ghost use mathlib.Core.Path.{_≡_};
+ghost use Prim.Native.Nat.{ℕ, _≤_};
+ghost use lib.ListN.{length};
+ghost use Rattle.tree.specs.Lists.{any};
+ghost use Rattle.protocol.specs.State.{transactions};
+ghost use Rattle.protocol.specs.Calls.{Input, load};
+ghost use Rattle.layout.specs.Layout.{state-size, is-open, Layout};
+ghost use Rattle.xml.specs.Reading.{ReadsAs};
+ghost use Rattle.engine.specs.Contract.{Performed};
+ghost use Rattle.loading.specs.Load.{Stands, Replaced};
+
+// Whether any transaction is open.
+fn any_open(s: &[u8]) -> bool
+    requires { ⌜ Layout (now s) ⌝ }
+    ensures { λ r. ⌜ r ≡ any (is-open (now (s .entry))) transactions ⌝ }
+{
+    let mut t: usize = 1;
+    while t <= 16 {
+        if transactions::is_open(s, t) {
+            return true;
+        }
+        t += 1;
+    }
+    false
+}
+
+// The state set to the beginning and filled with the nodes of the input.
+fn replace(s: &mut [u8], x: &[u8])
+    requires { ⌜ (state-size ≤ length (now s)) × ((n : ℕ) × Stands (now x) n) ⌝ }
+    ensures { λ r. ⌜ Replaced (now (x .entry)) (now (s .entry)) (now (s .exit)) ⌝ }
+{
+    form::start(s);
+    filling::fill(s, x);
+}
+
+// Load: the node count, or why the input is refused. Every input reads as one thing (the theorems `reading` and `one-reading` of crate xml).
+pub fn load(s: &mut [u8], x: &[u8]) -> Answer
+    ensures { λ r. ⌜ ((i : Input) → ReadsAs (now (x .entry)) i → Performed (now (s .entry)) (now (s .exit)) r (load i)) ⌝ }
+{
+    if !form::formed(s) {
+        return Answer::Refused(13);
+    }
+    if any_open(s) {
+        return Answer::Refused(15);
+    }
+    match judging::judge(x) {
+        Judged::Rejected(cause, offset) => Answer::RefusedAt(cause, offset as u32),
+        Judged::Accepted(count) => {
+            replace(s, x);
+            Answer::Count(count as u32)
+        }
+    }
+}

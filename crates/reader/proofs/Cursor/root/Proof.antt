@@ -1,0 +1,60 @@
+use Rattle.reader.specs.Laws.Root.{root-over, root-wrong, name-over, name-wrong, name-right}
+use mathlib.Core.Path.{refl, sym, _∙_}
+use borrow.Author.Needs.{needs}
+use Rattle.reader.proofs.Cursor.root.Statement.{statement}
+use Rattle.reader.proofs.Cursor.root.Tie as tie
+
+blanks-requires : tie.Need-blanks-requires
+blanks-requires c κs = search needs
+
+returns : tie.Need-returns
+returns c = root-over _ _ _ (c .before .blanks .ensures) (c .if1 .taken)
+
+shared-slice-read-if2 : tie.Need-shared-slice-read-if2
+shared-slice-read-if2 c = search needs
+
+returns-2 : tie.Need-returns-2
+returns-2 c = root-wrong _ _ _ (c .before .before .before .blanks .ensures) (c .before .before .if1 .left) (c .if2 .taken)
+
+add-name : tie.Need-add-name
+add-name c = search needs
+
+returns-3 : tie.Need-returns-3
+returns-3 c = name-over _ _ _ (c .before .before .before .before .blanks .ensures) (c .before .before .before .if1 .left) (c .before .if2 .left) (c .if3 .taken)
+
+shared-slice-read-b : tie.Need-shared-slice-read-b
+shared-slice-read-b c = search needs
+
+name-start-requires : tie.Need-name-start-requires
+name-start-requires c κs = search needs
+
+returns-4 : tie.Need-returns-4
+returns-4 c =
+    let blanks = c .before .before .before .before .before .before .before .blanks in
+    let if1 = c .before .before .before .before .before .before .if1 in
+    let if2 = c .before .before .before .before .if2 in
+    let if3 = c .before .before .before .if3 in
+    name-right _ _ _ (blanks .ensures) (if1 .left) (if2 .left) (if3 .left) _ (sym (c .before .name-start .ensures) ∙ c .if4 .taken) refl
+
+returns-5 : tie.Need-returns-5
+returns-5 c =
+    let blanks = c .before .before .before .before .before .before .before .blanks in
+    let if1 = c .before .before .before .before .before .before .if1 in
+    let if2 = c .before .before .before .before .if2 in
+    let if3 = c .before .before .before .if3 in
+    name-wrong _ _ _ (blanks .ensures) (if1 .left) (if2 .left) (if3 .left) (sym (c .before .name-start .ensures) ∙ c .if4 .left)
+
+pub root-spec : {M : Type 1} → statement M
+root-spec =
+    tie.close
+    (tie.spec
+    blanks-requires
+    returns
+    shared-slice-read-if2
+    returns-2
+    add-name
+    returns-3
+    shared-slice-read-b
+    name-start-requires
+    returns-4
+    returns-5)

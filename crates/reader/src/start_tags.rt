@@ -1,0 +1,161 @@
+// Start tags and their attributes.
+use super::Cursor;
+use super::Equals;
+use super::Part;
+use super::Read;
+use super::Tag;
+use super::repeated;
+ghost use mathlib.Core.Path.{_≡_};
+ghost use Prim.Native.Nat.{_+_, _<_, _≤_};
+ghost use lib.ListN.{length, getD};
+ghost use Rattle.reader.specs.Steps.{EqualsRead, PartRead, SlashRead};
+ghost use Rattle.reader.specs.Elements.{stack, Placed, Attributed, AttributeRead, Kept, AttributesRead, Named, ElementRead};
+
+impl Cursor {
+    // From behind the name of an attribute to behind its opening quote.
+    pub fn equals(self, s: &[u8]) -> Equals
+        requires { ⌜ self .at ≤ length (now s) ⌝ }
+        ensures { λ r. ⌜ EqualsRead (now (s .entry)) (self .at) r ⌝ }
+    {
+        let before = self.blanks(s);
+        let at = before.at;
+        if at >= s.len() {
+            return Equals::NoQuote(at);
+        }
+        if s[at] != b'=' {
+            return Equals::NoQuote(at);
+        }
+        let sign = Cursor { at: at + 1 };
+        let behind = sign.blanks(s);
+        let i = behind.at;
+        if i >= s.len() {
+            return Equals::NoQuote(i);
+        }
+        let b = s[i];
+        if b == b'"' {
+            return Equals::Quoted(b'"', Cursor { at: i + 1 });
+        }
+        if b == b'\'' {
+            return Equals::Quoted(b'\'', Cursor { at: i + 1 });
+        }
+        Equals::NoQuote(i)
+    }
+
+    // From behind a name or a value in a start tag to behind the tag, or to an attribute's name.
+    pub fn part(self, s: &[u8]) -> Part
+        requires { ⌜ self .at ≤ length (now s) ⌝ }
+        ensures { λ r. ⌜ PartRead (now (s .entry)) (self .at) r ⌝ }
+    {
+        let from = self.at;
+        let behind = self.blanks(s);
+        let at = behind.at;
+        if at >= s.len() {
+            return Part::Wrong(at);
+        }
+        let b = s[at];
+        if b == b'>' {
+            return Part::Open(Cursor { at: at + 1 });
+        }
+        if b == b'/' {
+            return behind.slash(s);
+        }
+        if at == from {
+            return Part::Wrong(at);
+        }
+        if tree::name_start(b) {
+            return Part::Attribute(behind);
+        }
+        Part::Wrong(at)
+    }
+
+    // An empty-element tag from its slash on.
+    fn slash(self, s: &[u8]) -> Part
+        requires { ⌜ (self .at < length (now s)) × (getD (now s) (self .at) 0 ≡ 47) ⌝ }
+        ensures { λ r. ⌜ SlashRead (now (s .entry)) (self .at) r ⌝ }
+    {
+        let at = self.at + 1;
+        if at >= s.len() {
+            return Part::Wrong(at);
+        }
+        if s[at] != b'>' {
+            return Part::Wrong(at);
+        }
+        Part::Empty(Cursor { at: at + 1 })
+    }
+
+    // An attribute from the first byte of its name to behind its value; the names of those before it stand from lo on.
+    pub fn attribute(
+        self,
+        s: &[u8],
+        names: &[usize; 1024],
+        lo: usize,
+        count: usize,
+        nodes: usize,
+    ) -> Read
+        requires { ⌜ Attributed (now s) (self .at) nodes × (lo + count ≤ 1024) × Placed (now s) (now names) (lo + count) ⌝ }
+        ensures { λ r. ⌜ AttributeRead (now (s .entry)) (stack (now (s .entry)) (now (names .entry)) lo count) (self .at) nodes r ⌝ }
+    {
+        let at = self.at;
+        if nodes == 1024 {
+            return Read::Refused(6, at);
+        }
+        let end = self.name(s);
+        let to = end.at;
+        if to - at > 32 {
+            return Read::Refused(5, at + 32);
+        }
+        if repeated(s, names, lo, count, at, to) {
+            return Read::Refused(4, to);
+        }
+        match end.equals(s) {
+            Equals::NoQuote(j) => Read::Refused(4, j),
+            Equals::Quoted(q, next) => {
+                let begin = next.at - 1;
+                next.content(s, q, begin, nodes + 1)
+            }
+        }
+    }
+
+    // A start tag from behind its name on; the offsets of its attributes' names are kept from lo on.
+    fn attributes(self, s: &[u8], names: &mut [usize; 1024], lo: usize, nodes: usize) -> Tag
+        requires { ⌜ (self .at ≤ length (now s)) × (lo + 1 ≤ nodes) × (nodes ≤ 1024) × Placed (now s) (now names) lo × (length (now names) ≡ 1024) ⌝ }
+        ensures { λ r. ⌜ AttributesRead (now (s .entry)) (self .at) nodes r × Kept lo (now (names .entry)) (now (names .exit)) ⌝ }
+    {
+        let mut i = self.at;
+        let mut count: usize = 0;
+        let mut n = nodes;
+        loop {
+            let here = Cursor { at: i };
+            match here.part(s) {
+                Part::Wrong(j) => return Tag::Broken(4, j),
+                Part::Open(c) => return Tag::Opened(c, n),
+                Part::Empty(c) => return Tag::Emptied(c, n),
+                Part::Attribute(c) => {
+                    match c.attribute(s, names, lo, count, n) {
+                        Read::Refused(x, j) => return Tag::Broken(x, j),
+                        Read::Past(next, m) => {
+                            names[lo + count] = c.at;
+                            count += 1;
+                            i = next.at;
+                            n = m;
+                        }
+                    }
+                }
+            }
+        }
+    }
+
+    // A start tag from the first byte of its name on; the offset of the name is kept at place depth.
+    pub fn start_tag(self, s: &[u8], names: &mut [usize; 1024], depth: usize, nodes: usize) -> Tag
+        requires { ⌜ Named (now s) (self .at) × (depth + 2 ≤ nodes) × (nodes ≤ 1024) × Placed (now s) (now names) depth × (length (now names) ≡ 1024) ⌝ }
+        ensures { λ r. ⌜ ElementRead (now (s .entry)) (self .at) nodes r × Kept depth (now (names .entry)) (now (names .exit)) × (getD (now (names .exit)) depth 0 ≡ self .at) ⌝ }
+    {
+        let at = self.at;
+        names[depth] = at;
+        let end = self.name(s);
+        if end.at - at > 32 {
+            return Tag::Broken(5, at + 32);
+        }
+        end.attributes(s, names, depth + 1, nodes)
+    }
+}
