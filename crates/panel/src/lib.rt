@@ -11,6 +11,15 @@ pub extern "C" fn noodlefen_start(state: &mut [u8]) -> u64
     protocol::code(answer)
 }
 
+// The state is replaced by the document that the input stands for.
+#[no_mangle]
+pub extern "C" fn noodlefen_load(state: &mut [u8], xml: &[u8]) -> u64
+    ensures { λ r. ⌜ Contract (with-none (Request.load (now (xml .entry))) (now (state .entry)) (now (state .exit)) r) ⌝ }
+{
+    let answer = loading::load(state, xml);
+    protocol::code(answer)
+}
+
 // Transaction t begins.
 #[no_mangle]
 pub extern "C" fn noodlefen_begin(state: &mut [u8], t: u32) -> u64
