@@ -13,7 +13,7 @@ ghost use Rattle.layout.specs.Layout.{is-open, nodes, Layout, Kept};
 ghost use Rattle.layout.specs.Fields.{released};
 ghost use Rattle.edits.specs.Rows.{not-inserted-by};
 ghost use Rattle.engine.specs.Contract.{Performed};
-ghost use Rattle.engine.specs.Admission.{Opened, Caller};
+ghost use Rattle.engine.specs.Admission.{Opened};
 ghost use Rattle.ends.specs.Ends.{Restarted, without-mark, rewritten, settled-marks, undone-marks, Closed, Ended};
 
 const WRITER: usize = 1;
@@ -30,25 +30,6 @@ pub fn start(s: &mut [u8]) -> Answer
         return Answer::Done;
     }
     Answer::Refused(13)
-}
-
-// The cause 13, 1 or 3 of a call of transaction t, or 0.
-fn caller(s: &[u8], t: u32) -> u8
-    ensures { λ r. ⌜ Caller (now (s .entry)) t r ⌝ }
-{
-    if !form::formed(s) {
-        return 13;
-    }
-    if t == 0 {
-        return 1;
-    }
-    if 16 < t {
-        return 1;
-    }
-    if !transactions::is_open(s, t as usize) {
-        return 3;
-    }
-    0
 }
 
 // Begin of t.
@@ -126,7 +107,7 @@ fn commit_open(s: &mut [u8], t: u8)
 pub fn commit(s: &mut [u8], t: u32) -> Answer
     ensures { λ r. ⌜ Performed (now (s .entry)) (now (s .exit)) r (commit t) ⌝ }
 {
-    let cause = caller(s, t);
+    let cause = engine::caller(s, t);
     if cause != 0 {
         return Answer::Refused(cause);
     }
@@ -181,7 +162,7 @@ fn abort_open(s: &mut [u8], t: u8)
 pub fn abort(s: &mut [u8], t: u32) -> Answer
     ensures { λ r. ⌜ Performed (now (s .entry)) (now (s .exit)) r (abort t) ⌝ }
 {
-    let cause = caller(s, t);
+    let cause = engine::caller(s, t);
     if cause != 0 {
         return Answer::Refused(cause);
     }
