@@ -1,5 +1,5 @@
 // A test program over the engine's calls, without XML. It takes its calls from a script, the file `stdin` beside this folder, and
-// prints a line for each; the file `stdout` there was written from document 01 before the program was first run.
+// prints a line for each; the file `stdout` there has the lines that document 01 asks for, worked out from that paper.
 //
 // The script has a word for each call, s (start), b (begin), c (commit), a (abort) or a step's name, then the transaction and the
 // step's arguments in the paper's order; R, TT and RR then have the lengths of their lent buffers. Texts stand between quotes. Other
