@@ -2,4 +2,3 @@ pub mod Lists
 pub mod Entries
 pub mod Insert
 pub mod Prune
-pub mod Flat

@@ -115,7 +115,7 @@ start-rows = load-rows node-0-alone
 
 -- the locks released first, by one change of all rows ------------------------------------------
 
-prune-map : {A : Type 0} (shown : A → Bool) (h : A → A) → ((a : A) → shown (h a) ≡ shown a) → (below : ℕ) (l : List (ℕ × A))
+pub prune-map : {A : Type 0} (shown : A → Bool) (h : A → A) → ((a : A) → shown (h a) ≡ shown a) → (below : ℕ) (l : List (ℕ × A))
     → prune shown below (map (second h) l) ≡ map (second h) (prune shown below l)
 unfolding prune
 prune-map {A} shown h same below [] = refl

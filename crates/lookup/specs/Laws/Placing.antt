@@ -157,7 +157,7 @@ first-insert x (suc j) (y ∷ l) h = go (eqb y attribute-kind) (first-insert x j
     go true e = rw (leb·suc-suc j (attributes l), leb·suc-suc (attributes l) j) e
     go false e = every-insert (λ z. not (eqb z attribute-kind)) j x l ∙ insert-behind x j l
 
-length-insert : (j x : ℕ) (l : List ℕ) → length (take j l ++ (x ∷ drop j l)) ≡ suc (length l)
+pub length-insert : {A : Type 0} (j : ℕ) (x : A) (l : List A) → length (take j l ++ (x ∷ drop j l)) ≡ suc (length l)
 length-insert j x l = length-append (take j l) (x ∷ drop j l) ∙ let e = length-append (take j l) (drop j l) in let f = ap length (take-append-drop j l) in omega arith
 
 one-only : (n : ℕ) → leb (suc n) 1 ≡ eqb n 0

@@ -27,7 +27,8 @@ use Rattle.layout.specs.Laws.Lists.{modify-none}
 use Rattle.layout.specs.Laws.Kept.{kept-then, left-kept}
 use Rattle.lookup.specs.Places.{depth, item, items, number-of, below, seen-from, subtree}
 use Rattle.lookup.specs.Found.{wait-word}
-use Rattle.edits.specs.Rows.{left-out, with-held, granted-modes, granted-along, granted-up, renamed-rows, stepped}
+use Rattle.edits.specs.Rows.{with-held, granted-modes, granted-along, granted-up, renamed-rows, stepped}
+use Rattle.edits.specs.Laws.Ends.{prune-map}
 use Rattle.edits.specs.Laws.Lists.{map-modify, map-drop}
 use Rattle.locking.specs.declared.Way.{Way}
 use Rattle.locking.specs.Way.{way-places, way-nodes, Climbed}
@@ -66,21 +67,6 @@ module _ {A : Type 0} (g : A → A) where
       go : (b : Bool) → below e (map (second g) l) ≡ map (second g) (below e l) → cond b (second g x ∷ below e (map (second g) l)) [] ≡ map (second g) (cond b (x ∷ below e l) [])
       go true h = rw h
       go false h = refl
-
--- one that keeps what is shown
-module _ {A : Type 0} (shown : A → Bool) (g : A → A) (same : (a : A) → shown (g a) ≡ shown a) where
-  prune-map : (h : ℕ) (l : List (ℕ × A)) → prune shown h (map (second g) l) ≡ map (second g) (prune shown h l)
-  unfolding prune
-  prune-map h [] = refl
-  prune-map h (x ∷ l) = rw (same (x .1)) (go (left-out h (x .0)) (shown (x .1)) (prune-map h l) (prune-map 0 l) (prune-map (suc (x .0)) l))
-    where
-      go : (b c : Bool) → prune shown h (map (second g) l) ≡ map (second g) (prune shown h l) → prune shown 0 (map (second g) l) ≡ map (second g) (prune shown 0 l)
-          → prune shown (suc (x .0)) (map (second g) l) ≡ map (second g) (prune shown (suc (x .0)) l)
-          → cond b (prune shown h (map (second g) l)) (cond c (second g x ∷ prune shown 0 (map (second g) l)) (prune shown (suc (x .0)) (map (second g) l)))
-          ≡ map (second g) (cond b (prune shown h l) (cond c (x ∷ prune shown 0 l) (prune shown (suc (x .0)) l)))
-      go true c i j k = i
-      go false true i j k = rw j
-      go false false i j k = k
 
 items-map : (g : Marked → Marked) (l : List Entry) → items (map (second g) l) ≡ map g (items l)
 items-map g [] = refl

@@ -1,10 +1,10 @@
 -- A new node with the locks of its transaction on it.
-use mathlib.Core.Path.{_≡_, refl, ap, _∙_, fun-ext}
+use mathlib.Core.Path.{_≡_, refl, sym, ap, _∙_, fun-ext}
 use Prim.Native.Nat.{ℕ, _+_, _≤_}
 use mathlib.Core.Bool.{Bool, true, false, cond}
-use mathlib.Core.List.{List, _∷_}
-use native.Mathlib.Omega.{arith}
-use lib.ListN.{length, take, drop, length-append, take-append-drop}
+use mathlib.Core.List.{List}
+use native.Mathlib.Numerals.{add-one}
+use lib.ListN.{length}
 use lib.Dec.{eqb}
 use Rattle.tree.specs.Document.{Node}
 use Rattle.locks.specs.Modes.{Mode, no-mode, union, among, in-word}
@@ -15,6 +15,7 @@ use Rattle.layout.specs.Flat.{second}
 use Rattle.layout.specs.Layout.{is-open, Entry, nodes, Left, Kept}
 use Rattle.layout.specs.Fields.{with-modes}
 use Rattle.layout.specs.Laws.Kept.{left-then, left-as}
+use Rattle.lookup.specs.Laws.Placing.{length-insert}
 use Rattle.outline.specs.Laws.Lists.{modify-insert}
 use Rattle.edits.specs.Rows.{with-held, granted-modes}
 
@@ -33,9 +34,6 @@ put-left {s} q d t x ms h w e l a b =
     left-as _ _ (modify-insert q (second (with-modes t w)) (d, inserted-by t x) (nodes s) l ∙ rw (e, new-modes t ms x h))
     (left-then (insert q (d, inserted-by t x) (nodes s)) (modify q (second (with-modes t w))) a b)
 
-length-insert : {A : Type 0} (q : ℕ) (x : A) (l : List A) → length (insert q x l) ≡ length l + 1
-unfolding insert
-length-insert q x l = length-append (take q l) (x ∷ drop q l) ∙ omega (arith, length-append (take q l) (drop q l), ap length (take-append-drop q l))
-
 pub put-long : {s s₁ : List ℕ} {flags : ℕ → Bool} (q : ℕ) (x : Entry) → Left s s₁ flags (insert q x (nodes s)) → length (nodes s₁) ≡ length (nodes s) + 1
-put-long {s} q x a = ap length (a .nodes) ∙ length-insert q x (nodes s)
+unfolding insert
+put-long {s} q x a = ap length (a .nodes) ∙ length-insert q x (nodes s) ∙ sym (add-one (length (nodes s)))
