@@ -1,3 +1,4 @@
+pub mod Pieces
 pub mod Trees
 pub mod Order
 pub mod Texts
