@@ -127,10 +127,14 @@ judge es last pre sum (x ∷ xs) =
 unfoldable pub prolog : List ℕ
 prolog = long-declaration ++ (line-feed ∷ [])
 
--- the rows of a document, the topmost first
+-- what stands for the rows below the document's, which is the first
+unfoldable pub body : List Line → List ℕ
+body [] = []
+body (x ∷ xs) = emit (x .1 ∷ []) 0 xs
+
+-- what stands for the rows of a document
 unfoldable pub written-rows : List Line → List ℕ
-written-rows [] = []
-written-rows (x ∷ xs) = prolog ++ emit (x .1 ∷ []) 0 xs
+written-rows l = prolog ++ body l
 
 -- the length of what is written, or 0 where a document is not ordered or not expressible
 unfoldable pub measured : List Line → ℕ

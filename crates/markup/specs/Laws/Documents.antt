@@ -15,7 +15,7 @@ use Rattle.xml.specs.Reading.{input-limit}
 use Rattle.xml.specs.Writing.{attributes, childless, contents, below, write, repeats, neighbouring-texts, expressible}
 use Rattle.xml.specs.Writing as xml
 use Rattle.layout.specs.Flat.{flat}
-use Rattle.markup.specs.Rows.{Line, in-order, ordered, begin, tag-end, end, ends, emit, extra, cost, judge, prolog, written-rows, measured}
+use Rattle.markup.specs.Rows.{Line, in-order, ordered, begin, tag-end, end, ends, emit, extra, cost, judge, prolog, body, written-rows, measured}
 use Rattle.markup.specs.Laws.Trees.{up-none, inner, emit-tree, spots, tree-spots, spots-tree, all-fit, total, total-append}
 use Rattle.markup.specs.Laws.Order.{texts-behind, fits-tree, Children, no-children, child-element, Root, no-root, root, root-of}
 use Rattle.markup.specs.Laws.Texts.{rest, inner-rest}
@@ -87,7 +87,7 @@ judged c f n h =
 module _ (d : Document) (c : List ℕ) (f : Shape) (e : shape d ≡ node (top c) f nil) where
   -- THE LAW of the text
   pub written-is : ordered d ≡ true → written-rows (flat 0 (shape d)) ≡ write d
-  unfolding ordered written-rows prolog write flat
+  unfolding ordered written-rows body prolog write flat
   written-is h = rw e (ap (λ (l : List ℕ). prolog ++ l) (emit-root c f ∙ text-of c (root-of f (rw e at h))))
 
   write-length : in-order document-kind 0 f ≡ true → length (write d) ≡ length prolog + total (tree-spots (top c) 0 f)
