@@ -1,5 +1,6 @@
 pub mod Codes
 pub mod Causes
+pub mod Ordered
 pub mod OneCall
 pub mod Main
 pub mod Exports

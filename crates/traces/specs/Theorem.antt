@@ -72,10 +72,10 @@ pub record OtherBytes (x : Exchange) : Type 0 where
 -- the first buffer afterwards, by the definitions; it held b
 unfoldable pub first-after : Outcome → List ℕ → List ℕ
 first-after (granted v) b = filled (first-lent v) b
-first-after (written d) b = text-after d b
+first-after (written d) b = text-after b d
 first-after (waits set) b = b
-first-after (refused cause) b = b
-first-after (refused-at cause offset) b = b
+first-after (refused c) b = b
+first-after (refused-at c offset) b = b
 
 -- of the call c in the state M
 pub record Demand2 (M : State) (x : Exchange) (c : Call) : Type 0 where
