@@ -2,6 +2,7 @@
 -- of the exported functions alone.
 use mathlib.Core.Path.{_≡_}
 use Prim.Native.Nat.{ℕ, _≤_, _<_}
+use mathlib.Core.Logic.{_↔_}
 use mathlib.Core.Bool.{true, false}
 use mathlib.Core.List.{List, [], _∷_, _++_, List·Memᴰ}
 use lib.ListN.{length, drop}
@@ -10,7 +11,7 @@ use Rattle.locks.specs.Needs.{needs}
 use Rattle.protocol.specs.State.{State, callers-document, committed-document}
 use Rattle.protocol.specs.Lent.{Room, filled, first-lent, second-lent}
 use Rattle.protocol.specs.Calls.{Call, step, write, Outcome, granted, written, waits, refused, refused-at, next}
-use Rattle.protocol.specs.History.{plain}
+use Rattle.protocol.specs.History.{is-granted, plain}
 use Rattle.protocol.specs.Answers.{code-of, answer-of, lent-after}
 use Rattle.protocol.specs.declared.Answer.the-variants.{Refused}
 use Rattle.layout.specs.Layout.{state-size}
@@ -32,7 +33,7 @@ Linked s (x ∷ xs) = Contract x × (x .state .before ≡ s) × Linked (x .state
 -- "the list begins with a granted start; its calls follow in every order, each with any arguments, waiting and refused ones too"
 pub record Trace (x : Exchange) (xs : List Exchange) : Type 0 where
   pub starts : x .request ≡ Request.start
-  pub is-granted : outcome (x .code) ≡ 0
+  pub start-granted : outcome (x .code) ≡ 0
   pub contract : Contract x
   pub linked : Linked (x .state .after) xs
 
@@ -87,6 +88,8 @@ pub record Demand2 (M : State) (x : Exchange) (c : Call) : Type 0 where
   pub answer : x .code ≡ code-of (answer-of (writing (length (x .first .before))) (next c M .outcome))
   pub first : x .first .after ≡ first-after (next c M .outcome) (x .first .before)
   pub second : x .second .after ≡ lent-after second-lent (next c M .outcome) (x .second .before)
+  -- a call is told as granted exactly if the plain run is fed it as granted (write, which does nothing there, may be refused by 13 and 14)
+  pub as-granted : (c ≡ write → ⊥) → (outcome (x .code) ≡ 0) ↔ (is-granted (next c M .outcome) ≡ true)
   -- a wait names exactly the open transactions that hold a clashing mode
   pub wait-set : (t : ℕ) (s : Step) (room : Room) → c ≡ step t s room → outcome (x .code) ≡ 1
       → WaitSet (value (x .code)) t (needs s (callers-document t (M .tree))) M

@@ -1,7 +1,8 @@
 -- What the number answered tells of the outcome.
 use mathlib.Core.Path.{_≡_, refl, sym, ap, _∙_}
 use Prim.Native.Nat.{ℕ, _≤_, _<_}
-use mathlib.Core.Bool.{false}
+use mathlib.Core.Bool.{true, false, false≢true}
+use mathlib.Core.Logic.{_↔_}
 use native.Mathlib.Omega.{arith}
 use Rattle.tree.specs.Document.{Document}
 use Rattle.tree.specs.Steps.{done, kind-parent, child-is, none, content-is, numbers-are, cells-are, how-many, unfit}
@@ -25,6 +26,7 @@ pub record Told (code : ℕ) (o : Outcome) : Type 0 where
   pub causes : outcome code ≡ 2 → (1 ≤ cause code) × (cause code ≤ 15)
   pub no-cause : (outcome code ≡ 2 → ⊥) → cause code ≡ 0
   pub not-granted : (outcome code ≡ 0 → ⊥) → is-granted o ≡ false
+  pub as-granted : (outcome code ≡ 0) ↔ (is-granted o ≡ true)
   pub waiting : outcome code ≡ 1 → o ≡ waits (value code)
 
 -- the parts of a packed number
@@ -37,11 +39,18 @@ packed-cause o c v h k = omega arith
 packed-value : (o c v : ℕ) → o < 256 → c < 256 → value (packed o c v) ≡ v
 packed-value o c v h k = omega arith
 
-told-granted : (v : ℕ) (o : Outcome) → Told (packed 0 0 v) o
-told-granted v o =
+told-granted : (v : ℕ) (o : Outcome) → is-granted o ≡ true → Told (packed 0 0 v) o
+told-granted v o g =
     let e : outcome (packed 0 0 v) ≡ 0 = packed-outcome 0 0 v (omega arith) in
     let c : cause (packed 0 0 v) ≡ 0 = packed-cause 0 0 v (omega arith) (omega arith) in
-    record { outcomes = omega arith; causes = λ h. absurd (omega arith); no-cause = λ _. c; not-granted = λ n. absurd (n e); waiting = λ h. absurd (omega arith) }
+    record {
+      outcomes = omega arith;
+      causes = λ h. absurd (omega arith);
+      no-cause = λ _. c;
+      not-granted = λ n. absurd (n e);
+      as-granted = (λ _. g, λ _. e);
+      waiting = λ h. absurd (omega arith);
+    }
 
 told-waits : (w : ℕ) → Told (packed 1 0 w) (waits w)
 told-waits w =
@@ -52,6 +61,7 @@ told-waits w =
       causes = λ h. absurd (omega arith);
       no-cause = λ _. c;
       not-granted = λ _. refl;
+      as-granted = (λ h. absurd (omega arith), λ h. absurd (false≢true h));
       waiting = λ _. ap waits (sym (packed-value 1 0 w (omega arith) (omega arith)));
     }
 
@@ -64,22 +74,23 @@ told-refused k v o l g =
       causes = λ _. (omega arith, omega arith);
       no-cause = λ n. absurd (n e);
       not-granted = λ _. g;
+      as-granted = (λ h. absurd (omega arith), λ h. absurd (false≢true (sym g ∙ h)));
       waiting = λ h. absurd (omega arith);
     }
 
 -- where nothing is written, so that `writing` plays no part
 pub told : (o : Outcome) → Listed o → Told (code-of (answer-of (λ d. Done) o)) o
 unfolding code-of answer-of granted-answer
-told (granted done) l = told-granted 0 (granted done)
-told (granted (kind-parent kind parent)) l = told-granted _ _
-told (granted (child-is number kind)) l = told-granted _ _
-told (granted none) l = told-granted 0 (granted none)
-told (granted (content-is b)) l = told-granted _ _
-told (granted (numbers-are b)) l = told-granted _ _
-told (granted (cells-are b)) l = told-granted _ _
-told (granted (how-many n)) l = told-granted _ _
-told (granted unfit) l = told-granted 0 (granted unfit)
-told (written d) l = told-granted 0 (written d)
+told (granted done) l = told-granted 0 (granted done) refl
+told (granted (kind-parent kind parent)) l = told-granted _ _ refl
+told (granted (child-is number kind)) l = told-granted _ _ refl
+told (granted none) l = told-granted 0 (granted none) refl
+told (granted (content-is b)) l = told-granted _ _ refl
+told (granted (numbers-are b)) l = told-granted _ _ refl
+told (granted (cells-are b)) l = told-granted _ _ refl
+told (granted (how-many n)) l = told-granted _ _ refl
+told (granted unfit) l = told-granted 0 (granted unfit) refl
+told (written d) l = told-granted 0 (written d) refl
 told (waits w) l = told-waits w
 told (refused c) l = told-refused c 0 (refused c) l refl
 told (refused-at c i) l = told-refused c i (refused-at c i) l refl

@@ -209,6 +209,7 @@ module _ (M : State) (x : Exchange) (r : Answer) (e : x .code ≡ code-of r) (b 
     answer = e ∙ ap code-of (given (writing (length (x .first .before))));
     first = h .first .filled M b ∙ same-first r (next c M .outcome) (x .first .before) given;
     second = h .second .filled M b;
+    as-granted = λ _. tells x r e (next c M .outcome) l (given (λ d. Done)) .as-granted;
     wait-set = λ t s room k w. waiting t s room M (value (x .code)) (ap (λ (y : Call). next y M .outcome) (sym k) ∙ tells x r e (next c M .outcome) l (given (λ d. Done)) .waiting w);
     read-back = λ k g. absurd (not-written r (committed-document M) (λ w. given w ∙ ap (λ (y : Call). answer-of w (next y M .outcome)) k));
   }
@@ -225,6 +226,7 @@ module _ (M : State) (x : Exchange) (r : Answer) (e : x .code ≡ code-of r) (b 
     answer = e ∙ ap code-of (given (writing (length (x .first .before))));
     first = h .first;
     second = h .second;
+    as-granted = λ _. tells x r e (granted done) tt (given (λ d. Done)) .as-granted;
     wait-set = λ t s room k w. absurd (no-wait w);
     read-back = λ k g. absurd (not-written r (committed-document M) (λ w. given w ∙ ap (λ (y : Call). answer-of w (next y M .outcome)) k));
   }
@@ -244,6 +246,7 @@ module _ (M : State) (x : Exchange) (r : Answer) (e : x .code ≡ code-of r) (b 
     answer = e ∙ ap code-of given;
     first = h .written .text M b (legal-ordered (committed-document M) l);
     second = h .second;
+    as-granted = λ n. absurd (n refl);
     wait-set = λ t s room k w. absurd (write-no-wait (x .first .before) (committed-document M) (rw (e, given) at w));
     read-back = λ k g. read-back (committed-document M) l (granted-write (x .first .before) (committed-document M) (rw (e, given) at g) .0) (few-lines b);
   }
