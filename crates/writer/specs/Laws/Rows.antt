@@ -5,7 +5,7 @@ use mathlib.Core.Bool.{Bool, true, false, cond}
 use mathlib.Core.List.{List, [], _∷_, _++_, append-nil}
 use native.Mathlib.Omega.{arith}
 use native.Mathlib.Numerals.{add-one}
-use lib.ListN.{length, getD, drop, set, drop-of-length-le}
+use lib.ListN.{length, getD, drop, set, drop-of-length-le, length-append}
 use lib.Seq.{getD-set-same}
 use Rattle.layout.specs.Layout.{Entry}
 use Rattle.lookup.specs.Places.{depth}
@@ -17,7 +17,7 @@ use Rattle.measuring.specs.Walk.{open-labels, OnPath, Walk}
 use Rattle.measuring.specs.Laws.Walk.{length-open, parent-is, opened-is, walk-below, walk-steps, walk-deep}
 use Rattle.markup.specs.Lending.{Wrote, Partly, partly-as, partly-end}
 use Rattle.writer.specs.Texts.{row-text}
-use Rattle.writer.specs.Laws.Next.{Next, next}
+use Rattle.writer.specs.Laws.Next.{Next, next, second}
 
 -- one open node more ends
 pub ends-more : (l : List Entry) (path : List ℕ) (e d last : ℕ) → d < e
@@ -40,6 +40,17 @@ next-end l path e d last c h k = next (end (label-at l (getD path (e - 1) 0)) la
 
 pub no-end : (l : List Entry) (path : List ℕ) (e d last : ℕ) {text o₀ o : List ℕ} {at : ℕ} → Partly text (ends (e - d) (open-labels l path e) last) o₀ o at → e ≤ d → Wrote text o₀ o at
 no-end l path e d last c h = partly-end (partly-as (ends-none (open-labels l path e) e d last h) c)
+
+-- the ends before a row, and then the row
+module _ (l : List Entry) (path : List ℕ) (top d p : ℕ) where
+  pub row-room : {n : ℕ} → length (row-text l path top d p) ≤ n → length (ends (suc top - d) (open-labels l path (suc top)) 0) ≤ n
+  unfolding row-text
+  row-room h = omega (arith, simp length-append at h)
+
+  pub next-begin : {q r : ℕ} {o₀ o : List ℕ} → Wrote (ends (suc top - d) (open-labels l path (suc top)) 0) o₀ o r → length (row-text l path top d p) ≤ length o₀
+      → q ≡ previous-of (open-labels l path (suc top)) 0 d → Next (begin (label-at l (getD path (d - 1) 0)) q (label-at l p)) (row-text l path top d p) [] o₀ o r
+  unfolding row-text
+  next-begin w h e = rw e (second (ends (suc top - d) (open-labels l path (suc top)) 0) (begin (label-at l (getD path (d - 1) 0)) (previous-of (open-labels l path (suc top)) 0 d) (label-at l p)) w h)
 
 -- what stands for the rows from i on
 abbrev pub from : List Entry → List ℕ → ℕ → List ℕ → ℕ → ℕ → List ℕ
