@@ -58,8 +58,8 @@ module _ (a b o₀ o : List ℕ) (r : ℕ) (w : Wrote a o₀ o r) (h : length (a
       record {
         count = simp length-append (omega (arith, w .count, v .count));
         bytes =
-          rw (t, z) (rw (v .bytes, lent)
-          (simp (append-nil, append-assoc, length-append) (ap (λ (l : List ℕ). a ++ (b ++ l)) (drop-drop (length b) (length a) o₀))));
+            rw (t, z) (rw (v .bytes, lent)
+            (simp (append-nil, append-assoc, length-append) (ap (λ (l : List ℕ). a ++ (b ++ l)) (drop-drop (length b) (length a) o₀))));
       }
 
 -- a text of many pieces: `rest` is still to be written, and the pieces before it stand in the lent bytes

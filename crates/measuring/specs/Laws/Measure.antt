@@ -91,8 +91,17 @@ module _ {l : List Entry} {places path : List ℕ} {count top i sum : ℕ} (c : 
         behind = omega arith;
         small = omega (arith, v .small);
         whole = v .whole
-            ∙ rw (row, parent-label, ← ek, f, unrepeated, ← g, opened-is l path (suc top) d p (omega (arith, depth-is, walk-steps c (v .walk) h))
-              (omega (arith, depth-is, walk-deep c (v .walk) h, v .walk .on-path .long)), add-one i)
+            ∙ rw (
+              row,
+              parent-label,
+              ← ek,
+              f,
+              unrepeated,
+              ← g,
+              opened-is l path (suc top) d p (omega (arith, depth-is, walk-steps c (v .walk) h))
+                  (omega (arith, depth-is, walk-deep c (v .walk) h, v .walk .on-path .long)),
+              add-one i,
+            )
             (ap (λ (x : Line). judge (open-labels l (set path d p) (suc d)) 0 (x ∷ before-lines l places i) (sum + n) (drop (suc i) (lines l places count))) same-line);
       }
         where

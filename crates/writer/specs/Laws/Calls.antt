@@ -38,9 +38,6 @@ write-some d = omega arith
 
 -- n is the length that was measured
 module _ {s : List ℕ} {w : Rows} {n : ℕ} (f : form s ≡ true) (c : Selected (nodes s) w) (e : n ≡ measured (lines (nodes s) (w .places) (w .count))) where
-  formed : {A : Type 0} → form s ≡ false → A
-  formed g = absurd (true≢false (sym f ∙ g))
-
   module _ (M : State) (h : Holds s M) where
     abbrev d : Document
     d = committed-document M
@@ -77,7 +74,7 @@ module _ {s : List ℕ} {w : Rows} {n : ℕ} (f : form s ≡ true) (c : Selected
   pub write-14 : (o : List ℕ) → n ≡ 0 → Written s o o (Refused 14)
   unfolding writing text-after writable
   write-14 o z = record {
-    unformed = λ g. formed g;
+    unformed = λ g. absurd (true≢false (sym f ∙ g));
     answer = λ M h b. rw (not-expressible M h b z);
     text = λ M h b. rw (not-expressible M h b z);
     disordered = λ M h b. (refl, refl);
@@ -88,7 +85,7 @@ module _ {s : List ℕ} {w : Rows} {n : ℕ} (f : form s ≡ true) (c : Selected
     pub write-13 : (o : List ℕ) → length o < n → Written s o o (Refused 13)
     unfolding writing text-after writable
     write-13 o k = record {
-      unformed = λ g. formed g;
+      unformed = λ g. absurd (true≢false (sym f ∙ g));
       answer = λ M h b. rw (is-expressible M h b z, short M h b);
       text = λ M h b. rw (is-expressible M h b z, short M h b);
       disordered = λ M h b. absurd (z (none M h b));
@@ -101,7 +98,7 @@ module _ {s : List ℕ} {w : Rows} {n : ℕ} (f : form s ≡ true) (c : Selected
     pub write-granted : (o o′ : List ℕ) {r : ℕ} → n ≤ length o → Wrote (written-rows (lines (nodes s) (w .places) (w .count))) o o′ r → length o′ ≡ length o → Written s o o′ (Count n)
     unfolding writing text-after writable
     write-granted o o′ k v l = record {
-      unformed = λ g. formed g;
+      unformed = λ g. absurd (true≢false (sym f ∙ g));
       answer = λ M h b. rw (is-expressible M h b z, fits M h b) (ap Count (by-expressible M h b true (is-expressible M h b z)));
       text = λ M h b. rw (is-expressible M h b z, fits M h b) (rw (text-is M h b) at (v .bytes));
       disordered = λ M h b. absurd (z (none M h b));
