@@ -4,9 +4,6 @@ use Rattle.committed.specs.Laws.Contents.{version-now, version-before}
 use borrow.Author.Needs.{needs}
 use Rattle.committed.proofs.version.Statement.{statement}
 use Rattle.committed.proofs.version.Tie as tie
-use Rattle.committed.proofs.version.Reads as reads
-use Rattle.committed.proofs.version.Lts as lts
-use Rattle.table.proofs.writer.Reads as writer-reads
 
 -- src/lib.rt:63:8
 writer-requires : tie.Need-writer-requires

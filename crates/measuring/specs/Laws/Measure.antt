@@ -1,7 +1,7 @@
 -- The loop that measures.
-use mathlib.Core.Path.{_≡_, refl, sym, ap, _∙_}
-use Prim.Native.Nat.{ℕ, zero, suc, _+_, _-_, _*_, _≤_, _<_}
-use mathlib.Core.Bool.{Bool, true, false, cond}
+use mathlib.Core.Path.{_≡_, sym, ap, _∙_}
+use Prim.Native.Nat.{ℕ, suc, _+_, _-_, _*_, _≤_, _<_}
+use mathlib.Core.Bool.{true, false, cond}
 use mathlib.Core.List.{List, [], _∷_}
 use native.Mathlib.Omega.{arith}
 use native.Mathlib.Numerals.{add-one}
@@ -11,10 +11,10 @@ use lib.Dec.{leb}
 use borrow.Author.Tests.{le-leb, lt-leb}
 use Rattle.layout.specs.Layout.{Entry}
 use Rattle.lookup.specs.Places.{depth}
-use Rattle.markup.specs.Rows.{Line, parent-of, previous-of, opened, fits, cost, repeated, judge, prolog, measured}
+use Rattle.markup.specs.Rows.{Line, parent-of, previous-of, fits, cost, repeated, judge, prolog, measured}
 use Rattle.committed.specs.Lines.{label-at, line-at, lines, Listed}
 use Rattle.committed.specs.Laws.Lines.{length-lines, lines-from}
-use Rattle.measuring.specs.Walk.{open-labels, before-lines, OnPath, Walk}
+use Rattle.measuring.specs.Walk.{open-labels, before-lines, Walk}
 use Rattle.measuring.specs.Laws.Walk.{parent-is, opened-is, walk-start, walk-below, walk-steps, walk-deep, walk-on}
 
 pub record Measuring (l : List Entry) (places : List ℕ) (count : ℕ) (path : List ℕ) (top i sum : ℕ) : Type 0 where

@@ -2,23 +2,16 @@ use Rattle.writer.specs.Laws.Rows.{next-end, no-end}
 use Rattle.measuring.specs.Walk.{open-labels}
 use Rattle.markup.specs.Rows.{ends}
 use native.Mathlib.Numerals.{add-one}
-use Rattle.writer.specs.Laws.Next.{second, both}
-use Rattle.markup.specs.Lending.{wrote-as, wrote-none, Partly, partly-start, partly-as}
+use Rattle.markup.specs.Lending.{Partly, partly-start, partly-as}
 use Rattle.committed.specs.Laws.Contents.{kind-at}
-use Rattle.committed.specs.Lines.{label-at}
 use Rattle.layout.specs.Layout.{nodes}
-use lib.ListN.{length, length-append}
-use mathlib.Core.List.{_++_}
+use lib.ListN.{length}
 use mathlib.Core.Path.{_≡_, refl, sym, ap, _∙_}
-use Prim.Native.Nat.{_+_, _-_, _≤_, suc}
+use Prim.Native.Nat.{_-_, _≤_, suc}
 use native.Mathlib.Omega.{arith}
 use borrow.Author.Needs.{needs}
 use Rattle.writer.proofs.put_ends.Statement.{statement}
 use Rattle.writer.proofs.put_ends.Tie as tie
-use Rattle.writer.proofs.put_ends.Reads as reads
-use Rattle.writer.proofs.put_ends.Lts as lts
-use Rattle.table.proofs.kind.Reads as kind-reads
-use Rattle.writer.proofs.put_end.Reads as put-end-reads
 
 abbrev Inv-loop : tie.InvT-loop
 Inv-loop out₀ s path top d at₀ last₀ e₀ out at last e = (e ≤ suc top) × (length out ≡ length out₀) × Partly (ends (suc top - d) (open-labels (nodes s) path (suc top)) 0) (ends (e - d) (open-labels (nodes s) path e) last) out₀ out at
@@ -42,31 +35,54 @@ element-copy-out-p : tie.Need-element-copy-out-p Inv-loop μ-loop
 element-copy-out-p c = omega (arith, c .before .before .before .before .pre .1 .deep, c .before .loop .inv .0)
 
 cast-p : tie.Need-cast-p Inv-loop μ-loop
-cast-p c = omega (arith, (c .before .before .before .before .before .pre .1 .inside (c .before .before .loop .e - 1) (omega (arith, c .before .before .loop .inv .0))), c .before .before .before .before .before .pre .0 .many, c .before .before .before .before .before .pre .0 .room)
+cast-p c =
+    let c2 = c .before .before in
+    let c5 = c2 .before .before .before in
+    omega (arith, (c5 .pre .1 .inside (c2 .loop .e - 1) (omega (arith, c2 .loop .inv .0))), c5 .pre .0 .many, c5 .pre .0 .room)
 
 sub-put-end : tie.Need-sub-put-end Inv-loop μ-loop
-sub-put-end c = (next-end (nodes (c .before .before .before .before .before .args .s .now)) (c .before .before .before .before .before .args .path .now) (c .before .before .loop .e) (c .before .before .before .before .before .args .d) (c .before .before .loop .last) (c .before .before .loop .inv .2) (c .before .before .before .before .before .pre .2) (omega arith)) .inside
+sub-put-end c =
+    let c2 = c .before .before in
+    let c5 = c2 .before .before .before in
+    (next-end (nodes (c5 .args .s .now)) (c5 .args .path .now) (c2 .loop .e) (c5 .args .d) (c2 .loop .last) (c2 .loop .inv .2) (c5 .pre .2) (omega arith)) .inside
 
 part-put-end-start : tie.Need-part-put-end-start Inv-loop μ-loop
-part-put-end-start c = (next-end (nodes (c .before .before .before .before .before .args .s .now)) (c .before .before .before .before .before .args .path .now) (c .before .before .loop .e) (c .before .before .before .before .before .args .d) (c .before .before .loop .last) (c .before .before .loop .inv .2) (c .before .before .before .before .before .pre .2) (omega arith)) .inside
+part-put-end-start c =
+    let c2 = c .before .before in
+    let c5 = c2 .before .before .before in
+    (next-end (nodes (c5 .args .s .now)) (c5 .args .path .now) (c2 .loop .e) (c5 .args .d) (c2 .loop .last) (c2 .loop .inv .2) (c5 .pre .2) (omega arith)) .inside
 
 part-put-end-end : tie.Need-part-put-end-end Inv-loop μ-loop
 part-put-end-end c = search needs
 
 put-end-requires : tie.Need-put-end-requires Inv-loop μ-loop
-put-end-requires c κs = (c .before .before .before .before .before .before .pre .0, (c .before .before .before .before .before .before .pre .1 .inside (c .before .before .before .loop .e - 1) (omega (arith, c .before .before .before .loop .inv .0))), (next-end (nodes (c .before .before .before .before .before .before .args .s .now)) (c .before .before .before .before .before .before .args .path .now) (c .before .before .before .loop .e) (c .before .before .before .before .before .before .args .d) (c .before .before .before .loop .last) (c .before .before .before .loop .inv .2) (c .before .before .before .before .before .before .pre .2) (omega arith)) .room)
+put-end-requires c κs =
+    let c3 = c .before .before .before in
+    let c6 = c3 .before .before .before in
+    (c6 .pre .0, (c6 .pre .1 .inside (c3 .loop .e - 1) (omega (arith, c3 .loop .inv .0))), (next-end (nodes (c6 .args .s .now)) (c6 .args .path .now) (c3 .loop .e) (c6 .args .d) (c3 .loop .last) (c3 .loop .inv .2) (c6 .pre .2) (omega arith)) .room)
 
 add-at : tie.Need-add-at Inv-loop μ-loop
-add-at c = omega (arith, (next-end (nodes (c .before .before .before .before .before .before .before .before .before .args .s .now)) (c .before .before .before .before .before .before .before .before .before .args .path .now) (c .before .before .before .before .before .before .loop .e) (c .before .before .before .before .before .before .before .before .before .args .d) (c .before .before .before .before .before .before .loop .last) (c .before .before .before .before .before .before .loop .inv .2) (c .before .before .before .before .before .before .before .before .before .pre .2) (omega arith)) .small, c .before .before .put-end .ensures .count)
+add-at c =
+    let c2 = c .before .before in
+    let c6 = c2 .before .before .before .before in
+    let c9 = c6 .before .before .before in
+    omega (arith, (next-end (nodes (c9 .args .s .now)) (c9 .args .path .now) (c6 .loop .e) (c9 .args .d) (c6 .loop .last) (c6 .loop .inv .2) (c9 .pre .2) (omega arith)) .small, c2 .put-end .ensures .count)
 
 kind-requires : tie.Need-kind-requires Inv-loop μ-loop
-kind-requires c κs = (c .before .before .before .before .before .before .before .before .before .pre .0, (c .before .before .before .before .before .before .before .before .before .pre .1 .inside (c .before .before .before .before .before .before .loop .e - 1) (omega (arith, c .before .before .before .before .before .before .loop .inv .0))))
+kind-requires c κs =
+    let c6 = c .before .before .before .before .before .before in
+    let c9 = c6 .before .before .before in
+    (c9 .pre .0, (c9 .pre .1 .inside (c6 .loop .e - 1) (omega (arith, c6 .loop .inv .0))))
 
 loop-less : tie.Need-loop-less Inv-loop μ-loop
 loop-less c = omega arith
 
 loop-again : tie.Need-loop-again Inv-loop μ-loop
-loop-again c = (omega (arith, c .before .before .before .before .before .before .before .loop .inv .0), search needs, partly-as (ap (λ k. ends ((c .before .before .before .before .before .before .before .loop .e) - 1 - c .before .before .before .before .before .before .before .before .before .before .args .d) (open-labels (nodes (c .before .before .before .before .before .before .before .before .before .before .args .s .now)) (c .before .before .before .before .before .before .before .before .before .before .args .path .now) ((c .before .before .before .before .before .before .before .loop .e) - 1)) k) (kind-at _ _ ∙ sym (c .kind .ensures))) ((next-end (nodes (c .before .before .before .before .before .before .before .before .before .before .args .s .now)) (c .before .before .before .before .before .before .before .before .before .before .args .path .now) (c .before .before .before .before .before .before .before .loop .e) (c .before .before .before .before .before .before .before .before .before .before .args .d) (c .before .before .before .before .before .before .before .loop .last) (c .before .before .before .before .before .before .before .loop .inv .2) (c .before .before .before .before .before .before .before .before .before .before .pre .2) (omega arith)) .on _ _ (c .before .before .before .put-end .ensures)))
+loop-again c =
+    let c3 = c .before .before .before in
+    let c7 = c3 .before .before .before .before in
+    let c10 = c7 .before .before .before in
+    (omega (arith, c7 .loop .inv .0), search needs, partly-as (ap (λ k. ends ((c7 .loop .e) - 1 - c10 .args .d) (open-labels (nodes (c10 .args .s .now)) (c10 .args .path .now) ((c7 .loop .e) - 1)) k) (kind-at _ _ ∙ sym (c .kind .ensures))) ((next-end (nodes (c10 .args .s .now)) (c10 .args .path .now) (c7 .loop .e) (c10 .args .d) (c7 .loop .last) (c7 .loop .inv .2) (c10 .pre .2) (omega arith)) .on _ _ (c3 .put-end .ensures)))
 
 same-length : tie.Need-same-length Inv-loop μ-loop
 same-length c = c .before .loop .inv .1

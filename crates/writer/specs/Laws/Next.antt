@@ -1,7 +1,7 @@
 -- The next piece of a text: what it asks of the rest of the lent bytes, and what is left once it is written.
-use mathlib.Core.Path.{_≡_, refl, sym, ap, _∙_}
+use mathlib.Core.Path.{_≡_, refl, sym}
 use Prim.Native.Nat.{ℕ, _+_, _-_, _≤_}
-use mathlib.Core.List.{List, [], _∷_, _++_, append-nil}
+use mathlib.Core.List.{List, [], _++_, append-nil}
 use lib.ListN.{length, take, drop}
 use borrow.Rule.Slice.PartMut.{putMid}
 use Rattle.markup.specs.Lending.{Wrote, Partly, partly-as, partly-end, partly-long, partly-small, partly-inside, partly-room, partly-on}

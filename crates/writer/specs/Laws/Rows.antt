@@ -1,7 +1,6 @@
 -- The loops over open nodes and over rows.
-use mathlib.Core.Path.{_≡_, refl, sym, ap, _∙_}
+use mathlib.Core.Path.{_≡_, sym, ap, _∙_}
 use Prim.Native.Nat.{ℕ, zero, suc, _+_, _-_, _≤_, _<_}
-use mathlib.Core.Bool.{Bool, true, false, cond}
 use mathlib.Core.List.{List, [], _∷_, _++_, append-nil}
 use native.Mathlib.Omega.{arith}
 use native.Mathlib.Numerals.{add-one}
@@ -10,10 +9,10 @@ use lib.Seq.{getD-set-same}
 use Rattle.layout.specs.Layout.{Entry}
 use Rattle.lookup.specs.Places.{depth}
 use Rattle.xml.specs.Shape.{Label}
-use Rattle.markup.specs.Rows.{Line, begin, end, ends, parent-of, previous-of, opened, emit, body}
+use Rattle.markup.specs.Rows.{begin, end, ends, previous-of, emit, body}
 use Rattle.committed.specs.Lines.{label-at, line-at, lines, Listed}
 use Rattle.committed.specs.Laws.Lines.{length-lines, lines-from}
-use Rattle.measuring.specs.Walk.{open-labels, OnPath, Walk}
+use Rattle.measuring.specs.Walk.{open-labels, Walk}
 use Rattle.measuring.specs.Laws.Walk.{length-open, parent-is, opened-is, walk-below, walk-steps, walk-deep}
 use Rattle.markup.specs.Lending.{Wrote, Partly, partly-as, partly-end}
 use Rattle.writer.specs.Texts.{row-text}
