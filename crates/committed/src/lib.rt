@@ -60,10 +60,10 @@ pub fn version(s: &[u8], p: usize) -> usize
     requires { ⌜ (Layout (now s)) × (p < length (nodes (now s))) ⌝ }
     ensures { λ r. ⌜ (r < 2) × (text r (item (nodes (now (s .entry))) p) ≡ label-at (nodes (now (s .entry))) p .content) ⌝ }
 {
-    if table::writer(s, p) == 0 {
-        return 0;
+    if table::writer(s, p) != 0 {
+        return 1;
     }
-    1
+    0
 }
 
 // The length of the committed content of the node at p.

@@ -6,3 +6,4 @@ pub mod Lengths
 pub mod Names
 pub mod Judgement
 pub mod Documents
+pub mod Rules

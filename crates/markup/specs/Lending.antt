@@ -58,6 +58,45 @@ module _ (a b o₀ o : List ℕ) (r : ℕ) (w : Wrote a o₀ o r) (h : length (a
       record {
         count = simp length-append (omega (arith, w .count, v .count));
         bytes =
-          rw (t, z) (rw (v .bytes, lent)
-          (simp (append-nil, append-assoc, length-append) (ap (λ (l : List ℕ). a ++ (b ++ l)) (drop-drop (length b) (length a) o₀))));
+            rw (t, z) (rw (v .bytes, lent)
+            (simp (append-nil, append-assoc, length-append) (ap (λ (l : List ℕ). a ++ (b ++ l)) (drop-drop (length b) (length a) o₀))));
       }
+
+-- a text of many pieces: `rest` is still to be written, and the pieces before it stand in the lent bytes
+pub record Partly (text rest old new : List ℕ) (at : ℕ) : Type 0 where
+  pub done : List ℕ
+  pub whole : text ≡ done ++ rest
+  pub wrote : Wrote done old new at
+
+pub partly-start : (text old : List ℕ) → Partly text text old old 0
+partly-start text old = record { done = []; whole = refl; wrote = wrote-none old }
+
+pub partly-end : {text old new : List ℕ} {at : ℕ} → Partly text [] old new at → Wrote text old new at
+partly-end c = wrote-as (sym (c .whole ∙ append-nil (c .done))) (c .wrote)
+
+pub partly-as : {text rest rest′ old new : List ℕ} {at : ℕ} → rest ≡ rest′ → Partly text rest old new at → Partly text rest′ old new at
+partly-as e c = record { done = c .done; whole = rw (← e) (c .whole); wrote = c .wrote }
+
+-- the next piece is b
+module _ (text b rest o₀ o : List ℕ) (at : ℕ) (c : Partly text (b ++ rest) o₀ o at) (h : length text ≤ length o₀) where
+  enough : length (c .done ++ b) ≤ length o₀
+  enough = omega (arith, simp length-append at (ap length (c .whole)), length-append (c .done) b)
+
+  pub partly-long : length o ≡ length o₀
+  partly-long = long (c .done) b o₀ o at (c .wrote) enough
+
+  pub partly-small : at + length b ≤ length o₀
+  partly-small = omega (arith, c .wrote .count, length-append (c .done) b, enough)
+
+  pub partly-inside : at ≤ length o
+  partly-inside = inside (c .done) b o₀ o at (c .wrote) enough
+
+  pub partly-room : length b ≤ length (take (length o - at) (drop at o))
+  partly-room = room (c .done) b o₀ o at (c .wrote) enough
+
+  pub partly-on : (new : List ℕ) (q : ℕ) → Wrote b (take (length o - at) (drop at o)) new q → Partly text rest o₀ (putMid at (length o - at) o new) (at + q)
+  partly-on new q w = record {
+    done = c .done ++ b;
+    whole = c .whole ∙ sym (append-assoc (c .done) b rest);
+    wrote = behind (c .done) b o₀ o at (c .wrote) enough new q w;
+  }

@@ -1,6 +1,6 @@
 -- Writing by a pass over rows: the nodes of a document in document order, each with its depth, kind and content.
 use Prim.Native.Nat.{ℕ, zero, suc, _+_, _-_}
-use mathlib.Core.Bool.{Bool, true, false, cond, not, _&&_, _||_}
+use mathlib.Core.Bool.{Bool, true, cond, not, _&&_, _||_}
 use mathlib.Core.List.{List, [], _∷_, _++_, map}
 use lib.ListN.{length, getD, drop}
 use lib.Dec.{eqb, leb, ltb}
@@ -11,7 +11,7 @@ use Rattle.tree.specs.Document.{Document}
 use Rattle.xml.specs.Bytes.{line-feed, used, long-declaration}
 use Rattle.xml.specs.Shape.{Label, Shape, shape}
 use Rattle.xml.specs.Reading.{input-limit}
-use Rattle.xml.specs.Writing.{escaped, is-element, is-attribute, is-text, below}
+use Rattle.xml.specs.Writing.{escaped, is-element, is-attribute, below}
 
 abbrev pub Line : Type 0
 Line = ℕ × Label
@@ -40,7 +40,7 @@ in-order parent previous nil = true
 in-order parent previous (node a ks fs) =
     may-stand parent previous (a .kind) && (in-order (a .kind) 0 ks && in-order parent (a .kind) fs)
 
--- the children of every node are in the order that the tree's rules demand; every document of the rules is (law ruled-ordered)
+-- the children of every node are in the order that the tree's rules demand; every document of the rules has them so (law legal-ordered)
 unfoldable pub ordered : Document → Bool
 ordered d = in-order document-kind 0 (below (shape d))
 

@@ -1,8 +1,8 @@
 use borrow.Author.Needs.{needs}
 use native.Mathlib.Omega.{arith}
-use Prim.Native.Nat.{ℕ, _+_, _-_, _≤_, _<_}
-use mathlib.Core.Path.{_≡_, refl, sym, _∙_, ap}
-use lib.ListN.{length, getD}
+use Prim.Native.Nat.{_-_, _≤_}
+use mathlib.Core.Path.{_∙_, ap}
+use lib.ListN.{length}
 use Rattle.layout.specs.Layout.{nodes}
 use Rattle.layout.specs.Fields.{text}
 use Rattle.lookup.specs.Places.{item}
@@ -10,12 +10,6 @@ use Rattle.xml.specs.Writing.{escape, escaped}
 use Rattle.committed.specs.Laws.Contents.{Counting, counting-start, counting-more, counting-end}
 use Rattle.committed.proofs.escaped_size.Statement.{statement}
 use Rattle.committed.proofs.escaped_size.Tie as tie
-use Rattle.committed.proofs.escaped_size.Reads as reads
-use Rattle.committed.proofs.escaped_size.Lts as lts
-use Rattle.committed.proofs.version.Reads as version-reads
-use Rattle.markup.proofs.byte_length.Reads as byte-length-reads
-use Rattle.table.proofs.content.Reads as content-reads
-use Rattle.table.proofs.size.Reads as size-reads
 
 abbrev Inv-loop : tie.InvT-loop
 Inv-loop s p v n sum₀ j₀ sum j = (j ≤ n) × Counting (text v (item (nodes s) p)) j sum
@@ -48,10 +42,16 @@ loop-less : tie.Need-loop-less Inv-loop μ-loop
 loop-less c = search needs
 
 loop-again : tie.Need-loop-again Inv-loop μ-loop
-loop-again c = (omega arith, counting-more _ (c .before .before .before .loop .inv .1) (omega (arith, c .before .before .before .before .size .ensures .0)) (c .byte-length .ensures .0 ∙ ap (λ b. length (escape b)) (c .before .content .ensures)) (c .byte-length .ensures .1))
+loop-again c =
+    let c3 = c .before .before .before in
+    let c4 = c3 .before in
+    (omega arith, counting-more _ (c3 .loop .inv .1) (omega (arith, c4 .size .ensures .0)) (c .byte-length .ensures .0 ∙ ap (λ b. length (escape b)) (c .before .content .ensures)) (c .byte-length .ensures .1))
 
 returns : tie.Need-returns Inv-loop μ-loop
-returns c = let e = counting-end (c .before .loop .inv .1) (omega (arith, c .before .before .size .ensures .0)) in (e ∙ ap (λ b. length (escaped b)) (c .before .before .before .version .ensures .1), omega (arith, c .before .loop .inv .0, c .before .loop .inv .1 .small, c .before .before .size .ensures .1))
+returns c =
+    let c2 = c .before .before in
+    let c3 = c2 .before in
+    let e = counting-end (c .before .loop .inv .1) (omega (arith, c2 .size .ensures .0)) in (e ∙ ap (λ b. length (escaped b)) (c3 .version .ensures .1), omega (arith, c .before .loop .inv .0, c .before .loop .inv .1 .small, c2 .size .ensures .1))
 
 pub escaped-size-spec : {M : Type 1} → statement M
 escaped-size-spec =

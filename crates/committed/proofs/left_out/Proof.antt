@@ -1,10 +1,6 @@
-use borrow.Author.Needs.{needs}
-use native.Mathlib.Omega.{arith}
 use Rattle.committed.specs.Laws.Contents.{left-out-none, left-out-some}
 use Rattle.committed.proofs.left_out.Statement.{statement}
 use Rattle.committed.proofs.left_out.Tie as tie
-use Rattle.committed.proofs.left_out.Reads as reads
-use Rattle.committed.proofs.left_out.Lts as lts
 
 -- src/lib.rt:25:9
 returns : tie.Need-returns

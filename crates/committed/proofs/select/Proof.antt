@@ -1,18 +1,11 @@
 use borrow.Author.Needs.{needs}
-use native.Mathlib.Omega.{arith}
-use Prim.Native.Nat.{ℕ, _+_, _-_, _≤_, _<_}
-use mathlib.Core.Path.{_≡_, refl, sym, _∙_}
+use Prim.Native.Nat.{_-_}
+use mathlib.Core.Path.{refl, sym, _∙_}
 use lib.ListN.{length, replicate}
 use Rattle.layout.specs.Layout.{nodes}
 use Rattle.committed.specs.Laws.Selection.{Selecting, selecting-start, selecting-end, selecting-hidden, selecting-inserted, selecting-found}
 use Rattle.committed.proofs.select.Statement.{statement}
 use Rattle.committed.proofs.select.Tie as tie
-use Rattle.committed.proofs.select.Reads as reads
-use Rattle.committed.proofs.select.Lts as lts
-use Rattle.committed.proofs.left_out.Reads as left-out-reads
-use Rattle.table.proofs.count.Reads as count-reads
-use Rattle.table.proofs.depth.Reads as depth-reads
-use Rattle.table.proofs.inserter.Reads as inserter-reads
 
 abbrev Inv-loop : tie.InvT-loop
 Inv-loop s total places₀ count₀ hidden₀ i₀ places count hidden i = Selecting (nodes s) hidden i count places
@@ -54,7 +47,12 @@ loop-less-2 : tie.Need-loop-less-2 Inv-loop μ-loop
 loop-less-2 c = search needs
 
 loop-again-2 : tie.Need-loop-again-2 Inv-loop μ-loop
-loop-again-2 c = selecting-inserted (c .before .before .before .before .before .before .loop .inv) (search needs) (c .before .before .before .before .depth .ensures) (sym (c .before .before .before .left-out .ensures) ∙ c .before .before .if1 .left) (c .before .inserter .ensures) (c .if2 .taken)
+loop-again-2 c =
+    let c2 = c .before .before in
+    let c3 = c2 .before in
+    let c4 = c3 .before in
+    let c6 = c4 .before .before in
+    selecting-inserted (c6 .loop .inv) (search needs) (c4 .depth .ensures) (sym (c3 .left-out .ensures) ∙ c2 .if1 .left) (c .before .inserter .ensures) (c .if2 .taken)
 
 cast-places : tie.Need-cast-places Inv-loop μ-loop
 cast-places c = search needs
@@ -72,7 +70,12 @@ loop-less-3 : tie.Need-loop-less-3 Inv-loop μ-loop
 loop-less-3 c = search needs
 
 loop-again-3 : tie.Need-loop-again-3 Inv-loop μ-loop
-loop-again-3 c = selecting-found (c .before .before .before .before .before .before .loop .inv) (search needs) (c .before .before .before .before .depth .ensures) (sym (c .before .before .before .left-out .ensures) ∙ c .before .before .if1 .left) (c .before .inserter .ensures) (search needs) (c .if2 .left)
+loop-again-3 c =
+    let c2 = c .before .before in
+    let c3 = c2 .before in
+    let c4 = c3 .before in
+    let c6 = c4 .before .before in
+    selecting-found (c6 .loop .inv) (search needs) (c4 .depth .ensures) (sym (c3 .left-out .ensures) ∙ c2 .if1 .left) (c .before .inserter .ensures) (search needs) (c .if2 .left)
 
 returns : tie.Need-returns Inv-loop μ-loop
 returns c = selecting-end (c .before .loop .inv) (search needs) (search needs)

@@ -1,13 +1,8 @@
-use native.Mathlib.Omega.{arith}
-use mathlib.Core.Path.{_≡_, ap, _∙_}
+use mathlib.Core.Path.{ap, _∙_}
 use lib.ListN.{length}
 use borrow.Author.Needs.{needs}
 use Rattle.committed.proofs.size.Statement.{statement}
 use Rattle.committed.proofs.size.Tie as tie
-use Rattle.committed.proofs.size.Reads as reads
-use Rattle.committed.proofs.size.Lts as lts
-use Rattle.committed.proofs.version.Reads as version-reads
-use Rattle.table.proofs.size.Reads as size-reads
 
 version-requires : tie.Need-version-requires
 version-requires c κs = search needs

@@ -4,21 +4,15 @@ use Rattle.committed.specs.Laws.Contents.{version-now, version-before}
 use borrow.Author.Needs.{needs}
 use Rattle.committed.proofs.version.Statement.{statement}
 use Rattle.committed.proofs.version.Tie as tie
-use Rattle.committed.proofs.version.Reads as reads
-use Rattle.committed.proofs.version.Lts as lts
-use Rattle.table.proofs.writer.Reads as writer-reads
 
--- src/lib.rt:63:8
 writer-requires : tie.Need-writer-requires
 writer-requires c κs = search needs
 
--- src/lib.rt:64:9
 returns : tie.Need-returns
-returns c = (omega arith, version-now _ _ (sym (c .before .writer .ensures) ∙ c .if1 .taken))
+returns c = (omega arith, version-before _ _ (λ e. c .if1 .taken (c .before .writer .ensures ∙ e)))
 
--- src/lib.rt:59:1
 returns-2 : tie.Need-returns-2
-returns-2 c = (omega arith, version-before _ _ (λ e. c .if1 .left (c .before .writer .ensures ∙ e)))
+returns-2 c = (omega arith, version-now _ _ (sym (c .before .writer .ensures) ∙ c .if1 .left))
 
 pub version-spec : {M : Type 1} → statement M
 version-spec = tie.close (tie.spec writer-requires returns returns-2)

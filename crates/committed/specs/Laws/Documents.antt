@@ -1,28 +1,28 @@
 -- The rows of the committed document of the state that the bytes hold.
 use mathlib.Core.Path.{_≡_, refl, sym, ap, _∙_, fun-ext}
-use Prim.Native.Nat.{ℕ, zero, suc, _+_, _≤_, _<_}
-use mathlib.Core.Bool.{Bool, true, false, cond, not, _&&_, _||_, and-false, or-false}
-use mathlib.Core.List.{List, [], _∷_, _++_, map, append-assoc, append-nil}
+use Prim.Native.Nat.{ℕ, zero, suc, _≤_, _<_}
+use mathlib.Core.Bool.{Bool, true, false, not, _&&_, _||_}
+use mathlib.Core.List.{List, [], _∷_, _++_, append-assoc}
 use native.Mathlib.Omega.{arith}
-use lib.ListN.{length, getD, take}
-use lib.Dec.{eqb, leb}
+use lib.ListN.{length, getD}
+use lib.Dec.{eqb}
 use borrow.Author.Tests.{eq-eqb}
-use Rattle.tree.specs.Forest.{Forest, nil, node, view}
+use Rattle.tree.specs.Forest.{nil, node, view}
 use Rattle.tree.specs.Content.{document-kind, between}
 use Rattle.tree.specs.Laws.View.{view-view}
 use Rattle.tree.specs.Laws.Tests.{and-left, and-right}
 use Rattle.protocol.specs.State.{Marked, Tree, State, nobody, shown, as-shown, document-of, committed-document}
-use Rattle.layout.specs.Flat.{flat, second, prune}
-use Rattle.layout.specs.Layout.{Entry, nodes}
+use Rattle.layout.specs.Flat.{flat}
+use Rattle.layout.specs.Layout.{nodes}
 use Rattle.lookup.specs.Places.{depth}
 use Rattle.edits.specs.Laws.Ends.{flat-view}
 use Rattle.form.specs.Form.{Holds}
 use Rattle.form.specs.Laws.Fine.{Root, root-of}
-use Rattle.form.specs.Laws.Rows.{and-of, between-of, between-low, between-high}
+use Rattle.form.specs.Laws.Rows.{between-of, between-low, between-high}
 use Rattle.xml.specs.Shape.{Label, Shape, shape, unnumbered}
 use Rattle.markup.specs.Rows.{Line}
 use Rattle.committed.specs.declared.Rows.{Rows}
-use Rattle.committed.specs.Lines.{is-committed, committed-label, committed-lines, label-at, line-at, lines, Inside, Selected, Listed}
+use Rattle.committed.specs.Lines.{is-committed, committed-label, committed-lines, line-at, lines, Selected, Listed}
 use Rattle.committed.specs.Laws.Lines.{length-lines, line-of}
 
 none-shown : (λ (a : Marked). shown (λ u. false) a && true) ≡ is-committed

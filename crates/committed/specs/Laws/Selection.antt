@@ -1,23 +1,20 @@
 -- The loop that selects the nodes of the committed document.
 use mathlib.Core.Path.{_≡_, refl, sym, ap, _∙_}
-use Prim.Native.Nat.{ℕ, zero, suc, _+_, _-_, _≤_, _<_}
-use mathlib.Core.Bool.{Bool, true, false, not, _&&_}
+use Prim.Native.Nat.{ℕ, _+_, _≤_, _<_}
+use mathlib.Core.Bool.{Bool, true, false}
 use mathlib.Core.List.{List, [], _∷_, _++_, map, append-assoc, append-nil}
 use native.Mathlib.Omega.{arith}
 use native.Mathlib.Numerals.{add-one}
 use lib.ListN.{length, getD, take, drop, set, length-set, drop-of-length-le}
 use lib.Seq.{drop-cons, take-suc-set, getD-set-same, getD-set-other}
-use lib.Dec.{eqb, leb, ltb}
+use lib.Dec.{eqb}
 use borrow.Author.Tests.{eq-eqb, ne-eqb, eqb-true, eqb-false}
 use Rattle.tree.specs.Laws.Lists.{map-append}
-use Rattle.protocol.specs.State.{Marked}
 use Rattle.layout.specs.Flat.{second, prune}
 use Rattle.layout.specs.Layout.{Entry, no-entry}
 use Rattle.lookup.specs.Places.{depth, item}
 use Rattle.edits.specs.Rows.{left-out}
-use Rattle.markup.specs.Rows.{Line}
-use Rattle.committed.specs.declared.Rows.{Rows}
-use Rattle.committed.specs.Lines.{is-committed, committed-label, committed-lines, label-at, line-at, lines, Inside, Selected}
+use Rattle.committed.specs.Lines.{is-committed, committed-label, committed-lines, label-at, line-at, lines, Selected}
 
 -- count places were selected, the rows from i on are still to be looked at, and those from depth hidden on are left out now
 pub record Selecting (l : List Entry) (hidden i count : ℕ) (places : List ℕ) : Type 0 where

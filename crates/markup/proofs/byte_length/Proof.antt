@@ -1,10 +1,7 @@
-use borrow.Author.Needs.{needs}
 use native.Mathlib.Omega.{arith}
 use Rattle.markup.specs.Laws.Pieces.{escape-plain}
 use Rattle.markup.proofs.byte_length.Statement.{statement}
 use Rattle.markup.proofs.byte_length.Tie as tie
-use Rattle.markup.proofs.byte_length.Reads as reads
-use Rattle.markup.proofs.byte_length.Lts as lts
 
 -- src/lib.rt:57:9
 returns : tie.Need-returns

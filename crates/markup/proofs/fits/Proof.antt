@@ -1,14 +1,9 @@
 use borrow.Author.Tests.{not-true, not-false}
-use native.Mathlib.Omega.{arith}
 use mathlib.Core.Path.{sym, _∙_}
 use Rattle.markup.specs.Laws.Pieces.{fits-not, fits-alone, fits-attribute, fits-text, fits-element}
 use borrow.Author.Needs.{needs}
 use Rattle.markup.proofs.fits.Statement.{statement}
 use Rattle.markup.proofs.fits.Tie as tie
-use Rattle.markup.proofs.fits.Reads as reads
-use Rattle.markup.proofs.fits.Lts as lts
-use Rattle.markup.proofs.in_start_tag.Reads as in-start-tag-reads
-use Rattle.tree.proofs.takes.Reads as takes-reads
 
 -- src/lib.rt:85:9
 takes-requires : tie.Need-takes-requires
@@ -28,7 +23,11 @@ in-start-tag-requires c κs = search needs
 
 -- src/lib.rt:92:9
 returns-3 : tie.Need-returns-3
-returns-3 c = c .in-start-tag .ensures ∙ fits-attribute _ _ _ (sym (c .before .before .before .before .takes .ensures) ∙ not-false _ (c .before .before .before .if1 .left)) (c .before .before .if2 .left) (c .before .if3 .taken)
+returns-3 c =
+    let c2 = c .before .before in
+    let c3 = c2 .before in
+    let c4 = c3 .before in
+    c .in-start-tag .ensures ∙ fits-attribute _ _ _ (sym (c4 .takes .ensures) ∙ not-false _ (c3 .if1 .left)) (c2 .if2 .left) (c .before .if3 .taken)
 
 -- src/lib.rt:95:9
 returns-4 : tie.Need-returns-4
@@ -36,7 +35,11 @@ returns-4 c = fits-text _ _ _ (sym (c .before .before .before .before .takes .en
 
 -- src/lib.rt:82:1
 returns-5 : tie.Need-returns-5
-returns-5 c = fits-element _ _ _ (sym (c .before .before .before .before .takes .ensures) ∙ not-false _ (c .before .before .before .if1 .left)) (c .before .before .if2 .left) (c .before .if3 .left) (c .if4 .left)
+returns-5 c =
+    let c2 = c .before .before in
+    let c3 = c2 .before in
+    let c4 = c3 .before in
+    fits-element _ _ _ (sym (c4 .takes .ensures) ∙ not-false _ (c3 .if1 .left)) (c2 .if2 .left) (c .before .if3 .left) (c .if4 .left)
 
 pub fits-spec : {M : Type 1} → statement M
 fits-spec =

@@ -1,10 +1,6 @@
-use borrow.Author.Needs.{needs}
-use native.Mathlib.Omega.{arith}
 use Rattle.markup.specs.Laws.Pieces.{start-tag-none, start-tag-some}
 use Rattle.markup.proofs.in_start_tag.Statement.{statement}
 use Rattle.markup.proofs.in_start_tag.Tie as tie
-use Rattle.markup.proofs.in_start_tag.Reads as reads
-use Rattle.markup.proofs.in_start_tag.Lts as lts
 
 -- src/lib.rt:76:9
 returns : tie.Need-returns

@@ -1,15 +1,13 @@
 use mathlib.Core.List.{_++_}
 use lib.Seq.{take-length}
-use Rattle.markup.specs.Lending.{Wrote, copy-more}
+use Rattle.markup.specs.Lending.{copy-more}
 use borrow.Author.Needs.{needs}
-use Prim.Native.Nat.{ℕ, _+_, _-_, _*_, _≤_, _<_}
-use mathlib.Core.Path.{_≡_, refl, ap, sym, _∙_}
+use Prim.Native.Nat.{_-_, _≤_}
+use mathlib.Core.Path.{_≡_, refl, _∙_}
 use native.Mathlib.Omega.{arith}
-use lib.ListN.{length, getD, set, take, drop, length-set}
+use lib.ListN.{length, take, drop, length-set}
 use Rattle.markup.proofs.put.Statement.{statement}
 use Rattle.markup.proofs.put.Tie as tie
-use Rattle.markup.proofs.put.Reads as reads
-use Rattle.markup.proofs.put.Lts as lts
 
 abbrev Inv-loop : tie.InvT-loop
 Inv-loop out₀ p n i₀ out i = (n ≡ length p) × ((i ≤ n) × ((length out ≡ length out₀) × (out ≡ take i p ++ drop i out₀)))

@@ -1,6 +1,6 @@
 use native.Mathlib.Omega.{arith}
 use Prim.Native.Nat.{_≤_}
-use mathlib.Core.Path.{_≡_, sym, ap}
+use mathlib.Core.Path.{sym, ap}
 use lib.ListN.{length}
 use Rattle.xml.specs.Writing.{escape}
 use Rattle.markup.specs.Lending.{wrote-as, wrote-byte}
@@ -8,9 +8,6 @@ use Rattle.markup.specs.Laws.Pieces.{escape-plain}
 use borrow.Author.Needs.{needs}
 use Rattle.markup.proofs.put_byte.Statement.{statement}
 use Rattle.markup.proofs.put_byte.Tie as tie
-use Rattle.markup.proofs.put_byte.Reads as reads
-use Rattle.markup.proofs.put_byte.Lts as lts
-use Rattle.markup.proofs.put.Reads as put-reads
 
 -- src/lib.rt:37:25
 slice-aggregate-put : tie.Need-slice-aggregate-put
@@ -78,7 +75,11 @@ returns-4 c = wrote-as (ap escape (sym (c .before .before .before .before .befor
 
 -- src/lib.rt:48:5
 slice-write-out : tie.Need-slice-write-out
-slice-write-out c = let h : 1 ≤ length (c .before .before .before .before .before .args .out .now) = rw (escape-plain _ (c .before .before .before .if1 .left) (c .before .before .if2 .left) (c .before .if3 .left) (c .if4 .left)) at (c .before .before .before .before .before .pre) in search needs
+slice-write-out c =
+    let c2 = c .before .before in
+    let c3 = c2 .before in
+    let c5 = c3 .before .before in
+    let h : 1 ≤ length (c5 .args .out .now) = rw (escape-plain _ (c3 .if1 .left) (c2 .if2 .left) (c .before .if3 .left) (c .if4 .left)) at (c5 .pre) in search needs
 
 -- src/lib.rt:32:1
 same-length-5 : tie.Need-same-length-5
@@ -86,7 +87,11 @@ same-length-5 c = search needs
 
 -- src/lib.rt:32:1
 returns-5 : tie.Need-returns-5
-returns-5 c = let e = escape-plain _ (c .before .before .before .if1 .left) (c .before .before .if2 .left) (c .before .if3 .left) (c .if4 .left) in wrote-as (sym e) (wrote-byte _ _ (rw e at (c .before .before .before .before .before .pre)))
+returns-5 c =
+    let c2 = c .before .before in
+    let c3 = c2 .before in
+    let c5 = c3 .before .before in
+    let e = escape-plain _ (c3 .if1 .left) (c2 .if2 .left) (c .before .if3 .left) (c .if4 .left) in wrote-as (sym e) (wrote-byte _ _ (rw e at (c5 .pre)))
 
 pub put-byte-spec : {M : Type 1} → statement M
 put-byte-spec =

@@ -1,11 +1,7 @@
-use native.Mathlib.Omega.{arith}
 use Rattle.markup.specs.Rows.{prolog}
 use borrow.Author.Needs.{needs}
 use Rattle.markup.proofs.put_prolog.Statement.{statement}
 use Rattle.markup.proofs.put_prolog.Tie as tie
-use Rattle.markup.proofs.put_prolog.Reads as reads
-use Rattle.markup.proofs.put_prolog.Lts as lts
-use Rattle.markup.proofs.put.Reads as put-reads
 
 -- src/lib.rt:28:14
 slice-aggregate-put : tie.Need-slice-aggregate-put

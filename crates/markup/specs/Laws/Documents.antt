@@ -1,24 +1,24 @@
 -- Documents: what a pass over the rows writes and answers is what the definitions of writing say.
 use mathlib.Core.Path.{_≡_, refl, sym, ap, _∙_}
-use Prim.Native.Nat.{ℕ, suc, _+_, _≤_}
-use mathlib.Core.Bool.{Bool, true, false, cond, not, _&&_, _||_, or-false, and-false, false≢true}
+use Prim.Native.Nat.{ℕ, _+_}
+use mathlib.Core.Bool.{Bool, true, false, cond, not, _&&_, or-false, false≢true}
 use mathlib.Core.List.{List, [], _∷_, _++_, append-assoc, append-nil}
 use native.Mathlib.Omega.{arith}
 use lib.ListN.{length, length-append}
-use lib.Dec.{eqb, leb}
+use lib.Dec.{leb}
 use Rattle.tree.specs.Text.{bytes}
-use Rattle.tree.specs.Forest.{Forest, nil, node}
-use Rattle.tree.specs.Content.{document-kind, element-kind}
+use Rattle.tree.specs.Forest.{nil, node}
+use Rattle.tree.specs.Content.{document-kind}
 use Rattle.tree.specs.Document.{Document}
 use Rattle.xml.specs.Shape.{Label, Shape, shape, element}
 use Rattle.xml.specs.Reading.{input-limit}
-use Rattle.xml.specs.Writing.{attributes, childless, contents, below, write, repeats, neighbouring-texts, expressible}
+use Rattle.xml.specs.Writing.{attributes, childless, contents, write, repeats, neighbouring-texts, expressible}
 use Rattle.xml.specs.Writing as xml
 use Rattle.layout.specs.Flat.{flat}
-use Rattle.markup.specs.Rows.{Line, in-order, ordered, begin, tag-end, end, ends, emit, extra, cost, judge, prolog, body, written-rows, measured}
-use Rattle.markup.specs.Laws.Trees.{up-none, inner, emit-tree, spots, tree-spots, spots-tree, all-fit, total, total-append}
-use Rattle.markup.specs.Laws.Order.{texts-behind, fits-tree, Children, no-children, child-element, Root, no-root, root, root-of}
-use Rattle.markup.specs.Laws.Texts.{rest, inner-rest}
+use Rattle.markup.specs.Rows.{in-order, ordered, begin, tag-end, end, ends, emit, extra, cost, judge, prolog, body, written-rows, measured}
+use Rattle.markup.specs.Laws.Trees.{up-none, inner, emit-tree, spots, tree-spots, spots-tree, total, total-append}
+use Rattle.markup.specs.Laws.Order.{texts-behind, fits-tree, no-children, child-element, Root, no-root, root, root-of}
+use Rattle.markup.specs.Laws.Texts.{inner-rest}
 use Rattle.markup.specs.Laws.Lengths.{inner-length}
 use Rattle.markup.specs.Laws.Names.{repeated-in, repeated-tree}
 use Rattle.markup.specs.Laws.Judgement.{verdict, judge-is}

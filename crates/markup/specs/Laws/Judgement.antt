@@ -1,11 +1,11 @@
 -- The judgement of rows by one pass, taken apart.
-use mathlib.Core.Path.{_≡_, refl, sym, ap, _∙_}
-use Prim.Native.Nat.{ℕ, suc, _+_, _≤_}
-use mathlib.Core.Bool.{Bool, true, false, cond, not, _&&_, _||_}
-use mathlib.Core.List.{List, [], _∷_, _++_}
+use mathlib.Core.Path.{_≡_, refl, _∙_}
+use Prim.Native.Nat.{ℕ, _+_}
+use mathlib.Core.Bool.{Bool, true, false, cond, _&&_, _||_}
+use mathlib.Core.List.{List, [], _∷_}
 use native.Mathlib.Omega.{arith}
 use lib.Dec.{leb}
-use Rattle.xml.specs.Shape.{Label, Shape}
+use Rattle.xml.specs.Shape.{Label}
 use Rattle.xml.specs.Reading.{input-limit}
 use Rattle.markup.specs.Rows.{Line, parent-of, previous-of, opened, fits, cost, repeated, judge}
 use Rattle.markup.specs.Laws.Trees.{spots, all-fit, total}

@@ -1,13 +1,11 @@
 -- The length of what stands for an ordered tree.
-use mathlib.Core.Path.{_≡_, refl, sym, ap, _∙_}
+use mathlib.Core.Path.{_≡_, refl}
 use Prim.Native.Nat.{ℕ, _+_}
-use mathlib.Core.Bool.{Bool, true, false, cond, _&&_}
-use mathlib.Core.List.{List, [], _∷_, _++_}
+use mathlib.Core.Bool.{Bool, true, false}
+use mathlib.Core.List.{List}
 use native.Mathlib.Omega.{arith}
 use lib.ListN.{length, length-append}
-use Rattle.tree.specs.Forest.{Forest, nil, node}
-use Rattle.xml.specs.Shape.{Label, Shape, element, attribute, text}
-use Rattle.xml.specs.Writing.{escaped}
+use Rattle.xml.specs.Shape.{Shape, element, attribute, text}
 use Rattle.markup.specs.Rows.{in-start-tag, tag-end, begin, end, extra, cost}
 use Rattle.markup.specs.Laws.Trees.{inner, tree-spots, total, total-append}
 use Rattle.markup.specs.Laws.Order.{Children, no-children, bare-attribute, valued-attribute, child-element, child-text}

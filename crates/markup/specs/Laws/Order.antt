@@ -1,16 +1,16 @@
 -- Trees whose children are in order, by the kinds of their nodes.
-use mathlib.Core.Path.{_≡_, refl, sym, ap, _∙_}
-use Prim.Native.Nat.{ℕ, zero, suc, _+_, _≤_, _<_}
-use mathlib.Core.Bool.{Bool, true, false, cond, not, _&&_, _||_, and-false, false≢true}
-use mathlib.Core.List.{List, [], _∷_, _++_}
+use mathlib.Core.Path.{_≡_, refl, sym, _∙_}
+use Prim.Native.Nat.{ℕ, zero, suc}
+use mathlib.Core.Bool.{Bool, true, false, not, _&&_, _||_, and-false, false≢true}
+use mathlib.Core.List.{List}
 use native.Mathlib.Omega.{arith}
 use lib.Dec.{eqb, leb}
 use borrow.Author.Tests.{leb-true, eqb-true}
-use Rattle.tree.specs.Forest.{Forest, nil, node}
+use Rattle.tree.specs.Forest.{nil, node}
 use Rattle.tree.specs.Content.{document-kind, element-kind, attribute-kind, text-kind, between, takes}
 use Rattle.tree.specs.Laws.Tests.{and-left, and-right}
 use Rattle.xml.specs.Shape.{Label, Shape, element, attribute, text}
-use Rattle.xml.specs.Writing.{is-text, begins-with-text, neighbouring-texts}
+use Rattle.xml.specs.Writing.{begins-with-text, neighbouring-texts}
 use Rattle.markup.specs.Rows.{in-start-tag, may-stand, in-order, fits}
 use Rattle.markup.specs.Laws.Trees.{tree-spots, all-fit, all-fit-append}
 

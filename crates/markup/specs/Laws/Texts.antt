@@ -1,12 +1,11 @@
 -- What stands for an ordered tree is what writing it gives.
 use mathlib.Core.Path.{_≡_, refl, sym, ap, _∙_}
 use Prim.Native.Nat.{ℕ}
-use mathlib.Core.Bool.{Bool, true, false, cond, _&&_}
-use mathlib.Core.List.{List, [], _∷_, _++_, append-assoc, append-nil}
+use mathlib.Core.Bool.{Bool, true, false, cond}
+use mathlib.Core.List.{List, [], _∷_, _++_, append-assoc}
 use Rattle.tree.specs.Text.{bytes}
-use Rattle.tree.specs.Forest.{Forest, nil, node}
-use Rattle.xml.specs.Shape.{Label, Shape, element, attribute, text}
-use Rattle.xml.specs.Writing.{escaped, value, attributes, childless, contents}
+use Rattle.xml.specs.Shape.{Shape, element}
+use Rattle.xml.specs.Writing.{escaped, attributes, childless, contents}
 use Rattle.markup.specs.Rows.{in-start-tag, tag-end, begin, end}
 use Rattle.markup.specs.Laws.Trees.{inner}
 use Rattle.markup.specs.Laws.Order.{Children, no-children, bare-attribute, valued-attribute, child-element, child-text}

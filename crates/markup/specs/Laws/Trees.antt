@@ -1,14 +1,14 @@
 -- A pass over the rows of a tree is the same pass over the tree.
-use mathlib.Core.Path.{_≡_, refl, sym, ap, _∙_}
-use Prim.Native.Nat.{ℕ, zero, suc, _+_, _-_, _≤_, _<_}
-use mathlib.Core.Bool.{Bool, true, false, cond, not, _&&_, _||_}
-use mathlib.Core.List.{List, [], _∷_, _++_, append-assoc, append-nil}
+use mathlib.Core.Path.{_≡_, refl, ap, _∙_}
+use Prim.Native.Nat.{ℕ, suc, _+_, _-_, _≤_}
+use mathlib.Core.Bool.{Bool, true, false, _&&_}
+use mathlib.Core.List.{List, [], _∷_, _++_, append-assoc}
 use native.Mathlib.Omega.{arith}
-use lib.ListN.{length, getD, drop}
-use Rattle.tree.specs.Forest.{Forest, nil, node}
+use lib.ListN.{length}
+use Rattle.tree.specs.Forest.{nil, node}
 use Rattle.xml.specs.Shape.{Label, Shape}
 use Rattle.layout.specs.Flat.{flat}
-use Rattle.markup.specs.Rows.{Line, no-label, kinds, begin, end, ends, ending, parent-of, previous-of, opened, emit, cost, fits}
+use Rattle.markup.specs.Rows.{Line, begin, end, ends, parent-of, previous-of, opened, emit, cost, fits}
 
 -- nothing, or a row at most so deep
 pub data Up (n : ℕ) : List Line → Type 0 where

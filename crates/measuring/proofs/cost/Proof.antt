@@ -6,12 +6,6 @@ use native.Mathlib.Omega.{arith}
 use borrow.Author.Needs.{needs}
 use Rattle.measuring.proofs.cost.Statement.{statement}
 use Rattle.measuring.proofs.cost.Tie as tie
-use Rattle.measuring.proofs.cost.Reads as reads
-use Rattle.measuring.proofs.cost.Lts as lts
-use Rattle.committed.proofs.escaped_size.Reads as escaped-size-reads
-use Rattle.committed.proofs.size.Reads as size-reads
-use Rattle.measuring.proofs.extra.Reads as extra-reads
-use Rattle.table.proofs.kind.Reads as kind-reads
 
 kind-requires : tie.Need-kind-requires
 kind-requires c κs = search needs
@@ -38,7 +32,10 @@ add-result-3 : tie.Need-add-result-3
 add-result-3 c = search needs
 
 returns-2 : tie.Need-returns-2
-returns-2 c = (ap₂ (λ m n. m + (n + 3)) (c .before .before .extra .ensures .0) (c .size2 .ensures .0) ∙ cost-element _ _ _ (kind-at _ _ ∙ sym (c .before .before .before .before .kind .ensures) ∙ c .before .if2 .taken), omega (arith, c .size2 .ensures .1, c .before .before .extra .ensures .1))
+returns-2 c =
+    let c2 = c .before .before in
+    let c4 = c2 .before .before in
+    (ap₂ (λ m n. m + (n + 3)) (c2 .extra .ensures .0) (c .size2 .ensures .0) ∙ cost-element _ _ _ (kind-at _ _ ∙ sym (c4 .kind .ensures) ∙ c .before .if2 .taken), omega (arith, c .size2 .ensures .1, c2 .extra .ensures .1))
 
 escaped-size-requires : tie.Need-escaped-size-requires
 escaped-size-requires c κs = search needs
@@ -47,7 +44,11 @@ add-result-4 : tie.Need-add-result-4
 add-result-4 c = search needs
 
 returns-3 : tie.Need-returns-3
-returns-3 c = (ap₂ (λ m n. m + n) (c .before .before .extra .ensures .0) (c .escaped-size .ensures .0) ∙ cost-text _ _ _ (λ e. c .before .before .before .if1 .left (c .before .before .before .before .kind .ensures ∙ sym (kind-at _ _) ∙ e)) (λ e. c .before .if2 .left (c .before .before .before .before .kind .ensures ∙ sym (kind-at _ _) ∙ e)), omega (arith, c .escaped-size .ensures .1, c .before .before .extra .ensures .1))
+returns-3 c =
+    let c2 = c .before .before in
+    let c3 = c2 .before in
+    let c4 = c3 .before in
+    (ap₂ (λ m n. m + n) (c2 .extra .ensures .0) (c .escaped-size .ensures .0) ∙ cost-text _ _ _ (λ e. c3 .if1 .left (c4 .kind .ensures ∙ sym (kind-at _ _) ∙ e)) (λ e. c .before .if2 .left (c4 .kind .ensures ∙ sym (kind-at _ _) ∙ e)), omega (arith, c .escaped-size .ensures .1, c2 .extra .ensures .1))
 
 pub cost-spec : {M : Type 1} → statement M
 cost-spec =

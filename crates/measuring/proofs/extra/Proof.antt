@@ -7,11 +7,6 @@ use native.Mathlib.Omega.{arith}
 use borrow.Author.Needs.{needs}
 use Rattle.measuring.proofs.extra.Statement.{statement}
 use Rattle.measuring.proofs.extra.Tie as tie
-use Rattle.measuring.proofs.extra.Reads as reads
-use Rattle.measuring.proofs.extra.Lts as lts
-use Rattle.committed.proofs.size.Reads as size-reads
-use Rattle.markup.proofs.in_start_tag.Reads as in-start-tag-reads
-use Rattle.table.proofs.kind.Reads as kind-reads
 
 kind-requires : tie.Need-kind-requires
 kind-requires c κs = search needs
@@ -32,7 +27,11 @@ add-result : tie.Need-add-result
 add-result c = search needs
 
 returns-3 : tie.Need-returns-3
-returns-3 c = (ap (λ n. n + 2) (c .size .ensures .0) ∙ extra-first _ _ (kind-at _ _ ∙ sym (c .before .before .before .before .kind .ensures) ∙ c .before .before .before .if1 .left) (sym (c .before .before .in-start-tag .ensures) ∙ not-false _ (c .before .if2 .left)), omega (arith, c .size .ensures .1))
+returns-3 c =
+    let c2 = c .before .before in
+    let c3 = c2 .before in
+    let c4 = c3 .before in
+    (ap (λ n. n + 2) (c .size .ensures .0) ∙ extra-first _ _ (kind-at _ _ ∙ sym (c4 .kind .ensures) ∙ c3 .if1 .left) (sym (c2 .in-start-tag .ensures) ∙ not-false _ (c .before .if2 .left)), omega (arith, c .size .ensures .1))
 
 pub extra-spec : {M : Type 1} → statement M
 extra-spec =

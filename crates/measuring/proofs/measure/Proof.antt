@@ -4,21 +4,13 @@ use Rattle.committed.specs.Laws.Contents.{kind-at}
 use Rattle.markup.specs.Rows.{fits}
 use Rattle.layout.specs.Layout.{nodes}
 use borrow.Author.Tests.{not-true, not-false}
-use lib.ListN.{getD, replicate}
-use mathlib.Core.Path.{_≡_, refl, sym, ap, ap₂, _∙_}
-use Prim.Native.Nat.{_+_, _-_, _≤_}
+use lib.ListN.{replicate}
+use mathlib.Core.Path.{refl, sym, ap₂, _∙_}
+use Prim.Native.Nat.{_-_}
 use native.Mathlib.Omega.{arith}
 use borrow.Author.Needs.{needs}
 use Rattle.measuring.proofs.measure.Statement.{statement}
 use Rattle.measuring.proofs.measure.Tie as tie
-use Rattle.measuring.proofs.measure.Reads as reads
-use Rattle.measuring.proofs.measure.Lts as lts
-use Rattle.markup.proofs.fits.Reads as fits-reads
-use Rattle.measuring.proofs.cost.Reads as cost-reads
-use Rattle.measuring.proofs.previous.Reads as previous-reads
-use Rattle.measuring.proofs.repeated.Reads as repeated-reads
-use Rattle.table.proofs.depth.Reads as depth-reads
-use Rattle.table.proofs.kind.Reads as kind-reads
 
 abbrev Inv-loop : tie.InvT-loop
 Inv-loop s places count path₀ top₀ sum₀ i₀ path top sum i = Measuring (nodes s) places count path top i sum
@@ -45,7 +37,10 @@ element-copy-out-p : tie.Need-element-copy-out-p Inv-loop μ-loop
 element-copy-out-p c = omega (arith, c .before .before .before .before .before .pre .1 .room)
 
 cast-depth : tie.Need-cast-depth Inv-loop μ-loop
-cast-depth c = omega (arith, c .before .before .before .before .before .before .pre .1 .inside (c .before .before .loop .i) (omega arith), c .before .before .before .before .before .before .pre .0 .many, c .before .before .before .before .before .before .pre .0 .room)
+cast-depth c =
+    let c2 = c .before .before in
+    let c6 = c2 .before .before .before .before in
+    omega (arith, c6 .pre .1 .inside (c2 .loop .i) (omega arith), c6 .pre .0 .many, c6 .pre .0 .room)
 
 depth-requires : tie.Need-depth-requires Inv-loop μ-loop
 depth-requires c κs = (c .before .before .before .before .before .before .pre .0, c .before .before .before .before .before .before .pre .1 .inside (c .before .before .loop .i) (omega arith))
@@ -63,46 +58,98 @@ array-read-parent : tie.Need-array-read-parent Inv-loop μ-loop
 array-read-parent c = omega (arith, c .depth .ensures, walk-deep (c .before .before .before .before .before .before .before .pre .1) (c .before .before .before .loop .inv .walk) (omega arith))
 
 cast-parent : tie.Need-cast-parent Inv-loop μ-loop
-cast-parent c = omega (arith, c .before .before .before .loop .inv .walk .on-path .inside (c .depth .result - 1) (omega (arith, c .depth .ensures, walk-steps (c .before .before .before .before .before .before .before .pre .1) (c .before .before .before .loop .inv .walk) (omega arith))), c .before .before .before .before .before .before .before .pre .0 .many, c .before .before .before .before .before .before .before .pre .0 .room)
+cast-parent c =
+    let c3 = c .before .before .before in
+    let c7 = c3 .before .before .before .before in
+    omega (arith, c3 .loop .inv .walk .on-path .inside (c .depth .result - 1) (omega (arith, c .depth .ensures, walk-steps (c7 .pre .1) (c3 .loop .inv .walk) (omega arith))), c7 .pre .0 .many, c7 .pre .0 .room)
 
 previous-requires : tie.Need-previous-requires Inv-loop μ-loop
-previous-requires c κs = (c .before .before .before .before .before .before .before .before .pre .0, c .before .before .before .before .loop .inv .walk .on-path, omega (arith, c .before .depth .ensures, walk-steps (c .before .before .before .before .before .before .before .before .pre .1) (c .before .before .before .before .loop .inv .walk) (omega arith)))
+previous-requires c κs =
+    let c4 = c .before .before .before .before in
+    let c8 = c4 .before .before .before .before in
+    (c8 .pre .0, c4 .loop .inv .walk .on-path, omega (arith, c .before .depth .ensures, walk-steps (c8 .pre .1) (c4 .loop .inv .walk) (omega arith)))
 
 kind-requires : tie.Need-kind-requires Inv-loop μ-loop
-kind-requires c κs = (c .before .before .before .before .before .before .before .before .before .pre .0, c .before .before .before .before .before .loop .inv .walk .on-path .inside (c .before .before .depth .result - 1) (omega (arith, c .before .before .depth .ensures, walk-steps (c .before .before .before .before .before .before .before .before .before .pre .1) (c .before .before .before .before .before .loop .inv .walk) (omega arith))))
+kind-requires c κs =
+    let c2 = c .before .before in
+    let c5 = c2 .before .before .before in
+    let c9 = c5 .before .before .before .before in
+    (c9 .pre .0, c5 .loop .inv .walk .on-path .inside (c2 .depth .result - 1) (omega (arith, c2 .depth .ensures, walk-steps (c9 .pre .1) (c5 .loop .inv .walk) (omega arith))))
 
 cast-kind : tie.Need-cast-kind Inv-loop μ-loop
-cast-kind c = omega (arith, c .before .before .before .before .before .before .before .before .before .before .pre .1 .inside (c .before .before .before .before .before .before .loop .i) (omega arith), c .before .before .before .before .before .before .before .before .before .before .pre .0 .many, c .before .before .before .before .before .before .before .before .before .before .pre .0 .room)
+cast-kind c =
+    let c6 = c .before .before .before .before .before .before in
+    let c10 = c6 .before .before .before .before in
+    omega (arith, c10 .pre .1 .inside (c6 .loop .i) (omega arith), c10 .pre .0 .many, c10 .pre .0 .room)
 
 kind-requires-2 : tie.Need-kind-requires-2 Inv-loop μ-loop
-kind-requires-2 c κs = (c .before .before .before .before .before .before .before .before .before .before .pre .0, c .before .before .before .before .before .before .before .before .before .before .pre .1 .inside (c .before .before .before .before .before .before .loop .i) (omega arith))
+kind-requires-2 c κs =
+    let c6 = c .before .before .before .before .before .before in
+    let c10 = c6 .before .before .before .before in
+    (c10 .pre .0, c10 .pre .1 .inside (c6 .loop .i) (omega arith))
 
 fits-requires : tie.Need-fits-requires Inv-loop μ-loop
 fits-requires c κs = search needs
 
 returns-2 : tie.Need-returns-2 Inv-loop μ-loop
-returns-2 c = (measured-unfit (c .before .before .before .before .before .before .before .before .before .before .before .before .before .pre .1) (c .before .before .before .before .before .before .before .before .before .loop .inv) (omega arith) refl (c .before .before .before .before .before .before .depth .ensures) refl (c .before .before .before .before .previous .ensures) (ap₂ (λ a b. fits a (c .before .before .before .before .previous .result) b) (kind-at _ _ ∙ sym (c .before .before .before .kind .ensures)) (kind-at _ _ ∙ sym (c .before .before .kind2 .ensures)) ∙ sym (c .before .fits2 .ensures) ∙ not-true _ (c .if2 .taken)), omega arith)
+returns-2 c =
+    let c2 = c .before .before in
+    let c3 = c2 .before in
+    let c4 = c3 .before in
+    let c6 = c4 .before .before in
+    let c9 = c6 .before .before .before in
+    let c13 = c9 .before .before .before .before in
+    (measured-unfit (c13 .pre .1) (c9 .loop .inv) (omega arith) refl (c6 .depth .ensures) refl (c4 .previous .ensures) (ap₂ (λ a b. fits a (c4 .previous .result) b) (kind-at _ _ ∙ sym (c3 .kind .ensures)) (kind-at _ _ ∙ sym (c2 .kind2 .ensures)) ∙ sym (c .before .fits2 .ensures) ∙ not-true _ (c .if2 .taken)), omega arith)
 
 repeated-requires : tie.Need-repeated-requires Inv-loop μ-loop
-repeated-requires c κs = (c .before .before .before .before .before .before .before .before .before .before .before .before .before .pre .0, record { long = c .before .before .before .before .before .before .before .before .before .before .before .before .before .pre .1 .long; room = omega (arith, c .before .before .before .before .before .before .before .before .before .before .before .before .before .pre .1 .room); inside = λ j h. c .before .before .before .before .before .before .before .before .before .before .before .before .before .pre .1 .inside j (omega arith) })
+repeated-requires c κs =
+    let c13 = c .before .before .before .before .before .before .before .before .before .before .before .before .before in
+    (c13 .pre .0, record { long = c13 .pre .1 .long; room = omega (arith, c13 .pre .1 .room); inside = λ j h. c13 .pre .1 .inside j (omega arith) })
 
 returns-3 : tie.Need-returns-3 Inv-loop μ-loop
-returns-3 c = (measured-again (c .before .before .before .before .before .before .before .before .before .before .before .before .before .before .before .pre .1) (c .before .before .before .before .before .before .before .before .before .before .before .loop .inv) (omega arith) refl (c .before .before .before .before .before .before .before .before .depth .ensures) refl (c .before .before .before .before .before .before .previous .ensures) (ap₂ (λ a b. fits a (c .before .before .before .before .before .before .previous .result) b) (kind-at _ _ ∙ sym (c .before .before .before .before .before .kind .ensures)) (kind-at _ _ ∙ sym (c .before .before .before .before .kind2 .ensures)) ∙ sym (c .before .before .before .fits2 .ensures) ∙ not-false _ (c .before .before .if2 .left)) (sym (c .before .repeated .ensures) ∙ c .if3 .taken), omega arith)
+returns-3 c =
+    let c2 = c .before .before in
+    let c3 = c2 .before in
+    let c4 = c3 .before in
+    let c5 = c4 .before in
+    let c6 = c5 .before in
+    let c8 = c6 .before .before in
+    let c11 = c8 .before .before .before in
+    let c15 = c11 .before .before .before .before in
+    (measured-again (c15 .pre .1) (c11 .loop .inv) (omega arith) refl (c8 .depth .ensures) refl (c6 .previous .ensures) (ap₂ (λ a b. fits a (c6 .previous .result) b) (kind-at _ _ ∙ sym (c5 .kind .ensures)) (kind-at _ _ ∙ sym (c4 .kind2 .ensures)) ∙ sym (c3 .fits2 .ensures) ∙ not-false _ (c2 .if2 .left)) (sym (c .before .repeated .ensures) ∙ c .if3 .taken), omega arith)
 
 cast-cost : tie.Need-cast-cost Inv-loop μ-loop
-cast-cost c = omega (arith, c .before .before .before .before .before .before .before .before .before .before .before .before .before .before .before .pre .1 .inside (c .before .before .before .before .before .before .before .before .before .before .before .loop .i) (omega arith), c .before .before .before .before .before .before .before .before .before .before .before .before .before .before .before .pre .0 .many, c .before .before .before .before .before .before .before .before .before .before .before .before .before .before .before .pre .0 .room)
+cast-cost c =
+    let c11 = c .before .before .before .before .before .before .before .before .before .before .before in
+    let c15 = c11 .before .before .before .before in
+    omega (arith, c15 .pre .1 .inside (c11 .loop .i) (omega arith), c15 .pre .0 .many, c15 .pre .0 .room)
 
 cost-requires : tie.Need-cost-requires Inv-loop μ-loop
-cost-requires c κs = (c .before .before .before .before .before .before .before .before .before .before .before .before .before .before .before .pre .0, c .before .before .before .before .before .before .before .before .before .before .before .loop .inv .walk .on-path .inside (c .before .before .before .before .before .before .before .before .depth .result - 1) (omega (arith, c .before .before .before .before .before .before .before .before .depth .ensures, walk-steps (c .before .before .before .before .before .before .before .before .before .before .before .before .before .before .before .pre .1) (c .before .before .before .before .before .before .before .before .before .before .before .loop .inv .walk) (omega arith))), c .before .before .before .before .before .before .before .before .before .before .before .before .before .before .before .pre .1 .inside (c .before .before .before .before .before .before .before .before .before .before .before .loop .i) (omega arith))
+cost-requires c κs =
+    let c8 = c .before .before .before .before .before .before .before .before in
+    let c11 = c8 .before .before .before in
+    let c15 = c11 .before .before .before .before in
+    (c15 .pre .0, c11 .loop .inv .walk .on-path .inside (c8 .depth .result - 1) (omega (arith, c8 .depth .ensures, walk-steps (c15 .pre .1) (c11 .loop .inv .walk) (omega arith))), c15 .pre .1 .inside (c11 .loop .i) (omega arith))
 
 add-sum : tie.Need-add-sum Inv-loop μ-loop
-add-sum c = omega (arith, c .cost .ensures .1, c .before .before .before .before .before .before .before .before .before .before .before .before .loop .inv .small, c .before .before .before .before .before .before .before .before .before .before .before .before .before .before .before .before .pre .1 .room)
+add-sum c =
+    let c12 = c .before .before .before .before .before .before .before .before .before .before .before .before in
+    let c16 = c12 .before .before .before .before in
+    omega (arith, c .cost .ensures .1, c12 .loop .inv .small, c16 .pre .1 .room)
 
 mul-path : tie.Need-mul-path Inv-loop μ-loop
-mul-path c = omega (arith, c .before .before .before .before .before .before .before .before .before .depth .ensures, walk-deep (c .before .before .before .before .before .before .before .before .before .before .before .before .before .before .before .before .pre .1) (c .before .before .before .before .before .before .before .before .before .before .before .before .loop .inv .walk) (omega arith))
+mul-path c =
+    let c9 = c .before .before .before .before .before .before .before .before .before in
+    let c12 = c9 .before .before .before in
+    let c16 = c12 .before .before .before .before in
+    omega (arith, c9 .depth .ensures, walk-deep (c16 .pre .1) (c12 .loop .inv .walk) (omega arith))
 
 array-write-path-2 : tie.Need-array-write-path-2 Inv-loop μ-loop
-array-write-path-2 c = omega (arith, c .before .before .before .before .before .before .before .before .before .depth .ensures, walk-deep (c .before .before .before .before .before .before .before .before .before .before .before .before .before .before .before .before .pre .1) (c .before .before .before .before .before .before .before .before .before .before .before .before .loop .inv .walk) (omega arith))
+array-write-path-2 c =
+    let c9 = c .before .before .before .before .before .before .before .before .before in
+    let c12 = c9 .before .before .before in
+    let c16 = c12 .before .before .before .before in
+    omega (arith, c9 .depth .ensures, walk-deep (c16 .pre .1) (c12 .loop .inv .walk) (omega arith))
 
 add-i : tie.Need-add-i Inv-loop μ-loop
 add-i c = search needs
@@ -111,7 +158,17 @@ loop-less : tie.Need-loop-less Inv-loop μ-loop
 loop-less c = search needs
 
 loop-again : tie.Need-loop-again Inv-loop μ-loop
-loop-again c = measured-on (c .before .before .before .before .before .before .before .before .before .before .before .before .before .before .before .before .pre .1) (c .before .before .before .before .before .before .before .before .before .before .before .before .loop .inv) (omega arith) refl (c .before .before .before .before .before .before .before .before .before .depth .ensures) refl (c .before .before .before .before .before .before .before .previous .ensures) (ap₂ (λ a b. fits a (c .before .before .before .before .before .before .before .previous .result) b) (kind-at _ _ ∙ sym (c .before .before .before .before .before .before .kind .ensures)) (kind-at _ _ ∙ sym (c .before .before .before .before .before .kind2 .ensures)) ∙ sym (c .before .before .before .before .fits2 .ensures) ∙ not-false _ (c .before .before .before .if2 .left)) (sym (c .before .before .repeated .ensures) ∙ c .before .if3 .left) (c .cost .ensures .0) (c .cost .ensures .1)
+loop-again c =
+    let c2 = c .before .before in
+    let c3 = c2 .before in
+    let c4 = c3 .before in
+    let c5 = c4 .before in
+    let c6 = c5 .before in
+    let c7 = c6 .before in
+    let c9 = c7 .before .before in
+    let c12 = c9 .before .before .before in
+    let c16 = c12 .before .before .before .before in
+    measured-on (c16 .pre .1) (c12 .loop .inv) (omega arith) refl (c9 .depth .ensures) refl (c7 .previous .ensures) (ap₂ (λ a b. fits a (c7 .previous .result) b) (kind-at _ _ ∙ sym (c6 .kind .ensures)) (kind-at _ _ ∙ sym (c5 .kind2 .ensures)) ∙ sym (c4 .fits2 .ensures) ∙ not-false _ (c3 .if2 .left)) (sym (c2 .repeated .ensures) ∙ c .before .if3 .left) (c .cost .ensures .0) (c .cost .ensures .1)
 
 returns-4 : tie.Need-returns-4 Inv-loop μ-loop
 returns-4 c = (measured-long (c .before .before .before .before .before .before .pre .1) (c .before .before .loop .inv) (omega arith) (c .if4 .taken), omega arith)

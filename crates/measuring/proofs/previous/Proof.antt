@@ -5,9 +5,6 @@ use native.Mathlib.Omega.{arith}
 use borrow.Author.Needs.{needs}
 use Rattle.measuring.proofs.previous.Statement.{statement}
 use Rattle.measuring.proofs.previous.Tie as tie
-use Rattle.measuring.proofs.previous.Reads as reads
-use Rattle.measuring.proofs.previous.Lts as lts
-use Rattle.table.proofs.kind.Reads as kind-reads
 
 returns : tie.Need-returns
 returns c = previous-none _ _ _ _ (omega arith)
@@ -19,7 +16,9 @@ element-copy-out-kind : tie.Need-element-copy-out-kind
 element-copy-out-kind c = search needs
 
 cast-kind : tie.Need-cast-kind
-cast-kind c = omega (arith, c .before .before .before .pre .1 .inside (c .before .before .before .args .d) (omega arith), c .before .before .before .pre .0 .many, c .before .before .before .pre .0 .room)
+cast-kind c =
+    let c3 = c .before .before .before in
+    omega (arith, c3 .pre .1 .inside (c3 .args .d) (omega arith), c3 .pre .0 .many, c3 .pre .0 .room)
 
 kind-requires : tie.Need-kind-requires
 kind-requires c κs = (c .before .before .before .pre .0, c .before .before .before .pre .1 .inside (c .before .before .before .args .d) (omega arith))

@@ -1,7 +1,7 @@
 -- The loop that measures.
-use mathlib.Core.Path.{_≡_, refl, sym, ap, _∙_}
-use Prim.Native.Nat.{ℕ, zero, suc, _+_, _-_, _*_, _≤_, _<_}
-use mathlib.Core.Bool.{Bool, true, false, cond}
+use mathlib.Core.Path.{_≡_, sym, ap, _∙_}
+use Prim.Native.Nat.{ℕ, suc, _+_, _-_, _*_, _≤_, _<_}
+use mathlib.Core.Bool.{true, false, cond}
 use mathlib.Core.List.{List, [], _∷_}
 use native.Mathlib.Omega.{arith}
 use native.Mathlib.Numerals.{add-one}
@@ -11,10 +11,10 @@ use lib.Dec.{leb}
 use borrow.Author.Tests.{le-leb, lt-leb}
 use Rattle.layout.specs.Layout.{Entry}
 use Rattle.lookup.specs.Places.{depth}
-use Rattle.markup.specs.Rows.{Line, parent-of, previous-of, opened, fits, cost, repeated, judge, prolog, measured}
+use Rattle.markup.specs.Rows.{Line, parent-of, previous-of, fits, cost, repeated, judge, prolog, measured}
 use Rattle.committed.specs.Lines.{label-at, line-at, lines, Listed}
 use Rattle.committed.specs.Laws.Lines.{length-lines, lines-from}
-use Rattle.measuring.specs.Walk.{open-labels, before-lines, OnPath, Walk}
+use Rattle.measuring.specs.Walk.{open-labels, before-lines, Walk}
 use Rattle.measuring.specs.Laws.Walk.{parent-is, opened-is, walk-start, walk-below, walk-steps, walk-deep, walk-on}
 
 pub record Measuring (l : List Entry) (places : List ℕ) (count : ℕ) (path : List ℕ) (top i sum : ℕ) : Type 0 where
@@ -91,8 +91,17 @@ module _ {l : List Entry} {places path : List ℕ} {count top i sum : ℕ} (c : 
         behind = omega arith;
         small = omega (arith, v .small);
         whole = v .whole
-            ∙ rw (row, parent-label, ← ek, f, unrepeated, ← g, opened-is l path (suc top) d p (omega (arith, depth-is, walk-steps c (v .walk) h))
-              (omega (arith, depth-is, walk-deep c (v .walk) h, v .walk .on-path .long)), add-one i)
+            ∙ rw (
+              row,
+              parent-label,
+              ← ek,
+              f,
+              unrepeated,
+              ← g,
+              opened-is l path (suc top) d p (omega (arith, depth-is, walk-steps c (v .walk) h))
+                  (omega (arith, depth-is, walk-deep c (v .walk) h, v .walk .on-path .long)),
+              add-one i,
+            )
             (ap (λ (x : Line). judge (open-labels l (set path d p) (suc d)) 0 (x ∷ before-lines l places i) (sum + n) (drop (suc i) (lines l places count))) same-line);
       }
         where

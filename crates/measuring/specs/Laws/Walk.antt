@@ -1,10 +1,9 @@
 -- The open nodes of a pass.
 use mathlib.Core.Path.{_≡_, refl, sym, ap, _∙_}
 use Prim.Native.Nat.{ℕ, zero, suc, _+_, _-_, _≤_, _<_}
-use mathlib.Core.Bool.{Bool, true, false, cond}
-use mathlib.Core.List.{List, [], _∷_, map}
+use mathlib.Core.Bool.{Bool, true, false}
+use mathlib.Core.List.{List}
 use native.Mathlib.Omega.{arith}
-use native.Mathlib.Numerals.{add-one}
 use lib.ListN.{length, getD, drop, set, length-set, List·getD-map}
 use lib.Seq.{getD-set-same, getD-set-other}
 use lib.Dec.{eqb, leb}
@@ -12,9 +11,9 @@ use borrow.Author.Tests.{eqb-true, eqb-false, leb-true, leb-false}
 use Rattle.layout.specs.Layout.{Entry}
 use Rattle.lookup.specs.Places.{depth}
 use Rattle.xml.specs.Shape.{Label}
-use Rattle.markup.specs.Rows.{Line, no-label, kinds, parent-of, previous-of, opened}
-use Rattle.committed.specs.Lines.{label-at, line-at, Listed}
-use Rattle.measuring.specs.Walk.{open-labels, OnPath, Walk}
+use Rattle.markup.specs.Rows.{no-label, parent-of, previous-of, opened}
+use Rattle.committed.specs.Lines.{label-at, Listed}
+use Rattle.measuring.specs.Walk.{open-labels, Walk}
 
 module _ (l : List Entry) (path : List ℕ) where
   pub length-open : (n : ℕ) → length (open-labels l path n) ≡ n
