@@ -1,6 +1,5 @@
 pub mod Codes
 pub mod Causes
-pub mod Ordered
 pub mod OneCall
 pub mod Main
 pub mod Exports

@@ -20,7 +20,7 @@ use Rattle.serializability.specs.Theorem.{since-start, reached, WaitSet, Demand
 use Rattle.xml.specs.Writing as xml
 use Rattle.xml.specs.Laws.Expressible.{ReadBack}
 use Rattle.traces.specs.Exchange.{Request, Exchange, Memory, outcome, cause, value}
-use Rattle.traces.specs.Written.{writing, text-after}
+use Rattle.writer.specs.Contract.{writing, text-after}
 use Rattle.traces.specs.Contract.{MakesCall, Contract}
 
 -- lists of calls -----------------------------------------------------------------------

@@ -23,7 +23,7 @@ use Rattle.ends.specs.Ends.{Restarted}
 use Rattle.xml.specs.Reading.{ReadsAs}
 use Rattle.xml.specs.Laws.Readings.{reading}
 use Rattle.traces.specs.Exchange.{Request, Exchange, with-none, with-one, with-two}
-use Rattle.traces.specs.Written.{Written}
+use Rattle.writer.specs.Contract.{Written}
 use Rattle.traces.specs.Contract as contract
 use Rattle.traces.specs.Contract.{Makes, makes-start, makes-load, makes-write, makes-begin, makes-commit, makes-abort, MakesCall, Ensured, Contract}
 use Rattle.traces.specs.Laws.Causes.{makes-only}

@@ -26,13 +26,13 @@ use Rattle.xml.specs.Writing as xml
 use Rattle.xml.specs.Laws.Expressible.{read-back}
 use Rattle.traces.specs.Exchange.{Exchange, outcome, value}
 use Rattle.markup.specs.Rows.{ordered}
-use Rattle.traces.specs.Written.{writable, writing, text-after}
+use Rattle.writer.specs.Contract.{writable, writing, text-after}
 use Rattle.traces.specs.Contract as contract
 use Rattle.traces.specs.Contract.{MakesCall, Ensured, Contract}
 use Rattle.traces.specs.Theorem.{Same, Demand1, first-after, Demand2}
 use Rattle.traces.specs.Laws.Codes.{Listed, Told, told, not-written}
 use Rattle.traces.specs.Laws.Causes.{makes-one, listed}
-use Rattle.traces.specs.Laws.Ordered.{legal-ordered}
+use Rattle.markup.specs.Laws.Rules.{legal-ordered}
 
 -- demand 1 ------------------------------------------------------------------------------
 
