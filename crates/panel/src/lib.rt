@@ -20,6 +20,15 @@ pub extern "C" fn noodlefen_load(state: &mut [u8], xml: &[u8]) -> u64
     protocol::code(answer)
 }
 
+// The committed document is written to out.
+#[no_mangle]
+pub extern "C" fn noodlefen_write(state: &[u8], out: &mut [u8]) -> u64
+    ensures { λ r. ⌜ Contract (with-one Request.write (now (state .entry)) (now (state .entry)) (now (out .entry)) (now (out .exit)) r) ⌝ }
+{
+    let answer = writer::write(state, out);
+    protocol::code(answer)
+}
+
 // Transaction t begins.
 #[no_mangle]
 pub extern "C" fn noodlefen_begin(state: &mut [u8], t: u32) -> u64

@@ -11,7 +11,7 @@ use Rattle.engine.specs.Contract.{Performed, Lent, rooms-of}
 use Rattle.ends.specs.Ends.{Restarted}
 use Rattle.xml.specs.Reading.{ReadsAs}
 use Rattle.traces.specs.Exchange.{Request, Exchange}
-use Rattle.traces.specs.Written.{Written}
+use Rattle.writer.specs.Contract.{Written}
 
 -- the call of protocol that a request makes, with this room in its buffers; load's input is what its bytes read as
 pub data Makes (room : Room) : Request → Call → Type 0 where

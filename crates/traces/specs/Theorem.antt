@@ -2,10 +2,10 @@
 -- of the exported functions alone.
 use mathlib.Core.Path.{_≡_}
 use Prim.Native.Nat.{ℕ, _≤_, _<_}
+use mathlib.Core.Logic.{_↔_}
 use mathlib.Core.Bool.{true, false}
 use mathlib.Core.List.{List, [], _∷_, _++_, List·Memᴰ}
 use lib.ListN.{length, take, drop}
-use lib.Dec.{eqb}
 use Rattle.tree.specs.Steps.{Step}
 use Rattle.locks.specs.Needs.{needs}
 use Rattle.protocol.specs.State.{State, callers-document, committed-document}
@@ -20,7 +20,7 @@ use Rattle.serializability.specs.Theorem.{since-start, reached, WaitSet, Demand
 use Rattle.xml.specs.Writing as xml
 use Rattle.xml.specs.Writing.{ReadBack}
 use Rattle.traces.specs.Exchange.{Request, Exchange, Memory, outcome, cause, value}
-use Rattle.traces.specs.Written.{writing, text-after}
+use Rattle.writer.specs.Contract.{writing, text-after}
 use Rattle.traces.specs.Contract.{MakesCall, Contract}
 
 -- lists of calls -----------------------------------------------------------------------
@@ -33,7 +33,7 @@ Linked s (x ∷ xs) = Contract x × (x .state .before ≡ s) × Linked (x .state
 -- "the list begins with a granted start; its calls follow in every order, each with any arguments, waiting and refused ones too"
 pub record Trace (x : Exchange) (xs : List Exchange) : Type 0 where
   pub starts : x .request ≡ Request.start
-  pub is-granted : outcome (x .code) ≡ 0
+  pub start-granted : outcome (x .code) ≡ 0
   pub contract : Contract x
   pub linked : Linked (x .state .after) xs
 
@@ -76,10 +76,10 @@ pub record Demand1 (x : Exchange) : Type 0 where
 -- the first buffer afterwards, by the definitions; it held b
 unfoldable pub first-after : Outcome → List ℕ → List ℕ
 first-after (granted v) b = filled (first-lent v) b
-first-after (written d) b = text-after d b
+first-after (written d) b = text-after b d
 first-after (waits set) b = b
-first-after (refused cause) b = b
-first-after (refused-at cause offset) b = b
+first-after (refused c) b = b
+first-after (refused-at c offset) b = b
 
 -- of the call c in the state M: "each step's answer, its locks and its wait set are document 01's", and so are reading and writing
 pub record Demand2 (M : State) (x : Exchange) (c : Call) : Type 0 where
@@ -91,8 +91,8 @@ pub record Demand2 (M : State) (x : Exchange) (c : Call) : Type 0 where
   pub answer : x .code ≡ code-of (answer-of (writing (length (x .first .before))) (next c M .outcome))
   pub first : x .first .after ≡ first-after (next c M .outcome) (x .first .before)
   pub second : x .second .after ≡ lent-after second-lent (next c M .outcome) (x .second .before)
-  -- the plain run is fed which calls were granted: just those of which the number says so (a write is not fed to it)
-  pub grants : (c ≡ write → ⊥) → is-granted (next c M .outcome) ≡ eqb (outcome (x .code)) 0
+  -- a call is told as granted exactly if the plain run is fed it as granted (write, which does nothing there, may be refused by 13 and 14)
+  pub as-granted : (c ≡ write → ⊥) → (outcome (x .code) ≡ 0) ↔ (is-granted (next c M .outcome) ≡ true)
   -- a wait names exactly the open transactions that hold a clashing mode
   pub wait-set : (t : ℕ) (s : Step) (room : Room) → c ≡ step t s room → outcome (x .code) ≡ 1
       → WaitSet (value (x .code)) t (needs s (callers-document t (M .tree))) M

@@ -1,10 +1,9 @@
 -- What the number answered tells of the outcome.
 use mathlib.Core.Path.{_≡_, refl, sym, ap, _∙_}
 use Prim.Native.Nat.{ℕ, _≤_, _<_}
-use mathlib.Core.Bool.{true, false}
+use mathlib.Core.Bool.{true, false, false≢true}
+use mathlib.Core.Logic.{_↔_}
 use native.Mathlib.Omega.{arith}
-use lib.Dec.{eqb}
-use borrow.Author.Tests.{eq-eqb, ne-eqb}
 use Rattle.tree.specs.Document.{Document}
 use Rattle.tree.specs.Steps.{done, kind-parent, child-is, none, content-is, numbers-are, cells-are, how-many, unfit}
 use Rattle.protocol.specs.Calls.{Outcome, granted, written, waits, refused, refused-at}
@@ -27,7 +26,7 @@ pub record Told (code : ℕ) (o : Outcome) : Type 0 where
   pub causes : outcome code ≡ 2 → (1 ≤ cause code) × (cause code ≤ 15)
   pub no-cause : (outcome code ≡ 2 → ⊥) → cause code ≡ 0
   pub not-granted : (outcome code ≡ 0 → ⊥) → is-granted o ≡ false
-  pub grants : is-granted o ≡ eqb (outcome code) 0
+  pub as-granted : (outcome code ≡ 0) ↔ (is-granted o ≡ true)
   pub waiting : outcome code ≡ 1 → o ≡ waits (value code)
 
 -- the parts of a packed number
@@ -49,7 +48,7 @@ told-granted v o g =
       causes = λ h. absurd (omega arith);
       no-cause = λ _. c;
       not-granted = λ n. absurd (n e);
-      grants = g ∙ sym (eq-eqb (outcome (packed 0 0 v)) 0 e);
+      as-granted = (λ _. g, λ _. e);
       waiting = λ h. absurd (omega arith);
     }
 
@@ -62,7 +61,7 @@ told-waits w =
       causes = λ h. absurd (omega arith);
       no-cause = λ _. c;
       not-granted = λ _. refl;
-      grants = sym (ne-eqb (outcome (packed 1 0 w)) 0 (λ z. omega arith));
+      as-granted = (λ h. absurd (omega arith), λ h. absurd (false≢true h));
       waiting = λ _. ap waits (sym (packed-value 1 0 w (omega arith) (omega arith)));
     }
 
@@ -75,7 +74,7 @@ told-refused k v o l g =
       causes = λ _. (omega arith, omega arith);
       no-cause = λ n. absurd (n e);
       not-granted = λ _. g;
-      grants = g ∙ sym (ne-eqb (outcome (packed 2 k v)) 0 (λ z. omega arith));
+      as-granted = (λ h. absurd (omega arith), λ h. absurd (false≢true (sym g ∙ h)));
       waiting = λ h. absurd (omega arith);
     }
 

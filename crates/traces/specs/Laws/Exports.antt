@@ -23,7 +23,7 @@ use Rattle.ends.specs.Ends.{Restarted}
 use Rattle.xml.specs.Reading.{ReadsAs}
 use Rattle.xml.specs.Laws.Readings.{reading}
 use Rattle.traces.specs.Exchange.{Request, Exchange, with-none, with-one, with-two}
-use Rattle.traces.specs.Written.{Written}
+use Rattle.writer.specs.Contract.{Written}
 use Rattle.traces.specs.Contract as contract
 use Rattle.traces.specs.Contract.{Makes, makes-start, makes-load, makes-write, makes-begin, makes-commit, makes-abort, MakesCall, Ensured, Contract}
 use Rattle.traces.specs.Laws.Causes.{makes-only}
@@ -44,7 +44,8 @@ open-unlent lent t M n l = go (is-transaction t) (M .is-open t)
     go true true = l
 
 -- a step is granted only where there is room
-judged-unlent : (lent : Value → List ℕ) (t : ℕ) (s : Step) (room : Room) (M : State) (d : Document) → ((v : Value) → has-room v room ≡ true → lent v ≡ []) → Unlent lent (judged t s room M d)
+judged-unlent : (lent : Value → List ℕ) (t : ℕ) (s : Step) (room : Room) (M : State) (d : Document)
+    → ((v : Value) → has-room v room ≡ true → lent v ≡ []) → Unlent lent (judged t s room M d)
 unfolding judged lent-after
 judged-unlent lent t s room M d h =
     go (not (eqb (misfit s d) 0)) (any (λ m. number-held m (M .tree)) (brings s)) (not (eqb (wait-set t (needs s d) M) 0)) (misplaced s d) (table-full s (M .tree))
@@ -109,7 +110,9 @@ module _ {s s′ : List ℕ} {a : Answer} {r : ℕ} (e : r ≡ code-of a) where
   start-contract h = contract-of a e makes-start (record { restarted = h; first = refl; second = refl })
 
   -- a call that puts nothing into buffers
-  quiet : (q : Request) (c : Call) → Performed s s′ a c → ((lent : Value → List ℕ) → lent done ≡ [] → ((n : ℕ) → lent (how-many n) ≡ []) → (M : State) → Unlent lent (next c M)) → contract.OnState (with-none q s s′ r) a c
+  quiet : (q : Request) (c : Call) → Performed s s′ a c
+      → ((lent : Value → List ℕ) → lent done ≡ [] → ((n : ℕ) → lent (how-many n) ≡ []) → (M : State) → Unlent lent (next c M))
+      → contract.OnState (with-none q s s′ r) a c
   unfolding first-lent second-lent
   quiet q c h u = record {
     performed = h;

@@ -97,7 +97,7 @@ started M x xs t = go (leb state-size (length (x .state .before))) refl
     go false f =
         let u = k .restarted .short (leb-false state-size (length (x .state .before)) f) in
         let c : x .code ≡ 3330 = t .contract .code ∙ ap code-of (u .0) in
-        absurd (omega (arith, t .is-granted))
+        absurd (omega (arith, t .start-granted))
 
 -- THE THEOREM
 pub delivered : (M : State) (x : Exchange) (xs : List Exchange) → Trace x xs → Delivered M x xs

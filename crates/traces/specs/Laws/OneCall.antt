@@ -26,12 +26,14 @@ use Rattle.serializability.specs.Laws.OneCall.{waiting}
 use Rattle.xml.specs.Writing as xml
 use Rattle.xml.specs.Laws.Expressible.{read-back}
 use Rattle.traces.specs.Exchange.{Exchange, outcome, value}
-use Rattle.traces.specs.Written.{writing, text-after}
+use Rattle.markup.specs.Rows.{ordered}
+use Rattle.writer.specs.Contract.{writable, writing, text-after}
 use Rattle.traces.specs.Contract as contract
 use Rattle.traces.specs.Contract.{MakesCall, Ensured, Contract}
 use Rattle.traces.specs.Theorem.{Same, Outcomes, first-after, Demand2}
 use Rattle.traces.specs.Laws.Codes.{Listed, Told, told, not-written}
 use Rattle.traces.specs.Laws.Causes.{makes-one, listed}
+use Rattle.markup.specs.Laws.Rules.{legal-ordered}
 
 -- demand 1 ------------------------------------------------------------------------------
 
@@ -96,8 +98,8 @@ module _ (x : Exchange) (r : Answer) (e : x .code ≡ code-of r) where
           (λ g. absurd (false≢true (sym g))) (h .restarted .long) (h .restarted .behind)
 
   -- a write of d: its outcome as a number tells it, and what it leaves
-  writing-demand : (d : Document) → r ≡ writing (length (x .first .before)) d → x .first .after ≡ text-after d (x .first .before) → Same (x .state) → Same (x .second) → Outcomes x
-  unfolding writing text-after answer-of granted-answer
+  writing-demand : (d : Document) → r ≡ writing (length (x .first .before)) d → x .first .after ≡ text-after (x .first .before) d → Same (x .state) → Same (x .second) → Outcomes x
+  unfolding writing text-after writable answer-of granted-answer
   writing-demand d a f s k = go (xml.expressible d) (leb (length (xml.write d)) (length (x .first .before))) a f
     where
       go : (p q : Bool) → r ≡ cond p (cond q (Count (length (xml.write d))) (Refused 13)) (Refused 14)
@@ -108,15 +110,20 @@ module _ (x : Exchange) (r : Answer) (e : x .code ≡ code-of r) where
       go false q a f = told-demand x (refused 14) (tells (refused 14) (omega arith, omega arith) a) (λ _. (s, f, k)) (ap length s) (ap (drop state-size) s)
 
   write-demand : contract.Write x r → Outcomes x
+  unfolding answer-of
   write-demand h = go (form (x .state .before)) refl
     where
+      by-order : (M : State) → Holds (x .state .before) M → (o : Bool) → ordered (committed-document M) ≡ o → Outcomes x
+      by-order M b true o = writing-demand (committed-document M) (h .written .answer M b o) (h .written .text M b o) (h .state) (h .second)
+      by-order M b false o =
+          let u = h .written .disordered M b o in
+          told-demand x (refused 14) (rw (e, u .0) (told (refused 14) (omega arith, omega arith))) (λ _. (h .state, u .1, h .second)) (ap length (h .state)) (ap (drop state-size) (h .state))
+
       go : (f : Bool) → form (x .state .before) ≡ f → Outcomes x
       go false f =
           let u = h .written .unformed f in
           told-demand x (refused 13) (rw (e, u .0) told-13) (λ _. (h .state, u .1, h .second)) (ap length (h .state)) (ap (drop state-size) (h .state))
-      go true f =
-          let M = form-holds (x .state .before) f in
-          writing-demand (committed-document (M .0)) (h .written .answer (M .0) (M .1)) (h .written .filled (M .0) (M .1)) (h .state) (h .second)
+      go true f = let M = form-holds (x .state .before) f in by-order (M .0) (M .1) (ordered (committed-document (M .0))) refl
 
   ensured-demand : (c : Call) → ((M : State) → Listed (next c M .outcome)) → Ensured x r c → Outcomes x
   unfolding Ensured
@@ -173,8 +180,8 @@ few-lines {s} {M} h = omega (arith, view-length (shown (λ u. false)) (as-shown 
 
 -- what a granted write gave: the tests that it passed
 pub granted-write : (out : List ℕ) (d : Document) → outcome (code-of (writing (length out) d)) ≡ 0
-    → (xml.expressible d ≡ true) × (text-after d out ≡ filled (xml.write d) out) × (value (code-of (writing (length out) d)) ≡ length (xml.write d))
-unfolding writing text-after code-of
+    → (xml.expressible d ≡ true) × (text-after out d ≡ filled (xml.write d) out) × (value (code-of (writing (length out) d)) ≡ length (xml.write d))
+unfolding writing text-after writable code-of
 granted-write out d h = go (xml.expressible d) refl (leb (length (xml.write d)) (length out)) h
   where
     go : (p : Bool) → xml.expressible d ≡ p → (q : Bool)
@@ -204,7 +211,7 @@ module _ (M : State) (x : Exchange) (r : Answer) (e : x .code ≡ code-of r) (b 
     answer = e ∙ ap code-of (given (writing (length (x .first .before))));
     first = h .first .filled M b ∙ same-first r (next c M .outcome) (x .first .before) given;
     second = h .second .filled M b;
-    grants = λ _. tells x r e (next c M .outcome) l (given (λ d. Done)) .grants;
+    as-granted = λ _. tells x r e (next c M .outcome) l (given (λ d. Done)) .as-granted;
     wait-set = λ t s room k w. waiting t s room M (value (x .code)) (ap (λ (y : Call). next y M .outcome) (sym k) ∙ tells x r e (next c M .outcome) l (given (λ d. Done)) .waiting w);
     read-back = λ k g. absurd (not-written r (committed-document M) (λ w. given w ∙ ap (λ (y : Call). answer-of w (next y M .outcome)) k));
   }
@@ -221,7 +228,7 @@ module _ (M : State) (x : Exchange) (r : Answer) (e : x .code ≡ code-of r) (b 
     answer = e ∙ ap code-of (given (writing (length (x .first .before))));
     first = h .first;
     second = h .second;
-    grants = λ _. tells x r e (granted done) tt (given (λ d. Done)) .grants;
+    as-granted = λ _. tells x r e (granted done) tt (given (λ d. Done)) .as-granted;
     wait-set = λ t s room k w. absurd (no-wait w);
     read-back = λ k g. absurd (not-written r (committed-document M) (λ w. given w ∙ ap (λ (y : Call). answer-of w (next y M .outcome)) k));
   }
@@ -238,15 +245,21 @@ module _ (M : State) (x : Exchange) (r : Answer) (e : x .code ≡ code-of r) (b 
     held = b;
     left = rw (h .state) b;
     formed = rw (h .state) (holds-form b);
-    answer = e ∙ ap code-of (h .written .answer M b);
-    first = h .written .filled M b;
+    answer = e ∙ ap code-of given;
+    first = h .written .text M b (legal-ordered (committed-document M) l);
     second = h .second;
-    grants = λ n. absurd (n refl);
-    wait-set = λ t s room k w. absurd (write-no-wait (x .first .before) (committed-document M) (rw (e, h .written .answer M b) at w));
+    as-granted = λ n. absurd (n refl);
+    wait-set = λ t s room k w. absurd (write-no-wait (x .first .before) (committed-document M) (rw (e, given) at w));
     read-back = λ k g.
-        let w = granted-write (x .first .before) (committed-document M) (rw (e, h .written .answer M b) at g) in
-        (rw (e, h .written .answer M b, w .2, h .written .filled M b, w .1) (take-append-seam (xml.write (committed-document M)) (drop (length (xml.write (committed-document M))) (x .first .before))), read-back (committed-document M) l (w .0) (few-lines b));
+        let d = committed-document M in
+        let w = granted-write (x .first .before) d (rw (e, given) at g) in (
+          rw (e, given, w .2, h .written .text M b (legal-ordered d l), w .1) (take-append-seam (xml.write d) (drop (length (xml.write d)) (x .first .before))),
+          read-back d l (w .0) (few-lines b),
+        );
   }
+    where
+      given : r ≡ writing (length (x .first .before)) (committed-document M)
+      given = h .written .answer M b (legal-ordered (committed-document M) l)
 
   ensured-meets : (c : Call) → Listed (next c M .outcome) → legal (committed-document M) ≡ true → Ensured x r c → Demand2 M x c
   unfolding Ensured

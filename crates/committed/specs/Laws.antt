@@ -1,0 +1,4 @@
+pub mod Lines
+pub mod Selection
+pub mod Contents
+pub mod Documents

@@ -1,0 +1,112 @@
+// The committed document in the lent bytes: the places of its nodes, and their contents.
+ghost use mathlib.Core.Path.{_≡_};
+ghost use mathlib.Core.Bool.{_&&_};
+ghost use Prim.Native.Nat.{_*_, _<_, _≤_};
+ghost use lib.ListN.{length};
+ghost use Rattle.tree.specs.Lists.{same};
+ghost use Rattle.xml.specs.Writing.{escaped};
+ghost use Rattle.layout.specs.Layout.{nodes, Layout};
+ghost use Rattle.layout.specs.Fields.{text};
+ghost use Rattle.lookup.specs.Places.{item};
+ghost use Rattle.edits.specs.Rows.{left-out};
+ghost use Rattle.committed.specs.Lines.{label-at, Selected};
+
+// Nodes in document order, each by its place.
+pub struct Rows {
+    pub places: [u16; 1024],
+    pub count: usize,
+}
+
+// Whether a node at depth d lies below one that is hidden: hidden is the least depth that is, 0 for none.
+fn left_out(hidden: usize, d: usize) -> bool
+    ensures { λ r. ⌜ r ≡ left-out hidden d ⌝ }
+{
+    if hidden == 0 {
+        return false;
+    }
+    hidden <= d
+}
+
+// The nodes that no open transaction inserted, themselves or with a node above them.
+pub fn select(s: &[u8]) -> Rows
+    requires { ⌜ Layout (now s) ⌝ }
+    ensures { λ r. ⌜ Selected (nodes (now (s .entry))) r ⌝ }
+{
+    let total = table::count(s);
+    let mut places = [0u16; 1024];
+    let mut count: usize = 0;
+    let mut hidden: usize = 0;
+    let mut i: usize = 0;
+    while i < total {
+        let j = i;
+        i += 1;
+        let d = table::depth(s, j) as usize;
+        if left_out(hidden, d) {
+            continue;
+        }
+        if table::inserter(s, j) != 0 {
+            hidden = d + 1;
+            continue;
+        }
+        hidden = 0;
+        places[count] = j as u16;
+        count += 1;
+    }
+    Rows { places, count }
+}
+
+// Which content of the node at p is the committed one: 0 the one now, 1 the one kept.
+pub fn version(s: &[u8], p: usize) -> usize
+    requires { ⌜ (Layout (now s)) × (p < length (nodes (now s))) ⌝ }
+    ensures { λ r. ⌜ (r < 2) × (text r (item (nodes (now (s .entry))) p) ≡ label-at (nodes (now (s .entry))) p .content) ⌝ }
+{
+    if table::writer(s, p) != 0 {
+        return 1;
+    }
+    0
+}
+
+// The length of the committed content of the node at p.
+pub fn size(s: &[u8], p: usize) -> usize
+    requires { ⌜ (Layout (now s)) × (p < length (nodes (now s))) ⌝ }
+    ensures { λ r. ⌜ (r ≡ length (label-at (nodes (now (s .entry))) p .content)) × (r ≤ 32) ⌝ }
+{
+    table::size(s, p, version(s, p))
+}
+
+// The same, with the entities that writing it takes.
+pub fn escaped_size(s: &[u8], p: usize) -> usize
+    requires { ⌜ (Layout (now s)) × (p < length (nodes (now s))) ⌝ }
+    ensures { λ r. ⌜ (r ≡ length (escaped (label-at (nodes (now (s .entry))) p .content))) × (r ≤ 192) ⌝ }
+{
+    let v = version(s, p);
+    let n = table::size(s, p, v);
+    let mut sum: usize = 0;
+    let mut j: usize = 0;
+    while j < n {
+        sum += markup::byte_length(table::content(s, p, v, j));
+        j += 1;
+    }
+    sum
+}
+
+// Whether the nodes at p and q have the same committed content.
+pub fn same_content(s: &[u8], p: usize, q: usize) -> bool
+    requires { ⌜ (Layout (now s)) × (p < length (nodes (now s))) × (q < length (nodes (now s))) ⌝ }
+    ensures { λ r. ⌜ r ≡ same (label-at (nodes (now (s .entry))) p .content) (label-at (nodes (now (s .entry))) q .content) ⌝ }
+{
+    let v = version(s, p);
+    let w = version(s, q);
+    let n = table::size(s, p, v);
+    if table::size(s, q, w) != n {
+        return false;
+    }
+    let mut j: usize = 0;
+    while j < n {
+        if table::content(s, q, w, j) != table::content(s, p, v, j) {
+            return false;
+        }
+        j += 1;
+    }
+    true
+}

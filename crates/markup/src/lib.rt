@@ -1,0 +1,98 @@
+// The pieces of an XML text: each is put at the front of the lent bytes, and answers its length; and which node may stand where.
+ghost use mathlib.Core.Path.{_≡_};
+ghost use Prim.Native.Nat.{_≤_};
+ghost use lib.ListN.{length};
+ghost use Rattle.xml.specs.Writing.{escape};
+ghost use Rattle.markup.specs.Rows.{in-start-tag, fits, prolog};
+ghost use Rattle.markup.specs.Lending.{Wrote};
+
+// A copy of p.
+pub fn put(out: &mut [u8], p: &[u8]) -> usize
+    requires { ⌜ length (now p) ≤ length (now out) ⌝ }
+    ensures { λ r. ⌜ Wrote (now (p .entry)) (now (out .entry)) (now (out .exit)) r ⌝ }
+{
+    let n = p.len();
+    let mut i: usize = 0;
+    while i < n {
+        out[i] = p[i];
+        i += 1;
+    }
+    n
+}
+
+// The declaration and a line feed.
+pub fn put_prolog(out: &mut [u8]) -> usize
+    requires { ⌜ length prolog ≤ length (now out) ⌝ }
+    ensures { λ r. ⌜ Wrote prolog (now (out .entry)) (now (out .exit)) r ⌝ }
+{
+    put(out, b"<?xml version=\"1.0\" encoding=\"UTF-8\"?>\n")
+}
+
+// A byte of a text or a value.
+pub fn put_byte(out: &mut [u8], b: u8) -> usize
+    requires { ⌜ length (escape b) ≤ length (now out) ⌝ }
+    ensures { λ r. ⌜ Wrote (escape b) (now (out .entry)) (now (out .exit)) r ⌝ }
+{
+    if b == b'&' {
+        return put(out, b"&amp;");
+    }
+    if b == b'<' {
+        return put(out, b"&lt;");
+    }
+    if b == b'>' {
+        return put(out, b"&gt;");
+    }
+    if b == b'"' {
+        return put(out, b"&quot;");
+    }
+    out[0] = b;
+    1
+}
+
+// How many bytes stand for one of a text or a value.
+pub fn byte_length(b: u8) -> usize
+    ensures { λ r. ⌜ (r ≡ length (escape b)) × (r ≤ 6) ⌝ }
+{
+    if b == b'&' {
+        return 5;
+    }
+    if b == b'<' {
+        return 4;
+    }
+    if b == b'>' {
+        return 4;
+    }
+    if b == b'"' {
+        return 6;
+    }
+    1
+}
+
+// Whether a start tag is still open behind a child of this kind, 0 for none.
+pub fn in_start_tag(previous: u8) -> bool
+    ensures { λ r. ⌜ r ≡ in-start-tag previous ⌝ }
+{
+    if previous == 0 {
+        return true;
+    }
+    previous == 3
+}
+
+// Whether a node of a kind may be written below one of kind `parent` and behind one of kind `previous`, 0 for none.
+pub fn fits(parent: u8, previous: u8, kind: u8) -> bool
+    ensures { λ r. ⌜ r ≡ fits parent previous kind ⌝ }
+{
+    if !tree::takes(parent as u32, kind as u32) {
+        return false;
+    }
+    if parent != 2 {
+        return previous == 0;
+    }
+    if kind == 3 {
+        return in_start_tag(previous);
+    }
+    if kind == 4 {
+        return previous != 4;
+    }
+    true
+}

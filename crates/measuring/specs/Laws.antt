@@ -1,0 +1,4 @@
+pub mod Walk
+pub mod Costs
+pub mod Names
+pub mod Measure

@@ -1,0 +1,112 @@
+// The length of what writing the committed document gives, by one pass over its rows, and whether it can be written at all.
+ghost use mathlib.Core.Path.{_≡_};
+ghost use Prim.Native.Nat.{suc, _+_, _<_, _≤_};
+ghost use lib.ListN.{length, getD};
+ghost use Rattle.layout.specs.Layout.{nodes, Layout};
+ghost use Rattle.markup.specs.Rows.{previous-of, extra, cost, repeated, measured};
+ghost use Rattle.committed.specs.Lines.{label-at, line-at, lines, Inside, Listed};
+ghost use Rattle.measuring.specs.Walk.{open-labels, before-lines, OnPath};
+
+// The kind of the previous sibling of a node at depth d, 0 for none; path has the place of the last node at each depth up to top.
+pub fn previous(s: &[u8], path: &[u16; 1024], top: usize, d: usize) -> u8
+    requires { ⌜ (Layout (now s)) × (OnPath (nodes (now s)) (now path) top) × (d ≤ suc top) ⌝ }
+    ensures { λ r. ⌜ r ≡ previous-of (open-labels (nodes (now (s .entry))) (now (path .entry)) (suc top)) 0 d ⌝ }
+{
+    if top < d {
+        return 0;
+    }
+    table::kind(s, path[d] as usize)
+}
+
+// What a node adds to the length as the first child of its parent that is no attribute.
+fn extra(s: &[u8], parent: usize, previous: u8) -> usize
+    requires { ⌜ (Layout (now s)) × (parent < length (nodes (now s))) ⌝ }
+    ensures { λ r. ⌜ (r ≡ extra (label-at (nodes (now (s .entry))) parent) previous) × (r ≤ 34) ⌝ }
+{
+    if table::kind(s, parent) != 2 {
+        return 0;
+    }
+    if !markup::in_start_tag(previous) {
+        return 0;
+    }
+    committed::size(s, parent) + 2
+}
+
+// What the node at p adds to the length.
+fn cost(s: &[u8], parent: usize, previous: u8, p: usize) -> usize
+    requires { ⌜ (Layout (now s)) × (parent < length (nodes (now s))) × (p < length (nodes (now s))) ⌝ }
+    ensures { λ r. ⌜ (r ≡ cost (label-at (nodes (now (s .entry))) parent) previous (label-at (nodes (now (s .entry))) p)) × (r ≤ 256) ⌝ }
+{
+    let kind = table::kind(s, p);
+    if kind == 3 {
+        return committed::size(s, p) + 4;
+    }
+    let more = extra(s, parent, previous);
+    if kind == 2 {
+        return more + (committed::size(s, p) + 3);
+    }
+    more + committed::escaped_size(s, p)
+}
+
+// Whether the node at the i-th place is an attribute behind one of its name.
+fn repeated(s: &[u8], places: &[u16; 1024], i: usize) -> bool
+    requires { ⌜ (Layout (now s)) × (Inside (nodes (now s)) (now places) (suc i)) ⌝ }
+    ensures { λ r. ⌜ r ≡ repeated (before-lines (nodes (now (s .entry))) (now (places .entry)) i) (line-at (nodes (now (s .entry))) (getD (now (places .entry)) i 0)) ⌝ }
+{
+    let p = places[i] as usize;
+    if table::kind(s, p) != 3 {
+        return false;
+    }
+    let d = table::depth(s, p);
+    let mut j = i;
+    while 0 < j {
+        j -= 1;
+        let q = places[j] as usize;
+        let e = table::depth(s, q);
+        if e < d {
+            return false;
+        }
+        if d < e {
+            continue;
+        }
+        if committed::same_content(s, q, p) {
+            return true;
+        }
+    }
+    false
+}
+
+// The length of what is written, or 0 where the document is not ordered or not expressible.
+pub fn measure(s: &[u8], places: &[u16; 1024], count: usize) -> usize
+    requires { ⌜ (Layout (now s)) × (Listed (nodes (now s)) (now places) count) ⌝ }
+    ensures { λ r. ⌜ (r ≡ measured (lines (nodes (now (s .entry))) (now (places .entry)) count)) × (r ≤ 65536) ⌝ }
+{
+    if count < 2 {
+        return 0;
+    }
+    let mut path = [0u16; 1024];
+    path[0] = places[0];
+    let mut top: usize = 0;
+    let mut sum: usize = 39;
+    let mut i: usize = 1;
+    while i < count {
+        let p = places[i];
+        let d = table::depth(s, p as usize) as usize;
+        let parent = path[d - 1] as usize;
+        let before = previous(s, &path, top, d);
+        if !markup::fits(table::kind(s, parent), before, table::kind(s, p as usize)) {
+            return 0;
+        }
+        if repeated(s, places, i) {
+            return 0;
+        }
+        sum += cost(s, parent, before, p as usize);
+        path[d] = p;
+        top = d;
+        i += 1;
+    }
+    if 65536 < sum {
+        return 0;
+    }
+    sum
+}

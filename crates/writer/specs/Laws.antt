@@ -1,0 +1,4 @@
+pub mod Next
+pub mod Pieces
+pub mod Rows
+pub mod Calls

@@ -1,0 +1,116 @@
+-- The whole call: each answer is the definition's.
+use mathlib.Core.Path.{_≡_, refl, sym, ap, _∙_}
+use Prim.Native.Nat.{ℕ, _≤_, _<_}
+use mathlib.Core.Bool.{Bool, true, false, cond, _&&_, true≢false}
+use mathlib.Core.List.{List}
+use native.Mathlib.Omega.{arith}
+use lib.ListN.{length}
+use lib.Dec.{leb}
+use borrow.Author.Tests.{le-leb, lt-leb}
+use Rattle.tree.specs.Document.{Document}
+use Rattle.protocol.specs.State.{State, committed-document}
+use Rattle.protocol.specs.declared.Answer.the-variants.{Count, Refused}
+use Rattle.layout.specs.Layout.{nodes}
+use Rattle.form.specs.Form.{form, Holds}
+use Rattle.form.specs.Laws.Holds.{holds-form}
+use Rattle.xml.specs.Writing.{write, expressible}
+use Rattle.markup.specs.Rows.{ordered, measured, written-rows}
+use Rattle.markup.specs.Lending.{Wrote}
+use Rattle.markup.specs.Laws.Documents.{written-is, measured-is}
+use Rattle.committed.specs.declared.Rows.{Rows}
+use Rattle.committed.specs.Lines.{lines, Selected}
+use Rattle.committed.specs.Laws.Documents.{root-content, root-below, rooted-shape, lines-of}
+use Rattle.writer.specs.Contract.{writable, writing, text-after, Written}
+
+pub write-unformed : (s o : List ℕ) → form s ≡ false → Written s o o (Refused 13)
+write-unformed s o e = record {
+  unformed = λ f. (refl, refl);
+  answer = λ M h b. absurd (true≢false (sym (holds-form h) ∙ e));
+  text = λ M h b. absurd (true≢false (sym (holds-form h) ∙ e));
+  disordered = λ M h b. absurd (true≢false (sym (holds-form h) ∙ e));
+  long = refl;
+}
+
+write-some : (d : Document) → 1 ≤ length (write d)
+unfolding write
+write-some d = omega arith
+
+-- n is the length that was measured
+module _ {s : List ℕ} {w : Rows} {n : ℕ} (f : form s ≡ true) (c : Selected (nodes s) w) (e : n ≡ measured (lines (nodes s) (w .places) (w .count))) where
+  module _ (M : State) (h : Holds s M) where
+    abbrev d : Document
+    d = committed-document M
+
+    length-is : n ≡ cond (ordered d && expressible d) (length (write d)) 0
+    length-is = e ∙ ap measured (lines-of h c) ∙ measured-is d (root-content h) (root-below h) (rooted-shape h)
+
+    -- where the document is ordered
+    module _ (b : ordered d ≡ true) where
+      by-expressible : (x : Bool) → expressible d ≡ x → n ≡ cond x (length (write d)) 0
+      by-expressible x y = length-is ∙ rw (b, y)
+
+      not-expressible : n ≡ 0 → expressible d ≡ false
+      not-expressible z = go (expressible d) refl
+        where
+          go : (x : Bool) → expressible d ≡ x → x ≡ false
+          go true y = absurd (omega (arith, by-expressible true y, write-some d))
+          go false y = refl
+
+      is-expressible : (n ≡ 0 → ⊥) → expressible d ≡ true
+      is-expressible z = go (expressible d) refl
+        where
+          go : (x : Bool) → expressible d ≡ x → x ≡ true
+          go true y = refl
+          go false y = absurd (z (by-expressible false y))
+
+      text-is : written-rows (lines (nodes s) (w .places) (w .count)) ≡ write d
+      text-is = ap written-rows (lines-of h c) ∙ written-is d (root-content h) (root-below h) (rooted-shape h) b
+
+    -- where it is not
+    none : ordered d ≡ false → n ≡ 0
+    none b = length-is ∙ rw b
+
+  pub write-14 : (o : List ℕ) → n ≡ 0 → Written s o o (Refused 14)
+  unfolding writing text-after writable
+  write-14 o z = record {
+    unformed = λ g. absurd (true≢false (sym f ∙ g));
+    answer = λ M h b. rw (not-expressible M h b z);
+    text = λ M h b. rw (not-expressible M h b z);
+    disordered = λ M h b. (refl, refl);
+    long = refl;
+  }
+
+  module _ (z : n ≡ 0 → ⊥) where
+    pub write-13 : (o : List ℕ) → length o < n → Written s o o (Refused 13)
+    unfolding writing text-after writable
+    write-13 o k = record {
+      unformed = λ g. absurd (true≢false (sym f ∙ g));
+      answer = λ M h b. rw (is-expressible M h b z, short M h b);
+      text = λ M h b. rw (is-expressible M h b z, short M h b);
+      disordered = λ M h b. absurd (z (none M h b));
+      long = refl;
+    }
+      where
+        short : (M : State) (h : Holds s M) → ordered (committed-document M) ≡ true → leb (length (write (committed-document M))) (length o) ≡ false
+        short M h b = lt-leb (length (write (committed-document M))) (length o) (omega (arith, by-expressible M h b true (is-expressible M h b z)))
+
+    pub write-granted : (o o′ : List ℕ) {r : ℕ} → n ≤ length o → Wrote (written-rows (lines (nodes s) (w .places) (w .count))) o o′ r → length o′ ≡ length o → Written s o o′ (Count n)
+    unfolding writing text-after writable
+    write-granted o o′ k v l = record {
+      unformed = λ g. absurd (true≢false (sym f ∙ g));
+      answer = λ M h b. rw (is-expressible M h b z, fits M h b) (ap Count (by-expressible M h b true (is-expressible M h b z)));
+      text = λ M h b. rw (is-expressible M h b z, fits M h b) (rw (text-is M h b) at (v .bytes));
+      disordered = λ M h b. absurd (z (none M h b));
+      long = l;
+    }
+      where
+        fits : (M : State) (h : Holds s M) → ordered (committed-document M) ≡ true → leb (length (write (committed-document M))) (length o) ≡ true
+        fits M h b = le-leb (length (write (committed-document M))) (length o) (omega (arith, by-expressible M h b true (is-expressible M h b z)))
+
+    -- the text that was measured fits
+    pub enough : (M : State) → Holds s M → (m : ℕ) → n ≤ m → length (written-rows (lines (nodes s) (w .places) (w .count))) ≤ m
+    enough M h m k = go (ordered (committed-document M)) refl
+      where
+        go : (b : Bool) → ordered (committed-document M) ≡ b → length (written-rows (lines (nodes s) (w .places) (w .count))) ≤ m
+        go true b = omega (arith, ap length (text-is M h b), by-expressible M h b true (is-expressible M h b z))
+        go false b = absurd (z (none M h b))

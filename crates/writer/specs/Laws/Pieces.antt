@@ -1,0 +1,80 @@
+-- The pieces by the kind of a node.
+use mathlib.Core.Path.{_≡_, sym, ap, _∙_}
+use Prim.Native.Nat.{ℕ, _+_, _≤_, _<_}
+use native.Mathlib.Omega.{arith}
+use lib.ListN.{length, getD, take, drop}
+use lib.Seq.{take-length}
+use mathlib.Core.Bool.{true, false, and-false}
+use mathlib.Core.List.{List, [], _++_}
+use lib.Dec.{eqb}
+use borrow.Author.Tests.{eq-eqb, ne-eqb}
+use Rattle.tree.specs.Text.{bytes}
+use Rattle.xml.specs.Shape.{Label}
+use Rattle.xml.specs.Writing.{escape, escaped}
+use Rattle.markup.specs.Rows.{in-start-tag, tag-end, begin, end}
+use Rattle.markup.specs.Lending.{Wrote, Partly, partly-as, partly-end}
+use Rattle.committed.specs.Laws.Contents.{escaped-from, escaped-end}
+use Rattle.writer.specs.Texts.{opening}
+use Rattle.writer.specs.Laws.Next.{Next, next}
+
+module _ (parent : Label) (previous : ℕ) where
+  pub tag-end-other : (parent .kind ≡ 2 → ⊥) → tag-end parent previous ≡ []
+  unfolding tag-end
+  tag-end-other h = rw (ne-eqb (parent .kind) 2 h)
+
+  pub tag-end-later : in-start-tag previous ≡ false → tag-end parent previous ≡ []
+  unfolding tag-end
+  tag-end-later h = rw (h, and-false (eqb (parent .kind) 2))
+
+  pub tag-end-first : parent .kind ≡ 2 → in-start-tag previous ≡ true → tag-end parent previous ≡ bytes ">"
+  unfolding tag-end
+  tag-end-first e h = rw (h, eq-eqb (parent .kind) 2 e)
+
+  pub begin-attribute : (a : Label) → a .kind ≡ 3 → begin parent previous a ≡ (bytes " " ++ a .content) ++ bytes "=\""
+  unfolding begin
+  begin-attribute a e = rw e
+
+  pub begin-other : (a : Label) → (a .kind ≡ 3 → ⊥) → begin parent previous a ≡ tag-end parent previous ++ opening a
+  unfolding begin opening
+  begin-other a h = rw (ne-eqb (a .kind) 3 h)
+
+module _ (a : Label) where
+  pub opening-element : a .kind ≡ 2 → opening a ≡ bytes "<" ++ a .content
+  unfolding opening
+  opening-element e = rw e
+
+  pub opening-text : (a .kind ≡ 2 → ⊥) → opening a ≡ escaped (a .content)
+  unfolding opening
+  opening-text h = rw (ne-eqb (a .kind) 2 h)
+
+  module _ (last : ℕ) where
+    pub end-attribute : a .kind ≡ 3 → end a last ≡ bytes "\""
+    unfolding end
+    end-attribute e = rw e
+
+    pub end-other : (a .kind ≡ 3 → ⊥) → (a .kind ≡ 2 → ⊥) → end a last ≡ []
+    unfolding end
+    end-other h k = rw (ne-eqb (a .kind) 2 k, ne-eqb (a .kind) 3 h)
+
+    pub end-empty : a .kind ≡ 2 → in-start-tag last ≡ true → end a last ≡ bytes "/>"
+    unfolding end
+    end-empty e h = rw (h, eq-eqb (a .kind) 2 e)
+
+    pub end-tag : a .kind ≡ 2 → in-start-tag last ≡ false → end a last ≡ (bytes "</" ++ a .content) ++ bytes ">"
+    unfolding end
+    end-tag e h = rw (h, eq-eqb (a .kind) 2 e)
+
+-- loops over the bytes of a content ----------------------------------------------------------------
+
+pub copy-done : (p o₀ o : List ℕ) (j n : ℕ) → o ≡ take j p ++ drop j o₀ → n ≡ length p → j ≤ n → n ≤ j → Wrote p o₀ o n
+copy-done p o₀ o j n e m h k =
+    let z : j ≡ length p = omega arith in
+    record { count = m; bytes = e ∙ rw (z, take-length p) }
+
+-- the next byte, b, is the j-th
+pub next-byte : (t : List ℕ) (j b : ℕ) {o₀ o : List ℕ} {at : ℕ} → Partly (escaped t) (escaped (drop j t)) o₀ o at → length (escaped t) ≤ length o₀ → j < length t → b ≡ getD t j 0
+    → Next (escape b) (escaped t) (escaped (drop (j + 1) t)) o₀ o at
+next-byte t j b c h k e = next (escape b) (escaped (drop (j + 1) t)) (escaped-from t j k ∙ ap (λ (x : ℕ). escape x ++ escaped (drop (j + 1) t)) (sym e)) c h
+
+pub no-byte : (t : List ℕ) (j : ℕ) {o₀ o : List ℕ} {at : ℕ} → Partly (escaped t) (escaped (drop j t)) o₀ o at → length t ≤ j → Wrote (escaped t) o₀ o at
+no-byte t j c h = partly-end (partly-as (escaped-end t j h) c)

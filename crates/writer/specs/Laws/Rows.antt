@@ -1,0 +1,90 @@
+-- The loops over open nodes and over rows.
+use mathlib.Core.Path.{_≡_, sym, ap, _∙_}
+use Prim.Native.Nat.{ℕ, zero, suc, _+_, _-_, _≤_, _<_}
+use mathlib.Core.List.{List, [], _∷_, _++_, append-nil}
+use native.Mathlib.Omega.{arith}
+use native.Mathlib.Numerals.{add-one}
+use lib.ListN.{length, getD, drop, set, drop-of-length-le, length-append}
+use lib.Seq.{getD-set-same}
+use Rattle.layout.specs.Layout.{Entry}
+use Rattle.lookup.specs.Places.{depth}
+use Rattle.xml.specs.Shape.{Label}
+use Rattle.markup.specs.Rows.{begin, end, ends, previous-of, emit, body}
+use Rattle.committed.specs.Lines.{label-at, line-at, lines, Listed}
+use Rattle.committed.specs.Laws.Lines.{length-lines, lines-from}
+use Rattle.measuring.specs.Walk.{open-labels, Walk}
+use Rattle.measuring.specs.Laws.Walk.{length-open, parent-is, opened-is, walk-below, walk-steps, walk-deep}
+use Rattle.markup.specs.Lending.{Wrote, Partly, partly-as, partly-end}
+use Rattle.writer.specs.Texts.{row-text}
+use Rattle.writer.specs.Laws.Next.{Next, next, second}
+
+-- one open node more ends
+pub ends-more : (l : List Entry) (path : List ℕ) (e d last : ℕ) → d < e
+    → ends (e - d) (open-labels l path e) last ≡ end (label-at l (getD path (e - 1) 0)) last ++ ends (e - 1 - d) (open-labels l path (e - 1)) (label-at l (getD path (e - 1) 0) .kind)
+unfolding ends open-labels
+ends-more l path zero d last h = absurd (omega arith)
+ends-more l path (suc e) d last h =
+    let z : suc e - d ≡ suc (e - d) = omega arith in
+    let y : suc e - 1 ≡ e = omega arith in
+    rw (z, y)
+
+pub ends-none : (es : List Label) (e d last : ℕ) → e ≤ d → ends (e - d) es last ≡ []
+unfolding ends
+ends-none es e d last h = let z : e - d ≡ 0 = omega arith in rw z
+
+-- the next end is that of the node at depth e - 1
+pub next-end : (l : List Entry) (path : List ℕ) (e d last : ℕ) {text o₀ o : List ℕ} {at : ℕ} → Partly text (ends (e - d) (open-labels l path e) last) o₀ o at → length text ≤ length o₀ → d < e
+    → Next (end (label-at l (getD path (e - 1) 0)) last) text (ends (e - 1 - d) (open-labels l path (e - 1)) (label-at l (getD path (e - 1) 0) .kind)) o₀ o at
+next-end l path e d last c h k = next (end (label-at l (getD path (e - 1) 0)) last) _ (ends-more l path e d last k) c h
+
+pub no-end : (l : List Entry) (path : List ℕ) (e d last : ℕ) {text o₀ o : List ℕ} {at : ℕ} → Partly text (ends (e - d) (open-labels l path e) last) o₀ o at → e ≤ d → Wrote text o₀ o at
+no-end l path e d last c h = partly-end (partly-as (ends-none (open-labels l path e) e d last h) c)
+
+-- the ends before a row, and then the row
+module _ (l : List Entry) (path : List ℕ) (top d p : ℕ) where
+  pub row-room : {n : ℕ} → length (row-text l path top d p) ≤ n → length (ends (suc top - d) (open-labels l path (suc top)) 0) ≤ n
+  unfolding row-text
+  row-room h = omega (arith, simp length-append at h)
+
+  pub next-begin : {q r : ℕ} {o₀ o : List ℕ} → Wrote (ends (suc top - d) (open-labels l path (suc top)) 0) o₀ o r → length (row-text l path top d p) ≤ length o₀
+      → q ≡ previous-of (open-labels l path (suc top)) 0 d → Next (begin (label-at l (getD path (d - 1) 0)) q (label-at l p)) (row-text l path top d p) [] o₀ o r
+  unfolding row-text
+  next-begin w h e = rw e (second (ends (suc top - d) (open-labels l path (suc top)) 0) (begin (label-at l (getD path (d - 1) 0)) (previous-of (open-labels l path (suc top)) 0 d) (label-at l p)) w h)
+
+-- what stands for the rows from i on
+abbrev pub from : List Entry → List ℕ → ℕ → List ℕ → ℕ → ℕ → List ℕ
+from l places count path top i = emit (open-labels l path (suc top)) 0 (drop i (lines l places count))
+
+pub from-start : {l : List Entry} {places : List ℕ} {count : ℕ} (path : List ℕ) → Listed l places count → length path ≡ 1024
+    → body (lines l places count) ≡ from l places count (set path 0 (getD places 0 0)) 0 1
+unfolding body open-labels
+from-start {l} {places} {count} path c n =
+    let e : lines l places count ≡ line-at l (getD places 0 0) ∷ drop 1 (lines l places count) = lines-from l places count (omega (arith, c .long, c .room)) 0 (c .some) in
+    ap body e ∙ rw (getD-set-same path 0 (getD places 0 0) 0 (omega arith))
+
+module _ {l : List Entry} {places path : List ℕ} {count top i : ℕ} (c : Listed l places count) (w : Walk l places path top i) where
+  pub from-end : count ≤ i → from l places count path top i ≡ ends (suc top - 0) (open-labels l path (suc top)) 0 ++ []
+  unfolding emit
+  from-end h =
+      let n : count ≤ length places = omega (arith, c .long, c .room) in
+      let z : suc top - 0 ≡ suc top = omega arith in
+      rw (drop-of-length-le (lines l places count) {i = i} (omega (arith, length-lines l places count n)), length-open l path (suc top), z) (sym (append-nil _))
+
+  -- p is the place of the i-th row, d its depth
+  pub from-on : i < count → {d p : ℕ} → p ≡ getD places i 0 → d ≡ depth l p
+      → from l places count path top i ≡ row-text l path top d p ++ from l places count (set path d p) d (i + 1)
+  unfolding emit row-text
+  from-on h {d} {p} ep ed =
+      let n : count ≤ length places = omega (arith, c .long, c .room) in
+      let ei : d ≡ depth l (getD places i 0) = ed ∙ ap (depth l) ep in
+      let row : drop i (lines l places count) ≡ (d, label-at l p) ∷ drop (suc i) (lines l places count) = lines-from l places count n i h ∙ rw (ei, ep) in
+      let b : d ≤ suc top = omega (arith, walk-steps c w h) in
+      rw (row, parent-is l path (suc top) d (omega (arith, walk-below c w h)) b, opened-is l path (suc top) d p b (omega (arith, walk-deep c w h, w .on-path .long)), add-one i, length-open l path (suc top))
+
+  pub next-row : i < count → {d p : ℕ} → p ≡ getD places i 0 → d ≡ depth l p → {text o₀ o : List ℕ} {at : ℕ} → Partly text (from l places count path top i) o₀ o at → length text ≤ length o₀
+      → Next (row-text l path top d p) text (from l places count (set path d p) d (i + 1)) o₀ o at
+  next-row h {d} {p} ep ed q k = next (row-text l path top d p) (from l places count (set path d p) d (i + 1)) (from-on h ep ed) q k
+
+  pub last-ends : count ≤ i → {text o₀ o : List ℕ} {at : ℕ} → Partly text (from l places count path top i) o₀ o at → length text ≤ length o₀
+      → Next (ends (suc top - 0) (open-labels l path (suc top)) 0) text [] o₀ o at
+  last-ends h q k = next (ends (suc top - 0) (open-labels l path (suc top)) 0) [] (from-end h) q k

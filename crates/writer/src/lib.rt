@@ -1,0 +1,205 @@
+// Write: the committed document as an XML text. Each piece of markup goes behind the last, into the rest of the lent bytes.
+use protocol::Answer;
+ghost use mathlib.Core.Path.{_≡_};
+ghost use mathlib.Core.List.{_++_};
+ghost use Prim.Native.Nat.{suc, _-_, _<_, _≤_};
+ghost use lib.ListN.{length, getD};
+ghost use Rattle.xml.specs.Writing.{escaped};
+ghost use Rattle.layout.specs.Layout.{nodes, Layout};
+ghost use Rattle.markup.specs.Rows.{tag-end, begin, end, ends, body, written-rows};
+ghost use Rattle.markup.specs.Lending.{Wrote};
+ghost use Rattle.committed.specs.Lines.{label-at, lines, Listed};
+ghost use Rattle.measuring.specs.Walk.{open-labels, OnPath};
+ghost use Rattle.writer.specs.Contract.{Written};
+ghost use Rattle.writer.specs.Texts.{opening, row-text};
+
+// Pieces -----------------------------------------------------------------------------
+
+// The content of the node at p.
+fn put_content(out: &mut [u8], s: &[u8], p: usize) -> usize
+    requires { ⌜ (Layout (now s)) × (p < length (nodes (now s))) × (length (label-at (nodes (now s)) p .content) ≤ length (now out)) ⌝ }
+    ensures { λ r. ⌜ Wrote (label-at (nodes (now (s .entry))) p .content) (now (out .entry)) (now (out .exit)) r ⌝ }
+{
+    let v = committed::version(s, p);
+    let n = table::size(s, p, v);
+    let mut j: usize = 0;
+    while j < n {
+        out[j] = table::content(s, p, v, j);
+        j += 1;
+    }
+    n
+}
+
+// The same, with entities.
+fn put_escaped(out: &mut [u8], s: &[u8], p: usize) -> usize
+    requires { ⌜ (Layout (now s)) × (p < length (nodes (now s))) × (length (escaped (label-at (nodes (now s)) p .content)) ≤ length (now out)) ⌝ }
+    ensures { λ r. ⌜ Wrote (escaped (label-at (nodes (now (s .entry))) p .content)) (now (out .entry)) (now (out .exit)) r ⌝ }
+{
+    let v = committed::version(s, p);
+    let n = table::size(s, p, v);
+    let mut at: usize = 0;
+    let mut j: usize = 0;
+    while j < n {
+        let b = table::content(s, p, v, j);
+        at = at + markup::put_byte(&mut out[at..], b);
+        j += 1;
+    }
+    at
+}
+
+// A name behind a prefix.
+fn put_name(out: &mut [u8], s: &[u8], p: usize, prefix: &[u8]) -> usize
+    requires { ⌜ (Layout (now s)) × (p < length (nodes (now s))) × (length (now prefix ++ label-at (nodes (now s)) p .content) ≤ length (now out)) ⌝ }
+    ensures { λ r. ⌜ Wrote (now (prefix .entry) ++ label-at (nodes (now (s .entry))) p .content) (now (out .entry)) (now (out .exit)) r ⌝ }
+{
+    let at = markup::put(out, prefix);
+    at + put_content(&mut out[at..], s, p)
+}
+
+// A name between a prefix and a suffix.
+fn put_between(out: &mut [u8], s: &[u8], p: usize, prefix: &[u8], suffix: &[u8]) -> usize
+    requires { ⌜ (Layout (now s)) × (p < length (nodes (now s))) × (length ((now prefix ++ label-at (nodes (now s)) p .content) ++ now suffix) ≤ length (now out)) ⌝ }
+    ensures { λ r. ⌜ Wrote ((now (prefix .entry) ++ label-at (nodes (now (s .entry))) p .content) ++ now (suffix .entry)) (now (out .entry)) (now (out .exit)) r ⌝ }
+{
+    let at = put_name(out, s, p, prefix);
+    at + markup::put(&mut out[at..], suffix)
+}
+
+// Nodes ------------------------------------------------------------------------------
+
+// The end of the parent's start tag, before its first child that is no attribute.
+fn put_tag_end(out: &mut [u8], s: &[u8], parent: usize, previous: u8) -> usize
+    requires { ⌜ (Layout (now s)) × (parent < length (nodes (now s))) × (length (tag-end (label-at (nodes (now s)) parent) previous) ≤ length (now out)) ⌝ }
+    ensures { λ r. ⌜ Wrote (tag-end (label-at (nodes (now (s .entry))) parent) previous) (now (out .entry)) (now (out .exit)) r ⌝ }
+{
+    if table::kind(s, parent) != 2 {
+        return 0;
+    }
+    if !markup::in_start_tag(previous) {
+        return 0;
+    }
+    markup::put(out, b">")
+}
+
+// The beginning of an element's start tag, or a text.
+fn put_opening(out: &mut [u8], s: &[u8], p: usize) -> usize
+    requires { ⌜ (Layout (now s)) × (p < length (nodes (now s))) × (length (opening (label-at (nodes (now s)) p)) ≤ length (now out)) ⌝ }
+    ensures { λ r. ⌜ Wrote (opening (label-at (nodes (now (s .entry))) p)) (now (out .entry)) (now (out .exit)) r ⌝ }
+{
+    if table::kind(s, p) == 2 {
+        return put_name(out, s, p, b"<");
+    }
+    put_escaped(out, s, p)
+}
+
+// What stands for the node at p up to its children.
+fn put_begin(out: &mut [u8], s: &[u8], parent: usize, previous: u8, p: usize) -> usize
+    requires { ⌜ (Layout (now s)) × (parent < length (nodes (now s))) × (p < length (nodes (now s))) × (length (begin (label-at (nodes (now s)) parent) previous (label-at (nodes (now s)) p)) ≤ length (now out)) ⌝ }
+    ensures { λ r. ⌜ Wrote (begin (label-at (nodes (now (s .entry))) parent) previous (label-at (nodes (now (s .entry))) p)) (now (out .entry)) (now (out .exit)) r ⌝ }
+{
+    if table::kind(s, p) == 3 {
+        return put_between(out, s, p, b" ", b"=\"");
+    }
+    let at = put_tag_end(out, s, parent, previous);
+    at + put_opening(&mut out[at..], s, p)
+}
+
+// What stands for the node at p behind its children, the last of which is of kind `last`.
+fn put_end(out: &mut [u8], s: &[u8], p: usize, last: u8) -> usize
+    requires { ⌜ (Layout (now s)) × (p < length (nodes (now s))) × (length (end (label-at (nodes (now s)) p) last) ≤ length (now out)) ⌝ }
+    ensures { λ r. ⌜ Wrote (end (label-at (nodes (now (s .entry))) p) last) (now (out .entry)) (now (out .exit)) r ⌝ }
+{
+    let kind = table::kind(s, p);
+    if kind == 3 {
+        return markup::put(out, b"\"");
+    }
+    if kind != 2 {
+        return 0;
+    }
+    if markup::in_start_tag(last) {
+        return markup::put(out, b"/>");
+    }
+    put_between(out, s, p, b"</", b">")
+}
+
+// Rows -------------------------------------------------------------------------------
+
+// The ends of the open nodes from depth top up to depth d; path has their places.
+fn put_ends(out: &mut [u8], s: &[u8], path: &[u16; 1024], top: usize, d: usize) -> usize
+    requires { ⌜ (Layout (now s)) × (OnPath (nodes (now s)) (now path) top) × (length (ends (suc top - d) (open-labels (nodes (now s)) (now path) (suc top)) 0) ≤ length (now out)) ⌝ }
+    ensures { λ r. ⌜ Wrote (ends (suc top - d) (open-labels (nodes (now (s .entry))) (now (path .entry)) (suc top)) 0) (now (out .entry)) (now (out .exit)) r ⌝ }
+{
+    let mut at: usize = 0;
+    let mut last: u8 = 0;
+    let mut e = top + 1;
+    while d < e {
+        e -= 1;
+        let p = path[e] as usize;
+        at = at + put_end(&mut out[at..], s, p, last);
+        last = table::kind(s, p);
+    }
+    at
+}
+
+// The ends before the node at p, of depth d, and what stands for it up to its children.
+fn put_row(out: &mut [u8], s: &[u8], path: &[u16; 1024], top: usize, d: usize, p: usize) -> usize
+    requires { ⌜ (Layout (now s)) × (OnPath (nodes (now s)) (now path) top) × (1 ≤ d) × (d ≤ suc top) × (p < length (nodes (now s))) × (length (row-text (nodes (now s)) (now path) top d p) ≤ length (now out)) ⌝ }
+    ensures { λ r. ⌜ Wrote (row-text (nodes (now (s .entry))) (now (path .entry)) top d p) (now (out .entry)) (now (out .exit)) r ⌝ }
+{
+    let parent = path[d - 1] as usize;
+    let previous = measuring::previous(s, path, top, d);
+    let at = put_ends(out, s, path, top, d);
+    at + put_begin(&mut out[at..], s, parent, previous, p)
+}
+
+// What stands for the rows below the document's.
+fn put_body(out: &mut [u8], s: &[u8], places: &[u16; 1024], count: usize) -> usize
+    requires { ⌜ (Layout (now s)) × (Listed (nodes (now s)) (now places) count) × (length (body (lines (nodes (now s)) (now places) count)) ≤ length (now out)) ⌝ }
+    ensures { λ r. ⌜ Wrote (body (lines (nodes (now (s .entry))) (now (places .entry)) count)) (now (out .entry)) (now (out .exit)) r ⌝ }
+{
+    let mut path = [0u16; 1024];
+    path[0] = places[0];
+    let mut top: usize = 0;
+    let mut at: usize = 0;
+    let mut i: usize = 1;
+    while i < count {
+        let p = places[i];
+        let d = table::depth(s, p as usize) as usize;
+        at = at + put_row(&mut out[at..], s, &path, top, d, p as usize);
+        path[d] = p;
+        top = d;
+        i += 1;
+    }
+    at + put_ends(&mut out[at..], s, &path, top, 0)
+}
+
+// What stands for the rows of the document.
+fn put_document(out: &mut [u8], s: &[u8], places: &[u16; 1024], count: usize) -> usize
+    requires { ⌜ (Layout (now s)) × (Listed (nodes (now s)) (now places) count) × (length (written-rows (lines (nodes (now s)) (now places) count)) ≤ length (now out)) ⌝ }
+    ensures { λ r. ⌜ Wrote (written-rows (lines (nodes (now (s .entry))) (now (places .entry)) count)) (now (out .entry)) (now (out .exit)) r ⌝ }
+{
+    let at = markup::put_prolog(out);
+    at + put_body(&mut out[at..], s, places, count)
+}
+
+// The call -----------------------------------------------------------------------------
+
+// The committed document, written to the lent bytes.
+pub fn write(s: &[u8], out: &mut [u8]) -> Answer
+    ensures { λ r. ⌜ Written (now (s .entry)) (now (out .entry)) (now (out .exit)) r ⌝ }
+{
+    if !form::formed(s) {
+        return Answer::Refused(13);
+    }
+    let rows = committed::select(s);
+    let places = rows.places;
+    let n = measuring::measure(s, &places, rows.count);
+    if n == 0 {
+        return Answer::Refused(14);
+    }
+    if out.len() < n {
+        return Answer::Refused(13);
+    }
+    put_document(out, s, &places, rows.count);
+    Answer::Count(n as u32)
+}
