@@ -2,7 +2,7 @@
  * noodlefen.h: the C interface of Noodlefen, a lock engine for shared XML settings.
  *
  * The caller lends all memory. The state is a run of bytes of any alignment: noodlefen_start sets it to
- * the beginning, and every other call wants it as the call before left it. It may be copied between calls.
+ * the beginning, and every other call wants it as the call before left it. It may be moved between calls, all of it.
  *
  * Slices of one call (state, input, output) must not overlap. A length of 0 wants a pointer that is not
  * NULL; where a caller has NULL and 0, the functions ending in _nullable pass a valid pointer instead.
@@ -171,6 +171,12 @@ static inline const uint8_t *noodlefen_given(const uint8_t *bytes)
     return bytes != NULL ? bytes : &none;
 }
 
+/* noodlefen_start, where NULL may come with a length of 0. */
+static inline noodlefen_answer noodlefen_start_nullable(uint8_t *state, size_t state_len)
+{
+    return noodlefen_start(noodlefen_lent(state), state_len);
+}
+
 /* noodlefen_load, where NULL may come with a length of 0. */
 static inline noodlefen_answer noodlefen_load_nullable(uint8_t *state, size_t state_len, const uint8_t *xml, size_t xml_len)
 {
@@ -181,6 +187,36 @@ static inline noodlefen_answer noodlefen_load_nullable(uint8_t *state, size_t st
 static inline noodlefen_answer noodlefen_write_nullable(const uint8_t *state, size_t state_len, uint8_t *out, size_t out_len)
 {
     return noodlefen_write(noodlefen_given(state), state_len, noodlefen_lent(out), out_len);
+}
+
+/* noodlefen_begin, where NULL may come with a length of 0. */
+static inline noodlefen_answer noodlefen_begin_nullable(uint8_t *state, size_t state_len, uint32_t t)
+{
+    return noodlefen_begin(noodlefen_lent(state), state_len, t);
+}
+
+/* noodlefen_commit, where NULL may come with a length of 0. */
+static inline noodlefen_answer noodlefen_commit_nullable(uint8_t *state, size_t state_len, uint32_t t)
+{
+    return noodlefen_commit(noodlefen_lent(state), state_len, t);
+}
+
+/* noodlefen_abort, where NULL may come with a length of 0. */
+static inline noodlefen_answer noodlefen_abort_nullable(uint8_t *state, size_t state_len, uint32_t t)
+{
+    return noodlefen_abort(noodlefen_lent(state), state_len, t);
+}
+
+/* noodlefen_test, where NULL may come with a length of 0. */
+static inline noodlefen_answer noodlefen_test_nullable(uint8_t *state, size_t state_len, uint32_t t, uint16_t n)
+{
+    return noodlefen_test(noodlefen_lent(state), state_len, t, n);
+}
+
+/* noodlefen_child, where NULL may come with a length of 0. */
+static inline noodlefen_answer noodlefen_child_nullable(uint8_t *state, size_t state_len, uint32_t t, uint16_t n, uint32_t k)
+{
+    return noodlefen_child(noodlefen_lent(state), state_len, t, n, k);
 }
 
 /* noodlefen_read, where NULL may come with a length of 0. */
@@ -195,6 +231,12 @@ static inline noodlefen_answer noodlefen_update_nullable(uint8_t *state, size_t 
                                                          const uint8_t *bytes, size_t bytes_len)
 {
     return noodlefen_update(noodlefen_lent(state), state_len, t, n, noodlefen_given(bytes), bytes_len);
+}
+
+/* noodlefen_delete, where NULL may come with a length of 0. */
+static inline noodlefen_answer noodlefen_delete_nullable(uint8_t *state, size_t state_len, uint32_t t, uint16_t n)
+{
+    return noodlefen_delete(noodlefen_lent(state), state_len, t, n);
 }
 
 /* noodlefen_insert, where NULL may come with a length of 0. */

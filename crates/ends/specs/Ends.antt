@@ -3,7 +3,7 @@ use mathlib.Core.Path.{_≡_}
 use Prim.Native.Nat.{ℕ, zero, suc, _≤_, _<_}
 use mathlib.Core.Bool.{Bool, cond, not, _&&_}
 use mathlib.Core.List.{List, [], _∷_, map}
-use lib.ListN.{length, drop}
+use lib.ListN.{length, getD, drop}
 use lib.Dec.{eqb}
 use Rattle.tree.specs.Document.{Document}
 use Rattle.protocol.specs.State.{Marked, State, unless}
@@ -15,12 +15,15 @@ use Rattle.layout.specs.Fields.{field, with-field, with-now}
 use Rattle.layout.specs.Flat.{second, prune}
 use Rattle.layout.specs.Layout.{state-size, is-open, Entry, nodes, Left}
 use Rattle.form.specs.Form.{Holds}
+use Rattle.form.specs.Start.{start-byte}
 
 -- "a start call sets it to the beginning": the bytes need not be of the form, and 13 is given only where they are too short
 pub record Restarted (s s′ : List ℕ) (r : Answer) : Type 0 where
   pub short : length s < state-size → (r ≡ Refused 13) × (s′ ≡ s)
   pub answer : state-size ≤ length s → (M : State) (writing : Document → Answer) → r ≡ answer-of writing (next start M .outcome)
   pub state : state-size ≤ length s → (M : State) → Holds s′ (next start M .state)
+  -- which bytes these are (docs/STATE.md)
+  pub bytes : state-size ≤ length s → (j : ℕ) → j < state-size → getD s′ j 0 ≡ start-byte j
   pub long : length s′ ≡ length s
   pub behind : drop state-size s′ ≡ drop state-size s
 

@@ -1,5 +1,6 @@
 pub mod Rows
 pub mod Holds
+pub mod OneState
 pub mod Fine
 pub mod Steps
 pub mod Cells

@@ -99,9 +99,9 @@ fn find_root(s: &[u8]) -> Prolog
     }
     let behind = reader::peek(s, 19);
     if behind == b'?' {
-        return declared(s, b"<?xml version=\"1.0\"?>");
+        return declared(s, &xml::SHORT_DECLARATION);
     }
-    declared(s, b"<?xml version=\"1.0\" encoding=\"UTF-8\"?>")
+    declared(s, &xml::LONG_DECLARATION)
 }
 
 // The whole input, of any length.

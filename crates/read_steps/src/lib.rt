@@ -68,11 +68,11 @@ fn test_tree_at(s: &mut [u8], t: usize, p: usize, out: &mut [u8]) -> Answer
 }
 
 // RR on the node at p, the numbers to one lent buffer and the cells to another.
-fn read_tree_at(s: &mut [u8], t: usize, p: usize, out: &mut [u8], cells: &mut [u8]) -> Answer
+fn read_tree_at(s: &mut [u8], t: usize, p: usize, numbers: &mut [u8], cells: &mut [u8]) -> Answer
     requires { ⌜ Admitted (now s) t p ⌝ }
-    ensures { λ r. ⌜ (Performed (now (s .entry)) (now (s .exit)) r (step t (RR (number-at (now (s .entry)) p)) (rooms-of (now (out .entry)) (now (cells .entry)))))
-        × (Lent first-lent (now (s .entry)) (now (out .entry)) (now (out .exit)) (step t (RR (number-at (now (s .entry)) p)) (rooms-of (now (out .entry)) (now (cells .entry)))))
-        × (Lent second-lent (now (s .entry)) (now (cells .entry)) (now (cells .exit)) (step t (RR (number-at (now (s .entry)) p)) (rooms-of (now (out .entry)) (now (cells .entry))))) ⌝ }
+    ensures { λ r. ⌜ (Performed (now (s .entry)) (now (s .exit)) r (step t (RR (number-at (now (s .entry)) p)) (rooms-of (now (numbers .entry)) (now (cells .entry)))))
+        × (Lent first-lent (now (s .entry)) (now (numbers .entry)) (now (numbers .exit)) (step t (RR (number-at (now (s .entry)) p)) (rooms-of (now (numbers .entry)) (now (cells .entry)))))
+        × (Lent second-lent (now (s .entry)) (now (cells .entry)) (now (cells .exit)) (step t (RR (number-at (now (s .entry)) p)) (rooms-of (now (numbers .entry)) (now (cells .entry))))) ⌝ }
 {
     let way = locking::way_up(s, p);
     let set = locking::waits(s, t, StepName::RR, way);
@@ -80,13 +80,13 @@ fn read_tree_at(s: &mut [u8], t: usize, p: usize, out: &mut [u8], cells: &mut [u
         return Answer::Waits(set);
     }
     let tree = reading::select(s, t as u8, p);
-    if out.len() < 2 * tree.count {
+    if numbers.len() < 2 * tree.count {
         return Answer::Refused(13);
     }
     if cells.len() < 33 * tree.count {
         return Answer::Refused(13);
     }
-    reading::numbers(s, tree, out);
+    reading::numbers(s, tree, numbers);
     reading::cells(s, tree, cells);
     locking::grant(s, t, StepName::RR, way);
     Answer::Count(tree.count as u32)

@@ -1,3 +1,4 @@
+pub mod Bytes
 pub mod Runs
 pub mod Characters
 pub mod Contents

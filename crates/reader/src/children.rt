@@ -6,6 +6,7 @@ use super::Prolog;
 use super::Read;
 use super::Tag;
 use super::agreement;
+use super::is_name_start;
 ghost use mathlib.Core.Path.{_≡_};
 ghost use Prim.Native.Nat.{_<_, _≤_};
 ghost use lib.ListN.{length, getD};
@@ -68,7 +69,7 @@ impl Cursor {
         if b == b'/' {
             return self.end(s, names, depth, nodes);
         }
-        if !tree::name_start(b) {
+        if !is_name_start(b) {
             return Child::Stopped(4, at);
         }
         if nodes == 1024 {
@@ -111,7 +112,7 @@ impl Cursor {
             return Prolog::NoRoot(name);
         }
         let b = s[name];
-        if tree::name_start(b) {
+        if is_name_start(b) {
             return Prolog::Root(Cursor { at: name });
         }
         Prolog::NoRoot(name)

@@ -7,7 +7,7 @@ mod tokens;
 ghost use mathlib.Core.Path.{_≡_};
 ghost use Prim.Native.Nat.{_+_, _≤_};
 ghost use lib.ListN.{length, getD};
-ghost use Rattle.tree.specs.Content.{name-byte};
+ghost use Rattle.tree.specs.Content.{name-start, name-byte};
 ghost use Rattle.tree.specs.Lists.{same};
 ghost use Rattle.xml.specs.Bytes.{blank, brackets, used};
 ghost use Rattle.xml.specs.Laws.Tokens.{name-at};
@@ -82,6 +82,37 @@ pub fn is_blank(b: u8) -> bool
     b == 32
 }
 
+// Classes of bytes by comparisons: a table in a constant would be laid out anew at each lookup.
+pub fn is_name_start(b: u8) -> bool
+    ensures { λ r. ⌜ r ≡ name-start b ⌝ }
+{
+    if b < b'A' {
+        return false;
+    }
+    if b <= b'Z' {
+        return true;
+    }
+    if b < b'a' {
+        return b == b'_';
+    }
+    b <= b'z'
+}
+
+pub fn is_name_byte(b: u8) -> bool
+    ensures { λ r. ⌜ r ≡ name-byte b ⌝ }
+{
+    if b >= b'A' {
+        return is_name_start(b);
+    }
+    if b >= b'0' {
+        return b <= b'9';
+    }
+    if b == b'-' {
+        return true;
+    }
+    b == b'.'
+}
+
 // A byte of a text but < and &.
 pub fn is_plain(b: u8) -> bool
     ensures { λ r. ⌜ r ≡ plain b ⌝ }
@@ -92,7 +123,13 @@ pub fn is_plain(b: u8) -> bool
     if b == b'&' {
         return false;
     }
-    tree::text_byte(b)
+    if b >= b' ' {
+        return b <= b'~';
+    }
+    if b == 9 {
+        return true;
+    }
+    b == 10
 }
 
 // The byte at an offset, 0 behind the end.
@@ -153,14 +190,13 @@ fn same_name(s: &[u8], from: usize, to: usize, other: usize) -> bool
     requires { ⌜ (from ≤ to) × (other ≤ length (now s)) × Run name-byte (now s) from to ⌝ }
     ensures { λ r. ⌜ r ≡ same (name-at (now (s .entry)) other) (name-at (now (s .entry)) from) ⌝ }
 {
-    let start = Cursor { at: other };
-    let end = start.name(s);
-    let n = end.at - other;
+    let word = &s[from..to];
+    let n = agreement(s, other, word);
     if n != to - from {
         return false;
     }
-    let word = &s[from..to];
-    agreement(s, other, word) == n
+    let next = peek(s, other + n);
+    !is_name_byte(next)
 }
 
 // Whether a name is among the count names whose offsets stand from lo on.

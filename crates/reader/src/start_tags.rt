@@ -4,6 +4,7 @@ use super::Equals;
 use super::Part;
 use super::Read;
 use super::Tag;
+use super::is_name_start;
 use super::repeated;
 ghost use mathlib.Core.Path.{_≡_};
 ghost use Prim.Native.Nat.{_+_, _<_, _≤_};
@@ -62,7 +63,7 @@ impl Cursor {
         if at == from {
             return Part::Wrong(at);
         }
-        if tree::name_start(b) {
+        if is_name_start(b) {
             return Part::Attribute(behind);
         }
         Part::Wrong(at)

@@ -3,6 +3,7 @@ use super::Cursor;
 use super::Reference;
 use super::agreement;
 use super::is_blank;
+use super::is_name_byte;
 use super::peek;
 ghost use Prim.Native.Nat.{_<_, _≤_};
 ghost use lib.ListN.{length, drop};
@@ -36,7 +37,7 @@ impl Cursor {
         let mut i = self.at;
         while i < s.len() {
             let b = s[i];
-            if !tree::name_byte(b) {
+            if !is_name_byte(b) {
                 break;
             }
             i += 1;
@@ -57,7 +58,7 @@ impl Cursor {
         Reference::NoEntity(at + n)
     }
 
-    // A reference, behind its ampersand; the first two bytes tell which entity it can be.
+    // A reference, behind its ampersand: the rest of an entity; its first two bytes tell which it can be.
     pub fn reference(self, s: &[u8]) -> Reference
         requires { ⌜ self .at ≤ length (now s) ⌝ }
         ensures { λ r. ⌜ Refers (now (s .entry)) (self .at) (entity-at (drop (self .at) (now (s .entry)))) r ⌝ }
@@ -67,17 +68,17 @@ impl Cursor {
         if first == b'a' {
             let second = peek(s, at + 1);
             if second == b'm' {
-                return self.entity(s, b"amp;", 38);
+                return self.entity(s, &xml::AMP[1..], 38);
             }
-            return self.entity(s, b"apos;", 39);
+            return self.entity(s, &xml::APOS[1..], 39);
         }
         if first == b'g' {
-            return self.entity(s, b"gt;", 62);
+            return self.entity(s, &xml::GT[1..], 62);
         }
         if first == b'l' {
-            return self.entity(s, b"lt;", 60);
+            return self.entity(s, &xml::LT[1..], 60);
         }
-        self.entity(s, b"quot;", 34)
+        self.entity(s, &xml::QUOT[1..], 34)
     }
 
     // One character of a value or a text: a byte that stands for itself, or a reference.

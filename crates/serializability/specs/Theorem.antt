@@ -63,18 +63,20 @@ abbrev pub writes-plain : List Event → List Event → Type 0
 writes-plain before [] = Unit {0}
 writes-plain before (e ∷ es) = (e .call ≡ write → e .outcome ≡ written (plain before)) × writes-plain (before ++ (e ∷ [])) es
 
+-- every transaction aborts; of those that are not open this is refused, and changes nothing
+abbrev pub all-aborted : State → State
+all-aborted M = state-after M (map abort transactions)
+
 -- a single claim about the list
 pub record Demand3 (M : State) (cs : List Call) : Type 0 where
   pub held-plain : (held-document (reached M cs) ≡ plain (since-start M cs)) ↔ (pending (since-start M cs) ≡ false)
   pub answers : plain-run-answers (since-start M cs) ≡ answers-given (since-start M cs)
   pub committed : committed-document (reached M cs) ≡ plain (since-start M cs)
+  -- "the committed one .. is the one held if they all aborted"
+  pub aborted : held-document (all-aborted (reached M cs)) ≡ plain (since-start M cs)
   pub writes : writes-plain [] (since-start M cs)
 
 -- the states that are reached ----------------------------------------------------------
-
--- every transaction aborts; of those that are not open this is refused, and changes nothing
-abbrev pub all-aborted : State → State
-all-aborted M = state-after M (map abort transactions)
 
 pub record Reached (M : State) : Type 0 where
   pub numbers-distinct : distinct (map (λ a. a .now .number) (nodes (M .tree))) ≡ true

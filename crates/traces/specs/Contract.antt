@@ -13,7 +13,7 @@ use Rattle.xml.specs.Reading.{ReadsAs}
 use Rattle.traces.specs.Exchange.{Request, Exchange}
 use Rattle.writer.specs.Contract.{Written}
 
--- the call of protocol that a request makes, with this room in its buffers; load's input is what its bytes stand for
+-- the call of protocol that a request makes, with this room in its buffers; load's input is what its bytes read as
 pub data Makes (room : Room) : Request → Call → Type 0 where
   makes-start : Makes room Request.start start
   makes-load : {x : List ℕ} {i : Input} → ReadsAs x i → Makes room (Request.load x) (load i)
@@ -36,7 +36,7 @@ abbrev pub MakesCall : Exchange → Call → Type 0
 MakesCall x c = Makes (rooms-of (x .first .before) (x .second .before)) (x .request) c
 
 -- begin, the steps, commit, abort and load: the answer, the state and the buffers
-pub record Step (x : Exchange) (r : Answer) (c : Call) : Type 0 where
+pub record OnState (x : Exchange) (r : Answer) (c : Call) : Type 0 where
   pub performed : Performed (x .state .before) (x .state .after) r c
   pub first : Lent first-lent (x .state .before) (x .first .before) (x .first .after) c
   pub second : Lent second-lent (x .state .before) (x .second .before) (x .second .after) c
@@ -57,11 +57,11 @@ pub record Write (x : Exchange) (r : Answer) : Type 0 where
 unfoldable pub Ensured : Exchange → Answer → Call → Type 0
 Ensured x r start = Start x r
 Ensured x r write = Write x r
-Ensured x r (load i) = Step x r (load i)
-Ensured x r (begin t) = Step x r (begin t)
-Ensured x r (commit t) = Step x r (commit t)
-Ensured x r (abort t) = Step x r (abort t)
-Ensured x r (step t s room) = Step x r (step t s room)
+Ensured x r (load i) = OnState x r (load i)
+Ensured x r (begin t) = OnState x r (begin t)
+Ensured x r (commit t) = OnState x r (commit t)
+Ensured x r (abort t) = OnState x r (abort t)
+Ensured x r (step t s room) = OnState x r (step t s room)
 
 -- the contract of every exported function: the number is that of an answer, which is what the definitions have for the call
 pub record Contract (x : Exchange) : Type 0 where

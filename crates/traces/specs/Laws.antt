@@ -3,4 +3,4 @@ pub mod Causes
 pub mod OneCall
 pub mod Main
 pub mod Exports
-pub mod OtherBytes
+pub mod StateBytes

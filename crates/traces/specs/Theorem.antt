@@ -5,7 +5,7 @@ use Prim.Native.Nat.{ℕ, _≤_, _<_}
 use mathlib.Core.Logic.{_↔_}
 use mathlib.Core.Bool.{true, false}
 use mathlib.Core.List.{List, [], _∷_, _++_, List·Memᴰ}
-use lib.ListN.{length, drop}
+use lib.ListN.{length, take, drop}
 use Rattle.tree.specs.Steps.{Step}
 use Rattle.locks.specs.Needs.{needs}
 use Rattle.protocol.specs.State.{State, callers-document, committed-document}
@@ -18,7 +18,7 @@ use Rattle.layout.specs.Layout.{state-size}
 use Rattle.form.specs.Form.{form, Holds}
 use Rattle.serializability.specs.Theorem.{since-start, reached, WaitSet, Demand3}
 use Rattle.xml.specs.Writing as xml
-use Rattle.xml.specs.Laws.Expressible.{ReadBack}
+use Rattle.xml.specs.Writing.{ReadBack}
 use Rattle.traces.specs.Exchange.{Request, Exchange, Memory, outcome, cause, value}
 use Rattle.writer.specs.Contract.{writing, text-after}
 use Rattle.traces.specs.Contract.{MakesCall, Contract}
@@ -47,8 +47,8 @@ pub data Made : List Exchange → List Call → Type 0 where
 abbrev pub Same : Memory → Type 0
 Same m = m .after ≡ m .before
 
--- of one call, on any bytes
-pub record Demand1 (x : Exchange) : Type 0 where
+-- the outcome of a call, and what it leaves, on any bytes
+pub record Outcomes (x : Exchange) : Type 0 where
   -- granted, a wait, or a refusal by one of the fifteen causes
   pub outcomes : outcome (x .code) ≤ 2
   pub causes : outcome (x .code) ≡ 2 → (1 ≤ cause (x .code)) × (cause (x .code) ≤ 15)
@@ -59,14 +59,17 @@ pub record Demand1 (x : Exchange) : Type 0 where
   pub long : length (x .state .after) ≡ length (x .state .before)
   pub behind : drop state-size (x .state .after) ≡ drop state-size (x .state .before)
 
--- bytes that no call left -------------------------------------------------------------
-
 -- "state bytes that are too short, or (except at start) not of the form written in docs/, give 13 before all else", and
 -- "1,048,576 bytes of state are never too short"; what a call left is of the form (`formed` below)
-pub record OtherBytes (x : Exchange) : Type 0 where
+pub record StateBytes (x : Exchange) : Type 0 where
   pub short : length (x .state .before) < state-size → x .code ≡ code-of (Refused 13)
   pub unformed : form (x .state .before) ≡ false → (x .request ≡ Request.start → ⊥) → x .code ≡ code-of (Refused 13)
   pub enough : x .request ≡ Request.start → 1048576 ≤ length (x .state .before) → outcome (x .code) ≡ 0
+
+-- "every call .. refuses an unfit request with a number of document 01; a refusal or a wait changes no node, lock or lent buffer"
+pub record Demand1 (x : Exchange) : Type 0 where
+  pub outcomes : Outcomes x
+  pub state-bytes : StateBytes x
 
 -- demand 2 -----------------------------------------------------------------------------
 
@@ -78,7 +81,7 @@ first-after (waits set) b = b
 first-after (refused c) b = b
 first-after (refused-at c offset) b = b
 
--- of the call c in the state M
+-- of the call c in the state M: "each step's answer, its locks and its wait set are document 01's", and so are reading and writing
 pub record Demand2 (M : State) (x : Exchange) (c : Call) : Type 0 where
   -- the bytes hold M, and then the definition's next state; they are of the form, so 13 is never given for the state
   pub held : Holds (x .state .before) M
@@ -94,7 +97,8 @@ pub record Demand2 (M : State) (x : Exchange) (c : Call) : Type 0 where
   pub wait-set : (t : ℕ) (s : Step) (room : Room) → c ≡ step t s room → outcome (x .code) ≡ 1
       → WaitSet (value (x .code)) t (needs s (callers-document t (M .tree))) M
   -- what a granted write gave is read back as the same tree, numbered anew
-  pub read-back : c ≡ write → outcome (x .code) ≡ 0 → ReadBack (committed-document M)
+  pub read-back : c ≡ write → outcome (x .code) ≡ 0
+      → (take (value (x .code)) (x .first .after) ≡ xml.write (committed-document M)) × ReadBack (committed-document M)
 
 -- demand 3 -----------------------------------------------------------------------------
 
@@ -111,6 +115,11 @@ Each P before [] (c ∷ cs) = ⊥
 Each P before (x ∷ xs) [] = ⊥
 Each P before (x ∷ xs) (c ∷ cs) = P before x c × Each P (before ++ (c ∷ [])) xs cs
 
+-- the state bytes behind the calls; s are those before
+abbrev pub last-state : List ℕ → List Exchange → List ℕ
+last-state s [] = s
+last-state s (x ∷ xs) = last-state (x .state .after) xs
+
 -- of the calls that x, a granted start, and xs make. M is any state: the definition's start leads from each to the same
 pub record Delivered (M : State) (x : Exchange) (xs : List Exchange) : Type 0 where
   -- the calls that xs makes: these and no others
@@ -118,7 +127,8 @@ pub record Delivered (M : State) (x : Exchange) (xs : List Exchange) : Type 0 wh
   pub made : Made xs calls
   pub only : (cs : List Call) → Made xs cs → cs ≡ calls
   pub demand-1 : (y : Exchange) → List·Memᴰ y (x ∷ xs) → Demand1 y
-  pub started : Holds (x .state .after) (reached M [])
+  -- the state that demand 3 speaks of is the one that the bytes hold in the end; they hold no other (`holds-one`)
+  pub held : Holds (last-state (x .state .after) xs) (reached M calls)
   pub demand-2 : Each (λ before y c. Demand2 (reached M before) y c) [] xs calls
   pub demand-3 : Demand3 M calls
   pub writes : Each (WritesPlain M) [] xs calls

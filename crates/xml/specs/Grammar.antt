@@ -58,7 +58,7 @@ pub data Place : Type 0 where
   behind spaced : (n : Name) (seen : List Name) → Place
   inside opened : (n : Name) → Place
 
--- from the place on to the end of the element; f are the children that stand there. `unique` asks for Unique Att Spec, the constraint of [41]
+-- from the place on to the end of the element; f are the children that stand there. `unique` asks for Unique Att Spec, the constraint of [40] and [44]
 pub data Part (unique : Bool) : Place → (s : List ℕ) (f : Shape) (t : List ℕ) → Type 0 where
   -- S in a start tag [40], [44]
   spacing : {n : Name} {seen : List Name} {b : ℕ} {s t : List ℕ} {f : Shape}

@@ -1,4 +1,5 @@
 -- Writing: document 01, "Reading and writing XML". Numbers are not written, so this is about shapes.
+use mathlib.Core.Path.{_≡_}
 use Prim.Native.Nat.{ℕ}
 use mathlib.Core.Bool.{Bool, true, false, cond, not, _&&_, _||_}
 use mathlib.Core.List.{List, [], _∷_, _++_}
@@ -9,8 +10,9 @@ use Rattle.tree.specs.Forest.{nil, node}
 use Rattle.tree.specs.Content.{element-kind, attribute-kind, text-kind}
 use Rattle.tree.specs.Document.{Document}
 use Rattle.xml.specs.Bytes.{line-feed, quotation-mark, ampersand, less-than, greater-than, amp, gt, lt, quot, used, long-declaration}
-use Rattle.xml.specs.Shape.{Label, Shape, shape}
-use Rattle.xml.specs.Reading.{input-limit}
+use Rattle.protocol.specs.Calls.{loadable, stands-for}
+use Rattle.xml.specs.Shape.{Label, Shape, shape, document}
+use Rattle.xml.specs.Reading.{input-limit, ReadsAs}
 
 -- "&amp; &lt; &gt; &quot; in texts and values"
 abbrev pub escape : ℕ → List ℕ
@@ -94,3 +96,15 @@ unfoldable pub expressible : Document → Bool
 expressible d =
     not (no-root (below (shape d))) && not (repeats [] (below (shape d))) && not (neighbouring-texts (below (shape d))) &&
     leb (length (write d)) input-limit
+
+-- reading back -------------------------------------------------------------------
+
+-- numbered anew in document order
+abbrev pub renumbered : Document → Document
+renumbered d = document (below (shape d))
+
+-- "reading back what was written gives the same tree but for node numbers"
+pub record ReadBack (d : Document) : Type 0 where
+  pub same-tree : shape (renumbered d) ≡ shape d
+  pub is-loadable : loadable (renumbered d) ≡ true
+  pub reads : ReadsAs (write d) (stands-for (renumbered d) is-loadable)

@@ -53,13 +53,13 @@ module _ {s s′ : List ℕ} {b : Bool} (k : Started s s′ b) where
   unfolding next answer-of granted-answer
   start-done e =
       let z : state-size ≤ length s = leb-true state-size (length s) (sym (k .answer) ∙ e) in
-      record { short = λ h. absurd (omega (arith, h, z)); answer = λ h M writing. refl; state = λ h M. k .holds h; long = k .long; behind = k .behind }
+      record { short = λ h. absurd (omega (arith, h, z)); answer = λ h M writing. refl; state = λ h M. k .holds h; bytes = k .bytes; long = k .long; behind = k .behind }
 
   pub start-short : b ≡ false → Restarted s s′ (Refused 13)
   unfolding next
   start-short e =
       let z : length s < state-size = leb-false state-size (length s) (sym (k .answer) ∙ e) in
-      record { short = λ h. (refl, k .short h); answer = λ h. absurd (omega (arith, h, z)); state = λ h M. k .holds h; long = k .long; behind = k .behind }
+      record { short = λ h. (refl, k .short h); answer = λ h. absurd (omega (arith, h, z)); state = λ h M. k .holds h; bytes = k .bytes; long = k .long; behind = k .behind }
 
 -- begin ---------------------------------------------------------------------------------------------
 

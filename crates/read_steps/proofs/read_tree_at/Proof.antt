@@ -42,7 +42,7 @@ returns-2 c =
     let at-way-up = at-waits .before .before in
     let start = at-way-up .before .before .before .before .before in
     two-refused (reads-short (reads-cells (start .pre)) name.RR refl _ (at-way-up .way-up .ensures) _ (at-waits .waits .ensures) _ (at-if1 .if1 .left)
-    (cells-short-first _ (at-select .select .ensures) (start .pre .layout) (start .args .out .now) (start .args .cells .now) (c .if2 .taken))) _ _
+    (cells-short-first _ (at-select .select .ensures) (start .pre .layout) (start .args .numbers .now) (start .args .cells .now) (c .if2 .taken))) _ _
 
 mul-if3 : tie.Need-mul-if3
 mul-if3 c = search needs
@@ -58,7 +58,7 @@ returns-3 c =
     let at-way-up = at-waits .before .before in
     let start = at-way-up .before .before .before .before .before in
     two-refused (reads-short (reads-cells (start .pre)) name.RR refl _ (at-way-up .way-up .ensures) _ (at-waits .waits .ensures) _ (at-if1 .if1 .left)
-    (cells-short-second _ (at-select .select .ensures) (start .pre .layout) (start .args .out .now) (start .args .cells .now) (c .if3 .taken))) _ _
+    (cells-short-second _ (at-select .select .ensures) (start .pre .layout) (start .args .numbers .now) (start .args .cells .now) (c .if3 .taken))) _ _
 
 numbers-requires : tie.Need-numbers-requires
 numbers-requires c κs = search needs
@@ -95,7 +95,7 @@ returns-4 c =
     let start = at-way-up .before .before .before .before .before in
     cells-granted _ (at-select .select .ensures) (at-numbers .numbers .ensures) (at-cells .cells .ensures) (reads-granted (reads-cells (start .pre)) name.RR refl _
     (at-way-up .way-up .ensures) _ (at-waits .waits .ensures) _ (at-if1 .if1 .left)
-    (cells-fit _ (at-select .select .ensures) (start .pre .layout) (start .args .out .now) (start .args .cells .now) (at-if2 .if2 .left) (at-if3 .if3 .left))
+    (cells-fit _ (at-select .select .ensures) (start .pre .layout) (start .args .numbers .now) (start .args .cells .now) (at-if2 .if2 .left) (at-if3 .if3 .left))
     (at-grant .grant .ensures))
 
 pub read-tree-at-spec : {M : Type 1} → statement M

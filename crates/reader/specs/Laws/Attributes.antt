@@ -1,15 +1,15 @@
 -- Names compared with each other, and an attribute from its name to its value.
 use Prim.Native.Nat.{ℕ, zero, suc, _+_, _-_, _≤_, _<_}
 use mathlib.Core.Path.{_≡_, refl, sym, ap, ap₂, _∙_, subst}
-use mathlib.Core.Bool.{Bool, true, false, cond, _&&_, _||_, false≢true}
+use mathlib.Core.Bool.{Bool, true, false, cond, not, _&&_, _||_, false≢true}
 use mathlib.Core.List.{List, [], _∷_}
 use native.Mathlib.Omega.{arith}
 use native.Mathlib.Numerals.{add-one}
 use lib.Dec.{eqb, leb, eqb·zero-suc, eqb·suc-suc}
 use lib.ListN.{length, getD, take, drop, length-drop}
-use lib.Seq.{length-take-le}
-use borrow.Author.Tests.{leb-true, leb-false}
-use Rattle.tree.specs.Lists.{same}
+use lib.Seq.{length-take-le, getD-drop}
+use borrow.Author.Tests.{leb-true, leb-false, eq-eqb, ne-eqb, eqb-true}
+use Rattle.tree.specs.Lists.{same, every}
 use Rattle.tree.specs.Content.{content-limit, attribute-kind, name-start, name-byte}
 use Rattle.protocol.specs.Calls.{node-limit}
 use Rattle.xml.specs.Bytes.{used, blank, Quote, mark}
@@ -23,7 +23,6 @@ use Rattle.xml.specs.Laws.Verdicts.{offset-before}
 use Rattle.xml.specs.Laws.Scan.{scan-at, scan-end, scan-stuck, scan-alike}
 use Rattle.xml.specs.Laws.Goes.{Leads, Goes, goes-then, scan-born, stops-many}
 use Rattle.xml.specs.Laws.Tokens.{span, span-length, span-behind, name-at, Naming, name-short, name-long}
-use Rattle.xml.specs.Laws.Completions.{same-length}
 use Rattle.xml.specs.Laws.Fixed.{agree}
 use Rattle.reader.specs.declared.Cursor.{Cursor}
 use Rattle.reader.specs.declared.Equals.{Equals}
@@ -36,17 +35,39 @@ use Rattle.reader.specs.Laws.Contents.{value-contents}
 
 -- names --------------------------------------------------------------------------------------
 
-same-agree : (w l : List ℕ) (m : ℕ) → m ≡ length w → m ≤ length l → same (take m l) w ≡ eqb (agree w l) (length w)
-unfolding agree
-same-agree [] l zero p h = refl
-same-agree [] l (suc m) p h = absurd (omega arith)
-same-agree (x ∷ w) l zero p h = absurd (omega arith)
-same-agree (x ∷ w) [] (suc m) p h = absurd (omega arith)
-same-agree (x ∷ w) (b ∷ l) (suc m) p h = go (eqb b x) (same-agree w l m (omega arith) (omega arith))
+-- the name at the beginning of l is w: all of w stands there, and no further byte of a name behind it
+same-run : (w l : List ℕ) → every name-byte w ≡ true
+    → same (take (span name-byte l) l) w ≡ (eqb (agree w l) (length w) && not (name-byte (getD l (length w) 0)))
+unfolding agree span name-byte name-start
+same-run [] [] h = refl
+same-run [] (b ∷ l) h = go (name-byte b)
   where
-    go : (t : Bool) → same (take m l) w ≡ eqb (agree w l) (length w) → (t && same (take m l) w) ≡ eqb (cond t (suc (agree w l)) 0) (suc (length w))
-    go true e = e ∙ sym (eqb·suc-suc (agree w l) (length w))
-    go false e = sym (eqb·zero-suc (length w))
+    go : (t : Bool) → same (take (cond t (suc (span name-byte l)) 0) (b ∷ l)) [] ≡ (true && not t)
+    go true = refl
+    go false = refl
+same-run (x ∷ w) [] h = rw (eqb·zero-suc (length w))
+same-run (x ∷ w) (b ∷ l) h = go (name-byte x) refl h (name-byte b) refl (eqb b x) refl (same-run w l)
+  where
+    behind : Bool
+    behind = not (name-byte (getD l (length w) 0))
+
+    go : (u : Bool) → name-byte x ≡ u → (u && every name-byte w) ≡ true → (t : Bool) → name-byte b ≡ t → (e : Bool) → eqb b x ≡ e
+        → (every name-byte w ≡ true → same (take (span name-byte l) l) w ≡ (eqb (agree w l) (length w) && behind))
+        → same (take (cond t (suc (span name-byte l)) 0) (b ∷ l)) (x ∷ w) ≡ (eqb (cond e (suc (agree w l)) 0) (suc (length w)) && behind)
+    go false p h t q e r f = absurd (false≢true h)
+    go true p h true q true r f = rw (r, eqb·suc-suc (agree w l) (length w)) (f h)
+    go true p h true q false r f = rw (r, eqb·zero-suc (length w))
+    go true p h false q true r f = absurd (false≢true (sym q ∙ ap name-byte (eqb-true b x r) ∙ p))
+    go true p h false q false r f = rw (eqb·zero-suc (length w))
+
+run-names : (l : List ℕ) → every name-byte (take (span name-byte l) l) ≡ true
+unfolding span
+run-names [] = refl
+run-names (b ∷ l) = go (name-byte b) refl (run-names l)
+  where
+    go : (t : Bool) → name-byte b ≡ t → every name-byte (take (span name-byte l) l) ≡ true → every name-byte (take (cond t (suc (span name-byte l)) 0) (b ∷ l)) ≡ true
+    go true e h = rw (e, h)
+    go false e h = refl
 
 -- the bytes of a name
 pub name-of : (s : List ℕ) (from to : ℕ) → Run name-byte s from to → take (to - from) (drop from s) ≡ name-at s from
@@ -57,17 +78,23 @@ pub length-name : (s : List ℕ) (from to : ℕ) → Run name-byte s from to →
 unfolding name-at
 length-name s from to r = length-take-le (span name-byte (drop from s)) (drop from s) (span-length name-byte (drop from s)) ∙ omega (arith, r .ends)
 
-module _ (s : List ℕ) (from to other end : ℕ) (a : Run name-byte s from to) (b : Run name-byte s other end) where
-  pub other-length : (end - other ≡ to - from → ⊥) → false ≡ same (name-at s other) (name-at s from)
-  other-length h = sym (same-length (name-at s other) (name-at s from) (λ e. h (sym (length-name s other end b) ∙ e ∙ length-name s from to a)))
+module _ (s : List ℕ) (from to other n : ℕ) (a : Run name-byte s from to) (g : Agreement (take (to - from) (drop from s)) s other n) where
+  agrees-to : n ≡ agree (name-at s from) (drop other s)
+  agrees-to = g .agrees ∙ ap (λ (x : List ℕ). agree x (drop other s)) (name-of s from to a)
 
-  pub same-bytes : end - other ≡ to - from → (n : ℕ) → Agreement (take (to - from) (drop from s)) s other n → eqb n (end - other) ≡ same (name-at s other) (name-at s from)
-  same-bytes h n g =
+  compared : same (name-at s other) (name-at s from) ≡ (eqb n (to - from) && not (name-byte (getD s (other + (to - from)) 0)))
+  unfolding name-at
+  compared =
       let w = name-at s from in
-      let q : n ≡ agree w (drop other s) = g .agrees ∙ ap (λ (x : List ℕ). agree x (drop other s)) (name-of s from to a) in
-      let m : end - other ≡ length w = h ∙ sym (length-name s from to a) in
-      let r = same-agree w (drop other s) (end - other) m (omega (arith, b .inside, length-drop other s)) in
-      ap₂ (λ (x y : ℕ). eqb x y) q m ∙ sym r ∙ ap (λ (x : List ℕ). same x w) (name-of s other end b)
+      let r = same-run w (drop other s) (run-names (drop from s)) in
+      r ∙ ap₂ (λ (x y : ℕ). eqb x y && not (name-byte (getD (drop other s) y 0))) (sym agrees-to) (length-name s from to a)
+      ∙ ap (λ (x : ℕ). eqb n (to - from) && not (name-byte x)) (getD-drop other s (to - from) 0)
+
+  pub names-differ : (n ≡ to - from → ⊥) → false ≡ same (name-at s other) (name-at s from)
+  names-differ h = sym (compared ∙ rw (ne-eqb n (to - from) h))
+
+  pub names-agree : n ≡ to - from → not (name-byte (getD s (other + n) 0)) ≡ same (name-at s other) (name-at s from)
+  names-agree h = rw h (sym (compared ∙ rw (eq-eqb n (to - from) h)))
 
 -- a name among those seen: i are left to compare
 unfoldable pub Comparing : List ℕ → List ℕ → ℕ → ℕ → Name → ℕ → Type 0

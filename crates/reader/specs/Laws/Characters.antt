@@ -112,23 +112,6 @@ module _ (s : List ℕ) (stop nodes at k count i : ℕ) (l : nodes ≤ node-limi
 
 -- the tests ------------------------------------------------------------------------------
 
-module _ (b : ℕ) where
-  pub plain-less-than : b ≡ less-than → false ≡ plain b
-  unfolding plain text-byte
-  plain-less-than e = rw e
-
-  pub plain-ampersand : b ≡ ampersand → false ≡ plain b
-  unfolding plain text-byte
-  plain-ampersand e = rw e
-
-  pub plain-text : (b ≡ less-than → ⊥) → (b ≡ ampersand → ⊥) → text-byte b ≡ plain b
-  unfolding plain
-  plain-text m n = rw (ne-eqb b less-than m, ne-eqb b ampersand n) (go (text-byte b))
-    where
-      go : (x : Bool) → x ≡ (x && not false && not false)
-      go true = refl
-      go false = refl
-
 module _ (stop k b : ℕ) where
   pub begins-reference : b ≡ ampersand → true ≡ begins stop k b
   unfolding begins

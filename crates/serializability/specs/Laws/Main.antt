@@ -13,6 +13,7 @@ use Rattle.protocol.specs.State.{State, is-transaction, transactions, held-docu
 use Rattle.protocol.specs.Calls.{Call, start, load, begin, commit, abort, step, write, written, next}
 use Rattle.protocol.specs.History.{Event, history, state-after, fed, plain, plain-run-answers, answers-given, pending-in, pending}
 use Rattle.serializability.specs.Theorem.{since-start, reached, OpenInAnyOrder, writes-plain, Demand3}
+use Rattle.serializability.specs.Laws.Reached.{always-reached}
 use Rattle.serializability.specs.Laws.Tracking.{Tracks}
 use Rattle.serializability.specs.Laws.Ends.{document-same}
 use Rattle.serializability.specs.Laws.AnyOrder.{entries, reached-tracks, fed-is, answered-is, any-order}
@@ -116,4 +117,10 @@ unfolding history is-write state-after
 all-writes M cs = (λ e. absurd (false≢true (ap is-write e)), writes-from M [] cs)
 
 pub demand-3 : (M : State) (cs : List Call) → Demand3 M cs
-demand-3 M cs = record { held-plain = held-plain M cs; answers = plain-same-answers M cs; committed = plain-committed M cs; writes = all-writes M cs }
+demand-3 M cs = record {
+  held-plain = held-plain M cs;
+  answers = plain-same-answers M cs;
+  committed = plain-committed M cs;
+  aborted = always-reached M cs .committed-if-aborted ∙ plain-committed M cs;
+  writes = all-writes M cs;
+}

@@ -112,7 +112,7 @@ module _ {s s′ : List ℕ} {a : Answer} {r : ℕ} (e : r ≡ code-of a) where
   -- a call that puts nothing into buffers
   quiet : (q : Request) (c : Call) → Performed s s′ a c
       → ((lent : Value → List ℕ) → lent done ≡ [] → ((n : ℕ) → lent (how-many n) ≡ []) → (M : State) → Unlent lent (next c M))
-      → contract.Step (with-none q s s′ r) a c
+      → contract.OnState (with-none q s s′ r) a c
   unfolding first-lent second-lent
   quiet q c h u = record {
     performed = h;

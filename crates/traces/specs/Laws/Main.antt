@@ -2,7 +2,7 @@
 use mathlib.Core.Path.{_≡_, refl, sym, ap, ap₂, _∙_, subst}
 use Prim.Native.Nat.{ℕ}
 use mathlib.Core.Bool.{Bool, true, false}
-use mathlib.Core.List.{List, [], _∷_, _++_, List·Memᴰ, List·Memᴰ·head, List·Memᴰ·tail, List·Memᴰ·not-nil}
+use mathlib.Core.List.{List, [], _∷_, _++_, append-nil, append-assoc, List·Memᴰ, List·Memᴰ·head, List·Memᴰ·tail, List·Memᴰ·not-nil}
 use native.Mathlib.Omega.{arith}
 use lib.ListN.{length}
 use lib.Dec.{leb}
@@ -20,9 +20,10 @@ use Rattle.serializability.specs.Laws.Reached.{always-reached}
 use Rattle.traces.specs.Exchange.{Request, Exchange}
 use Rattle.traces.specs.Contract as contract
 use Rattle.traces.specs.Contract.{Makes, makes-start, MakesCall, Ensured, Contract}
-use Rattle.traces.specs.Theorem.{Linked, Trace, Made, no-call, call-then, Demand1, Demand2, WritesPlain, Each, Delivered}
+use Rattle.traces.specs.Theorem.{Linked, Trace, Made, no-call, call-then, Demand1, Demand2, WritesPlain, Each, last-state, Delivered}
 use Rattle.traces.specs.Laws.Causes.{makes-one, makes-only}
-use Rattle.traces.specs.Laws.OneCall.{demand-1, demand-2, granted-text}
+use Rattle.traces.specs.Laws.OneCall.{outcomes-of, demand-2, granted-text}
+use Rattle.traces.specs.Laws.StateBytes.{state-bytes}
 
 -- the calls that were made ----------------------------------------------------------------
 
@@ -35,6 +36,10 @@ made-only no-call no-call = refl
 made-only (call-then m k) (call-then n l) = ap₂ (λ (c : Call) (cs : List Call). c ∷ cs) (makes-only _ m n) (made-only k l)
 
 -- demand 1 --------------------------------------------------------------------------------
+
+-- of every call that meets its contract, whatever bytes it was lent
+pub demand-1 : (x : Exchange) → Contract x → Demand1 x
+demand-1 x k = record { outcomes = outcomes-of x k; state-bytes = state-bytes x k }
 
 each-demand : (s : List ℕ) (xs : List Exchange) → Linked s xs → (y : Exchange) → List·Memᴰ y xs → Demand1 y
 each-demand s [] l y i = absurd (List·Memᴰ·not-nil i)
@@ -62,6 +67,14 @@ module _ (M : State) where
   each-both before s (x ∷ xs) (c ∷ cs) h l (call-then m k) =
       let b = both before x c (l .0) m (rw (l .1) h) in
       (b, each-both (before ++ (c ∷ [])) (x .state .after) xs cs (rw (further before c) (b .0 .left)) (l .2) k)
+
+  -- the bytes in the end
+  holds-last : (before : List Call) (s : List ℕ) (xs : List Exchange) (cs : List Call) → Holds s (reached M before) → Linked s xs → Made xs cs
+      → Holds (last-state s xs) (reached M (before ++ cs))
+  holds-last before s [] [] h l no-call = rw (append-nil before) h
+  holds-last before s (x ∷ xs) (c ∷ cs) h l (call-then m k) =
+      let b = both before x c (l .0) m (rw (l .1) h) in
+      rw (append-assoc before (c ∷ []) cs) at (holds-last (before ++ (c ∷ [])) (x .state .after) xs cs (rw (further before c) (b .0 .left)) (l .2) k)
 
 each-part : (P Q : List Call → Exchange → Call → Type 0) → ((before : List Call) (x : Exchange) (c : Call) → P before x c → Q before x c)
     → (before : List Call) (xs : List Exchange) (cs : List Call) → Each P before xs cs → Each Q before xs cs
@@ -97,7 +110,7 @@ delivered M x xs t =
       made = m .1;
       only = λ cs k. made-only k (m .1);
       demand-1 = all-calls;
-      started = h;
+      held = holds-last M [] (x .state .after) xs (m .0) h (t .linked) (m .1);
       demand-2 = each-part (Both M) (λ before y c. Demand2 (reached M before) y c) (λ before y c p. p .0) [] xs (m .0) b;
       demand-3 = demand-3 M (m .0);
       writes = each-part (Both M) (WritesPlain M) (λ before y c p. p .1) [] xs (m .0) b;

@@ -5,6 +5,7 @@ use mathlib.Core.Bool.{Bool, true, false, cond, _&&_, false≢true}
 use mathlib.Core.List.{List, [], _∷_}
 use native.Mathlib.Omega.{arith}
 use lib.ListN.{length, drop, length-append}
+use lib.Seq.{take-append-seam}
 use lib.Dec.{leb}
 use borrow.Author.Tests.{leb-true, leb-false}
 use Rattle.tree.specs.Forest.{Forest, nil, node, rows, view}
@@ -29,7 +30,7 @@ use Rattle.markup.specs.Rows.{ordered}
 use Rattle.writer.specs.Contract.{writable, writing, text-after}
 use Rattle.traces.specs.Contract as contract
 use Rattle.traces.specs.Contract.{MakesCall, Ensured, Contract}
-use Rattle.traces.specs.Theorem.{Same, Demand1, first-after, Demand2}
+use Rattle.traces.specs.Theorem.{Same, Outcomes, first-after, Demand2}
 use Rattle.traces.specs.Laws.Codes.{Listed, Told, told, not-written}
 use Rattle.traces.specs.Laws.Causes.{makes-one, listed}
 use Rattle.markup.specs.Laws.Rules.{legal-ordered}
@@ -38,7 +39,7 @@ use Rattle.markup.specs.Laws.Rules.{legal-ordered}
 
 -- by an outcome that the number tells
 told-demand : (x : Exchange) (o : Outcome) → Told (x .code) o → (is-granted o ≡ false → Same (x .state) × Same (x .first) × Same (x .second))
-    → length (x .state .after) ≡ length (x .state .before) → drop state-size (x .state .after) ≡ drop state-size (x .state .before) → Demand1 x
+    → length (x .state .after) ≡ length (x .state .before) → drop state-size (x .state .after) ≡ drop state-size (x .state .before) → Outcomes x
 told-demand x o t k l b = record {
   outcomes = t .outcomes;
   causes = t .causes;
@@ -66,10 +67,10 @@ module _ (x : Exchange) (r : Answer) (e : x .code ≡ code-of r) where
   tells : (o : Outcome) → Listed o → r ≡ answer-of (λ d. Done) o → Told (x .code) o
   tells o l f = rw (e, f) (told o l)
 
-  step-demand : (c : Call) → contract.Step x r c → ((M : State) → Listed (next c M .outcome)) → Demand1 x
+  step-demand : (c : Call) → contract.OnState x r c → ((M : State) → Listed (next c M .outcome)) → Outcomes x
   step-demand c h l = go (form (x .state .before)) refl
     where
-      go : (f : Bool) → form (x .state .before) ≡ f → Demand1 x
+      go : (f : Bool) → form (x .state .before) ≡ f → Outcomes x
       go false f =
           let u = h .performed .unformed f in
           told-demand x (refused 13) (rw (e, u .0) told-13) (λ _. (u .1, h .first .unformed f, h .second .unformed f)) (h .performed .long) (h .performed .behind)
@@ -84,11 +85,11 @@ module _ (x : Exchange) (r : Answer) (e : x .code ≡ code-of r) where
           ))
           (h .performed .long) (h .performed .behind)
 
-  start-demand : contract.Start x r → Demand1 x
+  start-demand : contract.Start x r → Outcomes x
   unfolding next answer-of
   start-demand h = go (leb state-size (length (x .state .before))) refl
     where
-      go : (f : Bool) → leb state-size (length (x .state .before)) ≡ f → Demand1 x
+      go : (f : Bool) → leb state-size (length (x .state .before)) ≡ f → Outcomes x
       go false f =
           let u = h .restarted .short (leb-false state-size (length (x .state .before)) f) in
           told-demand x (refused 13) (rw (e, u .0) told-13) (λ _. (u .1, h .first, h .second)) (h .restarted .long) (h .restarted .behind)
@@ -97,34 +98,34 @@ module _ (x : Exchange) (r : Answer) (e : x .code ≡ code-of r) where
           (λ g. absurd (false≢true (sym g))) (h .restarted .long) (h .restarted .behind)
 
   -- a write of d: its outcome as a number tells it, and what it leaves
-  writing-demand : (d : Document) → r ≡ writing (length (x .first .before)) d → x .first .after ≡ text-after (x .first .before) d → Same (x .state) → Same (x .second) → Demand1 x
+  writing-demand : (d : Document) → r ≡ writing (length (x .first .before)) d → x .first .after ≡ text-after (x .first .before) d → Same (x .state) → Same (x .second) → Outcomes x
   unfolding writing text-after writable answer-of granted-answer
   writing-demand d a f s k = go (xml.expressible d) (leb (length (xml.write d)) (length (x .first .before))) a f
     where
       go : (p q : Bool) → r ≡ cond p (cond q (Count (length (xml.write d))) (Refused 13)) (Refused 14)
-          → x .first .after ≡ cond (p && q) (filled (xml.write d) (x .first .before)) (x .first .before) → Demand1 x
+          → x .first .after ≡ cond (p && q) (filled (xml.write d) (x .first .before)) (x .first .before) → Outcomes x
       go true true a f =
           told-demand x (granted (how-many (length (xml.write d)))) (tells (granted (how-many (length (xml.write d)))) tt a) (λ g. absurd (false≢true (sym g))) (ap length s) (ap (drop state-size) s)
       go true false a f = told-demand x (refused 13) (tells (refused 13) (omega arith, omega arith) a) (λ _. (s, f, k)) (ap length s) (ap (drop state-size) s)
       go false q a f = told-demand x (refused 14) (tells (refused 14) (omega arith, omega arith) a) (λ _. (s, f, k)) (ap length s) (ap (drop state-size) s)
 
-  write-demand : contract.Write x r → Demand1 x
+  write-demand : contract.Write x r → Outcomes x
   unfolding answer-of
   write-demand h = go (form (x .state .before)) refl
     where
-      by-order : (M : State) → Holds (x .state .before) M → (o : Bool) → ordered (committed-document M) ≡ o → Demand1 x
+      by-order : (M : State) → Holds (x .state .before) M → (o : Bool) → ordered (committed-document M) ≡ o → Outcomes x
       by-order M b true o = writing-demand (committed-document M) (h .written .answer M b o) (h .written .text M b o) (h .state) (h .second)
       by-order M b false o =
           let u = h .written .disordered M b o in
           told-demand x (refused 14) (rw (e, u .0) (told (refused 14) (omega arith, omega arith))) (λ _. (h .state, u .1, h .second)) (ap length (h .state)) (ap (drop state-size) (h .state))
 
-      go : (f : Bool) → form (x .state .before) ≡ f → Demand1 x
+      go : (f : Bool) → form (x .state .before) ≡ f → Outcomes x
       go false f =
           let u = h .written .unformed f in
           told-demand x (refused 13) (rw (e, u .0) told-13) (λ _. (h .state, u .1, h .second)) (ap length (h .state)) (ap (drop state-size) (h .state))
       go true f = let M = form-holds (x .state .before) f in by-order (M .0) (M .1) (ordered (committed-document (M .0))) refl
 
-  ensured-demand : (c : Call) → ((M : State) → Listed (next c M .outcome)) → Ensured x r c → Demand1 x
+  ensured-demand : (c : Call) → ((M : State) → Listed (next c M .outcome)) → Ensured x r c → Outcomes x
   unfolding Ensured
   ensured-demand start l h = start-demand h
   ensured-demand write l h = write-demand h
@@ -135,8 +136,8 @@ module _ (x : Exchange) (r : Answer) (e : x .code ≡ code-of r) where
   ensured-demand (step t s room) l h = step-demand (step t s room) h l
 
 -- on any bytes
-pub demand-1 : (x : Exchange) → Contract x → Demand1 x
-demand-1 x k = let m = makes-one _ (x .request) in ensured-demand x (k .answer) (k .code) (m .0) (listed (m .1)) (k .ensured (m .0) (m .1))
+pub outcomes-of : (x : Exchange) → Contract x → Outcomes x
+outcomes-of x k = let m = makes-one _ (x .request) in ensured-demand x (k .answer) (k .code) (m .0) (listed (m .1)) (k .ensured (m .0) (m .1))
 
 -- demand 2 ------------------------------------------------------------------------------
 
@@ -179,14 +180,15 @@ few-lines {s} {M} h = omega (arith, view-length (shown (λ u. false)) (as-shown 
 
 -- what a granted write gave: the tests that it passed
 pub granted-write : (out : List ℕ) (d : Document) → outcome (code-of (writing (length out) d)) ≡ 0
-    → (xml.expressible d ≡ true) × (text-after out d ≡ filled (xml.write d) out)
+    → (xml.expressible d ≡ true) × (text-after out d ≡ filled (xml.write d) out) × (value (code-of (writing (length out) d)) ≡ length (xml.write d))
 unfolding writing text-after writable code-of
 granted-write out d h = go (xml.expressible d) refl (leb (length (xml.write d)) (length out)) h
   where
     go : (p : Bool) → xml.expressible d ≡ p → (q : Bool)
         → outcome (code-of (cond p (cond q (Count (length (xml.write d))) (Refused 13)) (Refused 14))) ≡ 0
         → (xml.expressible d ≡ true) × (cond (p && q) (filled (xml.write d) out) out ≡ filled (xml.write d) out)
-    go true e true h = (e, refl)
+        × (value (code-of (cond p (cond q (Count (length (xml.write d))) (Refused 13)) (Refused 14))) ≡ length (xml.write d))
+    go true e true h = (e, refl, omega arith)
     go true e false h = absurd (omega arith)
     go false e q h = absurd (omega arith)
 
@@ -200,7 +202,7 @@ write-no-wait out d h = go (xml.expressible d) (leb (length (xml.write d)) (leng
     go false q h = omega arith
 
 module _ (M : State) (x : Exchange) (r : Answer) (e : x .code ≡ code-of r) (b : Holds (x .state .before) M) where
-  step-meets : (c : Call) → contract.Step x r c → Listed (next c M .outcome) → Demand2 M x c
+  step-meets : (c : Call) → contract.OnState x r c → Listed (next c M .outcome) → Demand2 M x c
   unfolding next
   step-meets c h l = record {
     held = b;
@@ -248,7 +250,12 @@ module _ (M : State) (x : Exchange) (r : Answer) (e : x .code ≡ code-of r) (b 
     second = h .second;
     as-granted = λ n. absurd (n refl);
     wait-set = λ t s room k w. absurd (write-no-wait (x .first .before) (committed-document M) (rw (e, given) at w));
-    read-back = λ k g. read-back (committed-document M) l (granted-write (x .first .before) (committed-document M) (rw (e, given) at g) .0) (few-lines b);
+    read-back = λ k g.
+        let d = committed-document M in
+        let w = granted-write (x .first .before) d (rw (e, given) at g) in (
+          rw (e, given, w .2, h .written .text M b (legal-ordered d l), w .1) (take-append-seam (xml.write d) (drop (length (xml.write d)) (x .first .before))),
+          read-back d l (w .0) (few-lines b),
+        );
   }
     where
       given : r ≡ writing (length (x .first .before)) (committed-document M)

@@ -18,7 +18,7 @@ use Rattle.xml.specs.Bytes.{used}
 use Rattle.xml.specs.Shape.{Label, Shape, element, attribute, text, size, longest, numbered, document, unnumbered, shape}
 use Rattle.xml.specs.Grammar.{Name, text-node, Spells}
 use Rattle.xml.specs.Reading.{input-limit, ReadsAs}
-use Rattle.xml.specs.Writing.{below, write, no-root, repeats, begins-with-text, neighbouring-texts, expressible}
+use Rattle.xml.specs.Writing.{below, write, no-root, repeats, begins-with-text, neighbouring-texts, expressible, renumbered, ReadBack}
 use Rattle.xml.specs.Laws.Structure.{Spot, attributes, children, behind-text, Formed, formed-nil, formed-attribute, formed-text, formed-element}
 use Rattle.xml.specs.Laws.Structure.{no-text, no-attribute, FormedRoot, formed-root, left-of, right-of, neither, spelled-formed}
 use Rattle.xml.specs.Laws.Loadable.{not-attribute, spelled-loadable}
@@ -278,15 +278,6 @@ shape-numbered i nil = refl
 shape-numbered i (node a ks fs) = rw (shape-numbered (suc i) ks, shape-numbered (suc i + size ks) fs)
 
 -- READ BACK ------------------------------------------------------------------------------
-
--- numbered anew in document order
-abbrev pub renumbered : Document → Document
-renumbered d = document (below (shape d))
-
-pub record ReadBack (d : Document) : Type 0 where
-  pub same-tree : shape (renumbered d) ≡ shape d
-  pub is-loadable : loadable (renumbered d) ≡ true
-  pub reads : ReadsAs (write d) (stands-for (renumbered d) is-loadable)
 
 expressible-parts : (d : Document) → expressible d ≡ true → Writable d × (length (write d) ≤ input-limit)
 unfolding expressible

@@ -20,8 +20,8 @@ loop-holds c = (search needs, run-start _ _ _)
 shared-slice-read-b : tie.Need-shared-slice-read-b Inv-loop μ-loop
 shared-slice-read-b c = search needs
 
-name-byte-requires : tie.Need-name-byte-requires Inv-loop μ-loop
-name-byte-requires c κs = search needs
+is-name-byte-requires : tie.Need-is-name-byte-requires Inv-loop μ-loop
+is-name-byte-requires c κs = search needs
 
 add-i : tie.Need-add-i Inv-loop μ-loop
 add-i c = search needs
@@ -30,13 +30,13 @@ loop-less : tie.Need-loop-less Inv-loop μ-loop
 loop-less c = search needs
 
 loop-again : tie.Need-loop-again Inv-loop μ-loop
-loop-again c = (search needs, run-turn _ _ _ _ (c .before .before .before .before .loop .inv .1) (search needs) (sym (c .before .name-byte .ensures) ∙ not-false _ (c .if1 .left)))
+loop-again c = (search needs, run-turn _ _ _ _ (c .before .before .before .before .loop .inv .1) (search needs) (sym (c .before .is-name-byte .ensures) ∙ not-false _ (c .if1 .left)))
 
 returns : tie.Need-returns Inv-loop μ-loop
 returns c = run-end _ _ _ _ (c .before .loop .inv .1) (search needs) (search needs)
 
 returns-2 : tie.Need-returns-2 Inv-loop μ-loop
-returns-2 c = run-stop _ _ _ _ (c .before .before .before .before .loop .inv .1) (search needs) (sym (c .before .name-byte .ensures) ∙ not-true _ (c .if1 .taken))
+returns-2 c = run-stop _ _ _ _ (c .before .before .before .before .loop .inv .1) (search needs) (sym (c .before .is-name-byte .ensures) ∙ not-true _ (c .if1 .taken))
 
 pub name-spec : {M : Type 1} → statement M
 name-spec =
@@ -46,7 +46,7 @@ name-spec =
     μ-loop
     loop-holds
     shared-slice-read-b
-    name-byte-requires
+    is-name-byte-requires
     add-i
     loop-less
     loop-again

@@ -1,4 +1,4 @@
--- Calls on bytes that no call left: 13 before all else.
+-- Bytes that are no state: 13 before all else.
 use mathlib.Core.Path.{_≡_, refl, ap, _∙_}
 use Prim.Native.Nat.{ℕ, _≤_, _<_}
 use mathlib.Core.Bool.{Bool, true, false}
@@ -16,7 +16,7 @@ use Rattle.form.specs.Form.{form}
 use Rattle.form.specs.Laws.Holds.{form-layout}
 use Rattle.traces.specs.Exchange.{Request, Exchange, outcome}
 use Rattle.traces.specs.Contract.{Makes, makes-start, MakesCall, Ensured, Contract}
-use Rattle.traces.specs.Theorem.{OtherBytes}
+use Rattle.traces.specs.Theorem.{StateBytes}
 use Rattle.traces.specs.Laws.Causes.{makes-one}
 
 -- bytes that are too short are not of the form
@@ -55,9 +55,9 @@ module _ (x : Exchange) (r : Answer) where
   unfolding Ensured next answer-of granted-answer
   start-answer h l = h .restarted .answer (omega arith) start-state (λ d. Done)
 
-pub other-bytes : (x : Exchange) → Contract x → OtherBytes x
+pub state-bytes : (x : Exchange) → Contract x → StateBytes x
 unfolding code-of
-other-bytes x k = record {
+state-bytes x k = record {
   short = λ l. k .code ∙ ap code-of (short-answer x (k .answer) (m .0) (k .ensured (m .0) (m .1)) l);
   unformed = λ f n. k .code ∙ ap code-of (unformed-answer x (k .answer) (m .0) (m .1) (k .ensured (m .0) (m .1)) f n);
   enough = λ q l. ap outcome (k .code ∙ ap code-of (start-answer x (k .answer) (k .ensured start (rw q makes-start)) l));
