@@ -110,6 +110,13 @@ module _ (s : List ℕ) (stop nodes at k count i : ℕ) (l : nodes ≤ node-limi
                   → Refers s (i + 1) q (Byte b c) → scan-at s (C k) nodes count i ≡ scan-at s (C (brackets k (getD s i 0))) nodes (count + 1) (c .at)
               go C R D x q p (refers {n = n} o m) = landed x a ∙ rw (p, a, o) (ap (λ (j : ℕ). scan-at s (C 0) nodes j (i + 1 + n)) (sym (add-one count)))
 
+          pub characters-reference : getD s i 0 ≡ ampersand → {b : ℕ} {c : Cursor} → Refers s (i + 1) (entity-at (drop (i + 1) s)) (Byte b c)
+              → CharactersTo s stop nodes at 0 (count + 1) (c .at)
+          unfolding brackets
+          characters-reference a {b} {c} r =
+              let z : brackets k (getD s i 0) ≡ 0 = rw a in
+              subst (λ (q : ℕ). CharactersTo s stop nodes at q (count + 1) (c .at)) z (characters-turn (by-reference a r))
+
 -- the tests ------------------------------------------------------------------------------
 
 module _ (stop k b : ℕ) where
