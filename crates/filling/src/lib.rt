@@ -53,16 +53,22 @@ fn decode(from: Cursor, x: &[u8], stop: u8, buffer: &mut [u8; 32]) -> Content
                 next: Cursor { at: i },
             };
         }
-        let here = Cursor { at: i };
-        match here.character(x) {
+        if b != b'&' {
+            buffer[n] = b;
+            n += 1;
+            i += 1;
+            continue;
+        }
+        let next = Cursor { at: i + 1 };
+        match next.reference(x) {
             Reference::NoEntity(lost) => return Content {
                 length: n,
-                next: here,
+                next: Cursor { at: i },
             },
-            Reference::Byte(value, next) => {
+            Reference::Byte(value, behind) => {
                 buffer[n] = value;
                 n += 1;
-                i = next.at;
+                i = behind.at;
             }
         }
     }
