@@ -51,6 +51,24 @@ size_t tree_document(char *out, unsigned nodes)
     return (size_t)(at - out);
 }
 
+size_t long_document(char *out)
+{
+    static const char carrier[] =
+        "<carrier-of-detachable-chairlift identification-of-the-carrier = \"&apos;Line&apos; %03u &lt; &quot;valley&quot; &amp; 2,500\"\n"
+        "                                 position-on-the-hauling-rope  = '1,204.75 m &lt;behind&gt; the &quot;drive&quot;'\n"
+        "                                 >"
+        "<greatest-speed-of-the-carrier  >&apos;6.25 m/s&apos; &amp; &quot;slow&quot; if wind &gt; 12</greatest-speed-of-the-carrier  >"
+        "<distance-to-the-next-carriers  ></distance-to-the-next-carriers  >"
+        "<state-of-the-grip-on-the-rope  ></state-of-the-grip-on-the-rope  >"
+        "</carrier-of-detachable-chairlift\n>";
+    enum { CARRIERS = 113 }; /* 9 nodes each */
+    char *at = out + sprintf(out, "<ropeway-of-the-northern-station>");
+    for (unsigned i = 0; i < CARRIERS; i++)
+        at += sprintf(at, carrier, i);
+    at += sprintf(at, "</ropeway-of-the-northern-station>");
+    return (size_t)(at - out);
+}
+
 void must_grant(const char *engine, const char *what, noodlefen_answer answer)
 {
     if (noodlefen_granted(answer))

@@ -140,6 +140,7 @@ void time_xml(const char *settings_path)
         sprintf(name, "%u nodes", sizes[i]);
         print_document(name, xml, tree_document(xml, sizes[i]));
     }
+    print_document("64 KB", xml, long_document(xml));
     FILE *file = fopen(settings_path, "rb");
     if (file != NULL) {
         size_t length = fread(xml, 1, sizeof xml, file);

@@ -37,6 +37,9 @@ double median(double *samples, int count);
 /* Writes a settings document of so many nodes, the document included; answers its length. */
 size_t tree_document(char *out, unsigned nodes);
 
+/* Writes a document of close to 65,536 bytes and 1,024 nodes: names, values and texts of 28 to 32 bytes, entities, blanks in tags. */
+size_t long_document(char *out);
+
 /* Stops the program if a call that is timed was not granted: its time would mean nothing. */
 void must_grant(const char *engine, const char *what, noodlefen_answer answer);
 

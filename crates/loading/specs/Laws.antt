@@ -1,3 +1,4 @@
 pub mod Opens
 pub mod Judgement
+pub mod Empty
 pub mod Load

@@ -2,13 +2,16 @@
 use judging::Judged;
 use protocol::Answer;
 ghost use mathlib.Core.Path.{_≡_};
-ghost use Prim.Native.Nat.{ℕ, _≤_};
-ghost use lib.ListN.{length};
+ghost use mathlib.Core.Bool.{true, false};
+ghost use Prim.Native.Nat.{ℕ};
 ghost use Rattle.tree.specs.Lists.{any};
-ghost use Rattle.protocol.specs.State.{transactions};
+ghost use Rattle.tree.specs.Document.{node-0-alone};
+ghost use Rattle.protocol.specs.State.{transactions, tree-of};
 ghost use Rattle.protocol.specs.Calls.{Input, load};
-ghost use Rattle.layout.specs.Layout.{state-size, is-open, Layout};
+ghost use Rattle.layout.specs.Flat.{flat};
+ghost use Rattle.layout.specs.Layout.{is-open, Layout, Left};
 ghost use Rattle.xml.specs.Reading.{ReadsAs};
+ghost use Rattle.form.specs.Form.{form};
 ghost use Rattle.engine.specs.Contract.{Performed};
 ghost use Rattle.loading.specs.Load.{Stands, Replaced};
 
@@ -27,12 +30,24 @@ fn any_open(s: &[u8]) -> bool
     false
 }
 
-// The state set to the beginning and filled with the nodes of the input.
+// The document node is held alone: empty, and without marks and locks.
+fn empty(s: &mut [u8])
+    requires { ⌜ form (now s) ≡ true ⌝ }
+    ensures { λ r. ⌜ Left (now (s .entry)) (now (s .exit)) (is-open (now (s .entry))) (flat 0 (tree-of node-0-alone)) ⌝ }
+{
+    outline::cut(s, 1);
+    table::set_writer(s, 0, 0);
+    table::set_content(s, 0, b"");
+    table::save_content(s, 0);
+    transactions::unlock(s, 0);
+}
+
+// The nodes replaced by those of the input.
 fn replace(s: &mut [u8], x: &[u8])
-    requires { ⌜ (state-size ≤ length (now s)) × ((n : ℕ) × Stands (now x) n) ⌝ }
+    requires { ⌜ (form (now s) ≡ true) × (any (is-open (now s)) transactions ≡ false) × ((n : ℕ) × Stands (now x) n) ⌝ }
     ensures { λ r. ⌜ Replaced (now (x .entry)) (now (s .entry)) (now (s .exit)) ⌝ }
 {
-    form::start(s);
+    empty(s);
     filling::fill(s, x);
 }
 

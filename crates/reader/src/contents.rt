@@ -30,15 +30,21 @@ impl Cursor {
             if count == 32 {
                 return Read::Refused(5, i);
             }
-            let here = Cursor { at: i };
-            match here.character(s) {
+            if b != b'&' {
+                i += 1;
+                count += 1;
+                k = brackets_after(k, b);
+                continue;
+            }
+            let next = Cursor { at: i + 1 };
+            match next.reference(s) {
                 Reference::NoEntity(j) => return Read::Refused(4, j),
-                Reference::Byte(_, next) => {
-                    i = next.at;
+                Reference::Byte(_, behind) => {
+                    i = behind.at;
                 }
             }
             count += 1;
-            k = brackets_after(k, b);
+            k = 0;
         }
         Read::Refused(4, i)
     }

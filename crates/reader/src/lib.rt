@@ -82,25 +82,25 @@ pub fn is_blank(b: u8) -> bool
     b == 32
 }
 
-// Classes of bytes by comparisons: a table in a constant would be laid out anew at each lookup.
+// Classes of bytes by comparisons: a table in a constant would be laid out anew at each lookup. Small letters, the most frequent, come first.
 pub fn is_name_start(b: u8) -> bool
     ensures { λ r. ⌜ r ≡ name-start b ⌝ }
 {
-    if b < b'A' {
-        return false;
+    if b >= b'a' {
+        return b <= b'z';
     }
-    if b <= b'Z' {
-        return true;
-    }
-    if b < b'a' {
+    if b > b'Z' {
         return b == b'_';
     }
-    b <= b'z'
+    b >= b'A'
 }
 
 pub fn is_name_byte(b: u8) -> bool
     ensures { λ r. ⌜ r ≡ name-byte b ⌝ }
 {
+    if b >= b'a' {
+        return b <= b'z';
+    }
     if b >= b'A' {
         return is_name_start(b);
     }
@@ -161,6 +161,9 @@ pub fn agreement(s: &[u8], at: usize, word: &[u8]) -> usize
 fn may_stand(b: u8, stop: u8, k: usize) -> bool
     ensures { λ r. ⌜ r ≡ begins stop k b ⌝ }
 {
+    if b > b'>' {
+        return b <= b'~';
+    }
     if b == b'&' {
         return true;
     }

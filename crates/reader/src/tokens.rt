@@ -1,16 +1,16 @@
-// Blanks, names and characters.
+// Blanks, names and references.
 use super::Cursor;
 use super::Reference;
 use super::agreement;
 use super::is_blank;
 use super::is_name_byte;
 use super::peek;
-ghost use Prim.Native.Nat.{_<_, _≤_};
+ghost use Prim.Native.Nat.{_≤_};
 ghost use lib.ListN.{length, drop};
 ghost use Rattle.tree.specs.Content.{name-byte};
 ghost use Rattle.xml.specs.Bytes.{blank};
 ghost use Rattle.xml.specs.Laws.Fixed.{word-at, entity-at};
-ghost use Rattle.reader.specs.Steps.{Run, Refers, Character};
+ghost use Rattle.reader.specs.Steps.{Run, Refers};
 
 impl Cursor {
     // Over blanks.
@@ -79,19 +79,5 @@ impl Cursor {
             return self.entity(s, &xml::LT[1..], 60);
         }
         self.entity(s, &xml::QUOT[1..], 34)
-    }
-
-    // One character of a value or a text: a byte that stands for itself, or a reference.
-    pub fn character(self, s: &[u8]) -> Reference
-        requires { ⌜ self .at < length (now s) ⌝ }
-        ensures { λ r. ⌜ Character (now (s .entry)) (self .at) r ⌝ }
-    {
-        let at = self.at;
-        let b = s[at];
-        let next = Cursor { at: at + 1 };
-        if b == b'&' {
-            return next.reference(s);
-        }
-        Reference::Byte(b, next)
     }
 }

@@ -1,10 +1,11 @@
 use borrow.Author.Needs.{needs}
 use native.Mathlib.Omega.{arith}
-use Prim.Native.Nat.{_-_, _≤_}
+use Prim.Native.Nat.{_+_, _-_, _≤_}
 use mathlib.Core.Path.{_≡_, refl, subst}
-use lib.ListN.{length, take, length-set}
+use lib.ListN.{length, take, drop, length-set}
+use Rattle.xml.specs.Laws.Fixed.{entity-at}
 use Rattle.reader.specs.declared.Reference.{Reference}
-use Rattle.reader.specs.Steps.{Character}
+use Rattle.reader.specs.Steps.{Refers, one-byte, by-reference}
 use Rattle.reader.specs.Laws.Characters.{character-inside}
 use Rattle.filling.specs.Laws.Decoding.{Decoding, decode-start, decode-stop, decode-end, decode-lost, decode-full, decode-turn}
 use Rattle.filling.proofs.decode.Statement.{statement}
@@ -32,44 +33,80 @@ returns-2 : tie.Need-returns-2 Inv-loop μ-loop
 returns-2 c = let l = c .before .before .before .before .loop in
     (l .inv .3, decode-full _ _ _ _ _ _ (l .inv .4) (l .inv .0) (l .inv .2) (search needs) (c .before .if1 .left) _ refl (c .if2 .taken) (l .inv .3))
 
-character-requires : tie.Need-character-requires Inv-loop μ-loop
-character-requires c κs = search needs
-
-enum-known-lost : tie.Need-enum-known-lost Inv-loop μ-loop
-enum-known-lost c = search needs
-
-returns-3 : tie.Need-returns-3 Inv-loop μ-loop
-returns-3 c = let m = c .before .before .before .before .before .before .before .before in
-    let l = m .loop in
-    let x = subst (λ (r : Reference). Character (m .before .before .args .x .now) (l .i) r) (c .before .lost .given .1) (c .before .before .before .character .ensures) in
-    (l .inv .3, decode-lost _ _ _ _ _ _ (l .inv .4) (l .inv .0) (l .inv .2) (search needs) (c .before .before .before .before .before .if1 .left) _ refl x)
-
-enum-known-value : tie.Need-enum-known-value Inv-loop μ-loop
-enum-known-value c = search needs
-
 element-write-buffer : tie.Need-element-write-buffer Inv-loop μ-loop
 element-write-buffer c = search needs
 
 add-n : tie.Need-add-n Inv-loop μ-loop
 add-n c = search needs
 
+add-i : tie.Need-add-i Inv-loop μ-loop
+add-i c = search needs
+
 loop-less : tie.Need-loop-less Inv-loop μ-loop
-loop-less c = let m = c .before .before .before .before .before .before .before .before in
-    let l = m .loop in
-    let x = subst (λ (r : Reference). Character (m .before .before .args .x .now) (l .i) r) (c .before .value .given .1) (c .before .before .before .character .ensures) in
-    let y = character-inside (search needs) x in
-    omega (arith, y .0, y .1)
+loop-less c = search needs
 
 loop-again : tie.Need-loop-again Inv-loop μ-loop
-loop-again c = let m = c .before .before .before .before .before .before .before .before in
+loop-again c = let l = c .before .before .before .before .before .loop in (
+  search needs,
+  search needs,
+  search needs,
+  simp length-set (l .inv .3),
+  decode-turn _ _ _ _ _ _ (l .inv .4) (l .inv .0) (l .inv .2) (search needs) (c .before .before .if1 .left) (one-byte {c = record { at = l .i + 1 }} (c .if3 .taken) refl) (search needs),
+)
+
+add-t12 : tie.Need-add-t12 Inv-loop μ-loop
+add-t12 c = search needs
+
+reference-requires : tie.Need-reference-requires Inv-loop μ-loop
+reference-requires c κs = search needs
+
+enum-known-lost : tie.Need-enum-known-lost Inv-loop μ-loop
+enum-known-lost c = search needs
+
+returns-3 : tie.Need-returns-3 Inv-loop μ-loop
+returns-3 c =
+    let c₆ = c .before .before .before .before .before .before in
+    let m = c₆ .before .before .before in
     let l = m .loop in
-    let x = subst (λ (r : Reference). Character (m .before .before .args .x .now) (l .i) r) (c .before .value .given .1) (c .before .before .before .character .ensures) in
-    let y = character-inside (search needs) x in (
+    let x = m .before .before .args .x .now in
+    let r = subst (λ (r : Reference). Refers x (l .i + 1) (entity-at (drop (l .i + 1) x)) r) (c .before .lost .given .1) (c .before .before .before .reference .ensures) in
+    let k = by-reference (c .before .before .before .before .if3 .left) r in
+    (l .inv .3, decode-lost _ _ _ _ _ _ (l .inv .4) (l .inv .0) (l .inv .2) (search needs) (c₆ .if1 .left) _ refl k)
+
+enum-known-value : tie.Need-enum-known-value Inv-loop μ-loop
+enum-known-value c = search needs
+
+element-write-buffer-2 : tie.Need-element-write-buffer-2 Inv-loop μ-loop
+element-write-buffer-2 c = search needs
+
+add-n-2 : tie.Need-add-n-2 Inv-loop μ-loop
+add-n-2 c = search needs
+
+loop-less-2 : tie.Need-loop-less-2 Inv-loop μ-loop
+loop-less-2 c =
+    let c₆ = c .before .before .before .before .before .before in
+    let m = c₆ .before .before .before in
+    let l = m .loop in
+    let x = m .before .before .args .x .now in
+    let r = subst (λ (r : Reference). Refers x (l .i + 1) (entity-at (drop (l .i + 1) x)) r) (c .before .value .given .1) (c .before .before .before .reference .ensures) in
+    let k = by-reference (c .before .before .before .before .if3 .left) r in
+    let y = character-inside (search needs) k in
+    omega (arith, y .0, y .1)
+
+loop-again-2 : tie.Need-loop-again-2 Inv-loop μ-loop
+loop-again-2 c =
+    let c₆ = c .before .before .before .before .before .before in
+    let m = c₆ .before .before .before in
+    let l = m .loop in
+    let x = m .before .before .args .x .now in
+    let r = subst (λ (r : Reference). Refers x (l .i + 1) (entity-at (drop (l .i + 1) x)) r) (c .before .value .given .1) (c .before .before .before .reference .ensures) in
+    let k = by-reference (c .before .before .before .before .if3 .left) r in
+    let y = character-inside (search needs) k in (
       omega (arith, y .0),
       y .1,
       search needs,
       simp length-set (l .inv .3),
-      decode-turn _ _ _ _ _ _ (l .inv .4) (l .inv .0) (l .inv .2) (search needs) (c .before .before .before .before .before .if1 .left) x (search needs),
+      decode-turn _ _ _ _ _ _ (l .inv .4) (l .inv .0) (l .inv .2) (search needs) (c₆ .if1 .left) k (search needs),
     )
 
 returns-4 : tie.Need-returns-4 Inv-loop μ-loop
@@ -86,12 +123,18 @@ decode-spec =
     add-t16
     returns
     returns-2
-    character-requires
+    element-write-buffer
+    add-n
+    add-i
+    loop-less
+    loop-again
+    add-t12
+    reference-requires
     enum-known-lost
     returns-3
     enum-known-value
-    element-write-buffer
-    add-n
-    loop-less
-    loop-again
+    element-write-buffer-2
+    add-n-2
+    loop-less-2
+    loop-again-2
     returns-4)

@@ -41,8 +41,9 @@ enum-known-count : tie.Need-enum-known-count
 enum-known-count c = search needs
 
 replace-requires : tie.Need-replace-requires
-replace-requires c κs = let f = c .before .before .before .before .before .before .before .before in
-    (form-layout (sym (f .before .formed .ensures) ∙ not-false _ (f .if1 .left)) .size, (_, stands _ _ _ (c .before .before .count .given .1) (c .before .before .before .before .judge .ensures)))
+replace-requires c κs = let o = c .before .before .before .before .before in
+    let f = o .before .before .before in
+    (sym (f .before .formed .ensures) ∙ not-false _ (f .if1 .left), sym (o .before .any-open .ensures) ∙ o .if2 .left, (_, stands _ _ _ (c .before .before .count .given .1) (c .before .before .before .before .judge .ensures)))
 
 cast-t19 : tie.Need-cast-t19
 cast-t19 c = omega (arith, stands _ _ _ (c .before .before .before .before .before .count .given .1) (c .before .before .before .before .before .before .before .judge .ensures) .most)

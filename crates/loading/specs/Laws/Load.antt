@@ -1,22 +1,22 @@
 -- From what the call leaves to the definition of load.
-use Prim.Native.Nat.{ℕ, _≤_}
+use Prim.Native.Nat.{ℕ}
 use mathlib.Core.Path.{_≡_, refl, sym, ap, _∙_}
 use mathlib.Core.Bool.{Bool, true, false, _&&_}
 use mathlib.Core.List.{List}
 use lib.Dec.{leb}
 use lib.ListN.{length}
 use Rattle.tree.specs.Lists.{any}
-use Rattle.tree.specs.Document.{Document, lines, legal}
+use Rattle.tree.specs.Document.{Document, node-0-alone, lines, legal}
 use Rattle.tree.specs.Steps.{how-many}
 use Rattle.tree.specs.Laws.Tests.{and-left}
 use Rattle.protocol.specs.State.{State, transactions, tree-of, with-tree}
 use Rattle.protocol.specs.Calls.{node-limit, loadable, Input, unreadable, stands-for, load, refused, refused-at, next}
 use Rattle.protocol.specs.Answers.{answer-of, granted-answer}
 use Rattle.protocol.specs.declared.Answer.the-variants.{Count, Refused, RefusedAt}
-use Rattle.layout.specs.Layout.{state-size, is-open, nodes}
+use Rattle.layout.specs.Flat.{flat}
+use Rattle.layout.specs.Layout.{is-open, nodes, Left}
 use Rattle.edits.specs.Laws.Kept.{unique-load}
 use Rattle.form.specs.Form.{form, Holds}
-use Rattle.form.specs.Start.{Started}
 use Rattle.form.specs.Laws.Steps.{fine-load}
 use Rattle.engine.specs.Contract.{Performed}
 use Rattle.engine.specs.Laws.Outcomes.{Grants, performed-stays, performed-grants}
@@ -28,16 +28,15 @@ use Rattle.loading.specs.Laws.Opens.{none-open}
 
 -- the function `replace` ---------------------------------------------------------------------
 
-pub begun : {x s s′ : List ℕ} {n : ℕ} {b : Bool} → Stands x n → Started s s′ b → state-size ≤ length s → Begun x s′
-begun d k h = let m = k .holds h in
-    record { shape = d .shape; spelled = d .spelled; few = d .few; short = d .short; layout = m .layout; alone = m .rows }
+pub begun : {x s s′ : List ℕ} {n : ℕ} {q : ℕ → Bool} → Stands x n → Left s s′ q (flat 0 (tree-of node-0-alone)) → Begun x s′
+begun d k = record { shape = d .shape; spelled = d .spelled; few = d .few; short = d .short; layout = k .layout; alone = k .nodes }
 
-pub replaced : {x s s′ s″ : List ℕ} {b : Bool} → Started s s′ b → state-size ≤ length s → Filled x s′ s″ → Replaced x s s″
-replaced k h f = record {
+pub replaced : {x s s′ s″ : List ℕ} → any (is-open s) transactions ≡ false → Left s s′ (is-open s) (flat 0 (tree-of node-0-alone)) → Filled x s′ s″ → Replaced x s s″
+replaced {s = s} e k f = record {
   layout = f .layout;
   long = f .same .long ∙ k .long;
   behind = f .same .behind ∙ k .behind;
-  closed = f .same .opens ∙ k .holds h .opens;
+  closed = f .same .opens ∙ k .opens ∙ none-open s e;
   nodes = f .nodes;
 }
 

@@ -1,6 +1,6 @@
 -- The classes of bytes by comparisons.
 use Prim.Native.Nat.{ℕ, _≤_, _<_}
-use mathlib.Core.Path.{_≡_, refl}
+use mathlib.Core.Path.{_≡_, refl, _∙_}
 use mathlib.Core.Bool.{Bool, true, false, not, _&&_, _||_}
 use native.Mathlib.Omega.{arith}
 use lib.Dec.{eqb, leb}
@@ -15,14 +15,6 @@ or-nothing false = refl
 
 module _ (b : ℕ) where
   -- a name's first byte
-  pub start-below : b < 65 → false ≡ name-start b
-  unfolding name-start
-  start-below h = rw (lt-leb 65 b h, lt-leb 97 b (omega arith), ne-eqb b 95 (λ e. omega arith))
-
-  pub start-upper : 65 ≤ b → b ≤ 90 → true ≡ name-start b
-  unfolding name-start
-  start-upper h k = rw (le-leb 65 b h, le-leb b 90 k)
-
   pub start-between : 90 < b → b < 97 → eqb b 95 ≡ name-start b
   unfolding name-start
   start-between h k = rw (lt-leb b 90 h, le-leb 65 b (omega arith), lt-leb 97 b k)
@@ -30,6 +22,14 @@ module _ (b : ℕ) where
   pub start-lower : 97 ≤ b → leb b 122 ≡ name-start b
   unfolding name-start
   start-lower h = rw (lt-leb b 90 (omega arith), le-leb 65 b (omega arith), le-leb 97 b h, ne-eqb b 95 (λ e. omega arith)) (or-nothing (leb b 122))
+
+  pub start-upper : b ≤ 90 → leb 65 b ≡ name-start b
+  unfolding name-start
+  start-upper h = rw (le-leb b 90 h, lt-leb 97 b (omega arith), ne-eqb b 95 (λ e. omega arith)) (go (leb 65 b))
+    where
+      go : (x : Bool) → x ≡ ((x && true) || false || false)
+      go true = refl
+      go false = refl
 
   -- a byte of a name
   pub name-above : 65 ≤ b → name-start b ≡ name-byte b
@@ -40,6 +40,9 @@ module _ (b : ℕ) where
       go : (x : Bool) → x ≡ (x || (true && false) || false || false)
       go true = refl
       go false = refl
+
+  pub name-lower : 97 ≤ b → leb b 122 ≡ name-byte b
+  name-lower h = start-lower h ∙ name-above (omega arith)
 
   pub name-digit : 48 ≤ b → b < 65 → leb b 57 ≡ name-byte b
   unfolding name-byte name-start

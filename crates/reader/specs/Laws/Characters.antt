@@ -5,7 +5,7 @@ use mathlib.Core.Bool.{Bool, true, false, cond, not, _&&_, _||_, false≢true}
 use mathlib.Core.List.{List, [], _∷_}
 use native.Mathlib.Omega.{arith}
 use native.Mathlib.Numerals.{add-one}
-use lib.Dec.{eqb}
+use lib.Dec.{eqb, leb}
 use lib.ListN.{length, getD, drop}
 use borrow.Author.Tests.{eq-eqb, ne-eqb, eqb-true, eqb-false}
 use Rattle.tree.specs.Content.{content-limit, text-byte}
@@ -27,6 +27,7 @@ use Rattle.reader.specs.declared.Reference.the-variants.{Byte, NoEntity}
 use Rattle.reader.specs.declared.Read.{Read}
 use Rattle.reader.specs.declared.Read.the-variants.{Past, Refused}
 use Rattle.reader.specs.Classes.{plain, literal, begins}
+use Rattle.reader.specs.Laws.Bytes.{plain-above}
 use Rattle.reader.specs.Steps.{Refers, refers, no-entity, Character, one-byte, by-reference, Characters, CharactersRead, characters-past, characters-refused}
 
 -- the loop has come to i, with k bytes ] just before and a content of so many bytes
@@ -110,6 +111,13 @@ module _ (s : List ℕ) (stop nodes at k count i : ℕ) (l : nodes ≤ node-limi
                   → Refers s (i + 1) q (Byte b c) → scan-at s (C k) nodes count i ≡ scan-at s (C (brackets k (getD s i 0))) nodes (count + 1) (c .at)
               go C R D x q p (refers {n = n} o m) = landed x a ∙ rw (p, a, o) (ap (λ (j : ℕ). scan-at s (C 0) nodes j (i + 1 + n)) (sym (add-one count)))
 
+          pub characters-reference : getD s i 0 ≡ ampersand → {b : ℕ} {c : Cursor} → Refers s (i + 1) (entity-at (drop (i + 1) s)) (Byte b c)
+              → CharactersTo s stop nodes at 0 (count + 1) (c .at)
+          unfolding brackets
+          characters-reference a {b} {c} r =
+              let z : brackets k (getD s i 0) ≡ 0 = rw a in
+              subst (λ (q : ℕ). CharactersTo s stop nodes at q (count + 1) (c .at)) z (characters-turn (by-reference a r))
+
 -- the tests ------------------------------------------------------------------------------
 
 module _ (stop k b : ℕ) where
@@ -135,6 +143,10 @@ module _ (stop k b : ℕ) where
       pub begins-text : stop ≡ less-than → not (eqb k 2) ≡ begins stop k b
       unfolding begins literal plain text-byte
       begins-text e = rw (m, e)
+
+-- letters and what else is above >
+pub begins-above : (stop k b : ℕ) → greater-than < b → leb b 126 ≡ begins stop k b
+begins-above stop k b h = plain-above b (λ e. omega arith) (λ e. omega arith) (omega arith) ∙ begins-plain stop k b (λ e. omega arith) (λ e. omega arith)
 
 module _ (k b : ℕ) where
   pub brackets-none : (b ≡ right-bracket → ⊥) → 0 ≡ brackets k b

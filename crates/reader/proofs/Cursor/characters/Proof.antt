@@ -1,14 +1,14 @@
-use Rattle.reader.specs.declared.Reference.{Reference}
-use Rattle.reader.specs.Steps.{Character}
-use mathlib.Core.Path.{subst}
 use native.Mathlib.Omega.{arith}
-use Prim.Native.Nat.{_-_, _≤_}
-use mathlib.Core.Path.{refl, sym, _∙_}
+use Prim.Native.Nat.{_+_, _-_, _≤_}
+use mathlib.Core.Path.{refl, sym, subst, _∙_}
 use borrow.Author.Needs.{needs}
 use borrow.Author.Tests.{not-true, not-false}
-use lib.ListN.{length}
+use lib.ListN.{length, drop}
+use Rattle.xml.specs.Laws.Fixed.{entity-at}
+use Rattle.reader.specs.declared.Reference.{Reference}
+use Rattle.reader.specs.Steps.{Refers, one-byte, by-reference}
 use Rattle.reader.specs.Laws.Characters.{CharactersTo, characters-start, characters-end, characters-stop, characters-wrong, characters-full}
-use Rattle.reader.specs.Laws.Characters.{characters-lost, characters-turn, character-inside}
+use Rattle.reader.specs.Laws.Characters.{characters-lost, characters-turn, characters-reference, character-inside}
 use Rattle.reader.proofs.Cursor.characters.Statement.{statement}
 use Rattle.reader.proofs.Cursor.characters.Tie as tie
 
@@ -48,25 +48,8 @@ returns-3 c =
     let may-stand = c .before .before .may-stand in
     characters-full _ _ _ _ _ _ _ (search needs) (loop .inv .3) (search needs) (if1 .left) (sym (may-stand .ensures) ∙ not-false _ (c .before .if2 .left)) (c .if3 .taken)
 
-character-requires : tie.Need-character-requires Inv-loop μ-loop
-character-requires c κs = search needs
-
-enum-known-j : tie.Need-enum-known-j Inv-loop μ-loop
-enum-known-j c = search needs
-
-returns-4 : tie.Need-returns-4 Inv-loop μ-loop
-returns-4 c =
-    let args = c .before .before .before .before .before .before .before .before .before .before .before .before .args in
-    let loop = c .before .before .before .before .before .before .before .before .before .before .loop in
-    let if1 = c .before .before .before .before .before .before .before .if1 in
-    let may-stand = c .before .before .before .before .before .before .may-stand in
-    let if2 = c .before .before .before .before .before .if2 in
-    let character = c .before .before .before .character in
-    let x = subst (λ (r : Reference). Character (args .s .now) (loop .i) r) (c .before .j .given .1) (character .ensures) in
-    characters-lost _ _ _ _ _ _ _ (search needs) (loop .inv .3) (search needs) (if1 .left) (sym (may-stand .ensures) ∙ not-false _ (if2 .left)) (search needs) x
-
-enum-known-next : tie.Need-enum-known-next Inv-loop μ-loop
-enum-known-next c = search needs
+add-i : tie.Need-add-i Inv-loop μ-loop
+add-i c = search needs
 
 add-count : tie.Need-add-count Inv-loop μ-loop
 add-count c = search needs
@@ -75,31 +58,68 @@ brackets-after-requires : tie.Need-brackets-after-requires Inv-loop μ-loop
 brackets-after-requires c κs = search needs
 
 loop-less : tie.Need-loop-less Inv-loop μ-loop
-loop-less c =
-    let args = c .before .before .before .before .before .before .before .before .before .before .before .before .before .args in
-    let loop = c .before .before .before .before .before .before .before .before .before .before .before .loop in
-    let character = c .before .before .before .before .character in
-    let next = c .before .before .next in
-    let x = subst (λ (r : Reference). Character (args .s .now) (loop .i) r) (next .given .1) (character .ensures) in
-    let y = character-inside (search needs) x in
-    omega (arith, y .0, y .1)
+loop-less c = search needs
 
 loop-again : tie.Need-loop-again Inv-loop μ-loop
 loop-again c =
-    let args = c .before .before .before .before .before .before .before .before .before .before .before .before .before .args in
-    let loop = c .before .before .before .before .before .before .before .before .before .before .before .loop in
-    let if1 = c .before .before .before .before .before .before .before .before .if1 in
-    let may-stand = c .before .before .before .before .before .before .before .may-stand in
-    let if2 = c .before .before .before .before .before .before .if2 in
-    let character = c .before .before .before .before .character in
-    let next = c .before .before .next in
-    let x = subst (λ (r : Reference). Character (args .s .now) (loop .i) r) (next .given .1) (character .ensures) in
-    let y = character-inside (search needs) x in (
+    let c₄ = c .before .before .before .before in
+    let loop = c₄ .before .before .before .before .loop in
+    let stands = sym (c₄ .may-stand .ensures) ∙ not-false _ (c .before .before .before .if2 .left) in (
+      search needs,
+      search needs,
+      search needs,
+      rw (c .brackets-after .ensures)
+          (characters-turn _ _ _ _ _ _ _ (search needs) (loop .inv .3) (search needs) (c₄ .before .if1 .left) stands (search needs)
+          (one-byte {c = record { at = loop .i + 1 }} (c .before .if4 .taken) refl)),
+    )
+
+add-t12 : tie.Need-add-t12 Inv-loop μ-loop
+add-t12 c = search needs
+
+reference-requires : tie.Need-reference-requires Inv-loop μ-loop
+reference-requires c κs = search needs
+
+enum-known-j : tie.Need-enum-known-j Inv-loop μ-loop
+enum-known-j c = search needs
+
+returns-4 : tie.Need-returns-4 Inv-loop μ-loop
+returns-4 c =
+    let c₇ = c .before .before .before .before .before .before .before in
+    let loop = c₇ .before .before .before .before .loop in
+    let stands = sym (c₇ .may-stand .ensures) ∙ not-false _ (c .before .before .before .before .before .before .if2 .left) in
+    let args = c₇ .before .before .before .before .before .before .args in
+    let r = subst (λ (r : Reference). Refers (args .s .now) (loop .i + 1) (entity-at (drop (loop .i + 1) (args .s .now))) r) (c .before .j .given .1) (c .before .before .before .reference .ensures) in
+    characters-lost _ _ _ _ _ _ _ (search needs) (loop .inv .3) (search needs) (c₇ .before .if1 .left) stands (search needs) (by-reference (c .before .before .before .before .if4 .left) r)
+
+enum-known-behind : tie.Need-enum-known-behind Inv-loop μ-loop
+enum-known-behind c = search needs
+
+add-count-2 : tie.Need-add-count-2 Inv-loop μ-loop
+add-count-2 c = search needs
+
+loop-less-2 : tie.Need-loop-less-2 Inv-loop μ-loop
+loop-less-2 c =
+    let c₇ = c .before .before .before .before .before .before .before in
+    let loop = c₇ .before .before .before .before .loop in
+    let stands = sym (c₇ .may-stand .ensures) ∙ not-false _ (c .before .before .before .before .before .before .if2 .left) in
+    let args = c₇ .before .before .before .before .before .before .args in
+    let r = subst (λ (r : Reference). Refers (args .s .now) (loop .i + 1) (entity-at (drop (loop .i + 1) (args .s .now))) r) (c .before .behind .given .1) (c .before .before .before .reference .ensures) in
+    let y = character-inside (search needs) (by-reference (c .before .before .before .before .if4 .left) r) in
+    omega (arith, y .0, y .1)
+
+loop-again-2 : tie.Need-loop-again-2 Inv-loop μ-loop
+loop-again-2 c =
+    let c₇ = c .before .before .before .before .before .before .before in
+    let loop = c₇ .before .before .before .before .loop in
+    let stands = sym (c₇ .may-stand .ensures) ∙ not-false _ (c .before .before .before .before .before .before .if2 .left) in
+    let args = c₇ .before .before .before .before .before .before .args in
+    let r = subst (λ (r : Reference). Refers (args .s .now) (loop .i + 1) (entity-at (drop (loop .i + 1) (args .s .now))) r) (c .before .behind .given .1) (c .before .before .before .reference .ensures) in
+    let a = c .before .before .before .before .if4 .left in
+    let y = character-inside (search needs) (by-reference a r) in (
       omega (arith, y .0),
       y .1,
       search needs,
-      rw (c .brackets-after .ensures)
-          (characters-turn _ _ _ _ _ _ _ (search needs) (loop .inv .3) (search needs) (if1 .left) (sym (may-stand .ensures) ∙ not-false _ (if2 .left)) (search needs) x),
+      characters-reference _ _ _ _ _ _ _ (search needs) (loop .inv .3) (search needs) (c₇ .before .if1 .left) stands (search needs) a r,
     )
 
 returns-5 : tie.Need-returns-5 Inv-loop μ-loop
@@ -118,12 +138,17 @@ characters-spec =
     may-stand-requires
     returns-2
     returns-3
-    character-requires
-    enum-known-j
-    returns-4
-    enum-known-next
+    add-i
     add-count
     brackets-after-requires
     loop-less
     loop-again
+    add-t12
+    reference-requires
+    enum-known-j
+    returns-4
+    enum-known-behind
+    add-count-2
+    loop-less-2
+    loop-again-2
     returns-5)
