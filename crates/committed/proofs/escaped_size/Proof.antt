@@ -45,13 +45,15 @@ loop-again : tie.Need-loop-again Inv-loop μ-loop
 loop-again c =
     let c3 = c .before .before .before in
     let c4 = c3 .before in
-    (omega arith, counting-more _ (c3 .loop .inv .1) (omega (arith, c4 .size .ensures .0)) (c .byte-length .ensures .0 ∙ ap (λ b. length (escape b)) (c .before .content .ensures)) (c .byte-length .ensures .1))
+    (omega arith, counting-more _ (c3 .loop .inv .1) (omega (arith, c4 .size .ensures .0)) (c .byte-length .ensures .0 ∙ ap (λ b. length (escape b)) (c .before .content .ensures))
+    (c .byte-length .ensures .1))
 
 returns : tie.Need-returns Inv-loop μ-loop
 returns c =
     let c2 = c .before .before in
     let c3 = c2 .before in
-    let e = counting-end (c .before .loop .inv .1) (omega (arith, c2 .size .ensures .0)) in (e ∙ ap (λ b. length (escaped b)) (c3 .version .ensures .1), omega (arith, c .before .loop .inv .0, c .before .loop .inv .1 .small, c2 .size .ensures .1))
+    let e = counting-end (c .before .loop .inv .1) (omega (arith, c2 .size .ensures .0)) in
+    (e ∙ ap (λ b. length (escaped b)) (c3 .version .ensures .1), omega (arith, c .before .loop .inv .0, c .before .loop .inv .1 .small, c2 .size .ensures .1))
 
 pub escaped-size-spec : {M : Type 1} → statement M
 escaped-size-spec =

@@ -35,7 +35,8 @@ returns c =
     let c3 = c2 .before in
     let c4 = c3 .before in
     let c6 = c4 .before .before in
-    sym (same-long (text (c4 .version .result) (item (nodes (c6 .args .s .now)) (c6 .args .p))) (text (c3 .version2 .result) (item (nodes (c6 .args .s .now)) (c6 .args .q))) (λ e. c .if1 .taken (c .before .size2 .ensures .0 ∙ e ∙ sym (c2 .size .ensures .0)))) ∙ ap₂ same (c4 .version .ensures .1) (c3 .version2 .ensures .1)
+    sym (same-long (text (c4 .version .result) (item (nodes (c6 .args .s .now)) (c6 .args .p))) (text (c3 .version2 .result) (item (nodes (c6 .args .s .now)) (c6 .args .q)))
+    (λ e. c .if1 .taken (c .before .size2 .ensures .0 ∙ e ∙ sym (c2 .size .ensures .0)))) ∙ ap₂ same (c4 .version .ensures .1) (c3 .version2 .ensures .1)
 
 loop-holds : tie.Need-loop-holds Inv-loop μ-loop
 loop-holds c = refl
@@ -55,7 +56,8 @@ returns-2 c =
     let c7 = c6 .before in
     let c8 = c7 .before in
     let c9 = c8 .before in
-    sym (same-differs _ _ (c4 .loop .j) (c4 .loop .inv) (sym (c6 .size2 .ensures .0) ∙ c5 .if1 .left ∙ c7 .size .ensures .0) (omega (arith, c7 .size .ensures .0)) (λ z. c .if2 .taken (c2 .content .ensures ∙ z ∙ sym (c .before .content2 .ensures)))) ∙ ap₂ same (c9 .version .ensures .1) (c8 .version2 .ensures .1)
+    sym (same-differs _ _ (c4 .loop .j) (c4 .loop .inv) (sym (c6 .size2 .ensures .0) ∙ c5 .if1 .left ∙ c7 .size .ensures .0) (omega (arith, c7 .size .ensures .0))
+    (λ z. c .if2 .taken (c2 .content .ensures ∙ z ∙ sym (c .before .content2 .ensures)))) ∙ ap₂ same (c9 .version .ensures .1) (c8 .version2 .ensures .1)
 
 add-j : tie.Need-add-j Inv-loop μ-loop
 add-j c = search needs
@@ -70,7 +72,8 @@ loop-again c =
     let c5 = c4 .before in
     let c6 = c5 .before in
     let c7 = c6 .before in
-    same-turn _ _ (c4 .loop .j) (c4 .loop .inv) (sym (c6 .size2 .ensures .0) ∙ c5 .if1 .left ∙ c7 .size .ensures .0) (omega (arith, c7 .size .ensures .0)) (sym (c2 .content .ensures) ∙ c .if2 .left ∙ c .before .content2 .ensures)
+    same-turn _ _ (c4 .loop .j) (c4 .loop .inv) (sym (c6 .size2 .ensures .0) ∙ c5 .if1 .left ∙ c7 .size .ensures .0) (omega (arith, c7 .size .ensures .0))
+    (sym (c2 .content .ensures) ∙ c .if2 .left ∙ c .before .content2 .ensures)
 
 returns-3 : tie.Need-returns-3 Inv-loop μ-loop
 returns-3 c =
@@ -79,7 +82,8 @@ returns-3 c =
     let c4 = c3 .before in
     let c5 = c4 .before in
     let c6 = c5 .before in
-    sym (same-end _ _ (c .before .loop .j) (c .before .loop .inv) (sym (c3 .size2 .ensures .0) ∙ c2 .if1 .left ∙ c4 .size .ensures .0) (omega (arith, c4 .size .ensures .0))) ∙ ap₂ same (c6 .version .ensures .1) (c5 .version2 .ensures .1)
+    sym (same-end _ _ (c .before .loop .j) (c .before .loop .inv) (sym (c3 .size2 .ensures .0) ∙ c2 .if1 .left ∙ c4 .size .ensures .0) (omega (arith, c4 .size .ensures .0)))
+    ∙ ap₂ same (c6 .version .ensures .1) (c5 .version2 .ensures .1)
 
 pub same-content-spec : {M : Type 1} → statement M
 same-content-spec =

@@ -50,7 +50,8 @@ put-requires-2 c κs =
     let c4 = c3 .before in
     let c6 = c4 .before .before in
     let c9 = c6 .before .before .before in
-    let e = end-empty (label-at (nodes (c9 .args .s .now)) (c9 .args .p)) (c9 .args .last) (kind-at _ _ ∙ sym (c6 .kind .ensures) ∙ c4 .if2 .left) (sym (c3 .in-start-tag .ensures) ∙ c2 .if3 .taken) in omega (arith, rw e at (c9 .pre .2))
+    let e = end-empty (label-at (nodes (c9 .args .s .now)) (c9 .args .p)) (c9 .args .last) (kind-at _ _ ∙ sym (c6 .kind .ensures) ∙ c4 .if2 .left)
+    (sym (c3 .in-start-tag .ensures) ∙ c2 .if3 .taken) in omega (arith, rw e at (c9 .pre .2))
 
 same-length-2 : tie.Need-same-length-2
 same-length-2 c = search needs
@@ -77,7 +78,8 @@ put-between-requires c κs =
     let c5 = c4 .before in
     let c7 = c5 .before .before in
     let c10 = c7 .before .before .before in
-    let e = end-tag (label-at (nodes (c10 .args .s .now)) (c10 .args .p)) (c10 .args .last) (kind-at _ _ ∙ sym (c7 .kind .ensures) ∙ c5 .if2 .left) (sym (c4 .in-start-tag .ensures) ∙ c3 .if3 .left) in (c10 .pre .0, c10 .pre .1, rw e at (c10 .pre .2))
+    let e = end-tag (label-at (nodes (c10 .args .s .now)) (c10 .args .p)) (c10 .args .last) (kind-at _ _ ∙ sym (c7 .kind .ensures) ∙ c5 .if2 .left)
+    (sym (c4 .in-start-tag .ensures) ∙ c3 .if3 .left) in (c10 .pre .0, c10 .pre .1, rw e at (c10 .pre .2))
 
 same-length-3 : tie.Need-same-length-3
 same-length-3 c = search needs

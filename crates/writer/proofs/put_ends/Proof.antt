@@ -14,7 +14,8 @@ use Rattle.writer.proofs.put_ends.Statement.{statement}
 use Rattle.writer.proofs.put_ends.Tie as tie
 
 abbrev Inv-loop : tie.InvT-loop
-Inv-loop out₀ s path top d at₀ last₀ e₀ out at last e = (e ≤ suc top) × (length out ≡ length out₀) × Partly (ends (suc top - d) (open-labels (nodes s) path (suc top)) 0) (ends (e - d) (open-labels (nodes s) path e) last) out₀ out at
+Inv-loop out₀ s path top d at₀ last₀ e₀ out at last e = (e ≤ suc top) × (length out ≡ length out₀) × Partly (ends (suc top - d) (open-labels (nodes s) path (suc top)) 0)
+    (ends (e - d) (open-labels (nodes s) path e) last) out₀ out at
 
 abbrev μ-loop : tie.MeasureT-loop
 μ-loop out₀ s path top d at₀ last₀ e₀ out at last e = e
@@ -59,14 +60,16 @@ put-end-requires : tie.Need-put-end-requires Inv-loop μ-loop
 put-end-requires c κs =
     let c3 = c .before .before .before in
     let c6 = c3 .before .before .before in
-    (c6 .pre .0, (c6 .pre .1 .inside (c3 .loop .e - 1) (omega (arith, c3 .loop .inv .0))), (next-end (nodes (c6 .args .s .now)) (c6 .args .path .now) (c3 .loop .e) (c6 .args .d) (c3 .loop .last) (c3 .loop .inv .2) (c6 .pre .2) (omega arith)) .room)
+    (c6 .pre .0, (c6 .pre .1 .inside (c3 .loop .e - 1) (omega (arith, c3 .loop .inv .0))),
+    (next-end (nodes (c6 .args .s .now)) (c6 .args .path .now) (c3 .loop .e) (c6 .args .d) (c3 .loop .last) (c3 .loop .inv .2) (c6 .pre .2) (omega arith)) .room)
 
 add-at : tie.Need-add-at Inv-loop μ-loop
 add-at c =
     let c2 = c .before .before in
     let c6 = c2 .before .before .before .before in
     let c9 = c6 .before .before .before in
-    omega (arith, (next-end (nodes (c9 .args .s .now)) (c9 .args .path .now) (c6 .loop .e) (c9 .args .d) (c6 .loop .last) (c6 .loop .inv .2) (c9 .pre .2) (omega arith)) .small, c2 .put-end .ensures .count)
+    omega (arith, (next-end (nodes (c9 .args .s .now)) (c9 .args .path .now) (c6 .loop .e) (c9 .args .d) (c6 .loop .last) (c6 .loop .inv .2) (c9 .pre .2) (omega arith)) .small,
+    c2 .put-end .ensures .count)
 
 kind-requires : tie.Need-kind-requires Inv-loop μ-loop
 kind-requires c κs =
@@ -82,7 +85,10 @@ loop-again c =
     let c3 = c .before .before .before in
     let c7 = c3 .before .before .before .before in
     let c10 = c7 .before .before .before in
-    (omega (arith, c7 .loop .inv .0), search needs, partly-as (ap (λ k. ends ((c7 .loop .e) - 1 - c10 .args .d) (open-labels (nodes (c10 .args .s .now)) (c10 .args .path .now) ((c7 .loop .e) - 1)) k) (kind-at _ _ ∙ sym (c .kind .ensures))) ((next-end (nodes (c10 .args .s .now)) (c10 .args .path .now) (c7 .loop .e) (c10 .args .d) (c7 .loop .last) (c7 .loop .inv .2) (c10 .pre .2) (omega arith)) .on _ _ (c3 .put-end .ensures)))
+    (omega (arith, c7 .loop .inv .0), search needs, partly-as
+    (ap (λ k. ends ((c7 .loop .e) - 1 - c10 .args .d) (open-labels (nodes (c10 .args .s .now)) (c10 .args .path .now) ((c7 .loop .e) - 1)) k)
+    (kind-at _ _ ∙ sym (c .kind .ensures))) ((next-end (nodes (c10 .args .s .now)) (c10 .args .path .now) (c7 .loop .e) (c10 .args .d) (c7 .loop .last) (c7 .loop .inv .2)
+    (c10 .pre .2) (omega arith)) .on _ _ (c3 .put-end .ensures)))
 
 same-length : tie.Need-same-length Inv-loop μ-loop
 same-length c = c .before .loop .inv .1

@@ -69,7 +69,8 @@ add-at c =
     let c7 = c6 .before in
     let c8 = c7 .before in
     let c11 = c8 .before .before .before in
-    omega (arith, next-byte _ _ _ (c6 .loop .inv .2) (rw (← c8 .version .ensures .1) at (c11 .pre .2)) (omega (arith, c7 .size .ensures .0)) (c4 .content .ensures) .small, c2 .put-byte .ensures .count)
+    omega (arith, next-byte _ _ _ (c6 .loop .inv .2) (rw (← c8 .version .ensures .1) at (c11 .pre .2)) (omega (arith, c7 .size .ensures .0)) (c4 .content .ensures) .small,
+    c2 .put-byte .ensures .count)
 
 add-j : tie.Need-add-j Inv-loop μ-loop
 add-j c = search needs
@@ -85,7 +86,8 @@ loop-again c =
     let c7 = c6 .before in
     let c8 = c7 .before in
     let c11 = c8 .before .before .before in
-    (omega arith, search needs, next-byte _ _ _ (c6 .loop .inv .2) (rw (← c8 .version .ensures .1) at (c11 .pre .2)) (omega (arith, c7 .size .ensures .0)) (c4 .content .ensures) .on _ _ (c2 .put-byte .ensures))
+    (omega arith, search needs, next-byte _ _ _ (c6 .loop .inv .2) (rw (← c8 .version .ensures .1) at (c11 .pre .2)) (omega (arith, c7 .size .ensures .0))
+    (c4 .content .ensures) .on _ _ (c2 .put-byte .ensures))
 
 same-length : tie.Need-same-length Inv-loop μ-loop
 same-length c = c .before .loop .inv .1
@@ -95,7 +97,8 @@ returns c =
     let c2 = c .before .before in
     let c3 = c2 .before in
     let c6 = c3 .before .before .before in
-    let h : length (text (c3 .version .result) (item (nodes (c6 .args .s .now)) (c6 .args .p))) ≤ c .before .loop .j = omega (arith, c2 .size .ensures .0) in wrote-as (ap escaped (c3 .version .ensures .1)) (no-byte _ _ (c .before .loop .inv .2) h)
+    let h : length (text (c3 .version .result) (item (nodes (c6 .args .s .now)) (c6 .args .p))) ≤ c .before .loop .j = omega (arith, c2 .size .ensures .0) in wrote-as
+    (ap escaped (c3 .version .ensures .1)) (no-byte _ _ (c .before .loop .inv .2) h)
 
 pub put-escaped-spec : {M : Type 1} → statement M
 put-escaped-spec =

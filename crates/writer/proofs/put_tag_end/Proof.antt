@@ -32,7 +32,8 @@ put-requires c κs =
     let c4 = c3 .before in
     let c5 = c4 .before in
     let c8 = c5 .before .before .before in
-    let e = tag-end-first (label-at (nodes (c8 .args .s .now)) (c8 .args .parent)) (c8 .args .previous) (kind-at _ _ ∙ sym (c5 .kind .ensures) ∙ c4 .if1 .left) (sym (c3 .in-start-tag .ensures) ∙ not-false _ (c2 .if2 .left)) in omega (arith, rw e at (c8 .pre .2))
+    let e = tag-end-first (label-at (nodes (c8 .args .s .now)) (c8 .args .parent)) (c8 .args .previous) (kind-at _ _ ∙ sym (c5 .kind .ensures) ∙ c4 .if1 .left)
+    (sym (c3 .in-start-tag .ensures) ∙ not-false _ (c2 .if2 .left)) in omega (arith, rw e at (c8 .pre .2))
 
 same-length : tie.Need-same-length
 same-length c = search needs

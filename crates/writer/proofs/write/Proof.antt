@@ -46,7 +46,9 @@ put-document-requires c κs =
     let c7 = c4 .before .before .before in
     let c8 = c7 .before in
     let c9 = c8 .before in
-    (form-layout (sym (c9 .formed .ensures) ∙ not-false _ (c8 .if1 .left)), listed (form-holds _ (sym (c9 .formed .ensures) ∙ not-false _ (c8 .if1 .left)) .1) (c7 .select .ensures), enough (sym (c9 .formed .ensures) ∙ not-false _ (c8 .if1 .left)) (c7 .select .ensures) (c4 .measure .ensures .0) (c3 .if2 .left) _ (form-holds _ (sym (c9 .formed .ensures) ∙ not-false _ (c8 .if1 .left)) .1) _ (omega arith))
+    (form-layout (sym (c9 .formed .ensures) ∙ not-false _ (c8 .if1 .left)), listed (form-holds _ (sym (c9 .formed .ensures) ∙ not-false _ (c8 .if1 .left)) .1)
+    (c7 .select .ensures), enough (sym (c9 .formed .ensures) ∙ not-false _ (c8 .if1 .left)) (c7 .select .ensures) (c4 .measure .ensures .0) (c3 .if2 .left) _
+    (form-holds _ (sym (c9 .formed .ensures) ∙ not-false _ (c8 .if1 .left)) .1) _ (omega arith))
 
 cast-t13 : tie.Need-cast-t13
 cast-t13 c = search needs
@@ -62,7 +64,8 @@ returns-4 c =
     let c10 = c7 .before .before .before in
     let c11 = c10 .before in
     let c12 = c11 .before in
-    write-granted (sym (c12 .formed .ensures) ∙ not-false _ (c11 .if1 .left)) (c10 .select .ensures) (c7 .measure .ensures .0) (c6 .if2 .left) _ _ (omega arith) (c2 .put-document .ensures) (search needs)
+    write-granted (sym (c12 .formed .ensures) ∙ not-false _ (c11 .if1 .left)) (c10 .select .ensures) (c7 .measure .ensures .0) (c6 .if2 .left) _ _ (omega arith)
+    (c2 .put-document .ensures) (search needs)
 
 pub write-spec : {M : Type 1} → statement M
 write-spec =
