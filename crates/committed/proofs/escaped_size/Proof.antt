@@ -44,9 +44,11 @@ loop-less c = search needs
 loop-again : tie.Need-loop-again Inv-loop μ-loop
 loop-again c =
     let c3 = c .before .before .before in
-    let c4 = c3 .before in
-    (omega arith, counting-more _ (c3 .loop .inv .1) (omega (arith, c4 .size .ensures .0)) (c .byte-length .ensures .0 ∙ ap (λ b. length (escape b)) (c .before .content .ensures))
-    (c .byte-length .ensures .1))
+    let c4 = c3 .before in (
+      omega arith,
+      counting-more _ (c3 .loop .inv .1) (omega (arith, c4 .size .ensures .0)) (c .byte-length .ensures .0 ∙ ap (λ b. length (escape b)) (c .before .content .ensures))
+          (c .byte-length .ensures .1),
+    )
 
 returns : tie.Need-returns Inv-loop μ-loop
 returns c =

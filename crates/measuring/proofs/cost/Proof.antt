@@ -34,9 +34,11 @@ add-result-3 c = search needs
 returns-2 : tie.Need-returns-2
 returns-2 c =
     let c2 = c .before .before in
-    let c4 = c2 .before .before in
-    (ap₂ (λ m n. m + (n + 3)) (c2 .extra .ensures .0) (c .size2 .ensures .0)
-    ∙ cost-element _ _ _ (kind-at _ _ ∙ sym (c4 .kind .ensures) ∙ c .before .if2 .taken), omega (arith, c .size2 .ensures .1, c2 .extra .ensures .1))
+    let c4 = c2 .before .before in (
+      ap₂ (λ m n. m + (n + 3)) (c2 .extra .ensures .0) (c .size2 .ensures .0)
+          ∙ cost-element _ _ _ (kind-at _ _ ∙ sym (c4 .kind .ensures) ∙ c .before .if2 .taken),
+      omega (arith, c .size2 .ensures .1, c2 .extra .ensures .1),
+    )
 
 escaped-size-requires : tie.Need-escaped-size-requires
 escaped-size-requires c κs = search needs
@@ -48,10 +50,12 @@ returns-3 : tie.Need-returns-3
 returns-3 c =
     let c2 = c .before .before in
     let c3 = c2 .before in
-    let c4 = c3 .before in
-    (ap₂ (λ m n. m + n) (c2 .extra .ensures .0) (c .escaped-size .ensures .0)
-    ∙ cost-text _ _ _ (λ e. c3 .if1 .left (c4 .kind .ensures ∙ sym (kind-at _ _) ∙ e)) (λ e. c .before .if2 .left (c4 .kind .ensures ∙ sym (kind-at _ _) ∙ e)), omega
-    (arith, c .escaped-size .ensures .1, c2 .extra .ensures .1))
+    let c4 = c3 .before in (
+      ap₂ (λ m n. m + n) (c2 .extra .ensures .0) (c .escaped-size .ensures .0)
+          ∙ cost-text _ _ _ (λ e. c3 .if1 .left (c4 .kind .ensures ∙ sym (kind-at _ _) ∙ e)) (λ e. c .before .if2 .left (c4 .kind .ensures ∙ sym (kind-at _ _) ∙ e)),
+      omega
+          (arith, c .escaped-size .ensures .1, c2 .extra .ensures .1),
+    )
 
 pub cost-spec : {M : Type 1} → statement M
 cost-spec =

@@ -30,9 +30,11 @@ returns-3 : tie.Need-returns-3
 returns-3 c =
     let c2 = c .before .before in
     let c3 = c2 .before in
-    let c4 = c3 .before in
-    (ap (λ n. n + 2) (c .size .ensures .0) ∙ extra-first _ _ (kind-at _ _ ∙ sym (c4 .kind .ensures) ∙ c3 .if1 .left)
-    (sym (c2 .in-start-tag .ensures) ∙ not-false _ (c .before .if2 .left)), omega (arith, c .size .ensures .1))
+    let c4 = c3 .before in (
+      ap (λ n. n + 2) (c .size .ensures .0) ∙ extra-first _ _ (kind-at _ _ ∙ sym (c4 .kind .ensures) ∙ c3 .if1 .left)
+          (sym (c2 .in-start-tag .ensures) ∙ not-false _ (c .before .if2 .left)),
+      omega (arith, c .size .ensures .1),
+    )
 
 pub extra-spec : {M : Type 1} → statement M
 extra-spec =

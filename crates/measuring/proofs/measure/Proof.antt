@@ -61,8 +61,12 @@ cast-parent : tie.Need-cast-parent Inv-loop μ-loop
 cast-parent c =
     let c3 = c .before .before .before in
     let c7 = c3 .before .before .before .before in
-    omega (arith, c3 .loop .inv .walk .on-path .inside (c .depth .result - 1) (omega (arith, c .depth .ensures, walk-steps (c7 .pre .1) (c3 .loop .inv .walk) (omega arith))),
-    c7 .pre .0 .many, c7 .pre .0 .room)
+    omega (
+      arith,
+      c3 .loop .inv .walk .on-path .inside (c .depth .result - 1) (omega (arith, c .depth .ensures, walk-steps (c7 .pre .1) (c3 .loop .inv .walk) (omega arith))),
+      c7 .pre .0 .many,
+      c7 .pre .0 .room,
+    )
 
 previous-requires : tie.Need-previous-requires Inv-loop μ-loop
 previous-requires c κs =
@@ -99,10 +103,12 @@ returns-2 c =
     let c4 = c3 .before in
     let c6 = c4 .before .before in
     let c9 = c6 .before .before .before in
-    let c13 = c9 .before .before .before .before in
-    (measured-unfit (c13 .pre .1) (c9 .loop .inv) (omega arith) refl (c6 .depth .ensures) refl (c4 .previous .ensures)
-    (ap₂ (λ a b. fits a (c4 .previous .result) b) (kind-at _ _ ∙ sym (c3 .kind .ensures)) (kind-at _ _ ∙ sym (c2 .kind2 .ensures)) ∙ sym (c .before .fits2 .ensures)
-    ∙ not-true _ (c .if2 .taken)), omega arith)
+    let c13 = c9 .before .before .before .before in (
+      measured-unfit (c13 .pre .1) (c9 .loop .inv) (omega arith) refl (c6 .depth .ensures) refl (c4 .previous .ensures)
+          (ap₂ (λ a b. fits a (c4 .previous .result) b) (kind-at _ _ ∙ sym (c3 .kind .ensures)) (kind-at _ _ ∙ sym (c2 .kind2 .ensures)) ∙ sym (c .before .fits2 .ensures)
+          ∙ not-true _ (c .if2 .taken)),
+      omega arith,
+    )
 
 repeated-requires : tie.Need-repeated-requires Inv-loop μ-loop
 repeated-requires c κs =
@@ -118,10 +124,12 @@ returns-3 c =
     let c6 = c5 .before in
     let c8 = c6 .before .before in
     let c11 = c8 .before .before .before in
-    let c15 = c11 .before .before .before .before in
-    (measured-again (c15 .pre .1) (c11 .loop .inv) (omega arith) refl (c8 .depth .ensures) refl (c6 .previous .ensures)
-    (ap₂ (λ a b. fits a (c6 .previous .result) b) (kind-at _ _ ∙ sym (c5 .kind .ensures)) (kind-at _ _ ∙ sym (c4 .kind2 .ensures)) ∙ sym (c3 .fits2 .ensures)
-    ∙ not-false _ (c2 .if2 .left)) (sym (c .before .repeated .ensures) ∙ c .if3 .taken), omega arith)
+    let c15 = c11 .before .before .before .before in (
+      measured-again (c15 .pre .1) (c11 .loop .inv) (omega arith) refl (c8 .depth .ensures) refl (c6 .previous .ensures)
+          (ap₂ (λ a b. fits a (c6 .previous .result) b) (kind-at _ _ ∙ sym (c5 .kind .ensures)) (kind-at _ _ ∙ sym (c4 .kind2 .ensures)) ∙ sym (c3 .fits2 .ensures)
+          ∙ not-false _ (c2 .if2 .left)) (sym (c .before .repeated .ensures) ∙ c .if3 .taken),
+      omega arith,
+    )
 
 cast-cost : tie.Need-cast-cost Inv-loop μ-loop
 cast-cost c =
@@ -133,9 +141,11 @@ cost-requires : tie.Need-cost-requires Inv-loop μ-loop
 cost-requires c κs =
     let c8 = c .before .before .before .before .before .before .before .before in
     let c11 = c8 .before .before .before in
-    let c15 = c11 .before .before .before .before in
-    (c15 .pre .0, c11 .loop .inv .walk .on-path .inside (c8 .depth .result - 1) (omega (arith, c8 .depth .ensures, walk-steps (c15 .pre .1) (c11 .loop .inv .walk) (omega arith))),
-    c15 .pre .1 .inside (c11 .loop .i) (omega arith))
+    let c15 = c11 .before .before .before .before in (
+      c15 .pre .0,
+      c11 .loop .inv .walk .on-path .inside (c8 .depth .result - 1) (omega (arith, c8 .depth .ensures, walk-steps (c15 .pre .1) (c11 .loop .inv .walk) (omega arith))),
+      c15 .pre .1 .inside (c11 .loop .i) (omega arith),
+    )
 
 add-sum : tie.Need-add-sum Inv-loop μ-loop
 add-sum c =

@@ -90,9 +90,11 @@ loop-less-2 c = omega arith
 loop-again-2 : tie.Need-loop-again-2 Inv-loop μ-loop
 loop-again-2 c =
     let c4 = c .before .before .before .before in
-    let c7 = c4 .before .before .before in
-    (omega (arith, c7 .loop .inv .0), looking-on _ _ _ _ _ (c7 .loop .j) (omega arith) (c7 .loop .inv .1) (omega (arith, c4 .depth2 .ensures)) (omega (arith, c4 .depth2 .ensures))
-    (sym (c .before .same-content .ensures) ∙ c .if4 .left))
+    let c7 = c4 .before .before .before in (
+      omega (arith, c7 .loop .inv .0),
+      looking-on _ _ _ _ _ (c7 .loop .j) (omega arith) (c7 .loop .inv .1) (omega (arith, c4 .depth2 .ensures)) (omega (arith, c4 .depth2 .ensures))
+          (sym (c .before .same-content .ensures) ∙ c .if4 .left),
+    )
 
 returns-4 : tie.Need-returns-4 Inv-loop μ-loop
 returns-4 c = let z : c .before .loop .j ≡ 0 = omega arith in looking-none _ _ _ _ _ (rw z at (c .before .loop .inv .1))

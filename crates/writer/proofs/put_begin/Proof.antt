@@ -1,12 +1,9 @@
-use Rattle.writer.specs.Laws.Pieces.{begin-attribute, begin-other}
-use Rattle.writer.specs.Texts.{opening}
-use Rattle.markup.specs.Rows.{tag-end}
-use Rattle.writer.specs.Laws.Next.{second, both}
+use Rattle.writer.specs.Laws.Pieces.{begin-attribute, next-opening, begin-room}
+use Rattle.writer.specs.Laws.Next.{both}
 use Rattle.markup.specs.Lending.{wrote-as}
 use Rattle.committed.specs.Laws.Contents.{kind-at}
 use Rattle.committed.specs.Lines.{label-at}
 use Rattle.layout.specs.Layout.{nodes}
-use lib.ListN.{length-append}
 use mathlib.Core.Path.{sym, _∙_}
 use native.Mathlib.Omega.{arith}
 use borrow.Author.Needs.{needs}
@@ -44,10 +41,7 @@ put-tag-end-requires : tie.Need-put-tag-end-requires
 put-tag-end-requires c κs =
     let c2 = c .before .before in
     let c5 = c2 .before .before .before in
-    (c5 .pre .0, c5 .pre .1, omega (arith, length-append (tag-end (label-at (nodes (c5 .args .s .now)) (c5 .args .parent)) (c5 .args .previous))
-    (opening (label-at (nodes (c5 .args .s .now)) (c5 .args .p))), rw
-    (begin-other (label-at (nodes (c5 .args .s .now)) (c5 .args .parent)) (c5 .args .previous) (label-at (nodes (c5 .args .s .now)) (c5 .args .p))
-    (λ e. c .before .if1 .left (c2 .kind .ensures ∙ sym (kind-at _ _) ∙ e))) at (c5 .pre .3)))
+    (c5 .pre .0, c5 .pre .1, begin-room _ _ _ (λ e. c .before .if1 .left (c2 .kind .ensures ∙ sym (kind-at _ _) ∙ e)) (c5 .pre .3))
 
 sub-put-opening : tie.Need-sub-put-opening
 sub-put-opening c =
@@ -55,9 +49,7 @@ sub-put-opening c =
     let c4 = c2 .before .before in
     let c5 = c4 .before in
     let c8 = c5 .before .before .before in
-    (second (tag-end (label-at (nodes (c8 .args .s .now)) (c8 .args .parent)) (c8 .args .previous)) (opening (label-at (nodes (c8 .args .s .now)) (c8 .args .p)))
-    (c2 .put-tag-end .ensures) (rw (begin-other (label-at (nodes (c8 .args .s .now)) (c8 .args .parent)) (c8 .args .previous) (label-at (nodes (c8 .args .s .now)) (c8 .args .p))
-    (λ e. c4 .if1 .left (c5 .kind .ensures ∙ sym (kind-at _ _) ∙ e))) at (c8 .pre .3))) .inside
+    (next-opening _ _ _ (λ e. c4 .if1 .left (c5 .kind .ensures ∙ sym (kind-at _ _) ∙ e)) (c2 .put-tag-end .ensures) (c8 .pre .3)) .inside
 
 part-put-opening-start : tie.Need-part-put-opening-start
 part-put-opening-start c =
@@ -65,9 +57,7 @@ part-put-opening-start c =
     let c4 = c2 .before .before in
     let c5 = c4 .before in
     let c8 = c5 .before .before .before in
-    (second (tag-end (label-at (nodes (c8 .args .s .now)) (c8 .args .parent)) (c8 .args .previous)) (opening (label-at (nodes (c8 .args .s .now)) (c8 .args .p)))
-    (c2 .put-tag-end .ensures) (rw (begin-other (label-at (nodes (c8 .args .s .now)) (c8 .args .parent)) (c8 .args .previous) (label-at (nodes (c8 .args .s .now)) (c8 .args .p))
-    (λ e. c4 .if1 .left (c5 .kind .ensures ∙ sym (kind-at _ _) ∙ e))) at (c8 .pre .3))) .inside
+    (next-opening _ _ _ (λ e. c4 .if1 .left (c5 .kind .ensures ∙ sym (kind-at _ _) ∙ e)) (c2 .put-tag-end .ensures) (c8 .pre .3)) .inside
 
 part-put-opening-end : tie.Need-part-put-opening-end
 part-put-opening-end c = search needs
@@ -78,10 +68,7 @@ put-opening-requires c κs =
     let c5 = c3 .before .before in
     let c6 = c5 .before in
     let c9 = c6 .before .before .before in
-    (c9 .pre .0, c9 .pre .2, (second (tag-end (label-at (nodes (c9 .args .s .now)) (c9 .args .parent)) (c9 .args .previous))
-    (opening (label-at (nodes (c9 .args .s .now)) (c9 .args .p))) (c3 .put-tag-end .ensures)
-    (rw (begin-other (label-at (nodes (c9 .args .s .now)) (c9 .args .parent)) (c9 .args .previous) (label-at (nodes (c9 .args .s .now)) (c9 .args .p))
-    (λ e. c5 .if1 .left (c6 .kind .ensures ∙ sym (kind-at _ _) ∙ e))) at (c9 .pre .3))) .room)
+    (c9 .pre .0, c9 .pre .2, (next-opening _ _ _ (λ e. c5 .if1 .left (c6 .kind .ensures ∙ sym (kind-at _ _) ∙ e)) (c3 .put-tag-end .ensures) (c9 .pre .3)) .room)
 
 add-result : tie.Need-add-result
 add-result c =
@@ -90,9 +77,7 @@ add-result c =
     let c8 = c6 .before .before in
     let c9 = c8 .before in
     let c12 = c9 .before .before .before in
-    omega (arith, (second (tag-end (label-at (nodes (c12 .args .s .now)) (c12 .args .parent)) (c12 .args .previous)) (opening (label-at (nodes (c12 .args .s .now)) (c12 .args .p)))
-    (c6 .put-tag-end .ensures) (rw (begin-other (label-at (nodes (c12 .args .s .now)) (c12 .args .parent)) (c12 .args .previous)
-    (label-at (nodes (c12 .args .s .now)) (c12 .args .p)) (λ e. c8 .if1 .left (c9 .kind .ensures ∙ sym (kind-at _ _) ∙ e))) at (c12 .pre .3))) .small, c2 .put-opening .ensures .count)
+    omega (arith, (next-opening _ _ _ (λ e. c8 .if1 .left (c9 .kind .ensures ∙ sym (kind-at _ _) ∙ e)) (c6 .put-tag-end .ensures) (c12 .pre .3)) .small, c2 .put-opening .ensures .count)
 
 same-length-2 : tie.Need-same-length-2
 same-length-2 c = search needs
@@ -104,11 +89,7 @@ returns-2 c =
     let c8 = c6 .before .before in
     let c9 = c8 .before in
     let c12 = c9 .before .before .before in
-    wrote-as (sym (begin-other (label-at (nodes (c12 .args .s .now)) (c12 .args .parent)) (c12 .args .previous) (label-at (nodes (c12 .args .s .now)) (c12 .args .p))
-    (λ e. c8 .if1 .left (c9 .kind .ensures ∙ sym (kind-at _ _) ∙ e))))
-    (both (second (tag-end (label-at (nodes (c12 .args .s .now)) (c12 .args .parent)) (c12 .args .previous)) (opening (label-at (nodes (c12 .args .s .now)) (c12 .args .p)))
-    (c6 .put-tag-end .ensures) (rw (begin-other (label-at (nodes (c12 .args .s .now)) (c12 .args .parent)) (c12 .args .previous)
-    (label-at (nodes (c12 .args .s .now)) (c12 .args .p)) (λ e. c8 .if1 .left (c9 .kind .ensures ∙ sym (kind-at _ _) ∙ e))) at (c12 .pre .3))) _ _ (c2 .put-opening .ensures))
+    both (next-opening _ _ _ (λ e. c8 .if1 .left (c9 .kind .ensures ∙ sym (kind-at _ _) ∙ e)) (c6 .put-tag-end .ensures) (c12 .pre .3)) _ _ (c2 .put-opening .ensures)
 
 pub put-begin-spec : {M : Type 1} → statement M
 put-begin-spec =

@@ -39,8 +39,12 @@ add-result c =
     let c2 = c .before .before in
     let c6 = c2 .before .before .before .before in
     let c12 = c6 .before .before .before .before .before .before in
-    omega (arith, (second ((c12 .args .prefix .now) ++ ((label-at (nodes (c12 .args .s .now)) (c12 .args .p)) .content)) (c12 .args .suffix .now) (c6 .put-name .ensures)
-    (c12 .pre .2)) .small, c2 .put .ensures .count)
+    omega (
+      arith,
+      (second ((c12 .args .prefix .now) ++ ((label-at (nodes (c12 .args .s .now)) (c12 .args .p)) .content)) (c12 .args .suffix .now) (c6 .put-name .ensures)
+          (c12 .pre .2)) .small,
+      c2 .put .ensures .count,
+    )
 
 same-length : tie.Need-same-length
 same-length c = search needs

@@ -75,10 +75,15 @@ put-row-requires : tie.Need-put-row-requires Inv-loop μ-loop
 put-row-requires c κs =
     let c2 = c .before .before in
     let c5 = c2 .before .before .before in
-    let c9 = c5 .before .before .before .before in
-    (c9 .pre .0, c5 .loop .inv .2 .on-path, omega (arith, c2 .depth .ensures, (walk-below (c9 .pre .1) (c5 .loop .inv .2) (omega arith))), omega
-    (arith, c2 .depth .ensures, (walk-steps (c9 .pre .1) (c5 .loop .inv .2) (omega arith))), (c9 .pre .1 .inside (c5 .loop .i) (omega arith)),
-    (next-row (c9 .pre .1) (c5 .loop .inv .2) (omega arith) refl (c2 .depth .ensures) (c5 .loop .inv .3) (c9 .pre .2)) .room)
+    let c9 = c5 .before .before .before .before in (
+      c9 .pre .0,
+      c5 .loop .inv .2 .on-path,
+      omega (arith, c2 .depth .ensures, (walk-below (c9 .pre .1) (c5 .loop .inv .2) (omega arith))),
+      omega
+          (arith, c2 .depth .ensures, (walk-steps (c9 .pre .1) (c5 .loop .inv .2) (omega arith))),
+      (c9 .pre .1 .inside (c5 .loop .i) (omega arith)),
+      (next-row (c9 .pre .1) (c5 .loop .inv .2) (omega arith) refl (c2 .depth .ensures) (c5 .loop .inv .3) (c9 .pre .2)) .room,
+    )
 
 add-at : tie.Need-add-at Inv-loop μ-loop
 add-at c =
@@ -113,9 +118,12 @@ loop-again c =
     let c2 = c .before .before in
     let c5 = c2 .before .before .before in
     let c8 = c5 .before .before .before in
-    let c12 = c8 .before .before .before .before in
-    (omega arith, search needs, walk-on (c12 .pre .1) (c8 .loop .inv .2) (omega arith) (c5 .depth .ensures) refl,
-    (next-row (c12 .pre .1) (c8 .loop .inv .2) (omega arith) refl (c5 .depth .ensures) (c8 .loop .inv .3) (c12 .pre .2)) .on _ _ (c2 .put-row .ensures))
+    let c12 = c8 .before .before .before .before in (
+      omega arith,
+      search needs,
+      walk-on (c12 .pre .1) (c8 .loop .inv .2) (omega arith) (c5 .depth .ensures) refl,
+      (next-row (c12 .pre .1) (c8 .loop .inv .2) (omega arith) refl (c5 .depth .ensures) (c8 .loop .inv .3) (c12 .pre .2)) .on _ _ (c2 .put-row .ensures),
+    )
 
 sub-put-ends : tie.Need-sub-put-ends Inv-loop μ-loop
 sub-put-ends c =

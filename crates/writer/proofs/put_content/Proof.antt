@@ -53,9 +53,12 @@ loop-again c =
     let c2 = c .before .before in
     let c3 = c2 .before in
     let c4 = c3 .before in
-    let c7 = c4 .before .before .before in
-    (omega arith, simp length-set (c2 .loop .inv .1), rw (c .content .ensures)
-    (copy-more _ _ _ _ (omega (arith, c3 .size .ensures .0)) (omega (arith, c3 .size .ensures .0, ap length (c4 .version .ensures .1), c7 .pre .2)) (c2 .loop .inv .2)))
+    let c7 = c4 .before .before .before in (
+      omega arith,
+      simp length-set (c2 .loop .inv .1),
+      rw (c .content .ensures)
+          (copy-more _ _ _ _ (omega (arith, c3 .size .ensures .0)) (omega (arith, c3 .size .ensures .0, ap length (c4 .version .ensures .1), c7 .pre .2)) (c2 .loop .inv .2)),
+    )
 
 same-length : tie.Need-same-length Inv-loop μ-loop
 same-length c = c .before .loop .inv .1

@@ -59,17 +59,22 @@ part-put-end-end c = search needs
 put-end-requires : tie.Need-put-end-requires Inv-loop μ-loop
 put-end-requires c κs =
     let c3 = c .before .before .before in
-    let c6 = c3 .before .before .before in
-    (c6 .pre .0, (c6 .pre .1 .inside (c3 .loop .e - 1) (omega (arith, c3 .loop .inv .0))),
-    (next-end (nodes (c6 .args .s .now)) (c6 .args .path .now) (c3 .loop .e) (c6 .args .d) (c3 .loop .last) (c3 .loop .inv .2) (c6 .pre .2) (omega arith)) .room)
+    let c6 = c3 .before .before .before in (
+      c6 .pre .0,
+      (c6 .pre .1 .inside (c3 .loop .e - 1) (omega (arith, c3 .loop .inv .0))),
+      (next-end (nodes (c6 .args .s .now)) (c6 .args .path .now) (c3 .loop .e) (c6 .args .d) (c3 .loop .last) (c3 .loop .inv .2) (c6 .pre .2) (omega arith)) .room,
+    )
 
 add-at : tie.Need-add-at Inv-loop μ-loop
 add-at c =
     let c2 = c .before .before in
     let c6 = c2 .before .before .before .before in
     let c9 = c6 .before .before .before in
-    omega (arith, (next-end (nodes (c9 .args .s .now)) (c9 .args .path .now) (c6 .loop .e) (c9 .args .d) (c6 .loop .last) (c6 .loop .inv .2) (c9 .pre .2) (omega arith)) .small,
-    c2 .put-end .ensures .count)
+    omega (
+      arith,
+      (next-end (nodes (c9 .args .s .now)) (c9 .args .path .now) (c6 .loop .e) (c9 .args .d) (c6 .loop .last) (c6 .loop .inv .2) (c9 .pre .2) (omega arith)) .small,
+      c2 .put-end .ensures .count,
+    )
 
 kind-requires : tie.Need-kind-requires Inv-loop μ-loop
 kind-requires c κs =
@@ -84,11 +89,14 @@ loop-again : tie.Need-loop-again Inv-loop μ-loop
 loop-again c =
     let c3 = c .before .before .before in
     let c7 = c3 .before .before .before .before in
-    let c10 = c7 .before .before .before in
-    (omega (arith, c7 .loop .inv .0), search needs, partly-as
-    (ap (λ k. ends ((c7 .loop .e) - 1 - c10 .args .d) (open-labels (nodes (c10 .args .s .now)) (c10 .args .path .now) ((c7 .loop .e) - 1)) k)
-    (kind-at _ _ ∙ sym (c .kind .ensures))) ((next-end (nodes (c10 .args .s .now)) (c10 .args .path .now) (c7 .loop .e) (c10 .args .d) (c7 .loop .last) (c7 .loop .inv .2)
-    (c10 .pre .2) (omega arith)) .on _ _ (c3 .put-end .ensures)))
+    let c10 = c7 .before .before .before in (
+      omega (arith, c7 .loop .inv .0),
+      search needs,
+      partly-as
+          (ap (λ k. ends ((c7 .loop .e) - 1 - c10 .args .d) (open-labels (nodes (c10 .args .s .now)) (c10 .args .path .now) ((c7 .loop .e) - 1)) k)
+          (kind-at _ _ ∙ sym (c .kind .ensures))) ((next-end (nodes (c10 .args .s .now)) (c10 .args .path .now) (c7 .loop .e) (c10 .args .d) (c7 .loop .last) (c7 .loop .inv .2)
+          (c10 .pre .2) (omega arith)) .on _ _ (c3 .put-end .ensures)),
+    )
 
 same-length : tie.Need-same-length Inv-loop μ-loop
 same-length c = c .before .loop .inv .1

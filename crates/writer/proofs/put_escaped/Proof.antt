@@ -69,8 +69,11 @@ add-at c =
     let c7 = c6 .before in
     let c8 = c7 .before in
     let c11 = c8 .before .before .before in
-    omega (arith, next-byte _ _ _ (c6 .loop .inv .2) (rw (← c8 .version .ensures .1) at (c11 .pre .2)) (omega (arith, c7 .size .ensures .0)) (c4 .content .ensures) .small,
-    c2 .put-byte .ensures .count)
+    omega (
+      arith,
+      next-byte _ _ _ (c6 .loop .inv .2) (rw (← c8 .version .ensures .1) at (c11 .pre .2)) (omega (arith, c7 .size .ensures .0)) (c4 .content .ensures) .small,
+      c2 .put-byte .ensures .count,
+    )
 
 add-j : tie.Need-add-j Inv-loop μ-loop
 add-j c = search needs
@@ -85,9 +88,12 @@ loop-again c =
     let c6 = c4 .before .before in
     let c7 = c6 .before in
     let c8 = c7 .before in
-    let c11 = c8 .before .before .before in
-    (omega arith, search needs, next-byte _ _ _ (c6 .loop .inv .2) (rw (← c8 .version .ensures .1) at (c11 .pre .2)) (omega (arith, c7 .size .ensures .0))
-    (c4 .content .ensures) .on _ _ (c2 .put-byte .ensures))
+    let c11 = c8 .before .before .before in (
+      omega arith,
+      search needs,
+      next-byte _ _ _ (c6 .loop .inv .2) (rw (← c8 .version .ensures .1) at (c11 .pre .2)) (omega (arith, c7 .size .ensures .0))
+          (c4 .content .ensures) .on _ _ (c2 .put-byte .ensures),
+    )
 
 same-length : tie.Need-same-length Inv-loop μ-loop
 same-length c = c .before .loop .inv .1

@@ -50,9 +50,12 @@ put-begin-requires : tie.Need-put-begin-requires
 put-begin-requires c κs =
     let c3 = c .before .before .before in
     let c5 = c3 .before .before in
-    let c9 = c5 .before .before .before .before in
-    (c9 .pre .0, (c9 .pre .1 .inside (c9 .args .d - 1) (omega (arith, c9 .pre .2, c9 .pre .3))), c9 .pre .4,
-    (next-begin (nodes (c9 .args .s .now)) (c9 .args .path .now) (c9 .args .top) (c9 .args .d) (c9 .args .p) (c3 .put-ends .ensures) (c9 .pre .5) (c5 .previous .ensures)) .room)
+    let c9 = c5 .before .before .before .before in (
+      c9 .pre .0,
+      (c9 .pre .1 .inside (c9 .args .d - 1) (omega (arith, c9 .pre .2, c9 .pre .3))),
+      c9 .pre .4,
+      (next-begin (nodes (c9 .args .s .now)) (c9 .args .path .now) (c9 .args .top) (c9 .args .d) (c9 .args .p) (c3 .put-ends .ensures) (c9 .pre .5) (c5 .previous .ensures)) .room,
+    )
 
 add-result : tie.Need-add-result
 add-result c =
@@ -60,8 +63,12 @@ add-result c =
     let c6 = c2 .before .before .before .before in
     let c8 = c6 .before .before in
     let c12 = c8 .before .before .before .before in
-    omega (arith, (next-begin (nodes (c12 .args .s .now)) (c12 .args .path .now) (c12 .args .top) (c12 .args .d) (c12 .args .p) (c6 .put-ends .ensures) (c12 .pre .5)
-    (c8 .previous .ensures)) .small, c2 .put-begin .ensures .count)
+    omega (
+      arith,
+      (next-begin (nodes (c12 .args .s .now)) (c12 .args .path .now) (c12 .args .top) (c12 .args .d) (c12 .args .p) (c6 .put-ends .ensures) (c12 .pre .5)
+          (c8 .previous .ensures)) .small,
+      c2 .put-begin .ensures .count,
+    )
 
 same-length : tie.Need-same-length
 same-length c = search needs

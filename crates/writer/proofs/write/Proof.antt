@@ -45,10 +45,13 @@ put-document-requires c κs =
     let c4 = c3 .before in
     let c7 = c4 .before .before .before in
     let c8 = c7 .before in
-    let c9 = c8 .before in
-    (form-layout (sym (c9 .formed .ensures) ∙ not-false _ (c8 .if1 .left)), listed (form-holds _ (sym (c9 .formed .ensures) ∙ not-false _ (c8 .if1 .left)) .1)
-    (c7 .select .ensures), enough (sym (c9 .formed .ensures) ∙ not-false _ (c8 .if1 .left)) (c7 .select .ensures) (c4 .measure .ensures .0) (c3 .if2 .left) _
-    (form-holds _ (sym (c9 .formed .ensures) ∙ not-false _ (c8 .if1 .left)) .1) _ (omega arith))
+    let c9 = c8 .before in (
+      form-layout (sym (c9 .formed .ensures) ∙ not-false _ (c8 .if1 .left)),
+      listed (form-holds _ (sym (c9 .formed .ensures) ∙ not-false _ (c8 .if1 .left)) .1)
+          (c7 .select .ensures),
+      enough (sym (c9 .formed .ensures) ∙ not-false _ (c8 .if1 .left)) (c7 .select .ensures) (c4 .measure .ensures .0) (c3 .if2 .left) _
+          (form-holds _ (sym (c9 .formed .ensures) ∙ not-false _ (c8 .if1 .left)) .1) _ (omega arith),
+    )
 
 cast-t13 : tie.Need-cast-t13
 cast-t13 c = search needs

@@ -7,9 +7,13 @@ use native.Mathlib.Omega.{arith}
 use lib.ListN.{length}
 use lib.Dec.{leb}
 use borrow.Author.Tests.{le-leb, lt-leb}
-use Rattle.tree.specs.Document.{Document}
+use Rattle.tree.specs.Document.{Document, legal}
 use Rattle.protocol.specs.State.{State, committed-document}
+use Rattle.protocol.specs.declared.Answer.{Answer}
 use Rattle.protocol.specs.declared.Answer.the-variants.{Count, Refused}
+use Rattle.protocol.specs.Calls as calls
+use Rattle.protocol.specs.Calls.{next}
+use Rattle.protocol.specs.Answers.{answer-of}
 use Rattle.layout.specs.Layout.{nodes}
 use Rattle.form.specs.Form.{form, Holds}
 use Rattle.form.specs.Laws.Holds.{holds-form}
@@ -17,6 +21,7 @@ use Rattle.xml.specs.Writing.{write, expressible}
 use Rattle.markup.specs.Rows.{ordered, measured, written-rows}
 use Rattle.markup.specs.Lending.{Wrote}
 use Rattle.markup.specs.Laws.Documents.{written-is, measured-is}
+use Rattle.markup.specs.Laws.Rules.{legal-ordered}
 use Rattle.committed.specs.declared.Rows.{Rows}
 use Rattle.committed.specs.Lines.{lines, Selected}
 use Rattle.committed.specs.Laws.Documents.{root-content, root-below, rooted-shape, lines-of}
@@ -114,3 +119,17 @@ module _ {s : List ℕ} {w : Rows} {n : ℕ} (f : form s ≡ true) (c : Selected
         go : (b : Bool) → ordered (committed-document M) ≡ b → length (written-rows (lines (nodes s) (w .places) (w .count))) ≤ m
         go true b = omega (arith, ap length (text-is M h b), by-expressible M h b true (is-expressible M h b z))
         go false b = absurd (z (none M h b))
+
+-- the answer of a call of write is what writing the committed document answers, and write leaves the state as it is
+pub protocol-answer : (room : ℕ) (M : State) → answer-of (writing room) (next calls.write M .outcome) ≡ writing room (committed-document M)
+unfolding answer-of next
+protocol-answer room M = refl
+
+pub protocol-state : (M : State) → next calls.write M .state ≡ M
+unfolding next
+protocol-state M = refl
+
+-- the committed document of a legal state is written as defined
+pub legal-writing : {s o o′ : List ℕ} {r : Answer} (M : State) → Written s o o′ r → Holds s M → legal (committed-document M) ≡ true
+    → (r ≡ writing (length o) (committed-document M)) × (o′ ≡ text-after o (committed-document M))
+legal-writing M w h l = (w .answer M h (legal-ordered (committed-document M) l), w .text M h (legal-ordered (committed-document M) l))

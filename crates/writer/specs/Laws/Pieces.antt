@@ -2,7 +2,7 @@
 use mathlib.Core.Path.{_≡_, sym, ap, _∙_}
 use Prim.Native.Nat.{ℕ, _+_, _≤_, _<_}
 use native.Mathlib.Omega.{arith}
-use lib.ListN.{length, getD, take, drop}
+use lib.ListN.{length, getD, take, drop, length-append}
 use lib.Seq.{take-length}
 use mathlib.Core.Bool.{true, false, and-false}
 use mathlib.Core.List.{List, [], _++_}
@@ -15,7 +15,7 @@ use Rattle.markup.specs.Rows.{in-start-tag, tag-end, begin, end}
 use Rattle.markup.specs.Lending.{Wrote, Partly, partly-as, partly-end}
 use Rattle.committed.specs.Laws.Contents.{escaped-from, escaped-end}
 use Rattle.writer.specs.Texts.{opening}
-use Rattle.writer.specs.Laws.Next.{Next, next}
+use Rattle.writer.specs.Laws.Next.{Next, next, second}
 
 module _ (parent : Label) (previous : ℕ) where
   pub tag-end-other : (parent .kind ≡ 2 → ⊥) → tag-end parent previous ≡ []
@@ -37,6 +37,16 @@ module _ (parent : Label) (previous : ℕ) where
   pub begin-other : (a : Label) → (a .kind ≡ 3 → ⊥) → begin parent previous a ≡ tag-end parent previous ++ opening a
   unfolding begin opening
   begin-other a h = rw (ne-eqb (a .kind) 3 h)
+
+-- the end of the parent's start tag, and then a node that is no attribute
+pub next-opening : (parent : Label) (previous : ℕ) (a : Label) {o₀ o : List ℕ} {r : ℕ} → (a .kind ≡ 3 → ⊥) → Wrote (tag-end parent previous) o₀ o r
+    → length (begin parent previous a) ≤ length o₀ → Next (opening a) (begin parent previous a) [] o₀ o r
+next-opening parent previous a n w h =
+    let e = begin-other parent previous a n in
+    rw e (second (tag-end parent previous) (opening a) w (rw e at h))
+
+pub begin-room : (parent : Label) (previous : ℕ) (a : Label) {n : ℕ} → (a .kind ≡ 3 → ⊥) → length (begin parent previous a) ≤ n → length (tag-end parent previous) ≤ n
+begin-room parent previous a k h = omega (arith, length-append (tag-end parent previous) (opening a), ap length (begin-other parent previous a k))
 
 module _ (a : Label) where
   pub opening-element : a .kind ≡ 2 → opening a ≡ bytes "<" ++ a .content

@@ -79,8 +79,13 @@ module _ {l : List Entry} {places path : List ℕ} {count top i : ℕ} (c : List
       let ei : d ≡ depth l (getD places i 0) = ed ∙ ap (depth l) ep in
       let row : drop i (lines l places count) ≡ (d, label-at l p) ∷ drop (suc i) (lines l places count) = lines-from l places count n i h ∙ rw (ei, ep) in
       let b : d ≤ suc top = omega (arith, walk-steps c w h) in
-      rw (row, parent-is l path (suc top) d (omega (arith, walk-below c w h)) b, opened-is l path (suc top) d p b (omega (arith, walk-deep c w h, w .on-path .long)), add-one i,
-      length-open l path (suc top))
+      rw (
+        row,
+        parent-is l path (suc top) d (omega (arith, walk-below c w h)) b,
+        opened-is l path (suc top) d p b (omega (arith, walk-deep c w h, w .on-path .long)),
+        add-one i,
+        length-open l path (suc top),
+      )
 
   pub next-row : i < count → {d p : ℕ} → p ≡ getD places i 0 → d ≡ depth l p → {text o₀ o : List ℕ} {at : ℕ} → Partly text (from l places count path top i) o₀ o at → length text ≤ length o₀
       → Next (row-text l path top d p) text (from l places count (set path d p) d (i + 1)) o₀ o at
