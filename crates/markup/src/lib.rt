@@ -25,7 +25,8 @@ pub fn put_prolog(out: &mut [u8]) -> usize
     requires { ⌜ length prolog ≤ length (now out) ⌝ }
     ensures { λ r. ⌜ Wrote prolog (now (out .entry)) (now (out .exit)) r ⌝ }
 {
-    put(out, b"<?xml version=\"1.0\" encoding=\"UTF-8\"?>\n")
+    let at = put(out, &xml::LONG_DECLARATION);
+    at + put(&mut out[at..], b"\n")
 }
 
 // A byte of a text or a value.
@@ -34,16 +35,16 @@ pub fn put_byte(out: &mut [u8], b: u8) -> usize
     ensures { λ r. ⌜ Wrote (escape b) (now (out .entry)) (now (out .exit)) r ⌝ }
 {
     if b == b'&' {
-        return put(out, b"&amp;");
+        return put(out, &xml::AMP);
     }
     if b == b'<' {
-        return put(out, b"&lt;");
+        return put(out, &xml::LT);
     }
     if b == b'>' {
-        return put(out, b"&gt;");
+        return put(out, &xml::GT);
     }
     if b == b'"' {
-        return put(out, b"&quot;");
+        return put(out, &xml::QUOT);
     }
     out[0] = b;
     1

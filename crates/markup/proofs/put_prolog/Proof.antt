@@ -1,25 +1,63 @@
+use mathlib.Core.List.{[], _∷_}
+use native.Mathlib.Omega.{arith}
+use Rattle.xml.specs.Bytes.{line-feed, long-declaration}
+use Rattle.markup.specs.Lending.{inside, room, behind}
 use Rattle.markup.specs.Rows.{prolog}
 use borrow.Author.Needs.{needs}
 use Rattle.markup.proofs.put_prolog.Statement.{statement}
 use Rattle.markup.proofs.put_prolog.Tie as tie
 
--- src/lib.rt:28:14
 slice-aggregate-put : tie.Need-slice-aggregate-put
 slice-aggregate-put c = search needs
 
--- src/lib.rt:28:5
 put-requires : tie.Need-put-requires
 unfolding prolog
-put-requires c κs = c .before .before .before .pre
+put-requires c κs = omega (arith, c .before .before .before .pre)
 
--- src/lib.rt:24:1
+sub-put : tie.Need-sub-put
+unfolding prolog
+sub-put c = inside long-declaration (line-feed ∷ []) _ _ _ (c .before .before .put .ensures) (c .before .before .before .before .before .before .pre)
+
+part-put-start : tie.Need-part-put-start
+unfolding prolog
+part-put-start c = inside long-declaration (line-feed ∷ []) _ _ _ (c .before .before .put .ensures) (c .before .before .before .before .before .before .pre)
+
+part-put-end : tie.Need-part-put-end
+part-put-end c = search needs
+
+slice-aggregate-put-2 : tie.Need-slice-aggregate-put-2
+slice-aggregate-put-2 c = search needs
+
+put-requires-2 : tie.Need-put-requires-2
+unfolding prolog
+put-requires-2 c κs =
+    let c4 = c .before .before .before .before in
+    room long-declaration (line-feed ∷ []) _ _ _ (c4 .put .ensures) (c4 .before .before .before .before .pre)
+
+add-result : tie.Need-add-result
+add-result c = search needs
+
 same-length : tie.Need-same-length
 same-length c = search needs
 
--- src/lib.rt:24:1
 returns : tie.Need-returns
 unfolding prolog
-returns c = c .before .before .put .ensures
+returns c =
+    let c2 = c .before .before in
+    let c7 = c2 .before .before .before .before .before in
+    behind long-declaration (line-feed ∷ []) _ _ _ (c7 .put .ensures) (c7 .before .before .before .before .pre) _ _ (c2 .put2 .ensures)
 
 pub put-prolog-spec : {M : Type 1} → statement M
-put-prolog-spec = tie.close (tie.spec slice-aggregate-put put-requires same-length returns)
+put-prolog-spec =
+    tie.close
+    (tie.spec
+    slice-aggregate-put
+    put-requires
+    sub-put
+    part-put-start
+    part-put-end
+    slice-aggregate-put-2
+    put-requires-2
+    add-result
+    same-length
+    returns)
