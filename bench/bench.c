@@ -54,14 +54,18 @@ size_t tree_document(char *out, unsigned nodes)
 size_t long_document(char *out)
 {
     static const char carrier[] =
-        "<carrier-of-detachable-chairlift identification-of-the-carrier = \"&apos;Line&apos; %03u &lt; &quot;valley&quot; &amp; 2,500\"\n"
-        "                                 position-on-the-hauling-rope  = '1,204.75 m &lt;behind&gt; the &quot;drive&quot;'\n"
+        "<carrier-of-detachable-chairlift identification-of-the-carrier = \"Line %03u &amp; northern valley, 2nd\"\n"
+        "                                 position-on-the-hauling-rope  = '1,204.75 metres behind the drive'\n"
         "                                 >"
-        "<greatest-speed-of-the-carrier  >&apos;6.25 m/s&apos; &amp; &quot;slow&quot; if wind &gt; 12</greatest-speed-of-the-carrier  >"
-        "<distance-to-the-next-carriers  ></distance-to-the-next-carriers  >"
-        "<state-of-the-grip-on-the-rope  ></state-of-the-grip-on-the-rope  >"
+        "<greatest-speed-of-the-carrier  >6.25 m/s, less if wind &gt; 12 m/s</greatest-speed-of-the-carrier  >"
+        "<distance-to-the-carrier-in-front  ></distance-to-the-carrier-in-front  >"
+        "<state-of-the-grip-upon-the-cable  ></state-of-the-grip-upon-the-cable  >"
+        "<state-of-the-doors-of-the-cabins  ></state-of-the-doors-of-the-cabins  >"
+        "<number-of-the-seats-in-the-cabin  ></number-of-the-seats-in-the-cabin  >"
+        "<passengers-who-are-in-the-cabins  ></passengers-who-are-in-the-cabins  >"
+        "<weight-of-the-carrier-when-empty  ></weight-of-the-carrier-when-empty  >"
         "</carrier-of-detachable-chairlift\n>";
-    enum { CARRIERS = 113 }; /* 9 nodes each */
+    enum { CARRIERS = 78 }; /* 13 nodes each */
     char *at = out + sprintf(out, "<ropeway-of-the-northern-station>");
     for (unsigned i = 0; i < CARRIERS; i++)
         at += sprintf(at, carrier, i);

@@ -1,10 +1,9 @@
 -- An input that is accepted fills the table: at each place of the reading, the rows that the rest of the input tells.
 use Prim.Native.Nat.{ℕ, suc, _+_, _≤_, _<_}
 use mathlib.Core.Path.{_≡_}
-use mathlib.Core.Bool.{Bool, true, not, _&&_}
+use mathlib.Core.Bool.{true}
 use mathlib.Core.List.{List, [], _∷_, _++_}
 use lib.ListN.{length, take, drop}
-use lib.Dec.{eqb}
 use Rattle.tree.specs.Lists.{every}
 use Rattle.tree.specs.Forest.{nil, node}
 use Rattle.tree.specs.Content.{content-limit, name-byte}
@@ -55,10 +54,6 @@ pub data Characters (stop : ℕ) : (s t c : List ℕ) → Type 0 where
   stop-here : {t : List ℕ} → Characters stop (stop ∷ t) t []
   byte-then : {b : ℕ} {s t c : List ℕ} → (b ≡ stop → ⊥) → (b ≡ ampersand → ⊥) → Characters stop s t c → Characters stop (b ∷ s) t (b ∷ c)
   reference-then : {b : ℕ} {s u t c : List ℕ} → (ampersand ≡ stop → ⊥) → Entity s u b → Characters stop u t c → Characters stop (ampersand ∷ s) t (b ∷ c)
-
--- a byte that stands for itself: neither the one that ends a value or a text nor an ampersand
-unfoldable pub itself : ℕ → ℕ → Bool
-itself stop b = not (eqb b stop) && not (eqb b ampersand)
 
 -- places -----------------------------------------------------------------------------------
 

@@ -1,7 +1,6 @@
 pub mod Rows
 pub mod Runs
 pub mod Decoding
-pub mod Literals
 pub mod Tokens
 pub mod Texts
 pub mod Places

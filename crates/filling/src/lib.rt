@@ -8,8 +8,7 @@ ghost use lib.ListN.{length};
 ghost use Rattle.layout.specs.Layout.{nodes, Layout};
 ghost use Rattle.xml.specs.Shape.{Shape};
 ghost use Rattle.xml.specs.Grammar.{Spells};
-ghost use Rattle.reader.specs.Steps.{Run};
-ghost use Rattle.filling.specs.Fill.{itself, Put, Decodes, Fits, TextPut, QuoteAt, EndsAt};
+ghost use Rattle.filling.specs.Fill.{Put, Decodes, Fits, TextPut, QuoteAt, EndsAt};
 ghost use Rattle.filling.specs.Fill.{Behind, InTag, AtAttribute, AtElement, Filling, Same, Undeclared, RootAt, Begun, Filled};
 
 const ELEMENT: u8 = 2;
@@ -79,27 +78,8 @@ fn decode(from: Cursor, x: &[u8], stop: u8, buffer: &mut [u8; 32]) -> Content
     }
 }
 
-// Over the bytes that stand for themselves, up to the one that ends a value or a text, or to an ampersand.
-fn literal(from: Cursor, x: &[u8], stop: u8) -> Cursor
-    requires { ⌜ from .at ≤ length (now x) ⌝ }
-    ensures { λ r. ⌜ Run (itself stop) (now (x .entry)) (from .at) (r .at) ⌝ }
-{
-    let mut i = from.at;
-    while i < x.len() {
-        let b = x[i];
-        if b == stop {
-            break;
-        }
-        if b == b'&' {
-            break;
-        }
-        i += 1;
-    }
-    Cursor { at: i }
-}
-
-// A value or a text decoded and put behind the last node, where it is not empty; the cursor behind it.
-fn decoded(from: Cursor, s: &mut [u8], x: &[u8], stop: u8, depth: u16) -> Cursor
+// A value or a text put behind the last node, where it is not empty; the cursor behind it.
+fn text(from: Cursor, s: &mut [u8], x: &[u8], stop: u8, depth: u16) -> Cursor
     requires { ⌜ (from .at ≤ length (now x)) × (Layout (now s)) × Fits (now x) (now s) stop (from .at) depth ⌝ }
     ensures { λ r. ⌜ TextPut (now (x .entry)) stop (from .at) depth (now (s .entry)) (now (s .exit)) r ⌝ }
 {
@@ -111,29 +91,6 @@ fn decoded(from: Cursor, s: &mut [u8], x: &[u8], stop: u8, depth: u16) -> Cursor
         return next;
     }
     let bytes = &buffer[..n];
-    put(s, depth, TEXT, bytes);
-    next
-}
-
-// The same, without decoding where there is no reference.
-fn text(from: Cursor, s: &mut [u8], x: &[u8], stop: u8, depth: u16) -> Cursor
-    requires { ⌜ (from .at ≤ length (now x)) × (Layout (now s)) × Fits (now x) (now s) stop (from .at) depth ⌝ }
-    ensures { λ r. ⌜ TextPut (now (x .entry)) stop (from .at) depth (now (s .entry)) (now (s .exit)) r ⌝ }
-{
-    let at = from.at;
-    let end = literal(from, x, stop);
-    let to = end.at;
-    if to >= x.len() {
-        return decoded(from, s, x, stop, depth);
-    }
-    if x[to] != stop {
-        return decoded(from, s, x, stop, depth);
-    }
-    let next = Cursor { at: to + 1 };
-    if to == at {
-        return next;
-    }
-    let bytes = &x[at..to];
     put(s, depth, TEXT, bytes);
     next
 }

@@ -33,7 +33,7 @@ length-bytes n b h e = length-take-le n b (omega arith)
 pub bytes-short : (n : ℕ) (b : List ℕ) → n ≤ content-limit → length b ≡ content-limit → length (take n b) ≤ content-limit
 bytes-short n b h e = omega (arith, length-bytes n b h e)
 
--- the functions `text` and `decoded` ---------------------------------------------------------
+-- the function `text` ------------------------------------------------------------------------
 
 module _ {x s : List ℕ} {stop at d : ℕ} {b : List ℕ} {n : ℕ} {c : Cursor} (g : Decodes x stop at b n c) where
   pub text-none : Layout s → n ≡ 0 → TextPut x stop at d s s c
@@ -43,18 +43,18 @@ module _ {x s : List ℕ} {stop at d : ℕ} {b : List ℕ} {n : ℕ} {c : Cursor
     put = λ t r k l. let y = g .bytes t r k l in (rw (← y .0, e) (put-none h d), y .1);
   }
 
-  module _ (long : length (take n b) ≡ n) (some : n ≡ 0 → ⊥) where
+  module _ (long : length b ≡ content-limit) (some : n ≡ 0 → ⊥) where
     pub text-room : Fits x s stop at d → length (nodes s) < node-limit
     text-room f =
         let y = g .bytes (f .behind) (f .content) (f .characters) (f .short) in
-        let p : 0 < length (f .content) = omega (arith, ap length (y .0), long) in
+        let p : 0 < length (f .content) = omega (arith, ap length (y .0), length-bytes n b (g .few) long) in
         omega (arith, f .room, ap length (texts-some d (f .content) p))
 
     pub text-some : {s′ : List ℕ} → Put s s′ ((d, text (take n b)) ∷ []) → TextPut x stop at d s s′ c
     text-some p = record {
       forward = g .forward;
       inside = g .inside;
-      put = λ t r k l. let y = g .bytes t r k l in (rw (← y .0, texts-some d (take n b) (omega (arith, long))) p, y .1);
+      put = λ t r k l. let y = g .bytes t r k l in (rw (← y .0, texts-some d (take n b) (omega (arith, length-bytes n b (g .few) long))) p, y .1);
     }
 
 -- its callers --------------------------------------------------------------------------------
