@@ -6,6 +6,10 @@ ghost use Rattle.xml.specs.Writing.{escape};
 ghost use Rattle.markup.specs.Rows.{in-start-tag, fits, prolog};
 ghost use Rattle.markup.specs.Lending.{Wrote};
 
+mod lengths;
+
+use lengths::LENGTHS;
+
 // A copy of p.
 pub fn put(out: &mut [u8], p: &[u8]) -> usize
     requires { ⌜ length (now p) ≤ length (now out) ⌝ }
@@ -54,19 +58,7 @@ pub fn put_byte(out: &mut [u8], b: u8) -> usize
 pub fn byte_length(b: u8) -> usize
     ensures { λ r. ⌜ (r ≡ length (escape b)) × (r ≤ 6) ⌝ }
 {
-    if b == b'&' {
-        return 5;
-    }
-    if b == b'<' {
-        return 4;
-    }
-    if b == b'>' {
-        return 4;
-    }
-    if b == b'"' {
-        return 6;
-    }
-    1
+    LENGTHS[b as usize] as usize
 }
 
 // Whether a start tag is still open behind a child of this kind, 0 for none.
