@@ -103,13 +103,13 @@ pub fn escaped_size(s: &[u8], p: usize) -> usize
 {
     let v = version(s, p);
     let n = table::size(s, p, v);
-    let mut sum: usize = 0;
+    let mut sum: u8 = 0;
     let mut j: usize = 0;
     while j < n {
         sum += markup::byte_length(table::content(s, p, v, j));
         j += 1;
     }
-    sum
+    sum as usize
 }
 
 // Whether the nodes at p and q have the same committed content.

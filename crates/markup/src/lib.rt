@@ -6,10 +6,6 @@ ghost use Rattle.xml.specs.Writing.{escape};
 ghost use Rattle.markup.specs.Rows.{in-start-tag, fits, prolog};
 ghost use Rattle.markup.specs.Lending.{Wrote};
 
-mod lengths;
-
-use lengths::LENGTHS;
-
 // A copy of p.
 pub fn put(out: &mut [u8], p: &[u8]) -> usize
     requires { ⌜ length (now p) ≤ length (now out) ⌝ }
@@ -54,11 +50,15 @@ pub fn put_byte(out: &mut [u8], b: u8) -> usize
     1
 }
 
-// How many bytes stand for one of a text or a value.
-pub fn byte_length(b: u8) -> usize
+// How many bytes stand for one of a text or a value. No branch, so that a loop over many bytes takes several at once.
+pub fn byte_length(b: u8) -> u8
     ensures { λ r. ⌜ (r ≡ length (escape b)) × (r ≤ 6) ⌝ }
 {
-    LENGTHS[b as usize] as usize
+    let amp = (b == b'&') as u8;
+    let lt = (b == b'<') as u8;
+    let gt = (b == b'>') as u8;
+    let quot = (b == b'"') as u8;
+    1 + 4 * amp + 3 * lt + 3 * gt + 5 * quot
 }
 
 // Whether a start tag is still open behind a child of this kind, 0 for none.
