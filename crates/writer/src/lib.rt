@@ -20,11 +20,14 @@ fn put_content(out: &mut [u8], s: &[u8], p: usize) -> usize
     requires { ⌜ (Layout (now s)) × (p < length (nodes (now s))) × (length (label-at (nodes (now s)) p .content) ≤ length (now out)) ⌝ }
     ensures { λ r. ⌜ Wrote (label-at (nodes (now (s .entry))) p .content) (now (out .entry)) (now (out .exit)) r ⌝ }
 {
-    let content = committed::read_content(s, p);
-    let n = content.size;
-    let buffer = content.bytes;
-    let bytes = &buffer[..n];
-    markup::put(out, bytes)
+    let v = committed::version(s, p);
+    let n = table::size(s, p, v);
+    let mut j: usize = 0;
+    while j < n {
+        out[j] = table::content(s, p, v, j);
+        j += 1;
+    }
+    n
 }
 
 // The same, with entities.
