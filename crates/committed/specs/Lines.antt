@@ -12,7 +12,6 @@ use Rattle.lookup.specs.Places.{depth, item}
 use Rattle.xml.specs.Shape.{Label, unnumbered}
 use Rattle.markup.specs.Rows.{Line}
 use Rattle.committed.specs.declared.Rows.{Rows}
-use Rattle.committed.specs.declared.Content.{Content}
 
 -- no open transaction inserted it
 abbrev pub is-committed : Marked → Bool
@@ -55,10 +54,3 @@ pub record Listed (l : List Entry) (places : List ℕ) (count : ℕ) : Type 0 wh
   pub first : depth l (getD places 0 0) ≡ 0
   pub below : (i : ℕ) → suc i < count → 1 ≤ depth l (getD places (suc i) 0)
   pub steps : (i : ℕ) → suc i < count → depth l (getD places (suc i) 0) ≤ suc (depth l (getD places i 0))
-
--- a content by value
-pub record Copied (content : List ℕ) (c : Content) : Type 0 where
-  pub size : c .size ≡ length content
-  pub few : c .size ≤ 32
-  pub long : length (c .bytes) ≡ 32
-  pub bytes : take (c .size) (c .bytes) ≡ content

@@ -9,7 +9,7 @@ ghost use Rattle.layout.specs.Layout.{nodes, Layout};
 ghost use Rattle.layout.specs.Fields.{text};
 ghost use Rattle.lookup.specs.Places.{item};
 ghost use Rattle.edits.specs.Rows.{left-out};
-ghost use Rattle.committed.specs.Lines.{label-at, Selected, Copied};
+ghost use Rattle.committed.specs.Lines.{label-at, Selected};
 
 // Nodes in document order, each by its place.
 pub struct Rows {
@@ -64,28 +64,6 @@ pub fn version(s: &[u8], p: usize) -> usize
         return 1;
     }
     0
-}
-
-// The bytes of a content, size of them.
-pub struct Content {
-    pub bytes: [u8; 32],
-    pub size: usize,
-}
-
-// The committed content of the node at p, by value: lent output does not overlap it, so a copy from it is one move.
-pub fn read_content(s: &[u8], p: usize) -> Content
-    requires { ⌜ (Layout (now s)) × (p < length (nodes (now s))) ⌝ }
-    ensures { λ r. ⌜ Copied (label-at (nodes (now (s .entry))) p .content) r ⌝ }
-{
-    let v = version(s, p);
-    let size = table::size(s, p, v);
-    let mut bytes = [0u8; 32];
-    let mut j: usize = 0;
-    while j < size {
-        bytes[j] = table::content(s, p, v, j);
-        j += 1;
-    }
-    Content { bytes, size }
 }
 
 // The length of the committed content of the node at p.

@@ -1,12 +1,12 @@
 -- Committed contents, and the loops over their bytes.
-use mathlib.Core.Path.{_≡_, refl, sym, ap, _∙_}
+use mathlib.Core.Path.{_≡_, refl, ap, _∙_}
 use Prim.Native.Nat.{ℕ, _+_, _*_, _≤_, _<_}
 use mathlib.Core.Bool.{false}
 use mathlib.Core.List.{List, [], _++_}
 use native.Mathlib.Omega.{arith}
 use native.Mathlib.Numerals.{add-one}
-use lib.ListN.{length, getD, take, drop, length-append, drop-of-length-le}
-use lib.Seq.{drop-cons, take-length, take-at}
+use lib.ListN.{length, getD, drop, length-append, drop-of-length-le}
+use lib.Seq.{drop-cons}
 use lib.Dec.{leb}
 use borrow.Author.Tests.{eq-eqb, ne-eqb, lt-ltb}
 use Rattle.layout.specs.Layout.{Entry}
@@ -14,8 +14,7 @@ use Rattle.layout.specs.Fields.{text}
 use Rattle.lookup.specs.Places.{item}
 use Rattle.edits.specs.Rows.{left-out}
 use Rattle.xml.specs.Writing.{escape, escaped}
-use Rattle.committed.specs.declared.Content.{Content}
-use Rattle.committed.specs.Lines.{committed-label, label-at, Copied}
+use Rattle.committed.specs.Lines.{committed-label, label-at}
 
 pub kind-at : (l : List Entry) (p : ℕ) → label-at l p .kind ≡ item l p .now .kind
 unfolding label-at committed-label
@@ -63,11 +62,3 @@ counting-more {c} {j} {sum} n k h e m =
 
 pub counting-end : {c : List ℕ} {j sum : ℕ} → Counting c j sum → length c ≤ j → sum ≡ length (escaped c)
 counting-end {c} {j} k h = omega (arith, k .whole, ap length (escaped-end c j h))
-
--- all n bytes of a content are copied, to the front of b
-pub copied-done : {t u : List ℕ} (b₀ b : List ℕ) (j n : ℕ) → t ≡ u → n ≡ length t → n ≤ 32 → length b ≡ 32 → b ≡ take j t ++ drop j b₀ → j ≤ n → n ≤ j
-    → Copied u (record { bytes = b; size = n })
-copied-done {t} b₀ b j n q m f l e h k =
-    let z : j ≡ length t = omega arith in
-    let w : b ≡ t ++ drop j b₀ = e ∙ rw (z, take-length t) in
-    rw (← q) (record { size = m; few = f; long = l; bytes = ap (λ (l : List ℕ). take n l) w ∙ take-at t (drop j b₀) n (sym m) })
