@@ -25,19 +25,36 @@ shared-slice-read-b : tie.Need-shared-slice-read-b Inv-loop μ-loop
 shared-slice-read-b c = search needs
 
 sub-put-byte : tie.Need-sub-put-byte Inv-loop μ-loop
-sub-put-byte c = next-byte (c .before .before .before .content .result .now) (c .before .before .loop .j) _ (c .before .before .loop .inv .3) (rw (← c .before .before .before .content .ensures) at (c .before .before .before .before .before .before .pre .2)) (omega (arith, c .before .before .loop .inv .1)) refl .inside
+sub-put-byte c =
+    let l = c .before .before in
+    let k = l .before in
+    let a = k .before .before .before in
+    next-byte (k .content .result .now) (l .loop .j) _ (l .loop .inv .3) (rw (← k .content .ensures) at (a .pre .2)) (omega (arith, l .loop .inv .1)) refl .inside
 
 part-put-byte-start : tie.Need-part-put-byte-start Inv-loop μ-loop
-part-put-byte-start c = next-byte (c .before .before .before .content .result .now) (c .before .before .loop .j) _ (c .before .before .loop .inv .3) (rw (← c .before .before .before .content .ensures) at (c .before .before .before .before .before .before .pre .2)) (omega (arith, c .before .before .loop .inv .1)) refl .inside
+part-put-byte-start c =
+    let l = c .before .before in
+    let k = l .before in
+    let a = k .before .before .before in
+    next-byte (k .content .result .now) (l .loop .j) _ (l .loop .inv .3) (rw (← k .content .ensures) at (a .pre .2)) (omega (arith, l .loop .inv .1)) refl .inside
 
 part-put-byte-end : tie.Need-part-put-byte-end Inv-loop μ-loop
 part-put-byte-end c = search needs
 
 put-byte-requires : tie.Need-put-byte-requires Inv-loop μ-loop
-put-byte-requires c κs = next-byte (c .before .before .before .before .content .result .now) (c .before .before .before .loop .j) _ (c .before .before .before .loop .inv .3) (rw (← c .before .before .before .before .content .ensures) at (c .before .before .before .before .before .before .before .pre .2)) (omega (arith, c .before .before .before .loop .inv .1)) refl .room
+put-byte-requires c κs =
+    let l = c .before .before .before in
+    let k = l .before in
+    let a = k .before .before .before in
+    next-byte (k .content .result .now) (l .loop .j) _ (l .loop .inv .3) (rw (← k .content .ensures) at (a .pre .2)) (omega (arith, l .loop .inv .1)) refl .room
 
 add-at : tie.Need-add-at Inv-loop μ-loop
-add-at c = omega (arith, next-byte (c .before .before .before .before .before .before .before .content .result .now) (c .before .before .before .before .before .before .loop .j) _ (c .before .before .before .before .before .before .loop .inv .3) (rw (← c .before .before .before .before .before .before .before .content .ensures) at (c .before .before .before .before .before .before .before .before .before .before .pre .2)) (omega (arith, c .before .before .before .before .before .before .loop .inv .1)) refl .small, c .before .before .put-byte .ensures .count)
+add-at c =
+    let l = c .before .before .before .before .before .before in
+    let k = l .before in
+    let a = k .before .before .before in
+    let x = next-byte (k .content .result .now) (l .loop .j) _ (l .loop .inv .3) (rw (← k .content .ensures) at (a .pre .2)) (omega (arith, l .loop .inv .1)) refl in
+    omega (arith, x .small, c .before .before .put-byte .ensures .count)
 
 add-j : tie.Need-add-j Inv-loop μ-loop
 add-j c = search needs
@@ -46,13 +63,25 @@ loop-less : tie.Need-loop-less Inv-loop μ-loop
 loop-less c = search needs
 
 loop-again : tie.Need-loop-again Inv-loop μ-loop
-loop-again c = (omega arith, c .before .before .before .before .before .before .loop .inv .1, search needs, next-byte (c .before .before .before .before .before .before .before .content .result .now) (c .before .before .before .before .before .before .loop .j) _ (c .before .before .before .before .before .before .loop .inv .3) (rw (← c .before .before .before .before .before .before .before .content .ensures) at (c .before .before .before .before .before .before .before .before .before .before .pre .2)) (omega (arith, c .before .before .before .before .before .before .loop .inv .1)) refl .on _ _ (c .before .before .put-byte .ensures))
+loop-again c =
+    let l = c .before .before .before .before .before .before in
+    let k = l .before in
+    let a = k .before .before .before in (
+      omega arith,
+      l .loop .inv .1,
+      search needs,
+      next-byte (k .content .result .now) (l .loop .j) _ (l .loop .inv .3) (rw (← k .content .ensures) at (a .pre .2)) (omega (arith, l .loop .inv .1))
+          refl .on _ _ (c .before .before .put-byte .ensures),
+    )
 
 same-length : tie.Need-same-length Inv-loop μ-loop
 same-length c = c .before .loop .inv .2
 
 returns : tie.Need-returns Inv-loop μ-loop
-returns c = wrote-as (ap escaped (c .before .before .content .ensures)) (no-byte (c .before .before .content .result .now) (c .before .loop .j) (c .before .loop .inv .3) (omega (arith, c .before .loop .inv .1)))
+returns c =
+    let l = c .before in
+    let k = l .before in
+    wrote-as (ap escaped (k .content .ensures)) (no-byte (k .content .result .now) (l .loop .j) (l .loop .inv .3) (omega (arith, l .loop .inv .1)))
 
 pub put-escaped-spec : {M : Type 1} → statement M
 put-escaped-spec =
