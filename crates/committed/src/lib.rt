@@ -66,6 +66,15 @@ pub fn version(s: &[u8], p: usize) -> usize
     0
 }
 
+// The committed content of the node at p.
+pub fn content(s: &[u8], p: usize) -> &[u8]
+    requires { ⌜ (Layout (now s)) × (p < length (nodes (now s))) ⌝ }
+    ensures { λ r. ⌜ now r ≡ label-at (nodes (now (s .entry))) p .content ⌝ }
+{
+    let v = version(s, p);
+    table::content_bytes(s, p, v)
+}
+
 // The length of the committed content of the node at p.
 pub fn size(s: &[u8], p: usize) -> usize
     requires { ⌜ (Layout (now s)) × (p < length (nodes (now s))) ⌝ }
@@ -81,13 +90,13 @@ pub fn escaped_size(s: &[u8], p: usize) -> usize
 {
     let v = version(s, p);
     let n = table::size(s, p, v);
-    let mut sum: usize = 0;
+    let mut sum: u8 = 0;
     let mut j: usize = 0;
     while j < n {
         sum += markup::byte_length(table::content(s, p, v, j));
         j += 1;
     }
-    sum
+    sum as usize
 }
 
 // Whether the nodes at p and q have the same committed content.

@@ -50,23 +50,15 @@ pub fn put_byte(out: &mut [u8], b: u8) -> usize
     1
 }
 
-// How many bytes stand for one of a text or a value.
-pub fn byte_length(b: u8) -> usize
+// How many bytes stand for one of a text or a value. No branch, so that a loop over many bytes takes several at once.
+pub fn byte_length(b: u8) -> u8
     ensures { λ r. ⌜ (r ≡ length (escape b)) × (r ≤ 6) ⌝ }
 {
-    if b == b'&' {
-        return 5;
-    }
-    if b == b'<' {
-        return 4;
-    }
-    if b == b'>' {
-        return 4;
-    }
-    if b == b'"' {
-        return 6;
-    }
-    1
+    let amp = (b == b'&') as u8;
+    let lt = (b == b'<') as u8;
+    let gt = (b == b'>') as u8;
+    let quot = (b == b'"') as u8;
+    1 + 4 * amp + 3 * lt + 3 * gt + 5 * quot
 }
 
 // Whether a start tag is still open behind a child of this kind, 0 for none.

@@ -140,6 +140,16 @@ pub fn content(s: &[u8], i: usize, o: usize, j: usize) -> u8
     s[CELLS + CELL * slot(s, i) + 6 + 32 * o + j]
 }
 
+// A content of the node at i.
+pub fn content_bytes(s: &[u8], i: usize, o: usize) -> &[u8]
+    requires { ⌜ (Layout (now s)) × (i < length (nodes (now s))) × (o < 2) ⌝ }
+    ensures { λ r. ⌜ now r ≡ text o (getD (nodes (now (s .entry))) i no-entry .1) ⌝ }
+{
+    let n = size(s, i, o);
+    let at = CELLS + CELL * slot(s, i) + 6 + 32 * o;
+    &s[at..at + n]
+}
+
 pub fn set_content(s: &mut [u8], i: usize, b: &[u8])
     requires { ⌜ (Layout (now s)) × (i < length (nodes (now s))) × (length (now b) ≤ 32) ⌝ }
     ensures { λ r. ⌜ Kept (now (s .entry)) (now (s .exit)) (modify i (second (with-now (now (b .entry)))) (nodes (now (s .entry)))) ⌝ }

@@ -33,7 +33,7 @@ byte-length-requires : tie.Need-byte-length-requires Inv-loop μ-loop
 byte-length-requires c κs = search needs
 
 add-sum : tie.Need-add-sum Inv-loop μ-loop
-add-sum c = omega (arith, c .before .before .before .loop .inv .1 .small, c .byte-length .ensures .1)
+add-sum c = omega (arith, c .before .before .before .loop .inv .1 .small, c .byte-length .ensures .1, c .before .before .before .before .size .ensures .1)
 
 add-j : tie.Need-add-j Inv-loop μ-loop
 add-j c = search needs
@@ -49,6 +49,11 @@ loop-again c =
       counting-more _ (c3 .loop .inv .1) (omega (arith, c4 .size .ensures .0)) (c .byte-length .ensures .0 ∙ ap (λ b. length (escape b)) (c .before .content .ensures))
           (c .byte-length .ensures .1),
     )
+
+cast-result : tie.Need-cast-result Inv-loop μ-loop
+cast-result c =
+    let c2 = c .before .before in
+    omega (arith, c .before .loop .inv .0, c .before .loop .inv .1 .small, c2 .size .ensures .1)
 
 returns : tie.Need-returns Inv-loop μ-loop
 returns c =
@@ -72,4 +77,5 @@ escaped-size-spec =
     add-j
     loop-less
     loop-again
+    cast-result
     returns)

@@ -1,27 +1,63 @@
+use Rattle.markup.specs.Laws.Pieces.{bool-byte-small, byte-counted}
 use native.Mathlib.Omega.{arith}
-use Rattle.markup.specs.Laws.Pieces.{escape-plain}
+use lib.Dec.{eqb}
+use borrow.Author.Needs.{needs}
 use Rattle.markup.proofs.byte_length.Statement.{statement}
 use Rattle.markup.proofs.byte_length.Tie as tie
 
--- src/lib.rt:57:9
+cast-amp : tie.Need-cast-amp
+cast-amp c = search needs
+
+cast-lt : tie.Need-cast-lt
+cast-lt c = search needs
+
+cast-gt : tie.Need-cast-gt
+cast-gt c = search needs
+
+cast-quot : tie.Need-cast-quot
+cast-quot c = search needs
+
+mul-result : tie.Need-mul-result
+mul-result c = omega (arith, bool-byte-small (eqb (c .args .b) 38))
+
+add-result : tie.Need-add-result
+add-result c = omega (arith, bool-byte-small (eqb (c .args .b) 38))
+
+mul-result-2 : tie.Need-mul-result-2
+mul-result-2 c = omega (arith, bool-byte-small (eqb (c .args .b) 60))
+
+add-result-2 : tie.Need-add-result-2
+add-result-2 c = omega (arith, bool-byte-small (eqb (c .args .b) 38), bool-byte-small (eqb (c .args .b) 60))
+
+mul-result-3 : tie.Need-mul-result-3
+mul-result-3 c = omega (arith, bool-byte-small (eqb (c .args .b) 62))
+
+add-result-3 : tie.Need-add-result-3
+add-result-3 c = omega (arith, bool-byte-small (eqb (c .args .b) 38), bool-byte-small (eqb (c .args .b) 60), bool-byte-small (eqb (c .args .b) 62))
+
+mul-result-4 : tie.Need-mul-result-4
+mul-result-4 c = omega (arith, bool-byte-small (eqb (c .args .b) 34))
+
+add-result-4 : tie.Need-add-result-4
+add-result-4 c = omega (arith, bool-byte-small (eqb (c .args .b) 38), bool-byte-small (eqb (c .args .b) 60), bool-byte-small (eqb (c .args .b) 62), bool-byte-small (eqb (c .args .b) 34))
+
 returns : tie.Need-returns
-returns c = (rw (c .if1 .taken), omega arith)
-
--- src/lib.rt:60:9
-returns-2 : tie.Need-returns-2
-returns-2 c = (rw (c .if2 .taken), omega arith)
-
--- src/lib.rt:63:9
-returns-3 : tie.Need-returns-3
-returns-3 c = (rw (c .if3 .taken), omega arith)
-
--- src/lib.rt:66:9
-returns-4 : tie.Need-returns-4
-returns-4 c = (rw (c .if4 .taken), omega arith)
-
--- src/lib.rt:53:1
-returns-5 : tie.Need-returns-5
-returns-5 c = (rw (escape-plain _ (c .before .before .before .if1 .left) (c .before .before .if2 .left) (c .before .if3 .left) (c .if4 .left)), omega arith)
+returns c = byte-counted (c .args .b)
 
 pub byte-length-spec : {M : Type 1} → statement M
-byte-length-spec = tie.close (tie.spec returns returns-2 returns-3 returns-4 returns-5)
+byte-length-spec =
+    tie.close
+    (tie.spec
+    cast-amp
+    cast-lt
+    cast-gt
+    cast-quot
+    mul-result
+    add-result
+    mul-result-2
+    add-result-2
+    mul-result-3
+    add-result-3
+    mul-result-4
+    add-result-4
+    returns)

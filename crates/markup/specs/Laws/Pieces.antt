@@ -1,6 +1,9 @@
 -- The tests of the functions for a byte and for the place of a node.
 use mathlib.Core.Path.{_≡_, refl}
-use Prim.Native.Nat.{ℕ}
+use Prim.Native.Nat.{ℕ, _+_, _*_, _≤_}
+use native.Mathlib.Omega.{arith}
+use mir.Val.{boolByte}
+use lib.ListN.{length}
 use mathlib.Core.Bool.{Bool, true, false, not, _&&_, and-false}
 use mathlib.Core.List.{[], _∷_}
 use lib.Dec.{eqb}
@@ -12,6 +15,24 @@ use Rattle.markup.specs.Rows.{in-start-tag, may-stand, fits}
 -- a byte that stands for itself
 pub escape-plain : (b : ℕ) → (b ≡ 38 → ⊥) → (b ≡ 60 → ⊥) → (b ≡ 62 → ⊥) → (b ≡ 34 → ⊥) → escape b ≡ b ∷ []
 escape-plain b h i j k = rw (ne-eqb b 38 h, ne-eqb b 60 i, ne-eqb b 62 j, ne-eqb b 34 k)
+
+-- what a byte is counted as
+abbrev count-of : ℕ → ℕ
+count-of b = 1 + 4 * boolByte (eqb b 38) + 3 * boolByte (eqb b 60) + 3 * boolByte (eqb b 62) + 5 * boolByte (eqb b 34)
+
+pub bool-byte-small : (t : Bool) → boolByte t ≤ 1
+bool-byte-small true = omega arith
+bool-byte-small false = omega arith
+
+pub byte-counted : (b : ℕ) → (count-of b ≡ length (escape b)) × (count-of b ≤ 6)
+byte-counted b = go (eqb b 38) (eqb b 60) (eqb b 62) (eqb b 34) refl refl refl refl
+  where
+    go : (p q r t : Bool) → eqb b 38 ≡ p → eqb b 60 ≡ q → eqb b 62 ≡ r → eqb b 34 ≡ t → (count-of b ≡ length (escape b)) × (count-of b ≤ 6)
+    go true q r t e f g h = rw (eqb-true b 38 e) (refl, omega arith)
+    go false true r t e f g h = rw (eqb-true b 60 f) (refl, omega arith)
+    go false false true t e f g h = rw (eqb-true b 62 g) (refl, omega arith)
+    go false false false true e f g h = rw (eqb-true b 34 h) (refl, omega arith)
+    go false false false false e f g h = rw (e, f, g, h) (refl, omega arith)
 
 pub start-tag-none : (q : ℕ) → q ≡ 0 → true ≡ in-start-tag q
 start-tag-none q e = rw e

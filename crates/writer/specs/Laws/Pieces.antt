@@ -2,8 +2,7 @@
 use mathlib.Core.Path.{_≡_, sym, ap, _∙_}
 use Prim.Native.Nat.{ℕ, _+_, _≤_, _<_}
 use native.Mathlib.Omega.{arith}
-use lib.ListN.{length, getD, take, drop, length-append}
-use lib.Seq.{take-length}
+use lib.ListN.{length, getD, drop, length-append}
 use mathlib.Core.Bool.{true, false, and-false}
 use mathlib.Core.List.{List, [], _++_}
 use lib.Dec.{eqb}
@@ -75,11 +74,6 @@ module _ (a : Label) where
     end-tag e h = rw (h, eq-eqb (a .kind) 2 e)
 
 -- loops over the bytes of a content ----------------------------------------------------------------
-
-pub copy-done : (p o₀ o : List ℕ) (j n : ℕ) → o ≡ take j p ++ drop j o₀ → n ≡ length p → j ≤ n → n ≤ j → Wrote p o₀ o n
-copy-done p o₀ o j n e m h k =
-    let z : j ≡ length p = omega arith in
-    record { count = m; bytes = e ∙ rw (z, take-length p) }
 
 -- the next byte, b, is the j-th
 pub next-byte : (t : List ℕ) (j b : ℕ) {o₀ o : List ℕ} {at : ℕ} → Partly (escaped t) (escaped (drop j t)) o₀ o at → length (escaped t) ≤ length o₀ → j < length t → b ≡ getD t j 0

@@ -1,0 +1,78 @@
+use native.Mathlib.Omega.{arith}
+use mathlib.Core.Path.{_≡_, _∙_}
+use mathlib.Core.List.{List}
+use Prim.Native.Nat.{ℕ, _+_, _-_, _*_, _≤_, _<_}
+use lib.ListN.{length, getD, take, drop, length-drop}
+use lib.Seq.{getD-take, getD-drop, ext-getD, length-take-le}
+use Rattle.layout.specs.Laws.Texts.{byte-at}
+use borrow.Author.Needs.{needs}
+use Rattle.table.proofs.content_bytes.Statement.{statement}
+use Rattle.table.proofs.content_bytes.Tie as tie
+
+-- the m bytes from `at` on are those of t
+part-is : (s t : List ℕ) (at m : ℕ) → m ≡ length t → at + m ≤ length s → ((j : ℕ) → j < length t → getD s (at + j) 0 ≡ getD t j 0) → take m (drop at s) ≡ t
+part-is s t at m e h f =
+    let n : length (take m (drop at s)) ≡ m = length-take-le m (drop at s) (simp length-drop (omega arith)) in
+    ext-getD 0 (take m (drop at s)) t (n ∙ e)
+    (λ j q. let k : j < m = omega (arith, n) in getD-take m (drop at s) j 0 k ∙ getD-drop at s j 0 ∙ f j (omega arith))
+
+size-requires : tie.Need-size-requires
+size-requires c κs = search needs
+
+slot-requires : tie.Need-slot-requires
+slot-requires c κs = search needs
+
+mul-at : tie.Need-mul-at
+mul-at c = search needs
+
+add-at : tie.Need-add-at
+add-at c = search needs
+
+add-at-2 : tie.Need-add-at-2
+add-at-2 c = search needs
+
+mul-at-2 : tie.Need-mul-at-2
+mul-at-2 c = search needs
+
+add-at-3 : tie.Need-add-at-3
+add-at-3 c = search needs
+
+add-result : tie.Need-add-result
+add-result c = search needs
+
+sub-result : tie.Need-sub-result
+sub-result c = search needs
+
+part-result-start : tie.Need-part-result-start
+part-result-start c = search needs
+
+part-result-end : tie.Need-part-result-end
+part-result-end c = search needs
+
+returns : tie.Need-returns
+returns c =
+    let k = c .before .slot in
+    let n = c .before .before .size in
+    let a = c .before .before .before .before in
+    let at = 6160 + 70 * k .result + 6 + 32 * a .args .o in
+    let z : at + n .result - at ≡ n .result = omega arith in
+    rw z
+    (part-is _ _ at (n .result) (n .ensures .0) (omega (arith, n .ensures .1, k .ensures .1, a .pre .0 .size, a .pre .2))
+    (byte-at _ (a .args .i) (a .args .o) _ (k .ensures .0) (a .pre .0) (a .pre .1) (a .pre .2)))
+
+pub content-bytes-spec : {M : Type 1} → statement M
+content-bytes-spec =
+    tie.close
+    (tie.spec
+    size-requires
+    slot-requires
+    mul-at
+    add-at
+    add-at-2
+    mul-at-2
+    add-at-3
+    add-result
+    sub-result
+    part-result-start
+    part-result-end
+    returns)
