@@ -140,9 +140,9 @@ fn undo(s: &mut [u8], t: u8)
     requires { ⌜ Layout (now s) ⌝ }
     ensures { λ r. ⌜ Kept (now (s .entry)) (now (s .exit)) (map (second (undone-marks t)) (nodes (now (s .entry)))) ⌝ }
 {
-    let m = table::count(s);
+    let rows = table::count(s);
     let mut i: usize = 0;
-    while i < m {
+    while i < rows {
         undo_node(s, i, t);
         i += 1;
     }
