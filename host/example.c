@@ -25,7 +25,7 @@ static noodlefen_answer show(const char *call, noodlefen_answer answer)
         printf("\n");
     } else {
         printf("refused, cause %u", noodlefen_cause(answer));
-        if (noodlefen_value(answer) != 0)
+        if (noodlefen_cause(answer) >= 4 && noodlefen_cause(answer) <= 6) /* the XML input */
             printf(" at byte %lu", (unsigned long)noodlefen_value(answer));
         printf("\n");
     }
