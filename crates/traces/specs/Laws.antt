@@ -1,6 +1,7 @@
 pub mod Codes
 pub mod Causes
 pub mod OneCall
+pub mod StateBytes
+pub mod Refusals
 pub mod Main
 pub mod Exports
-pub mod StateBytes
