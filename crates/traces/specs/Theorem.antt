@@ -75,7 +75,7 @@ pub record Refusals (x : Exchange) : Type 0 where
       → x .code ≡ code-of (Refused n)
   pub refuses-at : (M : State) (c : Call) (n offset : ℕ) → Holds (x .state .before) M → MakesCall x c → next c M .outcome ≡ refused-at n offset
       → x .code ≡ code-of (RefusedAt n offset)
-  -- "write: 14, 13"
+  -- the definition of a write's outcome leaves its causes to the answer: "write: 14, 13"
   pub writes : (M : State) → Holds (x .state .before) M → x .request ≡ Request.write
       → x .code ≡ code-of (write-answer (length (x .first .before)) (committed-document M))
 
