@@ -22,8 +22,8 @@ pub record Performed (s s′ : List ℕ) (r : Answer) (call : Call) : Type 0 whe
   pub unformed : form s ≡ false → (r ≡ Refused 13) × (s′ ≡ s)
   -- otherwise the answer is the definition's, and what is left holds the definition's next state; `writing` plays no part, since no such call writes
   pub answer : (M : State) → Holds s M → (writing : Document → Answer) → r ≡ answer-of writing (next call M .outcome)
-  -- which slot a new node takes, and what bytes that docs/STATE.md calls free are left with, is the program's choice: whatever it chooses,
-  -- the bytes hold this one state (`holds-one` in form/specs/Laws/OneState.antt)
+  -- which slot each node has, the order of the free slots, and the bytes that docs/STATE.md calls free are the program's choice at every
+  -- granted call; what all choices have in common is `one-answer` (traces), and the bytes hold this one state (`holds-one` in form)
   pub state : (M : State) → Holds s M → Holds s′ (next call M .state)
   -- a wait or a refusal: "left as it was: everything"
   pub still : (M : State) → Holds s M → is-granted (next call M .outcome) ≡ false → s′ ≡ s

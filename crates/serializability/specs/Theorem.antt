@@ -7,13 +7,13 @@ use mathlib.Core.Bool.{Bool, true, false}
 use mathlib.Core.List.{List, [], _∷_, _++_, map, List·Memᴰ}
 use Rattle.tree.specs.Lists.{has, distinct}
 use Rattle.tree.specs.Document.{Document, here, legal, node-0-alone}
-use Rattle.tree.specs.Steps.{Step, Value, target, plain-document, plain-answers}
+use Rattle.tree.specs.Steps.{Step, Value, unfit, target, plain-document, plain-answers}
 use Rattle.locks.specs.Modes.{Mode}
 use Rattle.locks.specs.Words.{bit}
 use Rattle.locks.specs.Needs.{Lock, needs}
 use Rattle.protocol.specs.State.{State, Marked, is-transaction, transactions, nodes, callers-document, held-document, document-of, committed-document}
 use Rattle.protocol.specs.Lent.{Room}
-use Rattle.protocol.specs.Calls.{Call, start, abort, step, write, written, waits, refused, blocks, next}
+use Rattle.protocol.specs.Calls.{Call, start, abort, step, write, granted, written, waits, refused, blocks, next}
 use Rattle.protocol.specs.History.{Event, history, state-after, is-granted, Ledger, new-ledger, ledger, fed, plain, plain-run-answers, answers-given, pending}
 
 -- a list that begins with a start, in any state: a start is always granted
@@ -71,6 +71,8 @@ all-aborted M = state-after M (map abort transactions)
 pub record Demand3 (M : State) (cs : List Call) : Type 0 where
   pub held-plain : (held-document (reached M cs) ≡ plain (since-start M cs)) ↔ (pending (since-start M cs) ≡ false)
   pub answers : plain-run-answers (since-start M cs) ≡ answers-given (since-start M cs)
+  -- "answers unfit, as no granted step does": the plain run allows each of these steps
+  pub none-unfit : List·Memᴰ unfit (plain-run-answers (since-start M cs)) → ⊥
   pub committed : committed-document (reached M cs) ≡ plain (since-start M cs)
   -- "the committed one .. is the one held if they all aborted"
   pub aborted : held-document (all-aborted (reached M cs)) ≡ plain (since-start M cs)
@@ -92,6 +94,10 @@ pub record Reached (M : State) : Type 0 where
 -- demand 1: a call that waits or is refused leaves the state as it was
 abbrev pub NotGranted : Type 0
 NotGranted = (c : Call) (M : State) → is-granted (next c M .outcome) ≡ false → next c M .state ≡ M
+
+-- "unfit, as no granted step does"
+abbrev pub GrantedFits : Type 0
+GrantedFits = (c : Call) (M : State) → next c M .outcome ≡ granted unfit → ⊥
 
 -- demand 2: "a 16-bit set with bit t-1 for each such transaction t, and no other", never empty
 pub record WaitSet (w t : ℕ) (ls : List Lock) (M : State) : Type 0 where

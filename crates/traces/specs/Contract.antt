@@ -1,12 +1,16 @@
 -- What the exported functions ensure.
 use mathlib.Core.Path.{_≡_}
-use Prim.Native.Nat.{ℕ}
+use Prim.Native.Nat.{ℕ, _≤_}
 use mathlib.Core.List.{List}
+use lib.ListN.{length}
 use Rattle.tree.specs.Steps.{T, C, R, U, D, I, TT, RR, UU}
+use Rattle.protocol.specs.State.{State}
 use Rattle.protocol.specs.Lent.{Room, first-lent, second-lent}
 use Rattle.protocol.specs.Calls.{Input, Call, start, load, begin, commit, abort, step, write}
 use Rattle.protocol.specs.Answers.{code-of}
 use Rattle.protocol.specs.declared.Answer.{Answer}
+use Rattle.layout.specs.Layout.{state-size}
+use Rattle.form.specs.Form.{Holds}
 use Rattle.engine.specs.Contract.{Performed, Lent, rooms-of}
 use Rattle.ends.specs.Ends.{Restarted}
 use Rattle.xml.specs.Reading.{ReadsAs}
@@ -68,3 +72,27 @@ pub record Contract (x : Exchange) : Type 0 where
   pub answer : Answer
   pub code : x .code ≡ code-of answer
   pub ensured : (c : Call) → MakesCall x c → Ensured x answer c
+
+-- every choice -------------------------------------------------------------------------
+
+-- which slot each node has, the order of the free slots and the free bytes of docs/STATE.md are the program's choice at every granted call.
+-- What all choices have in common (laws one-answer, one-start): the number, the lent buffers, and the one state that the bytes left hold
+pub record OneAnswer (x y : Exchange) : Type 0 where
+  pub code : x .code ≡ y .code
+  pub first : x .first .after ≡ y .first .after
+  pub second : x .second .after ≡ y .second .after
+  pub left : State
+  pub left-by-x : Holds (x .state .after) left
+  pub left-by-y : Holds (y .state .after) left
+
+-- of one request, on bytes that hold one state, with the same bytes in the buffers
+abbrev pub EveryChoice : Type 0
+EveryChoice = (x y : Exchange) (M : State) → Contract x → Contract y → x .request ≡ y .request
+    → Holds (x .state .before) M → Holds (y .state .before) M
+    → x .first .before ≡ y .first .before → x .second .before ≡ y .second .before → OneAnswer x y
+
+-- a start needs no state before it, only bytes enough: with fewer it is refused by 13 (`short` in Restarted)
+abbrev pub EveryStart : Type 0
+EveryStart = (x y : Exchange) → Contract x → Contract y → x .request ≡ Request.start → y .request ≡ Request.start
+    → state-size ≤ length (x .state .before) → state-size ≤ length (y .state .before)
+    → x .first .before ≡ y .first .before → x .second .before ≡ y .second .before → OneAnswer x y

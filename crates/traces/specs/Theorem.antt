@@ -13,14 +13,14 @@ use Rattle.protocol.specs.Lent.{Room, filled, first-lent, second-lent}
 use Rattle.protocol.specs.Calls.{Call, step, write, Outcome, granted, written, waits, refused, refused-at, next}
 use Rattle.protocol.specs.History.{is-granted, plain}
 use Rattle.protocol.specs.Answers.{code-of, answer-of, lent-after}
-use Rattle.protocol.specs.declared.Answer.the-variants.{Refused}
+use Rattle.protocol.specs.declared.Answer.the-variants.{Refused, RefusedAt}
 use Rattle.layout.specs.Layout.{state-size}
 use Rattle.form.specs.Form.{form, Holds}
 use Rattle.serializability.specs.Theorem.{since-start, reached, WaitSet, Demand3}
 use Rattle.xml.specs.Writing as xml
 use Rattle.xml.specs.Writing.{ReadBack}
 use Rattle.traces.specs.Exchange.{Request, Exchange, Memory, outcome, cause, value}
-use Rattle.writer.specs.Contract.{writing, text-after}
+use Rattle.writer.specs.Contract.{writing, text-after, write-answer}
 use Rattle.traces.specs.Contract.{MakesCall, Contract}
 
 -- lists of calls -----------------------------------------------------------------------
@@ -59,17 +59,31 @@ pub record Outcomes (x : Exchange) : Type 0 where
   pub long : length (x .state .after) ≡ length (x .state .before)
   pub behind : drop state-size (x .state .after) ≡ drop state-size (x .state .before)
 
--- "state bytes that are too short, or (except at start) not of the form written in docs/, give 13 before all else", and
--- "1,048,576 bytes of state are never too short"; what a call left is of the form (`formed` below)
+-- "state bytes that are too short, or (except at start) not of the form written in docs/, give 13 before all else; a state left by a call
+-- never does, and 1,048,576 bytes of state are never too short"
 pub record StateBytes (x : Exchange) : Type 0 where
   pub short : length (x .state .before) < state-size → x .code ≡ code-of (Refused 13)
   pub unformed : form (x .state .before) ≡ false → (x .request ≡ Request.start → ⊥) → x .code ≡ code-of (Refused 13)
   pub enough : x .request ≡ Request.start → 1048576 ≤ length (x .state .before) → outcome (x .code) ≡ 0
+  -- a granted start leaves bytes of the form, and every call keeps the form
+  pub begun : x .request ≡ Request.start → outcome (x .code) ≡ 0 → form (x .state .after) ≡ true
+  pub kept : form (x .state .before) ≡ true → form (x .state .after) ≡ true
+
+-- in every state that bytes hold, reached by calls or not, a call that the definition refuses is refused with the definition's number
+pub record Refusals (x : Exchange) : Type 0 where
+  pub refuses : (M : State) (c : Call) (n : ℕ) → Holds (x .state .before) M → MakesCall x c → next c M .outcome ≡ refused n
+      → x .code ≡ code-of (Refused n)
+  pub refuses-at : (M : State) (c : Call) (n offset : ℕ) → Holds (x .state .before) M → MakesCall x c → next c M .outcome ≡ refused-at n offset
+      → x .code ≡ code-of (RefusedAt n offset)
+  -- the definition of a write's outcome leaves its causes to the answer: "write: 14, 13"
+  pub writes : (M : State) → Holds (x .state .before) M → x .request ≡ Request.write
+      → x .code ≡ code-of (write-answer (length (x .first .before)) (committed-document M))
 
 -- "every call .. refuses an unfit request with a number of document 01; a refusal or a wait changes no node, lock or lent buffer"
 pub record Demand1 (x : Exchange) : Type 0 where
   pub outcomes : Outcomes x
   pub state-bytes : StateBytes x
+  pub refusals : Refusals x
 
 -- demand 2 -----------------------------------------------------------------------------
 
@@ -126,6 +140,9 @@ pub record Delivered (M : State) (x : Exchange) (xs : List Exchange) : Type 0 wh
   pub calls : List Call
   pub made : Made xs calls
   pub only : (cs : List Call) → Made xs cs → cs ≡ calls
+  -- the first start: done, and no buffer is touched
+  pub start-code : x .code ≡ 0
+  pub start-buffers : Same (x .first) × Same (x .second)
   pub demand-1 : (y : Exchange) → List·Memᴰ y (x ∷ xs) → Demand1 y
   -- the state that demand 3 speaks of is the one that the bytes hold in the end; they hold no other (`holds-one`)
   pub held : Holds (last-state (x .state .after) xs) (reached M calls)

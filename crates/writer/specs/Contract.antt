@@ -1,7 +1,7 @@
 -- The contract of write on lent bytes: document 01, "Reading and writing XML" and "Refused calls".
 use mathlib.Core.Path.{_≡_}
 use Prim.Native.Nat.{ℕ}
-use mathlib.Core.Bool.{Bool, true, false, cond, _&&_}
+use mathlib.Core.Bool.{Bool, false, cond, _&&_}
 use mathlib.Core.List.{List}
 use lib.ListN.{length}
 use lib.Dec.{leb}
@@ -26,13 +26,19 @@ writing room d = cond (expressible d) (cond (leb (length (write d)) room) (Count
 unfoldable pub text-after : List ℕ → Document → List ℕ
 text-after o d = cond (writable (length o) d) (filled (write d) o) o
 
+-- bytes of the form may hold a tree that no call leaves, with children against the tree's rules: it is not expressible either.
+-- Every document of the rules is ordered, so these are `writing` and `text-after` in every list of calls
+unfoldable pub write-answer : ℕ → Document → Answer
+write-answer room d = cond (ordered d) (writing room d) (Refused 14)
+
+unfoldable pub write-buffer : List ℕ → Document → List ℕ
+write-buffer o d = cond (ordered d) (text-after o d) o
+
 -- a call that was lent the state bytes s and a buffer that held o, left o′ there and answered r
 pub record Written (s o o′ : List ℕ) (r : Answer) : Type 0 where
   -- "state bytes that are too short, or not of the form .. give 13 before all else"
   pub unformed : form s ≡ false → (r ≡ Refused 13) × (o′ ≡ o)
-  -- otherwise answer and text are the definition's, for a document with its children in order, as every document of the tree's rules has them
-  pub answer : (M : State) → Holds s M → ordered (committed-document M) ≡ true → r ≡ writing (length o) (committed-document M)
-  pub text : (M : State) → Holds s M → ordered (committed-document M) ≡ true → o′ ≡ text-after o (committed-document M)
-  -- bytes of the form may hold a tree that no call leaves, with children against the rules: it is not expressible
-  pub disordered : (M : State) → Holds s M → ordered (committed-document M) ≡ false → (r ≡ Refused 14) × (o′ ≡ o)
+  -- otherwise answer and text are the definition's
+  pub answer : (M : State) → Holds s M → r ≡ write-answer (length o) (committed-document M)
+  pub text : (M : State) → Holds s M → o′ ≡ write-buffer o (committed-document M)
   pub long : length o′ ≡ length o

@@ -2,10 +2,11 @@
 use mathlib.Core.Path.{_≡_, refl, sym, ap, _∙_}
 use Prim.Native.Nat.{ℕ}
 use mathlib.Core.Bool.{Bool, true, false, false≢true, true≢false}
-use mathlib.Core.List.{List, [], _∷_, _++_}
+use mathlib.Core.List.{List, [], _∷_, _++_, List·Memᴰ}
 use mathlib.Core.Logic.{_↔_}
 use Rattle.tree.specs.Lists.{any, has}
-use Rattle.tree.specs.Steps.{plain-document}
+use Rattle.tree.specs.Document.{node-0-alone}
+use Rattle.tree.specs.Steps.{unfit, plain-document}
 use Rattle.tree.specs.Laws.Tests.{refuted}
 use Rattle.tree.specs.Laws.Lists.{any-at, at-any, every-at, any-same}
 use Rattle.commute.specs.Laws.Runs.{run-document, run-answers}
@@ -18,6 +19,7 @@ use Rattle.serializability.specs.Laws.Tracking.{Tracks}
 use Rattle.serializability.specs.Laws.Ends.{document-same}
 use Rattle.serializability.specs.Laws.AnyOrder.{entries, reached-tracks, fed-is, answered-is, any-order}
 use Rattle.serializability.specs.Laws.Held.{held-shown}
+use Rattle.serializability.specs.Laws.Unfit.{none-unfit}
 use Rattle.serializability.specs.Laws.Pending.{steps, log-run, quiet-held, held-quiet}
 
 -- A.14 ---------------------------------------------------------------------------------------
@@ -44,6 +46,11 @@ module _ (M : State) (cs : List Call) where
   plain-same-answers : plain-run-answers h ≡ answers-given h
   unfolding plain-run-answers answers-given
   plain-same-answers = rw (fed-is M cs) (run-answers (entries cs .first) (entries cs .committed) (tr .c) (tr .run)) ∙ sym (ap (λ L. L .committed) (answered-is M cs))
+
+  -- they are the answers given here
+  no-plain-unfit : List·Memᴰ unfit (plain-run-answers h) → ⊥
+  unfolding answers-given
+  no-plain-unfit i = none-unfit M (start ∷ cs) node-0-alone (rw plain-same-answers at i)
 
   -- pending, by the marks
   abbrev pending-of : ℕ → Bool
@@ -120,6 +127,7 @@ pub demand-3 : (M : State) (cs : List Call) → Demand3 M cs
 demand-3 M cs = record {
   held-plain = held-plain M cs;
   answers = plain-same-answers M cs;
+  none-unfit = no-plain-unfit M cs;
   committed = plain-committed M cs;
   aborted = always-reached M cs .committed-if-aborted ∙ plain-committed M cs;
   writes = all-writes M cs;

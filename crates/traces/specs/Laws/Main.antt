@@ -1,29 +1,24 @@
 -- THE THEOREM: every list of calls on one lent state that begins with a granted start, from the contracts of the calls.
-use mathlib.Core.Path.{_≡_, refl, sym, ap, ap₂, _∙_, subst}
+use mathlib.Core.Path.{_≡_, refl, ap, ap₂, _∙_}
 use Prim.Native.Nat.{ℕ}
-use mathlib.Core.Bool.{Bool, true, false}
+use mathlib.Core.Bool.{false}
 use mathlib.Core.List.{List, [], _∷_, _++_, append-nil, append-assoc, List·Memᴰ, List·Memᴰ·head, List·Memᴰ·tail, List·Memᴰ·not-nil}
-use native.Mathlib.Omega.{arith}
-use lib.ListN.{length}
-use lib.Dec.{leb}
-use borrow.Author.Tests.{leb-true, leb-false}
-use Rattle.protocol.specs.State.{State}
+use Rattle.protocol.specs.State.{State, start-state}
 use Rattle.protocol.specs.Calls.{Call, start, next}
 use Rattle.protocol.specs.History.{state-after}
-use Rattle.protocol.specs.Answers.{code-of}
-use Rattle.layout.specs.Layout.{state-size}
-use Rattle.engine.specs.Contract.{rooms-of}
+use Rattle.protocol.specs.Answers.{code-of, answer-of, granted-answer}
+use Rattle.protocol.specs.declared.Answer.the-variants.{Done}
 use Rattle.form.specs.Form.{Holds}
 use Rattle.serializability.specs.Theorem.{reached}
 use Rattle.serializability.specs.Laws.Main.{state-append, plain-committed, demand-3}
 use Rattle.serializability.specs.Laws.Reached.{always-reached}
-use Rattle.traces.specs.Exchange.{Request, Exchange}
-use Rattle.traces.specs.Contract as contract
-use Rattle.traces.specs.Contract.{Makes, makes-start, MakesCall, Ensured, Contract}
+use Rattle.traces.specs.Exchange.{Request, Exchange, outcome}
+use Rattle.traces.specs.Contract.{MakesCall, Contract}
 use Rattle.traces.specs.Theorem.{Linked, Trace, Made, no-call, call-then, Demand1, Demand2, WritesPlain, Each, last-state, Delivered}
 use Rattle.traces.specs.Laws.Causes.{makes-one, makes-only}
 use Rattle.traces.specs.Laws.OneCall.{outcomes-of, demand-2, granted-text}
-use Rattle.traces.specs.Laws.StateBytes.{state-bytes}
+use Rattle.traces.specs.Laws.StateBytes.{start-of, granted-size, granted-start, state-bytes}
+use Rattle.traces.specs.Laws.Refusals.{refusals}
 
 -- the calls that were made ----------------------------------------------------------------
 
@@ -39,7 +34,7 @@ made-only (call-then m k) (call-then n l) = ap₂ (λ (c : Call) (cs : List Call
 
 -- of every call that meets its contract, whatever bytes it was lent
 pub demand-1 : (x : Exchange) → Contract x → Demand1 x
-demand-1 x k = record { outcomes = outcomes-of x k; state-bytes = state-bytes x k }
+demand-1 x k = record { outcomes = outcomes-of x k; state-bytes = state-bytes x k; refusals = refusals x k }
 
 each-demand : (s : List ℕ) (xs : List Exchange) → Linked s xs → (y : Exchange) → List·Memᴰ y xs → Demand1 y
 each-demand s [] l y i = absurd (List·Memᴰ·not-nil i)
@@ -85,30 +80,24 @@ each-part P Q f before (x ∷ xs) (c ∷ cs) h = (f before x c (h .0), each-part
 
 -- the start --------------------------------------------------------------------------------
 
-started : (M : State) (x : Exchange) (xs : List Exchange) → Trace x xs → Holds (x .state .after) (reached M [])
-unfolding state-after Ensured code-of
-started M x xs t = go (leb state-size (length (x .state .before))) refl
-  where
-    k : contract.Start x (t .contract .answer)
-    k = t .contract .ensured start (subst (λ (q : Request). Makes (rooms-of (x .first .before) (x .second .before)) q start) (sym (t .starts)) makes-start)
-
-    go : (f : Bool) → leb state-size (length (x .state .before)) ≡ f → Holds (x .state .after) (next start M .state)
-    go true f = k .restarted .state (leb-true state-size (length (x .state .before)) f) M
-    go false f =
-        let u = k .restarted .short (leb-false state-size (length (x .state .before)) f) in
-        let c : x .code ≡ 3330 = t .contract .code ∙ ap code-of (u .0) in
-        absurd (omega (arith, t .start-granted))
+-- its answer
+start-code : (x : Exchange) (k : Contract x) → x .request ≡ Request.start → outcome (x .code) ≡ 0 → x .code ≡ 0
+unfolding next answer-of granted-answer code-of
+start-code x k q g = k .code ∙ ap code-of (start-of x k q .restarted .answer (granted-size x k q g) start-state (λ d. Done))
 
 -- THE THEOREM
 pub delivered : (M : State) (x : Exchange) (xs : List Exchange) → Trace x xs → Delivered M x xs
+unfolding state-after
 delivered M x xs t =
     let m = made-some xs in
-    let h = started M x xs t in
+    let h : Holds (x .state .after) (reached M []) = granted-start M x (t .contract) (t .starts) (t .start-granted) in
     let b = each-both M [] (x .state .after) xs (m .0) h (t .linked) (m .1) in
     record {
       calls = m .0;
       made = m .1;
       only = λ cs k. made-only k (m .1);
+      start-code = start-code x (t .contract) (t .starts) (t .start-granted);
+      start-buffers = let k = start-of x (t .contract) (t .starts) in (k .first, k .second);
       demand-1 = all-calls;
       held = holds-last M [] (x .state .after) xs (m .0) h (t .linked) (m .1);
       demand-2 = each-part (Both M) (λ before y c. Demand2 (reached M before) y c) (λ before y c p. p .0) [] xs (m .0) b;

@@ -27,13 +27,13 @@ use Rattle.xml.specs.Writing as xml
 use Rattle.xml.specs.Laws.Expressible.{read-back}
 use Rattle.traces.specs.Exchange.{Exchange, outcome, value}
 use Rattle.markup.specs.Rows.{ordered}
-use Rattle.writer.specs.Contract.{writable, writing, text-after}
+use Rattle.writer.specs.Contract.{writable, writing, text-after, write-answer, write-buffer}
+use Rattle.writer.specs.Laws.Calls.{legal-writing}
 use Rattle.traces.specs.Contract as contract
 use Rattle.traces.specs.Contract.{MakesCall, Ensured, Contract}
 use Rattle.traces.specs.Theorem.{Same, Outcomes, first-after, Demand2}
 use Rattle.traces.specs.Laws.Codes.{Listed, Told, told, not-written}
 use Rattle.traces.specs.Laws.Causes.{makes-one, listed}
-use Rattle.markup.specs.Laws.Rules.{legal-ordered}
 
 -- demand 1 ------------------------------------------------------------------------------
 
@@ -110,20 +110,22 @@ module _ (x : Exchange) (r : Answer) (e : x .code ≡ code-of r) where
       go false q a f = told-demand x (refused 14) (tells (refused 14) (omega arith, omega arith) a) (λ _. (s, f, k)) (ap length s) (ap (drop state-size) s)
 
   write-demand : contract.Write x r → Outcomes x
-  unfolding answer-of
+  unfolding answer-of write-answer write-buffer
   write-demand h = go (form (x .state .before)) refl
     where
-      by-order : (M : State) → Holds (x .state .before) M → (o : Bool) → ordered (committed-document M) ≡ o → Outcomes x
-      by-order M b true o = writing-demand (committed-document M) (h .written .answer M b o) (h .written .text M b o) (h .state) (h .second)
-      by-order M b false o =
-          let u = h .written .disordered M b o in
-          told-demand x (refused 14) (rw (e, u .0) (told (refused 14) (omega arith, omega arith))) (λ _. (h .state, u .1, h .second)) (ap length (h .state)) (ap (drop state-size) (h .state))
+      by-order : (d : Document) (o : Bool) → r ≡ cond o (writing (length (x .first .before)) d) (Refused 14)
+          → x .first .after ≡ cond o (text-after (x .first .before) d) (x .first .before) → Outcomes x
+      by-order d true a f = writing-demand d a f (h .state) (h .second)
+      by-order d false a f =
+          told-demand x (refused 14) (tells (refused 14) (omega arith, omega arith) a) (λ _. (h .state, f, h .second)) (ap length (h .state)) (ap (drop state-size) (h .state))
 
       go : (f : Bool) → form (x .state .before) ≡ f → Outcomes x
       go false f =
           let u = h .written .unformed f in
           told-demand x (refused 13) (rw (e, u .0) told-13) (λ _. (h .state, u .1, h .second)) (ap length (h .state)) (ap (drop state-size) (h .state))
-      go true f = let M = form-holds (x .state .before) f in by-order (M .0) (M .1) (ordered (committed-document (M .0))) refl
+      go true f =
+          let M = form-holds (x .state .before) f in
+          by-order (committed-document (M .0)) (ordered (committed-document (M .0))) (h .written .answer (M .0) (M .1)) (h .written .text (M .0) (M .1))
 
   ensured-demand : (c : Call) → ((M : State) → Listed (next c M .outcome)) → Ensured x r c → Outcomes x
   unfolding Ensured
@@ -245,21 +247,21 @@ module _ (M : State) (x : Exchange) (r : Answer) (e : x .code ≡ code-of r) (b 
     held = b;
     left = rw (h .state) b;
     formed = rw (h .state) (holds-form b);
-    answer = e ∙ ap code-of given;
-    first = h .written .text M b (legal-ordered (committed-document M) l);
+    answer = e ∙ ap code-of (given .0);
+    first = given .1;
     second = h .second;
     as-granted = λ n. absurd (n refl);
-    wait-set = λ t s room k w. absurd (write-no-wait (x .first .before) (committed-document M) (rw (e, given) at w));
+    wait-set = λ t s room k w. absurd (write-no-wait (x .first .before) (committed-document M) (rw (e, given .0) at w));
     read-back = λ k g.
         let d = committed-document M in
-        let w = granted-write (x .first .before) d (rw (e, given) at g) in (
-          rw (e, given, w .2, h .written .text M b (legal-ordered d l), w .1) (take-append-seam (xml.write d) (drop (length (xml.write d)) (x .first .before))),
+        let w = granted-write (x .first .before) d (rw (e, given .0) at g) in (
+          rw (e, given .0, w .2, given .1, w .1) (take-append-seam (xml.write d) (drop (length (xml.write d)) (x .first .before))),
           read-back d l (w .0) (few-lines b),
         );
   }
     where
-      given : r ≡ writing (length (x .first .before)) (committed-document M)
-      given = h .written .answer M b (legal-ordered (committed-document M) l)
+      given : (r ≡ writing (length (x .first .before)) (committed-document M)) × (x .first .after ≡ text-after (x .first .before) (committed-document M))
+      given = legal-writing M (h .written) b l
 
   ensured-meets : (c : Call) → Listed (next c M .outcome) → legal (committed-document M) ≡ true → Ensured x r c → Demand2 M x c
   unfolding Ensured

@@ -25,16 +25,41 @@ use Rattle.markup.specs.Laws.Rules.{legal-ordered}
 use Rattle.committed.specs.declared.Rows.{Rows}
 use Rattle.committed.specs.Lines.{lines, Selected}
 use Rattle.committed.specs.Laws.Documents.{root-content, root-below, rooted-shape, lines-of}
-use Rattle.writer.specs.Contract.{writable, writing, text-after, Written}
+use Rattle.writer.specs.Contract.{writable, writing, text-after, write-answer, write-buffer, Written}
 
 pub write-unformed : (s o : List ℕ) → form s ≡ false → Written s o o (Refused 13)
 write-unformed s o e = record {
   unformed = λ f. (refl, refl);
-  answer = λ M h b. absurd (true≢false (sym (holds-form h) ∙ e));
-  text = λ M h b. absurd (true≢false (sym (holds-form h) ∙ e));
-  disordered = λ M h b. absurd (true≢false (sym (holds-form h) ∙ e));
+  answer = λ M h. absurd (true≢false (sym (holds-form h) ∙ e));
+  text = λ M h. absurd (true≢false (sym (holds-form h) ∙ e));
   long = refl;
 }
+
+-- answer and buffer, for an ordered document and for any other
+abbrev Writes : List ℕ → List ℕ → Answer → Document → Type 0
+Writes o o′ r d = (r ≡ writing (length o) d) × (o′ ≡ text-after o d)
+
+abbrev Refuses : List ℕ → List ℕ → Answer → Type 0
+Refuses o o′ r = (r ≡ Refused 14) × (o′ ≡ o)
+
+module _ (s o o′ : List ℕ) (r : Answer) (f : form s ≡ true) where
+  by-order : (d : Document) → (ordered d ≡ true → Writes o o′ r d) → (ordered d ≡ false → Refuses o o′ r)
+      → (r ≡ write-answer (length o) d) × (o′ ≡ write-buffer o d)
+  unfolding write-answer write-buffer
+  by-order d w u = go (ordered d) refl
+    where
+      go : (b : Bool) → ordered d ≡ b → (r ≡ cond b (writing (length o) d) (Refused 14)) × (o′ ≡ cond b (text-after o d) o)
+      go true b = w b
+      go false b = u b
+
+  written-by : ((M : State) → Holds s M → ordered (committed-document M) ≡ true → Writes o o′ r (committed-document M))
+      → ((M : State) → Holds s M → ordered (committed-document M) ≡ false → Refuses o o′ r) → length o′ ≡ length o → Written s o o′ r
+  written-by w u l = record {
+    unformed = λ g. absurd (true≢false (sym f ∙ g));
+    answer = λ M h. by-order (committed-document M) (w M h) (u M h) .0;
+    text = λ M h. by-order (committed-document M) (w M h) (u M h) .1;
+    long = l;
+  }
 
 write-some : (d : Document) → 1 ≤ length (write d)
 unfolding write
@@ -77,37 +102,28 @@ module _ {s : List ℕ} {w : Rows} {n : ℕ} (f : form s ≡ true) (c : Selected
 
   pub write-14 : (o : List ℕ) → n ≡ 0 → Written s o o (Refused 14)
   unfolding writing text-after writable
-  write-14 o z = record {
-    unformed = λ g. absurd (true≢false (sym f ∙ g));
-    answer = λ M h b. rw (not-expressible M h b z);
-    text = λ M h b. rw (not-expressible M h b z);
-    disordered = λ M h b. (refl, refl);
-    long = refl;
-  }
+  write-14 o z = written-by s o o (Refused 14) f (λ M h b. (rw (not-expressible M h b z), rw (not-expressible M h b z))) (λ M h b. (refl, refl)) refl
 
   module _ (z : n ≡ 0 → ⊥) where
     pub write-13 : (o : List ℕ) → length o < n → Written s o o (Refused 13)
     unfolding writing text-after writable
-    write-13 o k = record {
-      unformed = λ g. absurd (true≢false (sym f ∙ g));
-      answer = λ M h b. rw (is-expressible M h b z, short M h b);
-      text = λ M h b. rw (is-expressible M h b z, short M h b);
-      disordered = λ M h b. absurd (z (none M h b));
-      long = refl;
-    }
+    write-13 o k =
+        written-by s o o (Refused 13) f
+        (λ M h b. (rw (is-expressible M h b z, short M h b), rw (is-expressible M h b z, short M h b)))
+        (λ M h b. absurd (z (none M h b))) refl
       where
         short : (M : State) (h : Holds s M) → ordered (committed-document M) ≡ true → leb (length (write (committed-document M))) (length o) ≡ false
         short M h b = lt-leb (length (write (committed-document M))) (length o) (omega (arith, by-expressible M h b true (is-expressible M h b z)))
 
     pub write-granted : (o o′ : List ℕ) {r : ℕ} → n ≤ length o → Wrote (written-rows (lines (nodes s) (w .places) (w .count))) o o′ r → length o′ ≡ length o → Written s o o′ (Count n)
     unfolding writing text-after writable
-    write-granted o o′ k v l = record {
-      unformed = λ g. absurd (true≢false (sym f ∙ g));
-      answer = λ M h b. rw (is-expressible M h b z, fits M h b) (ap Count (by-expressible M h b true (is-expressible M h b z)));
-      text = λ M h b. rw (is-expressible M h b z, fits M h b) (rw (text-is M h b) at (v .bytes));
-      disordered = λ M h b. absurd (z (none M h b));
-      long = l;
-    }
+    write-granted o o′ k v l =
+        written-by s o o′ (Count n) f
+        (λ M h b. (
+          rw (is-expressible M h b z, fits M h b) (ap Count (by-expressible M h b true (is-expressible M h b z))),
+          rw (is-expressible M h b z, fits M h b) (rw (text-is M h b) at (v .bytes)),
+        ))
+        (λ M h b. absurd (z (none M h b))) l
       where
         fits : (M : State) (h : Holds s M) → ordered (committed-document M) ≡ true → leb (length (write (committed-document M))) (length o) ≡ true
         fits M h b = le-leb (length (write (committed-document M))) (length o) (omega (arith, by-expressible M h b true (is-expressible M h b z)))
@@ -132,4 +148,7 @@ protocol-state M = refl
 -- the committed document of a legal state is written as defined
 pub legal-writing : {s o o′ : List ℕ} {r : Answer} (M : State) → Written s o o′ r → Holds s M → legal (committed-document M) ≡ true
     → (r ≡ writing (length o) (committed-document M)) × (o′ ≡ text-after o (committed-document M))
-legal-writing M w h l = (w .answer M h (legal-ordered (committed-document M) l), w .text M h (legal-ordered (committed-document M) l))
+unfolding write-answer write-buffer
+legal-writing {o = o} M w h l =
+    let b = legal-ordered (committed-document M) l in
+    (w .answer M h ∙ rw b, w .text M h ∙ rw b)
