@@ -7,7 +7,7 @@ use Rattle.tree.specs.Lists.{same}
 use Rattle.layout.specs.Layout.{nodes}
 use Rattle.layout.specs.Fields.{text}
 use Rattle.lookup.specs.Places.{item}
-use Rattle.writing.specs.Laws.Names.{same-long, same-differs, same-turn, same-end}
+use Rattle.tree.specs.Laws.Compare.{same-long, same-differs, same-turn, same-end}
 use Rattle.committed.proofs.same_content.Statement.{statement}
 use Rattle.committed.proofs.same_content.Tie as tie
 

@@ -6,7 +6,7 @@ use lib.ListN.{length, drop}
 use Rattle.tree.specs.Lists.{same}
 use Rattle.layout.specs.Layout.{nodes}
 use Rattle.lookup.specs.Places.{item}
-use Rattle.writing.specs.Laws.Names.{same-long, same-differs, same-turn, same-end}
+use Rattle.tree.specs.Laws.Compare.{same-long, same-differs, same-turn, same-end}
 use Rattle.writing.proofs.has_content.Statement.{statement}
 use Rattle.writing.proofs.has_content.Tie as tie
 

@@ -1,13 +1,10 @@
--- The loop that compares a content with a name, and the renaming of one node.
-use mathlib.Core.Path.{_≡_, refl, sym, ap, _∙_}
-use Prim.Native.Nat.{ℕ, suc, _+_, _≤_, _<_}
-use mathlib.Core.Bool.{true, false, _&&_, and-false}
-use mathlib.Core.List.{List, [], _∷_}
+-- Whether an element has a name, and the renaming of one node.
+use mathlib.Core.Path.{_≡_, sym, ap}
+use Prim.Native.Nat.{ℕ}
+use mathlib.Core.Bool.{true, false}
+use mathlib.Core.List.{List}
 use native.Mathlib.Omega.{arith}
-use native.Mathlib.Numerals.{add-one}
-use lib.ListN.{length, getD, drop, drop-of-length-le}
-use lib.Seq.{drop-cons}
-use lib.Dec.{eqb}
+use lib.ListN.{getD}
 use borrow.Author.Tests.{eq-eqb, ne-eqb}
 use Rattle.tree.specs.Lists.{same}
 use Rattle.tree.specs.Content.{element-kind}
@@ -21,27 +18,6 @@ use Rattle.layout.specs.Laws.Kept.{kept-same, kept-as}
 use Rattle.lookup.specs.Places.{item}
 use Rattle.edits.specs.Rows.{renamed-by}
 use Rattle.writing.specs.Writing.{Renamed}
-
--- other lengths
-pub same-long : (a c : List ℕ) → (length c ≡ length a → ⊥) → same a c ≡ false
-same-long [] [] h = absurd (h refl)
-same-long [] (y ∷ c) h = refl
-same-long (x ∷ a) [] h = refl
-same-long (x ∷ a) (y ∷ c) h = rw (same-long a c (λ e. h (ap suc e))) (and-false (eqb x y))
-
--- the first j bytes are the same
-module _ (a c : List ℕ) (j : ℕ) (v : same a c ≡ same (drop j a) (drop j c)) (e : length c ≡ length a) where
-  turn : j < length a → same (drop j a) (drop j c) ≡ (eqb (getD a j 0) (getD c j 0) && same (drop (j + 1) a) (drop (j + 1) c))
-  turn h = let k : j < length c = omega arith in rw (drop-cons a j 0 h, drop-cons c j 0 k, add-one j)
-
-  pub same-differs : j < length a → (getD c j 0 ≡ getD a j 0 → ⊥) → same a c ≡ false
-  same-differs h n = v ∙ turn h ∙ rw (ne-eqb (getD a j 0) (getD c j 0) (λ z. n (sym z)))
-
-  pub same-turn : j < length a → getD c j 0 ≡ getD a j 0 → same a c ≡ same (drop (j + 1) a) (drop (j + 1) c)
-  same-turn h n = v ∙ turn h ∙ rw (eq-eqb (getD a j 0) (getD c j 0) (sym n))
-
-  pub same-end : length a ≤ j → same a c ≡ true
-  same-end h = v ∙ rw (drop-of-length-le a h, drop-of-length-le c {i = j} (omega arith))
 
 -- another kind
 pub named-other : (a : List ℕ) (x : Marked) → (x .now .kind ≡ element-kind → ⊥) → is-named a (x .now) ≡ false
