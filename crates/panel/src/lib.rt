@@ -7,8 +7,7 @@ ghost use Rattle.traces.specs.Contract.{Contract};
 pub extern "C" fn noodlefen_start(state: &mut [u8]) -> u64
     ensures { λ r. ⌜ Contract (with-none Request.start (now (state .entry)) (now (state .exit)) r) ⌝ }
 {
-    let answer = ends::start(state);
-    protocol::code(answer)
+    end_calls::start(state)
 }
 
 // The state is replaced by the document that the input stands for.
@@ -16,8 +15,7 @@ pub extern "C" fn noodlefen_start(state: &mut [u8]) -> u64
 pub extern "C" fn noodlefen_load(state: &mut [u8], xml: &[u8]) -> u64
     ensures { λ r. ⌜ Contract (with-none (Request.load (now (xml .entry))) (now (state .entry)) (now (state .exit)) r) ⌝ }
 {
-    let answer = loading::load(state, xml);
-    protocol::code(answer)
+    document_calls::load(state, xml)
 }
 
 // The committed document is written to out.
@@ -25,8 +23,7 @@ pub extern "C" fn noodlefen_load(state: &mut [u8], xml: &[u8]) -> u64
 pub extern "C" fn noodlefen_write(state: &[u8], out: &mut [u8]) -> u64
     ensures { λ r. ⌜ Contract (with-one Request.write (now (state .entry)) (now (state .entry)) (now (out .entry)) (now (out .exit)) r) ⌝ }
 {
-    let answer = writer::write(state, out);
-    protocol::code(answer)
+    document_calls::write(state, out)
 }
 
 // Transaction t begins.
@@ -34,8 +31,7 @@ pub extern "C" fn noodlefen_write(state: &[u8], out: &mut [u8]) -> u64
 pub extern "C" fn noodlefen_begin(state: &mut [u8], t: u32) -> u64
     ensures { λ r. ⌜ Contract (with-none (Request.begin t) (now (state .entry)) (now (state .exit)) r) ⌝ }
 {
-    let answer = ends::begin(state, t);
-    protocol::code(answer)
+    end_calls::begin(state, t)
 }
 
 // Transaction t ends, and its changes last.
@@ -43,8 +39,7 @@ pub extern "C" fn noodlefen_begin(state: &mut [u8], t: u32) -> u64
 pub extern "C" fn noodlefen_commit(state: &mut [u8], t: u32) -> u64
     ensures { λ r. ⌜ Contract (with-none (Request.commit t) (now (state .entry)) (now (state .exit)) r) ⌝ }
 {
-    let answer = ends::commit(state, t);
-    protocol::code(answer)
+    end_calls::commit(state, t)
 }
 
 // Transaction t ends, and its changes are undone.
@@ -52,8 +47,7 @@ pub extern "C" fn noodlefen_commit(state: &mut [u8], t: u32) -> u64
 pub extern "C" fn noodlefen_abort(state: &mut [u8], t: u32) -> u64
     ensures { λ r. ⌜ Contract (with-none (Request.abort t) (now (state .entry)) (now (state .exit)) r) ⌝ }
 {
-    let answer = ends::abort(state, t);
-    protocol::code(answer)
+    end_calls::abort(state, t)
 }
 
 // T(n): the kind and the parent of node n.
@@ -61,8 +55,7 @@ pub extern "C" fn noodlefen_abort(state: &mut [u8], t: u32) -> u64
 pub extern "C" fn noodlefen_test(state: &mut [u8], t: u32, n: u16) -> u64
     ensures { λ r. ⌜ Contract (with-none (Request.test t n) (now (state .entry)) (now (state .exit)) r) ⌝ }
 {
-    let answer = engine::test(state, t, n);
-    protocol::code(answer)
+    read_calls::test(state, t, n)
 }
 
 // C(n, k): the number and the kind of the k-th child of node n, or none.
@@ -70,8 +63,7 @@ pub extern "C" fn noodlefen_test(state: &mut [u8], t: u32, n: u16) -> u64
 pub extern "C" fn noodlefen_child(state: &mut [u8], t: u32, n: u16, k: u32) -> u64
     ensures { λ r. ⌜ Contract (with-none (Request.child t n k) (now (state .entry)) (now (state .exit)) r) ⌝ }
 {
-    let answer = read_steps::child(state, t, n, k);
-    protocol::code(answer)
+    read_calls::child(state, t, n, k)
 }
 
 // R(n): the content of node n, into out.
@@ -79,8 +71,7 @@ pub extern "C" fn noodlefen_child(state: &mut [u8], t: u32, n: u16, k: u32) -> u
 pub extern "C" fn noodlefen_read(state: &mut [u8], t: u32, n: u16, out: &mut [u8]) -> u64
     ensures { λ r. ⌜ Contract (with-one (Request.read t n) (now (state .entry)) (now (state .exit)) (now (out .entry)) (now (out .exit)) r) ⌝ }
 {
-    let answer = read_steps::read(state, t, n, out);
-    protocol::code(answer)
+    read_calls::read(state, t, n, out)
 }
 
 // U(n, bytes): node n has the bytes as its content.
@@ -88,8 +79,7 @@ pub extern "C" fn noodlefen_read(state: &mut [u8], t: u32, n: u16, out: &mut [u8
 pub extern "C" fn noodlefen_update(state: &mut [u8], t: u32, n: u16, bytes: &[u8]) -> u64
     ensures { λ r. ⌜ Contract (with-none (Request.update t n (now (bytes .entry))) (now (state .entry)) (now (state .exit)) r) ⌝ }
 {
-    let answer = write_steps::update(state, t, n, bytes);
-    protocol::code(answer)
+    write_calls::update(state, t, n, bytes)
 }
 
 // D(n): node n and all below it are deleted.
@@ -97,8 +87,7 @@ pub extern "C" fn noodlefen_update(state: &mut [u8], t: u32, n: u16, bytes: &[u8
 pub extern "C" fn noodlefen_delete(state: &mut [u8], t: u32, n: u16) -> u64
     ensures { λ r. ⌜ Contract (with-none (Request.delete t n) (now (state .entry)) (now (state .exit)) r) ⌝ }
 {
-    let answer = write_steps::delete(state, t, n);
-    protocol::code(answer)
+    write_calls::delete(state, t, n)
 }
 
 // I(m, kind, bytes, n, k): a new node m becomes the k-th child of node n.
@@ -114,8 +103,7 @@ pub extern "C" fn noodlefen_insert(
 ) -> u64
     ensures { λ r. ⌜ Contract (with-none (Request.insert t m kind (now (bytes .entry)) n k) (now (state .entry)) (now (state .exit)) r) ⌝ }
 {
-    let answer = write_steps::insert(state, t, m, kind, bytes, n, k);
-    protocol::code(answer)
+    write_calls::insert(state, t, m, kind, bytes, n, k)
 }
 
 // TT(n): the numbers of node n and all below it, in document order.
@@ -123,8 +111,7 @@ pub extern "C" fn noodlefen_insert(
 pub extern "C" fn noodlefen_test_tree(state: &mut [u8], t: u32, n: u16, numbers: &mut [u8]) -> u64
     ensures { λ r. ⌜ Contract (with-one (Request.test-tree t n) (now (state .entry)) (now (state .exit)) (now (numbers .entry)) (now (numbers .exit)) r) ⌝ }
 {
-    let answer = read_steps::test_tree(state, t, n, numbers);
-    protocol::code(answer)
+    read_calls::test_tree(state, t, n, numbers)
 }
 
 // RR(n): as TT, and a cell with the content of each.
@@ -139,8 +126,7 @@ pub extern "C" fn noodlefen_read_tree(
     ensures { λ r. ⌜ Contract (with-two (Request.read-tree t n) (now (state .entry)) (now (state .exit))
         (now (numbers .entry)) (now (numbers .exit)) (now (cells .entry)) (now (cells .exit)) r) ⌝ }
 {
-    let answer = read_steps::read_tree(state, t, n, numbers, cells);
-    protocol::code(answer)
+    read_calls::read_tree(state, t, n, numbers, cells)
 }
 
 // UU(n, from, to): each element in the subtree of node n that is named so gets the other name.
@@ -154,6 +140,5 @@ pub extern "C" fn noodlefen_rename_tree(
 ) -> u64
     ensures { λ r. ⌜ Contract (with-none (Request.rename-tree t n (now (from .entry)) (now (to .entry))) (now (state .entry)) (now (state .exit)) r) ⌝ }
 {
-    let answer = write_steps::rename_tree(state, t, n, from, to);
-    protocol::code(answer)
+    write_calls::rename_tree(state, t, n, from, to)
 }

@@ -1,0 +1,19 @@
+// Load and write, answered by the number of 64 bits. Every contract is `Contract` of traces/specs/Contract.antt.
+ghost use Rattle.traces.specs.Exchange.{Request, with-none, with-one};
+ghost use Rattle.traces.specs.Contract.{Contract};
+
+// The state is replaced by the document that the input stands for.
+pub fn load(state: &mut [u8], xml: &[u8]) -> u64
+    ensures { λ r. ⌜ Contract (with-none (Request.load (now (xml .entry))) (now (state .entry)) (now (state .exit)) r) ⌝ }
+{
+    let answer = loading::load(state, xml);
+    protocol::code(answer)
+}
+
+// The committed document is written to out.
+pub fn write(state: &[u8], out: &mut [u8]) -> u64
+    ensures { λ r. ⌜ Contract (with-one Request.write (now (state .entry)) (now (state .entry)) (now (out .entry)) (now (out .exit)) r) ⌝ }
+{
+    let answer = writer::write(state, out);
+    protocol::code(answer)
+}
