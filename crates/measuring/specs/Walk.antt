@@ -1,4 +1,4 @@
--- A pass over the rows of a document, with the place of the last node at each depth.
+-- A pass over the rows of a document, with the place and the kind of the last node at each depth.
 use mathlib.Core.Path.{_≡_}
 use Prim.Native.Nat.{ℕ, zero, suc, _-_, _≤_, _<_}
 use mathlib.Core.Bool.{cond}
@@ -27,7 +27,7 @@ pub record OnPath (l : List Entry) (path : List ℕ) (top : ℕ) : Type 0 where
   pub deep : top < 1024
   pub inside : (j : ℕ) → j ≤ top → getD path j 0 < length l
 
--- their kinds
+-- the kinds of the nodes at these places
 pub record OfKinds (l : List Entry) (path kinds : List ℕ) (top : ℕ) : Type 0 where
   pub long : length kinds ≡ 1024
   pub same : (j : ℕ) → j ≤ top → getD kinds j 0 ≡ label-at l (getD path j 0) .kind

@@ -13,7 +13,10 @@ add-result : tie.Need-add-result
 add-result c = search needs
 
 returns : tie.Need-returns
-returns c = (ap (λ n. n + 4) (c .size .ensures .0) ∙ cost-attribute _ _ _ (sym (c .before .before .before .pre .4) ∙ c .before .if1 .taken), omega (arith, c .size .ensures .1))
+returns c = (
+  ap (λ n. n + 4) (c .size .ensures .0) ∙ cost-attribute _ _ _ (sym (c .before .before .before .pre .4) ∙ c .before .if1 .taken),
+  omega (arith, c .size .ensures .1),
+)
 
 extra-requires : tie.Need-extra-requires
 extra-requires c κs = search needs

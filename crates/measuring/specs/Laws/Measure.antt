@@ -23,8 +23,9 @@ pub record Measuring (l : List Entry) (places : List ℕ) (count : ℕ) (path ki
   pub small : sum ≤ 39 + 256 * i
   pub whole : measured (lines l places count) ≡ judge (open-labels l path (suc top)) 0 (before-lines l places i) sum (drop i (lines l places count))
 
-pub measuring-start : {l : List Entry} {places : List ℕ} {count : ℕ} (path kinds : List ℕ) → Listed l places count → 2 ≤ count → length path ≡ 1024 → length kinds ≡ 1024
-    → {k : ℕ} → k ≡ label-at l (getD places 0 0) .kind → Measuring l places count (set path 0 (getD places 0 0)) (set kinds 0 k) 0 1 39
+pub measuring-start : {l : List Entry} {places : List ℕ} {count : ℕ} (path kinds : List ℕ) → Listed l places count → 2 ≤ count
+    → length path ≡ 1024 → length kinds ≡ 1024 → {k : ℕ} → k ≡ label-at l (getD places 0 0) .kind
+    → Measuring l places count (set path 0 (getD places 0 0)) (set kinds 0 k) 0 1 39
 unfolding measured prolog open-labels before-lines
 measuring-start {l} {places} {count} path kinds c m n o g =
     let e : lines l places count ≡ line-at l (getD places 0 0) ∷ drop 1 (lines l places count) = lines-from l places count (omega (arith, c .long, c .room)) 0 (omega arith) in
@@ -44,7 +45,8 @@ too-few l places count c m =
     let f : drop 1 (lines l places count) ≡ [] = drop-of-length-le (lines l places count) {i = 1} (omega (arith, length-lines l places count h)) in
     sym (ap measured (e ∙ ap (λ (k : List Line). line-at l (getD places 0 0) ∷ k) f))
 
-module _ {l : List Entry} {places path kinds : List ℕ} {count top i sum : ℕ} (c : Listed l places count) (v : Measuring l places count path kinds top i sum) where
+module _ {l : List Entry} {places path kinds : List ℕ} {count top i sum : ℕ} (c : Listed l places count)
+    (v : Measuring l places count path kinds top i sum) where
   -- all rows are measured
   module _ (h : count ≤ i) where
     last : measured (lines l places count) ≡ cond (leb sum 65536) sum 0
@@ -86,7 +88,8 @@ module _ {l : List Entry} {places path kinds : List ℕ} {count top i sum : ℕ}
           again : repeated (before-lines l places i) (d, label-at l p) ≡ true
           again = rw (depth-is, ep) e
 
-      pub measured-on : repeated (before-lines l places i) (line-at l (getD places i 0)) ≡ false → {n : ℕ} → n ≡ cost (label-at l (getD path (d - 1) 0)) k (label-at l p) → n ≤ 256
+      pub measured-on : repeated (before-lines l places i) (line-at l (getD places i 0)) ≡ false → {n : ℕ}
+          → n ≡ cost (label-at l (getD path (d - 1) 0)) k (label-at l p) → n ≤ 256
           → Measuring l places count (set path d p) (set kinds d b) d (i + 1) (sum + n)
       unfolding judge before-lines
       measured-on e {n} g small = record {

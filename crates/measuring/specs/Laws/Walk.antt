@@ -150,14 +150,16 @@ module _ {l : List Entry} {places path kinds : List ℕ} {count top i : ℕ} (c 
     pub walk-kind : getD kinds (d - 1) 0 ≡ label-at l (getD path (d - 1) 0) .kind
     walk-kind = w .of-kinds .same (d - 1) (omega (arith, walk-steps))
 
-  pub walk-on : {d p k : ℕ} → d ≡ depth l (getD places i 0) → p ≡ getD places i 0 → k ≡ label-at l p .kind → Walk l places (set path d p) (set kinds d k) d (i + 1)
+  pub walk-on : {d p k : ℕ} → d ≡ depth l (getD places i 0) → p ≡ getD places i 0 → k ≡ label-at l p .kind
+      → Walk l places (set path d p) (set kinds d k) d (i + 1)
   walk-on {d} {p} {k} e q f = record {
     on-path = record {
       long = length-set path d p ∙ w .on-path .long;
       deep = omega (arith, walk-deep);
       inside = λ j k. go j k (eqb j d) refl;
     };
-    of-kinds = set-kinds path kinds d p (w .on-path .long) (w .of-kinds .long) (omega (arith, walk-deep)) (λ j i. w .of-kinds .same j (omega (arith, walk-steps))) f;
+    of-kinds = set-kinds path kinds d p (w .on-path .long) (w .of-kinds .long) (omega (arith, walk-deep))
+        (λ j i. w .of-kinds .same j (omega (arith, walk-steps))) f;
     some = omega arith;
     high = omega (arith, walk-steps, w .high);
     row = let z : i + 1 - 1 ≡ i = omega arith in rw z e;

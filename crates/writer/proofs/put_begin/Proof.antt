@@ -20,7 +20,8 @@ put-between-requires : tie.Need-put-between-requires
 put-between-requires c κs =
     let c3 = c .before .before .before in
     let c6 = c3 .before .before .before in
-    let e = begin-attribute (of-kind (c6 .args .above)) (c6 .args .previous) (label-at (nodes (c6 .args .s .now)) (c6 .args .p)) (sym (c6 .pre .2) ∙ c3 .if1 .taken) in
+    let e = begin-attribute (of-kind (c6 .args .above)) (c6 .args .previous) (label-at (nodes (c6 .args .s .now)) (c6 .args .p))
+    (sym (c6 .pre .2) ∙ c3 .if1 .taken) in
     (c6 .pre .0, c6 .pre .1, rw e at (c6 .pre .3))
 
 same-length : tie.Need-same-length

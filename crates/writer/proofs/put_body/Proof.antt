@@ -16,8 +16,8 @@ use Rattle.writer.proofs.put_body.Statement.{statement}
 use Rattle.writer.proofs.put_body.Tie as tie
 
 abbrev Inv-loop : tie.InvT-loop
-Inv-loop out₀ s places count first path₀ kinds₀ top₀ at₀ i₀ out path kinds top at i = (i ≤ count) × (length out ≡ length out₀) × Walk (nodes s) places path kinds top i × Partly
-    (body (lines (nodes s) places count)) (from (nodes s) places count path top i) out₀ out at
+Inv-loop out₀ s places count first path₀ kinds₀ top₀ at₀ i₀ out path kinds top at i = (i ≤ count) × (length out ≡ length out₀)
+    × Walk (nodes s) places path kinds top i × Partly (body (lines (nodes s) places count)) (from (nodes s) places count path top i) out₀ out at
 
 abbrev μ-loop : tie.MeasureT-loop
 μ-loop out₀ s places count first path₀ kinds₀ top₀ at₀ i₀ out path kinds top at i = count - i
@@ -130,7 +130,11 @@ add-at c =
     let c7 = c2 .before .before .before .before .before in
     let c10 = c7 .before .before .before in
     let c15 = c10 .before .before .before .before .before in
-    omega (arith, (next-row (c15 .pre .1) (c10 .loop .inv .2) (omega arith) refl (c7 .depth .ensures) (c10 .loop .inv .3) (c15 .pre .2)) .small, c2 .put-row .ensures .count)
+    omega (
+      arith,
+      (next-row (c15 .pre .1) (c10 .loop .inv .2) (omega arith) refl (c7 .depth .ensures) (c10 .loop .inv .3) (c15 .pre .2)) .small,
+      c2 .put-row .ensures .count,
+    )
 
 mul-path : tie.Need-mul-path Inv-loop μ-loop
 mul-path c =

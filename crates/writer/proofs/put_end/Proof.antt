@@ -15,7 +15,8 @@ put-requires : tie.Need-put-requires
 put-requires c κs =
     let c2 = c .before .before in
     let c5 = c2 .before .before .before in
-    let e = end-attribute (label-at (nodes (c5 .args .s .now)) (c5 .args .p)) (c5 .args .last) (sym (c5 .pre .2) ∙ c2 .if1 .taken) in omega (arith, rw e at (c5 .pre .3))
+    let e = end-attribute (label-at (nodes (c5 .args .s .now)) (c5 .args .p)) (c5 .args .last) (sym (c5 .pre .2) ∙ c2 .if1 .taken) in
+    omega (arith, rw e at (c5 .pre .3))
 
 same-length : tie.Need-same-length
 same-length c = search needs
@@ -44,7 +45,8 @@ put-requires-2 c κs =
     let c3 = c2 .before in
     let c4 = c3 .before in
     let c8 = c4 .before .before .before .before in
-    let e = end-empty (label-at (nodes (c8 .args .s .now)) (c8 .args .p)) (c8 .args .last) (sym (c8 .pre .2) ∙ c4 .if2 .left) (sym (c3 .in-start-tag .ensures) ∙ c2 .if3 .taken) in
+    let e = end-empty (label-at (nodes (c8 .args .s .now)) (c8 .args .p)) (c8 .args .last) (sym (c8 .pre .2) ∙ c4 .if2 .left)
+    (sym (c3 .in-start-tag .ensures) ∙ c2 .if3 .taken) in
     omega (arith, rw e at (c8 .pre .3))
 
 same-length-2 : tie.Need-same-length-2
@@ -71,7 +73,8 @@ put-between-requires c κs =
     let c4 = c3 .before in
     let c5 = c4 .before in
     let c9 = c5 .before .before .before .before in
-    let e = end-tag (label-at (nodes (c9 .args .s .now)) (c9 .args .p)) (c9 .args .last) (sym (c9 .pre .2) ∙ c5 .if2 .left) (sym (c4 .in-start-tag .ensures) ∙ c3 .if3 .left) in
+    let e = end-tag (label-at (nodes (c9 .args .s .now)) (c9 .args .p)) (c9 .args .last) (sym (c9 .pre .2) ∙ c5 .if2 .left)
+    (sym (c4 .in-start-tag .ensures) ∙ c3 .if3 .left) in
     (c9 .pre .0, c9 .pre .1, rw e at (c9 .pre .3))
 
 same-length-3 : tie.Need-same-length-3

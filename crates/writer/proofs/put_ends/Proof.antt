@@ -13,8 +13,8 @@ use Rattle.writer.proofs.put_ends.Statement.{statement}
 use Rattle.writer.proofs.put_ends.Tie as tie
 
 abbrev Inv-loop : tie.InvT-loop
-Inv-loop out₀ s path kinds top d at₀ last₀ e₀ out at last e = (e ≤ suc top) × (length out ≡ length out₀) × Partly (ends (suc top - d) (open-labels (nodes s) path (suc top)) 0)
-    (ends (e - d) (open-labels (nodes s) path e) last) out₀ out at
+Inv-loop out₀ s path kinds top d at₀ last₀ e₀ out at last e = (e ≤ suc top) × (length out ≡ length out₀)
+    × Partly (ends (suc top - d) (open-labels (nodes s) path (suc top)) 0) (ends (e - d) (open-labels (nodes s) path e) last) out₀ out at
 
 abbrev μ-loop : tie.MeasureT-loop
 μ-loop out₀ s path kinds top d at₀ last₀ e₀ out at last e = e
@@ -58,13 +58,15 @@ sub-put-end : tie.Need-sub-put-end Inv-loop μ-loop
 sub-put-end c =
     let c3 = c .before .before .before in
     let c6 = c3 .before .before .before in
-    (next-end (nodes (c6 .args .s .now)) (c6 .args .path .now) (c3 .loop .e) (c6 .args .d) (c3 .loop .last) (c3 .loop .inv .2) (c6 .pre .3) (omega arith)) .inside
+    (next-end (nodes (c6 .args .s .now)) (c6 .args .path .now) (c3 .loop .e) (c6 .args .d) (c3 .loop .last)
+    (c3 .loop .inv .2) (c6 .pre .3) (omega arith)) .inside
 
 part-put-end-start : tie.Need-part-put-end-start Inv-loop μ-loop
 part-put-end-start c =
     let c3 = c .before .before .before in
     let c6 = c3 .before .before .before in
-    (next-end (nodes (c6 .args .s .now)) (c6 .args .path .now) (c3 .loop .e) (c6 .args .d) (c3 .loop .last) (c3 .loop .inv .2) (c6 .pre .3) (omega arith)) .inside
+    (next-end (nodes (c6 .args .s .now)) (c6 .args .path .now) (c3 .loop .e) (c6 .args .d) (c3 .loop .last)
+    (c3 .loop .inv .2) (c6 .pre .3) (omega arith)) .inside
 
 part-put-end-end : tie.Need-part-put-end-end Inv-loop μ-loop
 part-put-end-end c = search needs
@@ -76,7 +78,8 @@ put-end-requires c κs =
       c7 .pre .0,
       c7 .pre .1 .inside (c4 .loop .e - 1) (omega (arith, c4 .loop .inv .0)),
       c7 .pre .2 .same (c4 .loop .e - 1) (omega (arith, c4 .loop .inv .0)),
-      (next-end (nodes (c7 .args .s .now)) (c7 .args .path .now) (c4 .loop .e) (c7 .args .d) (c4 .loop .last) (c4 .loop .inv .2) (c7 .pre .3) (omega arith)) .room,
+      (next-end (nodes (c7 .args .s .now)) (c7 .args .path .now) (c4 .loop .e) (c7 .args .d) (c4 .loop .last)
+          (c4 .loop .inv .2) (c7 .pre .3) (omega arith)) .room,
     )
 
 add-at : tie.Need-add-at Inv-loop μ-loop
@@ -86,7 +89,8 @@ add-at c =
     let c10 = c7 .before .before .before in
     omega (
       arith,
-      (next-end (nodes (c10 .args .s .now)) (c10 .args .path .now) (c7 .loop .e) (c10 .args .d) (c7 .loop .last) (c7 .loop .inv .2) (c10 .pre .3) (omega arith)) .small,
+      (next-end (nodes (c10 .args .s .now)) (c10 .args .path .now) (c7 .loop .e) (c10 .args .d) (c7 .loop .last)
+          (c7 .loop .inv .2) (c10 .pre .3) (omega arith)) .small,
       c2 .put-end .ensures .count,
     )
 
@@ -103,7 +107,8 @@ loop-again c =
       partly-as
           (ap (λ k. ends ((c7 .loop .e) - 1 - c10 .args .d) (open-labels (nodes (c10 .args .s .now)) (c10 .args .path .now) ((c7 .loop .e) - 1)) k)
           (sym (c10 .pre .2 .same (c7 .loop .e - 1) (omega (arith, c7 .loop .inv .0)))))
-          ((next-end (nodes (c10 .args .s .now)) (c10 .args .path .now) (c7 .loop .e) (c10 .args .d) (c7 .loop .last) (c7 .loop .inv .2) (c10 .pre .3) (omega arith)) .on _ _ (c2 .put-end .ensures)),
+          ((next-end (nodes (c10 .args .s .now)) (c10 .args .path .now) (c7 .loop .e) (c10 .args .d) (c7 .loop .last)
+          (c7 .loop .inv .2) (c10 .pre .3) (omega arith)) .on _ _ (c2 .put-end .ensures)),
     )
 
 same-length : tie.Need-same-length Inv-loop μ-loop

@@ -14,7 +14,8 @@ put-name-requires : tie.Need-put-name-requires
 put-name-requires c κs =
     let c2 = c .before .before in
     let c5 = c2 .before .before .before in
-    let e = opening-element (label-at (nodes (c5 .args .s .now)) (c5 .args .p)) (sym (c5 .pre .2) ∙ c2 .if1 .taken) in (c5 .pre .0, c5 .pre .1, rw e at (c5 .pre .3))
+    let e = opening-element (label-at (nodes (c5 .args .s .now)) (c5 .args .p)) (sym (c5 .pre .2) ∙ c2 .if1 .taken) in
+    (c5 .pre .0, c5 .pre .1, rw e at (c5 .pre .3))
 
 same-length : tie.Need-same-length
 same-length c = search needs
@@ -29,7 +30,8 @@ returns c =
 put-escaped-requires : tie.Need-put-escaped-requires
 put-escaped-requires c κs =
     let c4 = c .before .before .before .before in
-    let e = opening-text (label-at (nodes (c4 .args .s .now)) (c4 .args .p)) (λ e. c .before .if1 .left (c4 .pre .2 ∙ e)) in (c4 .pre .0, c4 .pre .1, rw e at (c4 .pre .3))
+    let e = opening-text (label-at (nodes (c4 .args .s .now)) (c4 .args .p)) (λ e. c .before .if1 .left (c4 .pre .2 ∙ e)) in
+    (c4 .pre .0, c4 .pre .1, rw e at (c4 .pre .3))
 
 same-length-2 : tie.Need-same-length-2
 same-length-2 c = search needs

@@ -83,7 +83,8 @@ returns c =
     let c8 = c6 .before .before in
     let c12 = c8 .before .before .before .before in
     both (next-begin (nodes (c12 .args .s .now)) (c12 .args .path .now) (c12 .args .top) (c12 .args .d) (c12 .args .p) (c6 .put-ends .ensures) (c12 .pre .7)
-    (c12 .pre .2 .same (c12 .args .d - 1) (omega (arith, c12 .pre .3, c12 .pre .4))) (c8 .previous .ensures ∙ previous-is _ _ _ (c12 .pre .2))) _ _ (c2 .put-begin .ensures)
+    (c12 .pre .2 .same (c12 .args .d - 1) (omega (arith, c12 .pre .3, c12 .pre .4))) (c8 .previous .ensures ∙ previous-is _ _ _ (c12 .pre .2)))
+    _ _ (c2 .put-begin .ensures)
 
 pub put-row-spec : {M : Type 1} → statement M
 put-row-spec =

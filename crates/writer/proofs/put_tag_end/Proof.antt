@@ -26,7 +26,9 @@ put-requires c κs =
     let c3 = c2 .before in
     let c4 = c3 .before in
     let c6 = c4 .before .before in
-    let e = tag-end-first (of-kind (c6 .args .above)) (c6 .args .previous) (c4 .if1 .left) (sym (c3 .in-start-tag .ensures) ∙ not-false _ (c2 .if2 .left)) in omega (arith, rw e at (c6 .pre))
+    let e = tag-end-first (of-kind (c6 .args .above)) (c6 .args .previous) (c4 .if1 .left)
+    (sym (c3 .in-start-tag .ensures) ∙ not-false _ (c2 .if2 .left)) in
+    omega (arith, rw e at (c6 .pre))
 
 same-length : tie.Need-same-length
 same-length c = search needs

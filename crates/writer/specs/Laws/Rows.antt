@@ -48,8 +48,9 @@ module _ (l : List Entry) (path : List ℕ) (top d p : ℕ) where
   row-room h = omega (arith, simp length-append at h)
 
   -- k is the kind of its parent, q that of its previous sibling
-  pub next-begin : {k q r : ℕ} {o₀ o : List ℕ} → Wrote (ends (suc top - d) (open-labels l path (suc top)) 0) o₀ o r → length (row-text l path top d p) ≤ length o₀
-      → k ≡ label-at l (getD path (d - 1) 0) .kind → q ≡ previous-of (open-labels l path (suc top)) 0 d → Next (begin (of-kind k) q (label-at l p)) (row-text l path top d p) [] o₀ o r
+  pub next-begin : {k q r : ℕ} {o₀ o : List ℕ} → Wrote (ends (suc top - d) (open-labels l path (suc top)) 0) o₀ o r
+      → length (row-text l path top d p) ≤ length o₀ → k ≡ label-at l (getD path (d - 1) 0) .kind → q ≡ previous-of (open-labels l path (suc top)) 0 d
+      → Next (begin (of-kind k) q (label-at l p)) (row-text l path top d p) [] o₀ o r
   unfolding row-text
   next-begin {k} {q} w h e f =
       let g : begin (label-at l (getD path (d - 1) 0)) (previous-of (open-labels l path (suc top)) 0 d) (label-at l p) ≡ begin (of-kind k) q (label-at l p)
