@@ -1,8 +1,10 @@
--- A pass over the rows of a document, with the place of the last node at each depth.
+-- A pass over the rows of a document, with the place and the kind of the last node at each depth.
 use mathlib.Core.Path.{_≡_}
 use Prim.Native.Nat.{ℕ, zero, suc, _-_, _≤_, _<_}
+use mathlib.Core.Bool.{cond}
 use mathlib.Core.List.{List, [], _∷_}
 use lib.ListN.{length, getD}
+use lib.Dec.{ltb}
 use Rattle.layout.specs.Layout.{Entry}
 use Rattle.lookup.specs.Places.{depth}
 use Rattle.xml.specs.Shape.{Label}
@@ -25,9 +27,19 @@ pub record OnPath (l : List Entry) (path : List ℕ) (top : ℕ) : Type 0 where
   pub deep : top < 1024
   pub inside : (j : ℕ) → j ≤ top → getD path j 0 < length l
 
+-- the kinds of the nodes at these places
+pub record OfKinds (l : List Entry) (path kinds : List ℕ) (top : ℕ) : Type 0 where
+  pub long : length kinds ≡ 1024
+  pub same : (j : ℕ) → j ≤ top → getD kinds j 0 ≡ label-at l (getD path j 0) .kind
+
+-- the kind of the previous sibling of a node at depth d, 0 for none
+unfoldable pub previous-kind : List ℕ → ℕ → ℕ → ℕ
+previous-kind kinds top d = cond (ltb top d) 0 (getD kinds d 0)
+
 -- before the i-th row: top is the depth of the row before it
-pub record Walk (l : List Entry) (places path : List ℕ) (top i : ℕ) : Type 0 where
+pub record Walk (l : List Entry) (places path kinds : List ℕ) (top i : ℕ) : Type 0 where
   pub on-path : OnPath l path top
+  pub of-kinds : OfKinds l path kinds top
   pub some : 1 ≤ i
   pub high : top < i
   pub row : top ≡ depth l (getD places (i - 1) 0)

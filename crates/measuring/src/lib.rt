@@ -3,27 +3,27 @@ ghost use mathlib.Core.Path.{_≡_};
 ghost use Prim.Native.Nat.{suc, _+_, _<_, _≤_};
 ghost use lib.ListN.{length, getD};
 ghost use Rattle.layout.specs.Layout.{nodes, Layout};
-ghost use Rattle.markup.specs.Rows.{previous-of, extra, cost, repeated, measured};
+ghost use Rattle.markup.specs.Rows.{extra, cost, repeated, measured};
 ghost use Rattle.committed.specs.Lines.{label-at, line-at, lines, Inside, Listed};
-ghost use Rattle.measuring.specs.Walk.{open-labels, before-lines, OnPath};
+ghost use Rattle.measuring.specs.Walk.{before-lines, previous-kind};
 
-// The kind of the previous sibling of a node at depth d, 0 for none; path has the place of the last node at each depth up to top.
-pub fn previous(s: &[u8], path: &[u16; 1024], top: usize, d: usize) -> u8
-    requires { ⌜ (Layout (now s)) × (OnPath (nodes (now s)) (now path) top) × (d ≤ suc top) ⌝ }
-    ensures { λ r. ⌜ r ≡ previous-of (open-labels (nodes (now (s .entry))) (now (path .entry)) (suc top)) 0 d ⌝ }
+// The kind of the previous sibling of a node at depth d, 0 for none; kinds has the kind of the last node at each depth up to top.
+pub fn previous(kinds: &[u8; 1024], top: usize, d: usize) -> u8
+    requires { ⌜ top < 1024 ⌝ }
+    ensures { λ r. ⌜ r ≡ previous-kind (now (kinds .entry)) top d ⌝ }
 {
     if top < d {
         return 0;
     }
-    table::kind(s, path[d] as usize)
+    kinds[d]
 }
 
-// What a node adds to the length as the first child of its parent that is no attribute.
-fn extra(s: &[u8], parent: usize, previous: u8) -> usize
-    requires { ⌜ (Layout (now s)) × (parent < length (nodes (now s))) ⌝ }
+// What a node adds to the length as the first child of its parent, of kind `kind`, that is no attribute.
+fn extra(s: &[u8], parent: usize, kind: u8, previous: u8) -> usize
+    requires { ⌜ (Layout (now s)) × (parent < length (nodes (now s))) × (kind ≡ label-at (nodes (now s)) parent .kind) ⌝ }
     ensures { λ r. ⌜ (r ≡ extra (label-at (nodes (now (s .entry))) parent) previous) × (r ≤ 34) ⌝ }
 {
-    if table::kind(s, parent) != 2 {
+    if kind != 2 {
         return 0;
     }
     if !markup::in_start_tag(previous) {
@@ -32,16 +32,15 @@ fn extra(s: &[u8], parent: usize, previous: u8) -> usize
     committed::size(s, parent) + 2
 }
 
-// What the node at p adds to the length.
-fn cost(s: &[u8], parent: usize, previous: u8, p: usize) -> usize
-    requires { ⌜ (Layout (now s)) × (parent < length (nodes (now s))) × (p < length (nodes (now s))) ⌝ }
+// What the node at p, of kind `kind`, adds to the length; its parent is of kind `above`.
+fn cost(s: &[u8], parent: usize, above: u8, previous: u8, p: usize, kind: u8) -> usize
+    requires { ⌜ (Layout (now s)) × (parent < length (nodes (now s))) × (above ≡ label-at (nodes (now s)) parent .kind) × (p < length (nodes (now s))) × (kind ≡ label-at (nodes (now s)) p .kind) ⌝ }
     ensures { λ r. ⌜ (r ≡ cost (label-at (nodes (now (s .entry))) parent) previous (label-at (nodes (now (s .entry))) p)) × (r ≤ 256) ⌝ }
 {
-    let kind = table::kind(s, p);
     if kind == 3 {
         return committed::size(s, p) + 4;
     }
-    let more = extra(s, parent, previous);
+    let more = extra(s, parent, above, previous);
     if kind == 2 {
         return more + (committed::size(s, p) + 3);
     }
@@ -84,24 +83,30 @@ pub fn measure(s: &[u8], places: &[u16; 1024], count: usize) -> usize
     if count < 2 {
         return 0;
     }
+    let first = places[0];
     let mut path = [0u16; 1024];
-    path[0] = places[0];
+    path[0] = first;
+    let mut kinds = [0u8; 1024];
+    kinds[0] = table::kind(s, first as usize);
     let mut top: usize = 0;
     let mut sum: usize = 39;
     let mut i: usize = 1;
     while i < count {
         let p = places[i];
         let d = table::depth(s, p as usize) as usize;
-        let parent = path[d - 1] as usize;
-        let before = previous(s, &path, top, d);
-        if !markup::fits(table::kind(s, parent), before, table::kind(s, p as usize)) {
+        let kind = table::kind(s, p as usize);
+        let above = kinds[d - 1];
+        let before = previous(&kinds, top, d);
+        if !markup::fits(above, before, kind) {
             return 0;
         }
         if repeated(s, places, i) {
             return 0;
         }
-        sum += cost(s, parent, before, p as usize);
+        let parent = path[d - 1] as usize;
+        sum += cost(s, parent, above, before, p as usize, kind);
         path[d] = p;
+        kinds[d] = kind;
         top = d;
         i += 1;
     }

@@ -1,7 +1,7 @@
 -- Pieces of a text, as the functions of this crate group them.
 use Prim.Native.Nat.{ℕ, suc, _-_}
 use mathlib.Core.Bool.{cond}
-use mathlib.Core.List.{List, _++_}
+use mathlib.Core.List.{List, [], _++_}
 use lib.ListN.{getD}
 use Rattle.tree.specs.Text.{bytes}
 use Rattle.layout.specs.Layout.{Entry}
@@ -10,6 +10,10 @@ use Rattle.xml.specs.Writing.{escaped, is-element}
 use Rattle.markup.specs.Rows.{begin, ends, previous-of}
 use Rattle.committed.specs.Lines.{label-at}
 use Rattle.measuring.specs.Walk.{open-labels}
+
+-- a parent, of which only the kind counts
+abbrev pub of-kind : ℕ → Label
+of-kind k = record { kind = k; content = [] }
 
 -- the beginning of an element's start tag, or a text
 unfoldable pub opening : Label → List ℕ

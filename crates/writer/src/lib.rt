@@ -9,9 +9,9 @@ ghost use Rattle.layout.specs.Layout.{nodes, Layout};
 ghost use Rattle.markup.specs.Rows.{tag-end, begin, end, ends, body, written-rows};
 ghost use Rattle.markup.specs.Lending.{Wrote};
 ghost use Rattle.committed.specs.Lines.{label-at, lines, Listed};
-ghost use Rattle.measuring.specs.Walk.{open-labels, OnPath};
+ghost use Rattle.measuring.specs.Walk.{open-labels, OnPath, OfKinds};
 ghost use Rattle.writer.specs.Contract.{Written};
-ghost use Rattle.writer.specs.Texts.{opening, row-text};
+ghost use Rattle.writer.specs.Texts.{of-kind, opening, row-text};
 
 // Pieces -----------------------------------------------------------------------------
 
@@ -60,12 +60,12 @@ fn put_between(out: &mut [u8], s: &[u8], p: usize, prefix: &[u8], suffix: &[u8])
 
 // Nodes ------------------------------------------------------------------------------
 
-// The end of the parent's start tag, before its first child that is no attribute.
-fn put_tag_end(out: &mut [u8], s: &[u8], parent: usize, previous: u8) -> usize
-    requires { ⌜ (Layout (now s)) × (parent < length (nodes (now s))) × (length (tag-end (label-at (nodes (now s)) parent) previous) ≤ length (now out)) ⌝ }
-    ensures { λ r. ⌜ Wrote (tag-end (label-at (nodes (now (s .entry))) parent) previous) (now (out .entry)) (now (out .exit)) r ⌝ }
+// The end of the parent's start tag, before its first child that is no attribute; the parent is of kind `above`.
+fn put_tag_end(out: &mut [u8], above: u8, previous: u8) -> usize
+    requires { ⌜ length (tag-end (of-kind above) previous) ≤ length (now out) ⌝ }
+    ensures { λ r. ⌜ Wrote (tag-end (of-kind above) previous) (now (out .entry)) (now (out .exit)) r ⌝ }
 {
-    if table::kind(s, parent) != 2 {
+    if above != 2 {
         return 0;
     }
     if !markup::in_start_tag(previous) {
@@ -74,35 +74,34 @@ fn put_tag_end(out: &mut [u8], s: &[u8], parent: usize, previous: u8) -> usize
     markup::put(out, b">")
 }
 
-// The beginning of an element's start tag, or a text.
-fn put_opening(out: &mut [u8], s: &[u8], p: usize) -> usize
-    requires { ⌜ (Layout (now s)) × (p < length (nodes (now s))) × (length (opening (label-at (nodes (now s)) p)) ≤ length (now out)) ⌝ }
+// The beginning of an element's start tag, or a text; the node at p is of kind `kind`.
+fn put_opening(out: &mut [u8], s: &[u8], p: usize, kind: u8) -> usize
+    requires { ⌜ (Layout (now s)) × (p < length (nodes (now s))) × (kind ≡ label-at (nodes (now s)) p .kind) × (length (opening (label-at (nodes (now s)) p)) ≤ length (now out)) ⌝ }
     ensures { λ r. ⌜ Wrote (opening (label-at (nodes (now (s .entry))) p)) (now (out .entry)) (now (out .exit)) r ⌝ }
 {
-    if table::kind(s, p) == 2 {
+    if kind == 2 {
         return put_name(out, s, p, b"<");
     }
     put_escaped(out, s, p)
 }
 
-// What stands for the node at p up to its children.
-fn put_begin(out: &mut [u8], s: &[u8], parent: usize, previous: u8, p: usize) -> usize
-    requires { ⌜ (Layout (now s)) × (parent < length (nodes (now s))) × (p < length (nodes (now s))) × (length (begin (label-at (nodes (now s)) parent) previous (label-at (nodes (now s)) p)) ≤ length (now out)) ⌝ }
-    ensures { λ r. ⌜ Wrote (begin (label-at (nodes (now (s .entry))) parent) previous (label-at (nodes (now (s .entry))) p)) (now (out .entry)) (now (out .exit)) r ⌝ }
+// What stands for the node at p, of kind `kind`, up to its children; its parent is of kind `above`.
+fn put_begin(out: &mut [u8], s: &[u8], above: u8, previous: u8, p: usize, kind: u8) -> usize
+    requires { ⌜ (Layout (now s)) × (p < length (nodes (now s))) × (kind ≡ label-at (nodes (now s)) p .kind) × (length (begin (of-kind above) previous (label-at (nodes (now s)) p)) ≤ length (now out)) ⌝ }
+    ensures { λ r. ⌜ Wrote (begin (of-kind above) previous (label-at (nodes (now (s .entry))) p)) (now (out .entry)) (now (out .exit)) r ⌝ }
 {
-    if table::kind(s, p) == 3 {
+    if kind == 3 {
         return put_between(out, s, p, b" ", b"=\"");
     }
-    let at = put_tag_end(out, s, parent, previous);
-    at + put_opening(&mut out[at..], s, p)
+    let at = put_tag_end(out, above, previous);
+    at + put_opening(&mut out[at..], s, p, kind)
 }
 
-// What stands for the node at p behind its children, the last of which is of kind `last`.
-fn put_end(out: &mut [u8], s: &[u8], p: usize, last: u8) -> usize
-    requires { ⌜ (Layout (now s)) × (p < length (nodes (now s))) × (length (end (label-at (nodes (now s)) p) last) ≤ length (now out)) ⌝ }
+// What stands for the node at p, of kind `kind`, behind its children, the last of which is of kind `last`.
+fn put_end(out: &mut [u8], s: &[u8], p: usize, kind: u8, last: u8) -> usize
+    requires { ⌜ (Layout (now s)) × (p < length (nodes (now s))) × (kind ≡ label-at (nodes (now s)) p .kind) × (length (end (label-at (nodes (now s)) p) last) ≤ length (now out)) ⌝ }
     ensures { λ r. ⌜ Wrote (end (label-at (nodes (now (s .entry))) p) last) (now (out .entry)) (now (out .exit)) r ⌝ }
 {
-    let kind = table::kind(s, p);
     if kind == 3 {
         return markup::put(out, b"\"");
     }
@@ -117,9 +116,16 @@ fn put_end(out: &mut [u8], s: &[u8], p: usize, last: u8) -> usize
 
 // Rows -------------------------------------------------------------------------------
 
-// The ends of the open nodes from depth top up to depth d; path has their places.
-fn put_ends(out: &mut [u8], s: &[u8], path: &[u16; 1024], top: usize, d: usize) -> usize
-    requires { ⌜ (Layout (now s)) × (OnPath (nodes (now s)) (now path) top) × (length (ends (suc top - d) (open-labels (nodes (now s)) (now path) (suc top)) 0) ≤ length (now out)) ⌝ }
+// The ends of the open nodes from depth top up to depth d; path has their places, and kinds their kinds.
+fn put_ends(
+    out: &mut [u8],
+    s: &[u8],
+    path: &[u16; 1024],
+    kinds: &[u8; 1024],
+    top: usize,
+    d: usize,
+) -> usize
+    requires { ⌜ (Layout (now s)) × (OnPath (nodes (now s)) (now path) top) × (OfKinds (nodes (now s)) (now path) (now kinds) top) × (length (ends (suc top - d) (open-labels (nodes (now s)) (now path) (suc top)) 0) ≤ length (now out)) ⌝ }
     ensures { λ r. ⌜ Wrote (ends (suc top - d) (open-labels (nodes (now (s .entry))) (now (path .entry)) (suc top)) 0) (now (out .entry)) (now (out .exit)) r ⌝ }
 {
     let mut at: usize = 0;
@@ -128,21 +134,31 @@ fn put_ends(out: &mut [u8], s: &[u8], path: &[u16; 1024], top: usize, d: usize) 
     while d < e {
         e -= 1;
         let p = path[e] as usize;
-        at = at + put_end(&mut out[at..], s, p, last);
-        last = table::kind(s, p);
+        let kind = kinds[e];
+        at = at + put_end(&mut out[at..], s, p, kind, last);
+        last = kind;
     }
     at
 }
 
-// The ends before the node at p, of depth d, and what stands for it up to its children.
-fn put_row(out: &mut [u8], s: &[u8], path: &[u16; 1024], top: usize, d: usize, p: usize) -> usize
-    requires { ⌜ (Layout (now s)) × (OnPath (nodes (now s)) (now path) top) × (1 ≤ d) × (d ≤ suc top) × (p < length (nodes (now s))) × (length (row-text (nodes (now s)) (now path) top d p) ≤ length (now out)) ⌝ }
+// The ends before the node at p, of depth d and kind `kind`, and what stands for it up to its children.
+fn put_row(
+    out: &mut [u8],
+    s: &[u8],
+    path: &[u16; 1024],
+    kinds: &[u8; 1024],
+    top: usize,
+    d: usize,
+    p: usize,
+    kind: u8,
+) -> usize
+    requires { ⌜ (Layout (now s)) × (OnPath (nodes (now s)) (now path) top) × (OfKinds (nodes (now s)) (now path) (now kinds) top) × (1 ≤ d) × (d ≤ suc top) × (p < length (nodes (now s))) × (kind ≡ label-at (nodes (now s)) p .kind) × (length (row-text (nodes (now s)) (now path) top d p) ≤ length (now out)) ⌝ }
     ensures { λ r. ⌜ Wrote (row-text (nodes (now (s .entry))) (now (path .entry)) top d p) (now (out .entry)) (now (out .exit)) r ⌝ }
 {
-    let parent = path[d - 1] as usize;
-    let previous = measuring::previous(s, path, top, d);
-    let at = put_ends(out, s, path, top, d);
-    at + put_begin(&mut out[at..], s, parent, previous, p)
+    let above = kinds[d - 1];
+    let previous = measuring::previous(kinds, top, d);
+    let at = put_ends(out, s, path, kinds, top, d);
+    at + put_begin(&mut out[at..], s, above, previous, p, kind)
 }
 
 // What stands for the rows below the document's.
@@ -150,20 +166,25 @@ fn put_body(out: &mut [u8], s: &[u8], places: &[u16; 1024], count: usize) -> usi
     requires { ⌜ (Layout (now s)) × (Listed (nodes (now s)) (now places) count) × (length (body (lines (nodes (now s)) (now places) count)) ≤ length (now out)) ⌝ }
     ensures { λ r. ⌜ Wrote (body (lines (nodes (now (s .entry))) (now (places .entry)) count)) (now (out .entry)) (now (out .exit)) r ⌝ }
 {
+    let first = places[0];
     let mut path = [0u16; 1024];
-    path[0] = places[0];
+    path[0] = first;
+    let mut kinds = [0u8; 1024];
+    kinds[0] = table::kind(s, first as usize);
     let mut top: usize = 0;
     let mut at: usize = 0;
     let mut i: usize = 1;
     while i < count {
         let p = places[i];
         let d = table::depth(s, p as usize) as usize;
-        at = at + put_row(&mut out[at..], s, &path, top, d, p as usize);
+        let kind = table::kind(s, p as usize);
+        at = at + put_row(&mut out[at..], s, &path, &kinds, top, d, p as usize, kind);
         path[d] = p;
+        kinds[d] = kind;
         top = d;
         i += 1;
     }
-    at + put_ends(&mut out[at..], s, &path, top, 0)
+    at + put_ends(&mut out[at..], s, &path, &kinds, top, 0)
 }
 
 // What stands for the rows of the document.

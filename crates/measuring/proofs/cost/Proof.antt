@@ -1,14 +1,10 @@
 use Rattle.measuring.specs.Laws.Costs.{cost-attribute, cost-element, cost-text}
-use Rattle.committed.specs.Laws.Contents.{kind-at}
 use mathlib.Core.Path.{sym, ap, ap₂, _∙_}
 use Prim.Native.Nat.{_+_}
 use native.Mathlib.Omega.{arith}
 use borrow.Author.Needs.{needs}
 use Rattle.measuring.proofs.cost.Statement.{statement}
 use Rattle.measuring.proofs.cost.Tie as tie
-
-kind-requires : tie.Need-kind-requires
-kind-requires c κs = search needs
 
 size-requires : tie.Need-size-requires
 size-requires c κs = search needs
@@ -17,7 +13,10 @@ add-result : tie.Need-add-result
 add-result c = search needs
 
 returns : tie.Need-returns
-returns c = (ap (λ n. n + 4) (c .size .ensures .0) ∙ cost-attribute _ _ _ (kind-at _ _ ∙ sym (c .before .before .kind .ensures) ∙ c .before .if1 .taken), omega (arith, c .size .ensures .1))
+returns c = (
+  ap (λ n. n + 4) (c .size .ensures .0) ∙ cost-attribute _ _ _ (sym (c .before .before .before .pre .4) ∙ c .before .if1 .taken),
+  omega (arith, c .size .ensures .1),
+)
 
 extra-requires : tie.Need-extra-requires
 extra-requires c κs = search needs
@@ -36,7 +35,7 @@ returns-2 c =
     let c2 = c .before .before in
     let c4 = c2 .before .before in (
       ap₂ (λ m n. m + (n + 3)) (c2 .extra .ensures .0) (c .size2 .ensures .0)
-          ∙ cost-element _ _ _ (kind-at _ _ ∙ sym (c4 .kind .ensures) ∙ c .before .if2 .taken),
+          ∙ cost-element _ _ _ (sym (c4 .before .pre .4) ∙ c .before .if2 .taken),
       omega (arith, c .size2 .ensures .1, c2 .extra .ensures .1),
     )
 
@@ -52,7 +51,7 @@ returns-3 c =
     let c3 = c2 .before in
     let c4 = c3 .before in (
       ap₂ (λ m n. m + n) (c2 .extra .ensures .0) (c .escaped-size .ensures .0)
-          ∙ cost-text _ _ _ (λ e. c3 .if1 .left (c4 .kind .ensures ∙ sym (kind-at _ _) ∙ e)) (λ e. c .before .if2 .left (c4 .kind .ensures ∙ sym (kind-at _ _) ∙ e)),
+          ∙ cost-text _ _ _ (λ e. c3 .if1 .left (c4 .before .pre .4 ∙ e)) (λ e. c .before .if2 .left (c4 .before .pre .4 ∙ e)),
       omega
           (arith, c .escaped-size .ensures .1, c2 .extra .ensures .1),
     )
@@ -61,7 +60,6 @@ pub cost-spec : {M : Type 1} → statement M
 cost-spec =
     tie.close
     (tie.spec
-    kind-requires
     size-requires
     add-result
     returns

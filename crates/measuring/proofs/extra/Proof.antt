@@ -1,5 +1,4 @@
 use Rattle.measuring.specs.Laws.Costs.{extra-other, extra-later, extra-first}
-use Rattle.committed.specs.Laws.Contents.{kind-at}
 use borrow.Author.Tests.{not-true, not-false}
 use mathlib.Core.Path.{sym, ap, _∙_}
 use Prim.Native.Nat.{_+_}
@@ -8,11 +7,8 @@ use borrow.Author.Needs.{needs}
 use Rattle.measuring.proofs.extra.Statement.{statement}
 use Rattle.measuring.proofs.extra.Tie as tie
 
-kind-requires : tie.Need-kind-requires
-kind-requires c κs = search needs
-
 returns : tie.Need-returns
-returns c = (extra-other _ _ (λ e. c .if1 .taken (c .before .kind .ensures ∙ sym (kind-at _ _) ∙ e)), omega arith)
+returns c = (extra-other _ _ (λ e. c .if1 .taken (c .before .before .pre .2 ∙ e)), omega arith)
 
 in-start-tag-requires : tie.Need-in-start-tag-requires
 in-start-tag-requires c κs = search needs
@@ -29,21 +25,12 @@ add-result c = search needs
 returns-3 : tie.Need-returns-3
 returns-3 c =
     let c2 = c .before .before in
-    let c3 = c2 .before in
-    let c4 = c3 .before in (
-      ap (λ n. n + 2) (c .size .ensures .0) ∙ extra-first _ _ (kind-at _ _ ∙ sym (c4 .kind .ensures) ∙ c3 .if1 .left)
+    let c3 = c2 .before in (
+      ap (λ n. n + 2) (c .size .ensures .0) ∙ extra-first _ _ (sym (c3 .before .before .pre .2) ∙ c3 .if1 .left)
           (sym (c2 .in-start-tag .ensures) ∙ not-false _ (c .before .if2 .left)),
       omega (arith, c .size .ensures .1),
     )
 
 pub extra-spec : {M : Type 1} → statement M
 extra-spec =
-    tie.close
-    (tie.spec
-    kind-requires
-    returns
-    in-start-tag-requires
-    returns-2
-    size-requires
-    add-result
-    returns-3)
+    tie.close (tie.spec returns in-start-tag-requires returns-2 size-requires add-result returns-3)

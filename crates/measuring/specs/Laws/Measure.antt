@@ -15,22 +15,23 @@ use Rattle.markup.specs.Rows.{Line, parent-of, previous-of, fits, cost, repeate
 use Rattle.committed.specs.Lines.{label-at, line-at, lines, Listed}
 use Rattle.committed.specs.Laws.Lines.{length-lines, lines-from}
 use Rattle.measuring.specs.Walk.{open-labels, before-lines, Walk}
-use Rattle.measuring.specs.Laws.Walk.{parent-is, opened-is, walk-start, walk-below, walk-steps, walk-deep, walk-on}
+use Rattle.measuring.specs.Laws.Walk.{parent-is, opened-is, walk-start, walk-below, walk-steps, walk-deep, walk-kind, walk-on}
 
-pub record Measuring (l : List Entry) (places : List ℕ) (count : ℕ) (path : List ℕ) (top i sum : ℕ) : Type 0 where
-  pub walk : Walk l places path top i
+pub record Measuring (l : List Entry) (places : List ℕ) (count : ℕ) (path kinds : List ℕ) (top i sum : ℕ) : Type 0 where
+  pub walk : Walk l places path kinds top i
   pub behind : i ≤ count
   pub small : sum ≤ 39 + 256 * i
   pub whole : measured (lines l places count) ≡ judge (open-labels l path (suc top)) 0 (before-lines l places i) sum (drop i (lines l places count))
 
-pub measuring-start : {l : List Entry} {places : List ℕ} {count : ℕ} (path : List ℕ) → Listed l places count → 2 ≤ count → length path ≡ 1024
-    → Measuring l places count (set path 0 (getD places 0 0)) 0 1 39
+pub measuring-start : {l : List Entry} {places : List ℕ} {count : ℕ} (path kinds : List ℕ) → Listed l places count → 2 ≤ count
+    → length path ≡ 1024 → length kinds ≡ 1024 → {k : ℕ} → k ≡ label-at l (getD places 0 0) .kind
+    → Measuring l places count (set path 0 (getD places 0 0)) (set kinds 0 k) 0 1 39
 unfolding measured prolog open-labels before-lines
-measuring-start {l} {places} {count} path c m n =
+measuring-start {l} {places} {count} path kinds c m n o g =
     let e : lines l places count ≡ line-at l (getD places 0 0) ∷ drop 1 (lines l places count) = lines-from l places count (omega (arith, c .long, c .room)) 0 (omega arith) in
     let f : drop 1 (lines l places count) ≡ line-at l (getD places 1 0) ∷ drop 2 (lines l places count) = lines-from l places count (omega (arith, c .long, c .room)) 1 (omega arith) in
     record {
-      walk = walk-start path c n;
+      walk = walk-start path kinds c n o g;
       behind = omega arith;
       small = omega arith;
       whole = ap measured (e ∙ ap (λ (k : List Line). line-at l (getD places 0 0) ∷ k) f) ∙ rw (f, getD-set-same path 0 (getD places 0 0) 0 (omega arith));
@@ -44,7 +45,8 @@ too-few l places count c m =
     let f : drop 1 (lines l places count) ≡ [] = drop-of-length-le (lines l places count) {i = 1} (omega (arith, length-lines l places count h)) in
     sym (ap measured (e ∙ ap (λ (k : List Line). line-at l (getD places 0 0) ∷ k) f))
 
-module _ {l : List Entry} {places path : List ℕ} {count top i sum : ℕ} (c : Listed l places count) (v : Measuring l places count path top i sum) where
+module _ {l : List Entry} {places path kinds : List ℕ} {count top i sum : ℕ} (c : Listed l places count)
+    (v : Measuring l places count path kinds top i sum) where
   -- all rows are measured
   module _ (h : count ≤ i) where
     last : measured (lines l places count) ≡ cond (leb sum 65536) sum 0
@@ -59,8 +61,8 @@ module _ {l : List Entry} {places path : List ℕ} {count top i sum : ℕ} (c : 
     pub measured-sum : sum ≤ 65536 → sum ≡ measured (lines l places count)
     measured-sum k = sym (last ∙ rw (le-leb sum 65536 k))
 
-  -- the i-th row: p is its place, d its depth, q the place of its parent, and k the kind of its previous sibling
-  module _ (h : i < count) {d p q k : ℕ} (ep : p ≡ getD places i 0) (ed : d ≡ depth l p) (eq : q ≡ getD path (d - 1) 0)
+  -- the i-th row: p is its place, d its depth, b its kind, a the kind of its parent, and k the kind of its previous sibling
+  module _ (h : i < count) {d p a b k : ℕ} (ep : p ≡ getD places i 0) (ed : d ≡ depth l p) (ea : a ≡ getD kinds (d - 1) 0) (eb : b ≡ label-at l p .kind)
       (ek : k ≡ previous-of (open-labels l path (suc top)) 0 d) where
     depth-is : d ≡ depth l (getD places i 0)
     depth-is = ed ∙ ap (depth l) ep
@@ -68,26 +70,30 @@ module _ {l : List Entry} {places path : List ℕ} {count top i sum : ℕ} (c : 
     row : drop i (lines l places count) ≡ (d, label-at l p) ∷ drop (suc i) (lines l places count)
     row = lines-from l places count (omega (arith, c .long, c .room)) i h ∙ rw (depth-is, ep)
 
-    parent-label : parent-of (open-labels l path (suc top)) d ≡ label-at l q
-    parent-label = rw eq (parent-is l path (suc top) d (omega (arith, depth-is, walk-below c (v .walk) h)) (omega (arith, depth-is, walk-steps c (v .walk) h)))
+    parent-label : parent-of (open-labels l path (suc top)) d ≡ label-at l (getD path (d - 1) 0)
+    parent-label = parent-is l path (suc top) d (omega (arith, depth-is, walk-below c (v .walk) h)) (omega (arith, depth-is, walk-steps c (v .walk) h))
 
-    pub measured-unfit : fits (label-at l q .kind) k (label-at l p .kind) ≡ false → 0 ≡ measured (lines l places count)
+    fits-is : fits (label-at l (getD path (d - 1) 0) .kind) k (label-at l p .kind) ≡ fits a k b
+    fits-is = rw (ea ∙ walk-kind c (v .walk) h depth-is, eb)
+
+    pub measured-unfit : fits a k b ≡ false → 0 ≡ measured (lines l places count)
     unfolding judge
-    measured-unfit e = sym (v .whole ∙ rw (row, parent-label, ← ek, e))
+    measured-unfit e = sym (v .whole ∙ rw (row, parent-label, ← ek, fits-is, e))
 
-    module _ (f : fits (label-at l q .kind) k (label-at l p .kind) ≡ true) where
+    module _ (f : fits a k b ≡ true) where
       pub measured-again : repeated (before-lines l places i) (line-at l (getD places i 0)) ≡ true → 0 ≡ measured (lines l places count)
       unfolding judge
-      measured-again e = sym (v .whole ∙ rw (row, parent-label, ← ek, f, again))
+      measured-again e = sym (v .whole ∙ rw (row, parent-label, ← ek, fits-is, f, again))
         where
           again : repeated (before-lines l places i) (d, label-at l p) ≡ true
           again = rw (depth-is, ep) e
 
-      pub measured-on : repeated (before-lines l places i) (line-at l (getD places i 0)) ≡ false → {n : ℕ} → n ≡ cost (label-at l q) k (label-at l p) → n ≤ 256
-          → Measuring l places count (set path d p) d (i + 1) (sum + n)
+      pub measured-on : repeated (before-lines l places i) (line-at l (getD places i 0)) ≡ false → {n : ℕ}
+          → n ≡ cost (label-at l (getD path (d - 1) 0)) k (label-at l p) → n ≤ 256
+          → Measuring l places count (set path d p) (set kinds d b) d (i + 1) (sum + n)
       unfolding judge before-lines
       measured-on e {n} g small = record {
-        walk = walk-on c (v .walk) h depth-is ep;
+        walk = walk-on c (v .walk) h depth-is ep eb;
         behind = omega arith;
         small = omega (arith, v .small);
         whole = v .whole
@@ -95,6 +101,7 @@ module _ {l : List Entry} {places path : List ℕ} {count top i sum : ℕ} (c : 
               row,
               parent-label,
               ← ek,
+              fits-is,
               f,
               unrepeated,
               ← g,

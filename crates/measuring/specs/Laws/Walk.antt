@@ -7,13 +7,13 @@ use native.Mathlib.Omega.{arith}
 use lib.ListN.{length, getD, drop, set, length-set, List·getD-map}
 use lib.Seq.{getD-set-same, getD-set-other}
 use lib.Dec.{eqb, leb}
-use borrow.Author.Tests.{eqb-true, eqb-false, leb-true, leb-false}
+use borrow.Author.Tests.{lt-ltb, le-ltb, eqb-true, eqb-false, leb-true, leb-false}
 use Rattle.layout.specs.Layout.{Entry}
 use Rattle.lookup.specs.Places.{depth}
 use Rattle.xml.specs.Shape.{Label}
 use Rattle.markup.specs.Rows.{no-label, parent-of, previous-of, opened}
 use Rattle.committed.specs.Lines.{label-at, Listed}
-use Rattle.measuring.specs.Walk.{open-labels, Walk}
+use Rattle.measuring.specs.Walk.{open-labels, OfKinds, previous-kind, Walk}
 
 module _ (l : List Entry) (path : List ℕ) where
   pub length-open : (n : ℕ) → length (open-labels l path n) ≡ n
@@ -78,21 +78,58 @@ module _ (l : List Entry) (path : List ℕ) where
   unfolding open-labels
   opened-is n d p h k = rw (length-open n, drop-open n d h, getD-set-same path d p 0 k, set-open d d p (omega arith))
 
+-- the kinds by depth --------------------------------------------------------------------------------
+
+module _ (kinds : List ℕ) (top d : ℕ) where
+  pub first-child : top < d → 0 ≡ previous-kind kinds top d
+  unfolding previous-kind
+  first-child h = rw (lt-ltb top d h)
+
+  pub later-child : d ≤ top → getD kinds d 0 ≡ previous-kind kinds top d
+  unfolding previous-kind
+  later-child h = rw (le-ltb top d h)
+
+-- that kind is the one that the rows are measured and written with
+pub previous-is : (l : List Entry) (path : List ℕ) {kinds : List ℕ} {top : ℕ} (d : ℕ) → OfKinds l path kinds top
+    → previous-kind kinds top d ≡ previous-of (open-labels l path (suc top)) 0 d
+previous-is l path {kinds} {top} d o = go (leb d top) refl
+  where
+    go : (b : Bool) → leb d top ≡ b → previous-kind kinds top d ≡ previous-of (open-labels l path (suc top)) 0 d
+    go true e =
+        let h : d ≤ top = leb-true d top e in
+        sym (later-child kinds top d h) ∙ o .same d h ∙ previous-some l path (suc top) d (omega arith)
+    go false e =
+        let h : top < d = omega (arith, leb-false d top e) in
+        sym (first-child kinds top d h) ∙ previous-none l path (suc top) d (omega arith)
+
+-- a place and its kind stored at depth d
+set-kinds : {l : List Entry} (path kinds : List ℕ) (d p : ℕ) {k : ℕ} → length path ≡ 1024 → length kinds ≡ 1024 → d < 1024
+    → ((j : ℕ) → j < d → getD kinds j 0 ≡ label-at l (getD path j 0) .kind) → k ≡ label-at l p .kind → OfKinds l (set path d p) (set kinds d k) d
+set-kinds {l} path kinds d p {k} m n h above e = record { long = length-set kinds d k ∙ n; same = λ j i. go j i (eqb j d) refl }
+  where
+    go : (j : ℕ) → j ≤ d → (b : Bool) → eqb j d ≡ b → getD (set kinds d k) j 0 ≡ label-at l (getD (set path d p) j 0) .kind
+    go j i true z = rw (eqb-true j d z, getD-set-same kinds d k 0 (omega arith), getD-set-same path d p 0 (omega arith)) e
+    go j i false z =
+        let y = eqb-false j d z in
+        rw (getD-set-other kinds d j k 0 y, getD-set-other path d j p 0 y) (above j (omega (arith, y)))
+
 -- the pass -------------------------------------------------------------------------------------------
 
-pub walk-start : {l : List Entry} {places : List ℕ} {count : ℕ} (path : List ℕ) → Listed l places count → length path ≡ 1024 → Walk l places (set path 0 (getD places 0 0)) 0 1
-walk-start {l} {places} path c n = record {
+pub walk-start : {l : List Entry} {places : List ℕ} {count : ℕ} (path kinds : List ℕ) → Listed l places count → length path ≡ 1024 → length kinds ≡ 1024
+    → {k : ℕ} → k ≡ label-at l (getD places 0 0) .kind → Walk l places (set path 0 (getD places 0 0)) (set kinds 0 k) 0 1
+walk-start {l} {places} path kinds c n m e = record {
   on-path = record {
     long = length-set path 0 (getD places 0 0) ∙ n;
     deep = omega arith;
     inside = λ j h. let z : j ≡ 0 = omega arith in rw (z, getD-set-same path 0 (getD places 0 0) 0 (omega arith)) (c .inside 0 (c .some));
   };
+  of-kinds = set-kinds path kinds 0 (getD places 0 0) n m (omega arith) (λ j h. absurd (omega arith)) e;
   some = omega arith;
   high = omega arith;
   row = sym (c .first);
 }
 
-module _ {l : List Entry} {places path : List ℕ} {count top i : ℕ} (c : Listed l places count) (w : Walk l places path top i) (h : i < count) where
+module _ {l : List Entry} {places path kinds : List ℕ} {count top i : ℕ} (c : Listed l places count) (w : Walk l places path kinds top i) (h : i < count) where
   same-place : suc (i - 1) ≡ i
   same-place = omega (arith, w .some)
 
@@ -105,13 +142,24 @@ module _ {l : List Entry} {places path : List ℕ} {count top i : ℕ} (c : List
   pub walk-deep : depth l (getD places i 0) < 1024
   walk-deep = omega (arith, walk-steps, w .high, c .room)
 
-  pub walk-on : {d p : ℕ} → d ≡ depth l (getD places i 0) → p ≡ getD places i 0 → Walk l places (set path d p) d (i + 1)
-  walk-on {d} {p} e q = record {
+  -- the parent of the i-th row
+  module _ {d : ℕ} (e : d ≡ depth l (getD places i 0)) where
+    pub walk-parent : getD path (d - 1) 0 < length l
+    walk-parent = w .on-path .inside (d - 1) (omega (arith, walk-steps))
+
+    pub walk-kind : getD kinds (d - 1) 0 ≡ label-at l (getD path (d - 1) 0) .kind
+    walk-kind = w .of-kinds .same (d - 1) (omega (arith, walk-steps))
+
+  pub walk-on : {d p k : ℕ} → d ≡ depth l (getD places i 0) → p ≡ getD places i 0 → k ≡ label-at l p .kind
+      → Walk l places (set path d p) (set kinds d k) d (i + 1)
+  walk-on {d} {p} {k} e q f = record {
     on-path = record {
       long = length-set path d p ∙ w .on-path .long;
       deep = omega (arith, walk-deep);
       inside = λ j k. go j k (eqb j d) refl;
     };
+    of-kinds = set-kinds path kinds d p (w .on-path .long) (w .of-kinds .long) (omega (arith, walk-deep))
+        (λ j i. w .of-kinds .same j (omega (arith, walk-steps))) f;
     some = omega arith;
     high = omega (arith, walk-steps, w .high);
     row = let z : i + 1 - 1 ≡ i = omega arith in rw z e;

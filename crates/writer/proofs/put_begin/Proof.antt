@@ -1,7 +1,7 @@
 use Rattle.writer.specs.Laws.Pieces.{begin-attribute, next-opening, begin-room}
 use Rattle.writer.specs.Laws.Next.{both}
+use Rattle.writer.specs.Texts.{of-kind}
 use Rattle.markup.specs.Lending.{wrote-as}
-use Rattle.committed.specs.Laws.Contents.{kind-at}
 use Rattle.committed.specs.Lines.{label-at}
 use Rattle.layout.specs.Layout.{nodes}
 use mathlib.Core.Path.{sym, _∙_}
@@ -9,9 +9,6 @@ use native.Mathlib.Omega.{arith}
 use borrow.Author.Needs.{needs}
 use Rattle.writer.proofs.put_begin.Statement.{statement}
 use Rattle.writer.proofs.put_begin.Tie as tie
-
-kind-requires : tie.Need-kind-requires
-kind-requires c κs = search needs
 
 slice-aggregate-put-between : tie.Need-slice-aggregate-put-between
 slice-aggregate-put-between c = search needs
@@ -22,10 +19,10 @@ slice-aggregate-put-between-2 c = search needs
 put-between-requires : tie.Need-put-between-requires
 put-between-requires c κs =
     let c3 = c .before .before .before in
-    let c4 = c3 .before in
-    let c7 = c4 .before .before .before in
-    let e = begin-attribute (label-at (nodes (c7 .args .s .now)) (c7 .args .parent)) (c7 .args .previous) (label-at (nodes (c7 .args .s .now)) (c7 .args .p))
-    (kind-at _ _ ∙ sym (c4 .kind .ensures) ∙ c3 .if1 .taken) in (c7 .pre .0, c7 .pre .2, rw e at (c7 .pre .3))
+    let c6 = c3 .before .before .before in
+    let e = begin-attribute (of-kind (c6 .args .above)) (c6 .args .previous) (label-at (nodes (c6 .args .s .now)) (c6 .args .p))
+    (sym (c6 .pre .2) ∙ c3 .if1 .taken) in
+    (c6 .pre .0, c6 .pre .1, rw e at (c6 .pre .3))
 
 same-length : tie.Need-same-length
 same-length c = search needs
@@ -34,30 +31,27 @@ returns : tie.Need-returns
 returns c =
     let c2 = c .before .before in
     let c6 = c2 .before .before .before .before in
-    let c7 = c6 .before in
-    wrote-as (sym (begin-attribute _ _ _ (kind-at _ _ ∙ sym (c7 .kind .ensures) ∙ c6 .if1 .taken))) (c2 .put-between .ensures)
+    let c9 = c6 .before .before .before in
+    wrote-as (sym (begin-attribute _ _ _ (sym (c9 .pre .2) ∙ c6 .if1 .taken))) (c2 .put-between .ensures)
 
 put-tag-end-requires : tie.Need-put-tag-end-requires
 put-tag-end-requires c κs =
-    let c2 = c .before .before in
-    let c5 = c2 .before .before .before in
-    (c5 .pre .0, c5 .pre .1, begin-room _ _ _ (λ e. c .before .if1 .left (c2 .kind .ensures ∙ sym (kind-at _ _) ∙ e)) (c5 .pre .3))
+    let c4 = c .before .before .before .before in
+    begin-room _ _ _ (λ e. c .before .if1 .left (c4 .pre .2 ∙ e)) (c4 .pre .3)
 
 sub-put-opening : tie.Need-sub-put-opening
 sub-put-opening c =
     let c2 = c .before .before in
     let c4 = c2 .before .before in
-    let c5 = c4 .before in
-    let c8 = c5 .before .before .before in
-    (next-opening _ _ _ (λ e. c4 .if1 .left (c5 .kind .ensures ∙ sym (kind-at _ _) ∙ e)) (c2 .put-tag-end .ensures) (c8 .pre .3)) .inside
+    let c7 = c4 .before .before .before in
+    (next-opening _ _ _ (λ e. c4 .if1 .left (c7 .pre .2 ∙ e)) (c2 .put-tag-end .ensures) (c7 .pre .3)) .inside
 
 part-put-opening-start : tie.Need-part-put-opening-start
 part-put-opening-start c =
     let c2 = c .before .before in
     let c4 = c2 .before .before in
-    let c5 = c4 .before in
-    let c8 = c5 .before .before .before in
-    (next-opening _ _ _ (λ e. c4 .if1 .left (c5 .kind .ensures ∙ sym (kind-at _ _) ∙ e)) (c2 .put-tag-end .ensures) (c8 .pre .3)) .inside
+    let c7 = c4 .before .before .before in
+    (next-opening _ _ _ (λ e. c4 .if1 .left (c7 .pre .2 ∙ e)) (c2 .put-tag-end .ensures) (c7 .pre .3)) .inside
 
 part-put-opening-end : tie.Need-part-put-opening-end
 part-put-opening-end c = search needs
@@ -66,18 +60,16 @@ put-opening-requires : tie.Need-put-opening-requires
 put-opening-requires c κs =
     let c3 = c .before .before .before in
     let c5 = c3 .before .before in
-    let c6 = c5 .before in
-    let c9 = c6 .before .before .before in
-    (c9 .pre .0, c9 .pre .2, (next-opening _ _ _ (λ e. c5 .if1 .left (c6 .kind .ensures ∙ sym (kind-at _ _) ∙ e)) (c3 .put-tag-end .ensures) (c9 .pre .3)) .room)
+    let c8 = c5 .before .before .before in
+    (c8 .pre .0, c8 .pre .1, c8 .pre .2, (next-opening _ _ _ (λ e. c5 .if1 .left (c8 .pre .2 ∙ e)) (c3 .put-tag-end .ensures) (c8 .pre .3)) .room)
 
 add-result : tie.Need-add-result
 add-result c =
     let c2 = c .before .before in
     let c6 = c2 .before .before .before .before in
     let c8 = c6 .before .before in
-    let c9 = c8 .before in
-    let c12 = c9 .before .before .before in
-    omega (arith, (next-opening _ _ _ (λ e. c8 .if1 .left (c9 .kind .ensures ∙ sym (kind-at _ _) ∙ e)) (c6 .put-tag-end .ensures) (c12 .pre .3)) .small, c2 .put-opening .ensures .count)
+    let c11 = c8 .before .before .before in
+    omega (arith, (next-opening _ _ _ (λ e. c8 .if1 .left (c11 .pre .2 ∙ e)) (c6 .put-tag-end .ensures) (c11 .pre .3)) .small, c2 .put-opening .ensures .count)
 
 same-length-2 : tie.Need-same-length-2
 same-length-2 c = search needs
@@ -87,15 +79,13 @@ returns-2 c =
     let c2 = c .before .before in
     let c6 = c2 .before .before .before .before in
     let c8 = c6 .before .before in
-    let c9 = c8 .before in
-    let c12 = c9 .before .before .before in
-    both (next-opening _ _ _ (λ e. c8 .if1 .left (c9 .kind .ensures ∙ sym (kind-at _ _) ∙ e)) (c6 .put-tag-end .ensures) (c12 .pre .3)) _ _ (c2 .put-opening .ensures)
+    let c11 = c8 .before .before .before in
+    both (next-opening _ _ _ (λ e. c8 .if1 .left (c11 .pre .2 ∙ e)) (c6 .put-tag-end .ensures) (c11 .pre .3)) _ _ (c2 .put-opening .ensures)
 
 pub put-begin-spec : {M : Type 1} → statement M
 put-begin-spec =
     tie.close
     (tie.spec
-    kind-requires
     slice-aggregate-put-between
     slice-aggregate-put-between-2
     put-between-requires

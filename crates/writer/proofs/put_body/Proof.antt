@@ -4,10 +4,11 @@ use Rattle.measuring.specs.Walk.{Walk}
 use Rattle.markup.specs.Rows.{body}
 use Rattle.writer.specs.Laws.Next.{both}
 use Rattle.markup.specs.Lending.{Partly, partly-start, partly-as}
+use Rattle.committed.specs.Laws.Contents.{kind-at}
 use Rattle.committed.specs.Lines.{lines}
 use Rattle.layout.specs.Layout.{nodes}
 use lib.ListN.{length, replicate}
-use mathlib.Core.Path.{_≡_, refl}
+use mathlib.Core.Path.{_≡_, refl, sym, _∙_}
 use Prim.Native.Nat.{_-_, _≤_}
 use native.Mathlib.Omega.{arith}
 use borrow.Author.Needs.{needs}
@@ -15,97 +16,146 @@ use Rattle.writer.proofs.put_body.Statement.{statement}
 use Rattle.writer.proofs.put_body.Tie as tie
 
 abbrev Inv-loop : tie.InvT-loop
-Inv-loop out₀ s places count path₀ top₀ at₀ i₀ out path top at i = (i ≤ count) × (length out ≡ length out₀) × Walk (nodes s) places path top i × Partly
-    (body (lines (nodes s) places count)) (from (nodes s) places count path top i) out₀ out at
+Inv-loop out₀ s places count first path₀ kinds₀ top₀ at₀ i₀ out path kinds top at i = (i ≤ count) × (length out ≡ length out₀)
+    × Walk (nodes s) places path kinds top i × Partly (body (lines (nodes s) places count)) (from (nodes s) places count path top i) out₀ out at
 
 abbrev μ-loop : tie.MeasureT-loop
-μ-loop out₀ s places count path₀ top₀ at₀ i₀ out path top at i = count - i
+μ-loop out₀ s places count first path₀ kinds₀ top₀ at₀ i₀ out path kinds top at i = count - i
 
-element-copy-out-path : tie.Need-element-copy-out-path Inv-loop μ-loop
-element-copy-out-path c = search needs
+element-copy-out-first : tie.Need-element-copy-out-first Inv-loop μ-loop
+element-copy-out-first c = search needs
 
 array-write-path : tie.Need-array-write-path Inv-loop μ-loop
 array-write-path c = search needs
 
+cast-kind : tie.Need-cast-kind Inv-loop μ-loop
+cast-kind c =
+    let c3 = c .before .before .before in
+    omega (arith, c3 .pre .1 .inside 0 (c3 .pre .1 .some), c3 .pre .0 .many, c3 .pre .0 .room)
+
+kind-requires : tie.Need-kind-requires Inv-loop μ-loop
+kind-requires c κs =
+    let c3 = c .before .before .before in
+    (c3 .pre .0, c3 .pre .1 .inside 0 (c3 .pre .1 .some))
+
+array-write-kinds : tie.Need-array-write-kinds Inv-loop μ-loop
+array-write-kinds c = search needs
+
 loop-holds : tie.Need-loop-holds Inv-loop μ-loop
 loop-holds c =
-    let c3 = c .before .before .before in
-    (c3 .pre .1 .some, refl, walk-start (replicate 1024 0) (c3 .pre .1) refl, partly-as (from-start (replicate 1024 0) (c3 .pre .1) refl) (partly-start _ _))
+    let c4 = c .before .before .before .before in (
+      c4 .pre .1 .some,
+      refl,
+      walk-start (replicate 1024 0) (replicate 1024 0) (c4 .pre .1) refl refl (c .kind .ensures ∙ sym (kind-at _ _)),
+      partly-as (from-start (replicate 1024 0) (c4 .pre .1) refl) (partly-start _ _),
+    )
 
 mul-p : tie.Need-mul-p Inv-loop μ-loop
-mul-p c = omega (arith, c .before .before .before .before .before .pre .1 .room)
+mul-p c =
+    let c6 = c .before .before .before .before .before .before in
+    omega (arith, c6 .pre .1 .room)
 
 element-copy-out-p : tie.Need-element-copy-out-p Inv-loop μ-loop
-element-copy-out-p c = omega (arith, c .before .before .before .before .before .pre .1 .room)
+element-copy-out-p c =
+    let c6 = c .before .before .before .before .before .before in
+    omega (arith, c6 .pre .1 .room)
 
 cast-depth : tie.Need-cast-depth Inv-loop μ-loop
 cast-depth c =
     let c2 = c .before .before in
-    let c6 = c2 .before .before .before .before in
-    omega (arith, (c6 .pre .1 .inside (c2 .loop .i) (omega arith)), c6 .pre .0 .many, c6 .pre .0 .room)
+    let c7 = c2 .before .before .before .before .before in
+    omega (arith, (c7 .pre .1 .inside (c2 .loop .i) (omega arith)), c7 .pre .0 .many, c7 .pre .0 .room)
 
 depth-requires : tie.Need-depth-requires Inv-loop μ-loop
-depth-requires c κs = (c .before .before .before .before .before .before .pre .0, (c .before .before .before .before .before .before .pre .1 .inside (c .before .before .loop .i) (omega arith)))
+depth-requires c κs =
+    let c2 = c .before .before in
+    let c7 = c2 .before .before .before .before .before in
+    (c7 .pre .0, c7 .pre .1 .inside (c2 .loop .i) (omega arith))
 
 cast-d : tie.Need-cast-d Inv-loop μ-loop
 cast-d c = search needs
 
+cast-kind-2 : tie.Need-cast-kind-2 Inv-loop μ-loop
+cast-kind-2 c =
+    let c3 = c .before .before .before in
+    let c8 = c3 .before .before .before .before .before in
+    omega (arith, (c8 .pre .1 .inside (c3 .loop .i) (omega arith)), c8 .pre .0 .many, c8 .pre .0 .room)
+
+kind-requires-2 : tie.Need-kind-requires-2 Inv-loop μ-loop
+kind-requires-2 c κs =
+    let c3 = c .before .before .before in
+    let c8 = c3 .before .before .before .before .before in
+    (c8 .pre .0, c8 .pre .1 .inside (c3 .loop .i) (omega arith))
+
 sub-put-row : tie.Need-sub-put-row Inv-loop μ-loop
 sub-put-row c =
-    let c3 = c .before .before .before in
-    let c7 = c3 .before .before .before .before in
-    (next-row (c7 .pre .1) (c3 .loop .inv .2) (omega arith) refl (c .depth .ensures) (c3 .loop .inv .3) (c7 .pre .2)) .inside
+    let c4 = c .before .before .before .before in
+    let c9 = c4 .before .before .before .before .before in
+    (next-row (c9 .pre .1) (c4 .loop .inv .2) (omega arith) refl (c .before .depth .ensures) (c4 .loop .inv .3) (c9 .pre .2)) .inside
 
 part-put-row-start : tie.Need-part-put-row-start Inv-loop μ-loop
 part-put-row-start c =
-    let c3 = c .before .before .before in
-    let c7 = c3 .before .before .before .before in
-    (next-row (c7 .pre .1) (c3 .loop .inv .2) (omega arith) refl (c .depth .ensures) (c3 .loop .inv .3) (c7 .pre .2)) .inside
+    let c4 = c .before .before .before .before in
+    let c9 = c4 .before .before .before .before .before in
+    (next-row (c9 .pre .1) (c4 .loop .inv .2) (omega arith) refl (c .before .depth .ensures) (c4 .loop .inv .3) (c9 .pre .2)) .inside
 
 part-put-row-end : tie.Need-part-put-row-end Inv-loop μ-loop
 part-put-row-end c = search needs
 
 cast-put-row : tie.Need-cast-put-row Inv-loop μ-loop
 cast-put-row c =
-    let c5 = c .before .before .before .before .before in
-    let c9 = c5 .before .before .before .before in
-    omega (arith, (c9 .pre .1 .inside (c5 .loop .i) (omega arith)), c9 .pre .0 .many, c9 .pre .0 .room)
+    let c7 = c .before .before .before .before .before .before .before in
+    let c12 = c7 .before .before .before .before .before in
+    omega (arith, (c12 .pre .1 .inside (c7 .loop .i) (omega arith)), c12 .pre .0 .many, c12 .pre .0 .room)
 
 put-row-requires : tie.Need-put-row-requires Inv-loop μ-loop
 put-row-requires c κs =
-    let c2 = c .before .before in
-    let c5 = c2 .before .before .before in
-    let c9 = c5 .before .before .before .before in (
-      c9 .pre .0,
-      c5 .loop .inv .2 .on-path,
-      omega (arith, c2 .depth .ensures, (walk-below (c9 .pre .1) (c5 .loop .inv .2) (omega arith))),
-      omega
-          (arith, c2 .depth .ensures, (walk-steps (c9 .pre .1) (c5 .loop .inv .2) (omega arith))),
-      (c9 .pre .1 .inside (c5 .loop .i) (omega arith)),
-      (next-row (c9 .pre .1) (c5 .loop .inv .2) (omega arith) refl (c2 .depth .ensures) (c5 .loop .inv .3) (c9 .pre .2)) .room,
+    let c3 = c .before .before .before in
+    let c4 = c3 .before in
+    let c7 = c4 .before .before .before in
+    let c12 = c7 .before .before .before .before .before in (
+      c12 .pre .0,
+      c7 .loop .inv .2 .on-path,
+      c7 .loop .inv .2 .of-kinds,
+      omega (arith, c4 .depth .ensures, (walk-below (c12 .pre .1) (c7 .loop .inv .2) (omega arith))),
+      omega (arith, c4 .depth .ensures, (walk-steps (c12 .pre .1) (c7 .loop .inv .2) (omega arith))),
+      c12 .pre .1 .inside (c7 .loop .i) (omega arith),
+      c3 .kind2 .ensures ∙ sym (kind-at _ _),
+      (next-row (c12 .pre .1) (c7 .loop .inv .2) (omega arith) refl (c4 .depth .ensures) (c7 .loop .inv .3) (c12 .pre .2)) .room,
     )
 
 add-at : tie.Need-add-at Inv-loop μ-loop
 add-at c =
     let c2 = c .before .before in
-    let c5 = c2 .before .before .before in
-    let c8 = c5 .before .before .before in
-    let c12 = c8 .before .before .before .before in
-    omega (arith, (next-row (c12 .pre .1) (c8 .loop .inv .2) (omega arith) refl (c5 .depth .ensures) (c8 .loop .inv .3) (c12 .pre .2)) .small, c2 .put-row .ensures .count)
+    let c7 = c2 .before .before .before .before .before in
+    let c10 = c7 .before .before .before in
+    let c15 = c10 .before .before .before .before .before in
+    omega (
+      arith,
+      (next-row (c15 .pre .1) (c10 .loop .inv .2) (omega arith) refl (c7 .depth .ensures) (c10 .loop .inv .3) (c15 .pre .2)) .small,
+      c2 .put-row .ensures .count,
+    )
 
 mul-path : tie.Need-mul-path Inv-loop μ-loop
 mul-path c =
-    let c5 = c .before .before .before .before .before in
-    let c8 = c5 .before .before .before in
-    let c12 = c8 .before .before .before .before in
-    omega (arith, c5 .depth .ensures, (walk-deep (c12 .pre .1) (c8 .loop .inv .2) (omega arith)))
+    let c7 = c .before .before .before .before .before .before .before in
+    let c10 = c7 .before .before .before in
+    let c15 = c10 .before .before .before .before .before in
+    omega (arith, c7 .depth .ensures, (walk-deep (c15 .pre .1) (c10 .loop .inv .2) (omega arith)))
 
 array-write-path-2 : tie.Need-array-write-path-2 Inv-loop μ-loop
 array-write-path-2 c =
-    let c5 = c .before .before .before .before .before in
-    let c8 = c5 .before .before .before in
-    let c12 = c8 .before .before .before .before in
-    omega (arith, c5 .depth .ensures, (walk-deep (c12 .pre .1) (c8 .loop .inv .2) (omega arith)))
+    let c7 = c .before .before .before .before .before .before .before in
+    let c10 = c7 .before .before .before in
+    let c15 = c10 .before .before .before .before .before in
+    omega (arith, c7 .depth .ensures, (walk-deep (c15 .pre .1) (c10 .loop .inv .2) (omega arith)))
+
+array-write-kinds-2 : tie.Need-array-write-kinds-2 Inv-loop μ-loop
+array-write-kinds-2 c =
+    let c7 = c .before .before .before .before .before .before .before in
+    let c10 = c7 .before .before .before in
+    let c15 = c10 .before .before .before .before .before in
+    omega (arith, c7 .depth .ensures, (walk-deep (c15 .pre .1) (c10 .loop .inv .2) (omega arith)))
 
 add-i : tie.Need-add-i Inv-loop μ-loop
 add-i c = search needs
@@ -116,40 +166,45 @@ loop-less c = search needs
 loop-again : tie.Need-loop-again Inv-loop μ-loop
 loop-again c =
     let c2 = c .before .before in
-    let c5 = c2 .before .before .before in
-    let c8 = c5 .before .before .before in
-    let c12 = c8 .before .before .before .before in (
+    let c6 = c2 .before .before .before .before in
+    let c7 = c6 .before in
+    let c10 = c7 .before .before .before in
+    let c15 = c10 .before .before .before .before .before in (
       omega arith,
       search needs,
-      walk-on (c12 .pre .1) (c8 .loop .inv .2) (omega arith) (c5 .depth .ensures) refl,
-      (next-row (c12 .pre .1) (c8 .loop .inv .2) (omega arith) refl (c5 .depth .ensures) (c8 .loop .inv .3) (c12 .pre .2)) .on _ _ (c2 .put-row .ensures),
+      walk-on (c15 .pre .1) (c10 .loop .inv .2) (omega arith) (c7 .depth .ensures) refl (c6 .kind2 .ensures ∙ sym (kind-at _ _)),
+      (next-row (c15 .pre .1) (c10 .loop .inv .2) (omega arith) refl (c7 .depth .ensures) (c10 .loop .inv .3) (c15 .pre .2)) .on _ _ (c2 .put-row .ensures),
     )
 
 sub-put-ends : tie.Need-sub-put-ends Inv-loop μ-loop
 sub-put-ends c =
-    let c5 = c .before .before .before .before .before in
-    (last-ends (c5 .pre .1) (c .before .loop .inv .2) (omega arith) (c .before .loop .inv .3) (c5 .pre .2)) .inside
+    let c6 = c .before .before .before .before .before .before in
+    (last-ends (c6 .pre .1) (c .before .loop .inv .2) (omega arith) (c .before .loop .inv .3) (c6 .pre .2)) .inside
 
 part-put-ends-start : tie.Need-part-put-ends-start Inv-loop μ-loop
 part-put-ends-start c =
-    let c5 = c .before .before .before .before .before in
-    (last-ends (c5 .pre .1) (c .before .loop .inv .2) (omega arith) (c .before .loop .inv .3) (c5 .pre .2)) .inside
+    let c6 = c .before .before .before .before .before .before in
+    (last-ends (c6 .pre .1) (c .before .loop .inv .2) (omega arith) (c .before .loop .inv .3) (c6 .pre .2)) .inside
 
 part-put-ends-end : tie.Need-part-put-ends-end Inv-loop μ-loop
 part-put-ends-end c = search needs
 
 put-ends-requires : tie.Need-put-ends-requires Inv-loop μ-loop
 put-ends-requires c κs =
-    let c3 = c .before .before .before in
-    let c7 = c3 .before .before .before .before in
-    (c7 .pre .0, c3 .loop .inv .2 .on-path, (last-ends (c7 .pre .1) (c3 .loop .inv .2) (omega arith) (c3 .loop .inv .3) (c7 .pre .2)) .room)
+    let c4 = c .before .before .before .before in
+    let c9 = c4 .before .before .before .before .before in (
+      c9 .pre .0,
+      c4 .loop .inv .2 .on-path,
+      c4 .loop .inv .2 .of-kinds,
+      (last-ends (c9 .pre .1) (c4 .loop .inv .2) (omega arith) (c4 .loop .inv .3) (c9 .pre .2)) .room,
+    )
 
 add-result : tie.Need-add-result Inv-loop μ-loop
 add-result c =
     let c2 = c .before .before in
-    let c6 = c2 .before .before .before .before in
-    let c10 = c6 .before .before .before .before in
-    omega (arith, (last-ends (c10 .pre .1) (c6 .loop .inv .2) (omega arith) (c6 .loop .inv .3) (c10 .pre .2)) .small, c2 .put-ends .ensures .count)
+    let c7 = c2 .before .before .before .before .before in
+    let c12 = c7 .before .before .before .before .before in
+    omega (arith, (last-ends (c12 .pre .1) (c7 .loop .inv .2) (omega arith) (c7 .loop .inv .3) (c12 .pre .2)) .small, c2 .put-ends .ensures .count)
 
 same-length : tie.Need-same-length Inv-loop μ-loop
 same-length c = search needs
@@ -157,9 +212,9 @@ same-length c = search needs
 returns : tie.Need-returns Inv-loop μ-loop
 returns c =
     let c2 = c .before .before in
-    let c6 = c2 .before .before .before .before in
-    let c10 = c6 .before .before .before .before in
-    both (last-ends (c10 .pre .1) (c6 .loop .inv .2) (omega arith) (c6 .loop .inv .3) (c10 .pre .2)) _ _ (c2 .put-ends .ensures)
+    let c7 = c2 .before .before .before .before .before in
+    let c12 = c7 .before .before .before .before .before in
+    both (last-ends (c12 .pre .1) (c7 .loop .inv .2) (omega arith) (c7 .loop .inv .3) (c12 .pre .2)) _ _ (c2 .put-ends .ensures)
 
 pub put-body-spec : {M : Type 1} → statement M
 put-body-spec =
@@ -167,14 +222,19 @@ put-body-spec =
     (tie.spec
     Inv-loop
     μ-loop
-    element-copy-out-path
+    element-copy-out-first
     array-write-path
+    cast-kind
+    kind-requires
+    array-write-kinds
     loop-holds
     mul-p
     element-copy-out-p
     cast-depth
     depth-requires
     cast-d
+    cast-kind-2
+    kind-requires-2
     sub-put-row
     part-put-row-start
     part-put-row-end
@@ -183,6 +243,7 @@ put-body-spec =
     add-at
     mul-path
     array-write-path-2
+    array-write-kinds-2
     add-i
     loop-less
     loop-again

@@ -1,6 +1,5 @@
 use Rattle.writer.specs.Laws.Pieces.{end-attribute, end-other, end-empty, end-tag}
 use Rattle.markup.specs.Lending.{wrote-as, wrote-none}
-use Rattle.committed.specs.Laws.Contents.{kind-at}
 use Rattle.committed.specs.Lines.{label-at}
 use Rattle.layout.specs.Layout.{nodes}
 use mathlib.Core.Path.{sym, _∙_}
@@ -9,18 +8,15 @@ use borrow.Author.Needs.{needs}
 use Rattle.writer.proofs.put_end.Statement.{statement}
 use Rattle.writer.proofs.put_end.Tie as tie
 
-kind-requires : tie.Need-kind-requires
-kind-requires c κs = search needs
-
 slice-aggregate-put : tie.Need-slice-aggregate-put
 slice-aggregate-put c = search needs
 
 put-requires : tie.Need-put-requires
 put-requires c κs =
     let c2 = c .before .before in
-    let c3 = c2 .before in
-    let c6 = c3 .before .before .before in
-    let e = end-attribute (label-at (nodes (c6 .args .s .now)) (c6 .args .p)) (c6 .args .last) (kind-at _ _ ∙ sym (c3 .kind .ensures) ∙ c2 .if1 .taken) in omega (arith, rw e at (c6 .pre .2))
+    let c5 = c2 .before .before .before in
+    let e = end-attribute (label-at (nodes (c5 .args .s .now)) (c5 .args .p)) (c5 .args .last) (sym (c5 .pre .2) ∙ c2 .if1 .taken) in
+    omega (arith, rw e at (c5 .pre .3))
 
 same-length : tie.Need-same-length
 same-length c = search needs
@@ -29,13 +25,13 @@ returns : tie.Need-returns
 returns c =
     let c2 = c .before .before in
     let c5 = c2 .before .before .before in
-    let c6 = c5 .before in
-    wrote-as (sym (end-attribute _ _ (kind-at _ _ ∙ sym (c6 .kind .ensures) ∙ c5 .if1 .taken))) (c2 .put .ensures)
+    let c8 = c5 .before .before .before in
+    wrote-as (sym (end-attribute _ _ (sym (c8 .pre .2) ∙ c5 .if1 .taken))) (c2 .put .ensures)
 
 returns-2 : tie.Need-returns-2
 returns-2 c =
-    let c2 = c .before .before in
-    wrote-as (sym (end-other _ _ (λ e. c .before .if1 .left (c2 .kind .ensures ∙ sym (kind-at _ _) ∙ e)) (λ e. c .if2 .taken (c2 .kind .ensures ∙ sym (kind-at _ _) ∙ e)))) (wrote-none _)
+    let c4 = c .before .before .before .before in
+    wrote-as (sym (end-other _ _ (λ e. c .before .if1 .left (c4 .pre .2 ∙ e)) (λ e. c .if2 .taken (c4 .pre .2 ∙ e)))) (wrote-none _)
 
 in-start-tag-requires : tie.Need-in-start-tag-requires
 in-start-tag-requires c κs = search needs
@@ -48,10 +44,10 @@ put-requires-2 c κs =
     let c2 = c .before .before in
     let c3 = c2 .before in
     let c4 = c3 .before in
-    let c6 = c4 .before .before in
-    let c9 = c6 .before .before .before in
-    let e = end-empty (label-at (nodes (c9 .args .s .now)) (c9 .args .p)) (c9 .args .last) (kind-at _ _ ∙ sym (c6 .kind .ensures) ∙ c4 .if2 .left)
-    (sym (c3 .in-start-tag .ensures) ∙ c2 .if3 .taken) in omega (arith, rw e at (c9 .pre .2))
+    let c8 = c4 .before .before .before .before in
+    let e = end-empty (label-at (nodes (c8 .args .s .now)) (c8 .args .p)) (c8 .args .last) (sym (c8 .pre .2) ∙ c4 .if2 .left)
+    (sym (c3 .in-start-tag .ensures) ∙ c2 .if3 .taken) in
+    omega (arith, rw e at (c8 .pre .3))
 
 same-length-2 : tie.Need-same-length-2
 same-length-2 c = search needs
@@ -62,8 +58,8 @@ returns-3 c =
     let c5 = c2 .before .before .before in
     let c6 = c5 .before in
     let c7 = c6 .before in
-    let c9 = c7 .before .before in
-    wrote-as (sym (end-empty _ _ (kind-at _ _ ∙ sym (c9 .kind .ensures) ∙ c7 .if2 .left) (sym (c6 .in-start-tag .ensures) ∙ c5 .if3 .taken))) (c2 .put2 .ensures)
+    let c11 = c7 .before .before .before .before in
+    wrote-as (sym (end-empty _ _ (sym (c11 .pre .2) ∙ c7 .if2 .left) (sym (c6 .in-start-tag .ensures) ∙ c5 .if3 .taken))) (c2 .put2 .ensures)
 
 slice-aggregate-put-between : tie.Need-slice-aggregate-put-between
 slice-aggregate-put-between c = search needs
@@ -76,10 +72,10 @@ put-between-requires c κs =
     let c3 = c .before .before .before in
     let c4 = c3 .before in
     let c5 = c4 .before in
-    let c7 = c5 .before .before in
-    let c10 = c7 .before .before .before in
-    let e = end-tag (label-at (nodes (c10 .args .s .now)) (c10 .args .p)) (c10 .args .last) (kind-at _ _ ∙ sym (c7 .kind .ensures) ∙ c5 .if2 .left)
-    (sym (c4 .in-start-tag .ensures) ∙ c3 .if3 .left) in (c10 .pre .0, c10 .pre .1, rw e at (c10 .pre .2))
+    let c9 = c5 .before .before .before .before in
+    let e = end-tag (label-at (nodes (c9 .args .s .now)) (c9 .args .p)) (c9 .args .last) (sym (c9 .pre .2) ∙ c5 .if2 .left)
+    (sym (c4 .in-start-tag .ensures) ∙ c3 .if3 .left) in
+    (c9 .pre .0, c9 .pre .1, rw e at (c9 .pre .3))
 
 same-length-3 : tie.Need-same-length-3
 same-length-3 c = search needs
@@ -90,14 +86,13 @@ returns-4 c =
     let c6 = c2 .before .before .before .before in
     let c7 = c6 .before in
     let c8 = c7 .before in
-    let c10 = c8 .before .before in
-    wrote-as (sym (end-tag _ _ (kind-at _ _ ∙ sym (c10 .kind .ensures) ∙ c8 .if2 .left) (sym (c7 .in-start-tag .ensures) ∙ c6 .if3 .left))) (c2 .put-between .ensures)
+    let c12 = c8 .before .before .before .before in
+    wrote-as (sym (end-tag _ _ (sym (c12 .pre .2) ∙ c8 .if2 .left) (sym (c7 .in-start-tag .ensures) ∙ c6 .if3 .left))) (c2 .put-between .ensures)
 
 pub put-end-spec : {M : Type 1} → statement M
 put-end-spec =
     tie.close
     (tie.spec
-    kind-requires
     slice-aggregate-put
     put-requires
     same-length

@@ -1,7 +1,5 @@
-use Rattle.committed.specs.Lines.{label-at}
-use Rattle.layout.specs.Layout.{nodes}
 use Rattle.writer.specs.Laws.Pieces.{tag-end-other, tag-end-later, tag-end-first}
-use Rattle.committed.specs.Laws.Contents.{kind-at}
+use Rattle.writer.specs.Texts.{of-kind}
 use Rattle.markup.specs.Lending.{wrote-as, wrote-none}
 use borrow.Author.Tests.{not-true, not-false}
 use mathlib.Core.Path.{sym, _∙_}
@@ -10,11 +8,8 @@ use borrow.Author.Needs.{needs}
 use Rattle.writer.proofs.put_tag_end.Statement.{statement}
 use Rattle.writer.proofs.put_tag_end.Tie as tie
 
-kind-requires : tie.Need-kind-requires
-kind-requires c κs = search needs
-
 returns : tie.Need-returns
-returns c = wrote-as (sym (tag-end-other _ _ (λ e. c .if1 .taken (c .before .kind .ensures ∙ sym (kind-at _ _) ∙ e)))) (wrote-none _)
+returns c = wrote-as (sym (tag-end-other _ _ (c .if1 .taken))) (wrote-none _)
 
 in-start-tag-requires : tie.Need-in-start-tag-requires
 in-start-tag-requires c κs = search needs
@@ -30,10 +25,10 @@ put-requires c κs =
     let c2 = c .before .before in
     let c3 = c2 .before in
     let c4 = c3 .before in
-    let c5 = c4 .before in
-    let c8 = c5 .before .before .before in
-    let e = tag-end-first (label-at (nodes (c8 .args .s .now)) (c8 .args .parent)) (c8 .args .previous) (kind-at _ _ ∙ sym (c5 .kind .ensures) ∙ c4 .if1 .left)
-    (sym (c3 .in-start-tag .ensures) ∙ not-false _ (c2 .if2 .left)) in omega (arith, rw e at (c8 .pre .2))
+    let c6 = c4 .before .before in
+    let e = tag-end-first (of-kind (c6 .args .above)) (c6 .args .previous) (c4 .if1 .left)
+    (sym (c3 .in-start-tag .ensures) ∙ not-false _ (c2 .if2 .left)) in
+    omega (arith, rw e at (c6 .pre))
 
 same-length : tie.Need-same-length
 same-length c = search needs
@@ -44,14 +39,12 @@ returns-3 c =
     let c5 = c2 .before .before .before in
     let c6 = c5 .before in
     let c7 = c6 .before in
-    let c8 = c7 .before in
-    wrote-as (sym (tag-end-first _ _ (kind-at _ _ ∙ sym (c8 .kind .ensures) ∙ c7 .if1 .left) (sym (c6 .in-start-tag .ensures) ∙ not-false _ (c5 .if2 .left)))) (c2 .put .ensures)
+    wrote-as (sym (tag-end-first _ _ (c7 .if1 .left) (sym (c6 .in-start-tag .ensures) ∙ not-false _ (c5 .if2 .left)))) (c2 .put .ensures)
 
 pub put-tag-end-spec : {M : Type 1} → statement M
 put-tag-end-spec =
     tie.close
     (tie.spec
-    kind-requires
     returns
     in-start-tag-requires
     returns-2

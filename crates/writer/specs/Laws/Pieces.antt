@@ -1,5 +1,5 @@
 -- The pieces by the kind of a node.
-use mathlib.Core.Path.{_≡_, sym, ap, _∙_}
+use mathlib.Core.Path.{_≡_, refl, sym, ap, _∙_}
 use Prim.Native.Nat.{ℕ, _+_, _≤_, _<_}
 use native.Mathlib.Omega.{arith}
 use lib.ListN.{length, getD, drop, length-append}
@@ -13,7 +13,7 @@ use Rattle.xml.specs.Writing.{escape, escaped}
 use Rattle.markup.specs.Rows.{in-start-tag, tag-end, begin, end}
 use Rattle.markup.specs.Lending.{Wrote, Partly, partly-as, partly-end}
 use Rattle.committed.specs.Laws.Contents.{escaped-from, escaped-end}
-use Rattle.writer.specs.Texts.{opening}
+use Rattle.writer.specs.Texts.{of-kind, opening}
 use Rattle.writer.specs.Laws.Next.{Next, next, second}
 
 module _ (parent : Label) (previous : ℕ) where
@@ -36,6 +36,10 @@ module _ (parent : Label) (previous : ℕ) where
   pub begin-other : (a : Label) → (a .kind ≡ 3 → ⊥) → begin parent previous a ≡ tag-end parent previous ++ opening a
   unfolding begin opening
   begin-other a h = rw (ne-eqb (a .kind) 3 h)
+
+pub begin-kind : (parent : Label) (previous : ℕ) (a : Label) → begin parent previous a ≡ begin (of-kind (parent .kind)) previous a
+unfolding begin tag-end
+begin-kind parent previous a = refl
 
 -- the end of the parent's start tag, and then a node that is no attribute
 pub next-opening : (parent : Label) (previous : ℕ) (a : Label) {o₀ o : List ℕ} {r : ℕ} → (a .kind ≡ 3 → ⊥) → Wrote (tag-end parent previous) o₀ o r

@@ -15,8 +15,9 @@ use Rattle.committed.specs.Laws.Lines.{length-lines, lines-from}
 use Rattle.measuring.specs.Walk.{open-labels, Walk}
 use Rattle.measuring.specs.Laws.Walk.{length-open, parent-is, opened-is, walk-below, walk-steps, walk-deep}
 use Rattle.markup.specs.Lending.{Wrote, Partly, partly-as, partly-end}
-use Rattle.writer.specs.Texts.{row-text}
+use Rattle.writer.specs.Texts.{of-kind, row-text}
 use Rattle.writer.specs.Laws.Next.{Next, next, second}
+use Rattle.writer.specs.Laws.Pieces.{begin-kind}
 
 -- one open node more ends
 pub ends-more : (l : List Entry) (path : List ℕ) (e d last : ℕ) → d < e
@@ -46,10 +47,16 @@ module _ (l : List Entry) (path : List ℕ) (top d p : ℕ) where
   unfolding row-text
   row-room h = omega (arith, simp length-append at h)
 
-  pub next-begin : {q r : ℕ} {o₀ o : List ℕ} → Wrote (ends (suc top - d) (open-labels l path (suc top)) 0) o₀ o r → length (row-text l path top d p) ≤ length o₀
-      → q ≡ previous-of (open-labels l path (suc top)) 0 d → Next (begin (label-at l (getD path (d - 1) 0)) q (label-at l p)) (row-text l path top d p) [] o₀ o r
+  -- k is the kind of its parent, q that of its previous sibling
+  pub next-begin : {k q r : ℕ} {o₀ o : List ℕ} → Wrote (ends (suc top - d) (open-labels l path (suc top)) 0) o₀ o r
+      → length (row-text l path top d p) ≤ length o₀ → k ≡ label-at l (getD path (d - 1) 0) .kind → q ≡ previous-of (open-labels l path (suc top)) 0 d
+      → Next (begin (of-kind k) q (label-at l p)) (row-text l path top d p) [] o₀ o r
   unfolding row-text
-  next-begin w h e = rw e (second (ends (suc top - d) (open-labels l path (suc top)) 0) (begin (label-at l (getD path (d - 1) 0)) (previous-of (open-labels l path (suc top)) 0 d) (label-at l p)) w h)
+  next-begin {k} {q} w h e f =
+      let g : begin (label-at l (getD path (d - 1) 0)) (previous-of (open-labels l path (suc top)) 0 d) (label-at l p) ≡ begin (of-kind k) q (label-at l p)
+      = rw (e, f) (begin-kind (label-at l (getD path (d - 1) 0)) (previous-of (open-labels l path (suc top)) 0 d) (label-at l p)) in
+      rw (← g) (second (ends (suc top - d) (open-labels l path (suc top)) 0)
+      (begin (label-at l (getD path (d - 1) 0)) (previous-of (open-labels l path (suc top)) 0 d) (label-at l p)) w h)
 
 -- what stands for the rows from i on
 abbrev pub from : List Entry → List ℕ → ℕ → List ℕ → ℕ → ℕ → List ℕ
@@ -62,7 +69,7 @@ from-start {l} {places} {count} path c n =
     let e : lines l places count ≡ line-at l (getD places 0 0) ∷ drop 1 (lines l places count) = lines-from l places count (omega (arith, c .long, c .room)) 0 (c .some) in
     ap body e ∙ rw (getD-set-same path 0 (getD places 0 0) 0 (omega arith))
 
-module _ {l : List Entry} {places path : List ℕ} {count top i : ℕ} (c : Listed l places count) (w : Walk l places path top i) where
+module _ {l : List Entry} {places path kinds : List ℕ} {count top i : ℕ} (c : Listed l places count) (w : Walk l places path kinds top i) where
   pub from-end : count ≤ i → from l places count path top i ≡ ends (suc top - 0) (open-labels l path (suc top)) 0 ++ []
   unfolding emit
   from-end h =
