@@ -49,8 +49,7 @@ returns-3 c =
     let if2 = c .before .before .if2 in
     let nodes = c .before .nodes in
     let headed = sym (header .ensures) ∙ not-false _ (if1 .left) in
-    let slots-apart = sym (apart .ensures) ∙ not-false _ (if2 .left) in
-    formed-nodes _ headed slots-apart (sym (nodes .ensures) ∙ not-true _ (c .if3 .taken))
+    formed-nodes _ headed (rw (← apart .ensures) (not-false _ (if2 .left))) (rw (← nodes .ensures) (not-true _ (c .if3 .taken)))
 
 apart-requires-2 : tie.Need-apart-requires-2
 unfolding count
@@ -70,10 +69,9 @@ returns-4 c =
     let nodes = c .before .before .nodes in
     let if3 = c .before .if3 in
     let headed = sym (header .ensures) ∙ not-false _ (if1 .left) in
-    let slots-apart = sym (apart .ensures) ∙ not-false _ (if2 .left) in
-    let rows-good = sym (nodes .ensures) ∙ not-false _ (if3 .left) in
     c .apart2 .ensures
-    ∙ formed-numbers _ headed slots-apart rows-good (λ j. omega (arith, shared-slice-known .given j)) _ (word .ensures)
+    ∙ formed-numbers _ headed (rw (← apart .ensures) (not-false _ (if2 .left))) (rw (← nodes .ensures) (not-false _ (if3 .left)))
+    (λ j. omega (arith, shared-slice-known .given j)) _ (word .ensures)
 
 pub formed-spec : {M : Type 1} → statement M
 formed-spec =

@@ -76,7 +76,7 @@ returns-4 c =
     let word2 = c .before .before .word2 in
     let cell = c .before .cell in
     rows-bad _ _ _ _ (l .inv .3) (search needs) (word .ensures) _ (word2 .ensures) (search needs) (search needs)
-    (sym (cell .ensures) ∙ not-true _ (c .if4 .taken))
+    (rw (← cell .ensures) (not-true _ (c .if4 .taken)))
 
 add-i : tie.Need-add-i Inv-loop μ-loop
 add-i c = search needs
@@ -94,7 +94,7 @@ loop-again c =
       search needs,
       search needs,
       rows-next _ _ _ _ (l .inv .3) (search needs) (word .ensures) _ (word2 .ensures) (search needs) (search needs)
-          (sym (cell .ensures) ∙ not-false _ (c .if4 .left)),
+          (rw (← cell .ensures) (not-false _ (c .if4 .left))),
     )
 
 returns-5 : tie.Need-returns-5 Inv-loop μ-loop

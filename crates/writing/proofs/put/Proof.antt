@@ -16,10 +16,16 @@ needed-requires : tie.Need-needed-requires
 needed-requires c κs = search needs
 
 set-lock-requires : tie.Need-set-lock-requires
-set-lock-requires c κs =
-    let pre = c .before .before .before .before .before .before .before .before .pre in
-    let insert = c .before .before .before .before .insert in
-    (insert .ensures .layout, search needs, search needs, omega (arith, put-long _ _ (insert .ensures), pre .2))
+set-lock-requires c κs = (
+  c .before .before .before .before .insert .ensures .layout,
+  search needs,
+  search needs,
+  omega (
+    arith,
+    put-long _ _ (c .before .before .before .before .insert .ensures),
+    c .before .before .before .before .before .before .before .before .pre .2,
+  ),
+)
 
 same-length : tie.Need-same-length
 same-length c = search needs
