@@ -8,7 +8,8 @@ use Rattle.tree.specs.Lists.{keep}
 use Rattle.tree.specs.Forest.{nil, node, rows, amend, view, place, put}
 use Rattle.tree.specs.Content.{name-start, name-byte, text-byte, is-name, is-text, allowed, takes, attributes-first, children-rule, insert-at}
 use Rattle.tree.specs.Document.{Document, lines, select}
-use Rattle.tree.specs.Steps.{Step, T, C, R, U, D, I, TT, RR, UU, placed, Value, done, kind-parent, child-is, none, content-is, numbers-are, cells-are, how-many, unfit, plain-answers}
+use Rattle.tree.specs.Steps.{Step, T, C, R, U, D, I, TT, RR, UU, placed, Value, done, kind-parent, child-is, none, content-is, numbers-are}
+use Rattle.tree.specs.Steps.{cells-are, how-many, unfit, plain-answers}
 
 abbrev a-node : ℕ → ℕ → String → Document → Document → Document
 a-node n kind content children following = node (record { number = n; kind = kind; content = bytes content }) children following

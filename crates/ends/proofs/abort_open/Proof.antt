@@ -15,13 +15,26 @@ undo-requires : tie.Need-undo-requires
 undo-requires c κs = search needs
 
 close-requires : tie.Need-close-requires
-close-requires c κs = (c .before .before .before .undo .ensures .layout, c .before .before .before .before .before .before .before .before .before .before .pre .low, c .before .before .before .before .before .before .before .before .before .before .pre .high, kept-open _ (c .before .before .before .undo .ensures) (left-open _ (c .before .before .before .before .before .before .before .prune .ensures) (c .before .before .before .before .before .before .before .before .before .before .pre .is-open)))
+close-requires c κs =
+    let c8 = c .before .before .before .before .before .before .before .before in
+    let pre = c8 .before .before .pre in
+    let prune = c .before .before .before .before .before .before .before .prune in
+    let undo = c .before .before .before .undo in
+    let still-open = left-open _ (prune .ensures) (pre .is-open) in
+    (undo .ensures .layout, pre .low, pre .high, kept-open _ (undo .ensures) still-open)
 
 same-length : tie.Need-same-length
 same-length c = search needs
 
 returns : tie.Need-returns
-returns c = let t = c .before .before .before .before .before .before .before .before .before .before .before .before .before .args .t in ended (not-inserted-by t) (undone-marks t) (undone t) t (undone-whole t) (c .before .before .before .before .before .before .before .before .before .before .prune .ensures) (c .before .before .before .before .before .before .undo .ensures) (c .before .before .close .ensures)
+returns c =
+    let c8 = c .before .before .before .before .before .before .before .before in
+    let args = c8 .before .before .before .before .before .args in
+    let prune = c8 .before .before .prune in
+    let undo = c .before .before .before .before .before .before .undo in
+    let close = c .before .before .close in
+    let t = args .t in
+    ended (not-inserted-by t) (undone-marks t) (undone t) t (undone-whole t) (prune .ensures) (undo .ensures) (close .ensures)
 
 pub abort-open-spec : {M : Type 1} → statement M
 abort-open-spec =

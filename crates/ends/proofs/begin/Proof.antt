@@ -30,22 +30,53 @@ returns-3 : tie.Need-returns-3
 returns-3 c = begin-high (sym (c .before .before .before .formed .ensures) ∙ not-false _ (c .before .before .if1 .left)) (c .if3 .taken)
 
 is-open-requires : tie.Need-is-open-requires
-is-open-requires c κs = (form-layout (sym (c .before .before .before .before .formed .ensures) ∙ not-false _ (c .before .before .before .if1 .left)), omega (arith, c .before .before .if2 .left), search needs)
+is-open-requires c κs =
+    let formed = c .before .before .before .before .formed in
+    let if1 = c .before .before .before .if1 in
+    let if2 = c .before .before .if2 in
+    let good = sym (formed .ensures) ∙ not-false _ (if1 .left) in
+    (form-layout good, omega (arith, if2 .left), search needs)
 
 same-length-4 : tie.Need-same-length-4
 same-length-4 c = search needs
 
 returns-4 : tie.Need-returns-4
-returns-4 c = begin-open (sym (c .before .before .before .before .before .before .formed .ensures) ∙ not-false _ (c .before .before .before .before .before .if1 .left)) (omega (arith, c .before .before .before .before .if2 .left)) (search needs) (sym (c .before .is-open .ensures) ∙ c .if4 .taken)
+returns-4 c =
+    let formed = c .before .before .before .before .before .before .formed in
+    let if1 = c .before .before .before .before .before .if1 in
+    let if2 = c .before .before .before .before .if2 in
+    let is-open = c .before .is-open in
+    let good = sym (formed .ensures) ∙ not-false _ (if1 .left) in
+    begin-open good (omega (arith, if2 .left)) (search needs) (sym (is-open .ensures) ∙ c .if4 .taken)
 
 open-requires : tie.Need-open-requires
-open-requires c κs = (form-layout (sym (c .before .before .before .before .before .before .before .formed .ensures) ∙ not-false _ (c .before .before .before .before .before .before .if1 .left)), omega (arith, c .before .before .before .before .before .if2 .left), search needs, sym (c .before .before .is-open .ensures) ∙ c .before .if4 .left)
+open-requires c κs =
+    let formed = c .before .before .before .before .before .before .before .formed in
+    let if1 = c .before .before .before .before .before .before .if1 in
+    let if2 = c .before .before .before .before .before .if2 in
+    let is-open = c .before .before .is-open in
+    let if4 = c .before .if4 in (
+      form-layout (sym (formed .ensures) ∙ not-false _ (if1 .left)),
+      omega (arith, if2 .left),
+      search needs,
+      sym (is-open .ensures) ∙ if4 .left,
+    )
 
 same-length-5 : tie.Need-same-length-5
 same-length-5 c = search needs
 
 returns-5 : tie.Need-returns-5
-returns-5 c = begin-done (sym (c .before .before .before .before .before .before .before .before .before .before .formed .ensures) ∙ not-false _ (c .before .before .before .before .before .before .before .before .before .if1 .left)) (omega (arith, c .before .before .before .before .before .before .before .before .if2 .left)) (search needs) (sym (c .before .before .before .before .before .is-open .ensures) ∙ c .before .before .before .before .if4 .left) (c .before .before .open .ensures)
+returns-5 c =
+    let c8 = c .before .before .before .before .before .before .before .before in
+    let formed = c8 .before .before .formed in
+    let if1 = c8 .before .if1 in
+    let if2 = c8 .if2 in
+    let is-open = c .before .before .before .before .before .is-open in
+    let if4 = c .before .before .before .before .if4 in
+    let opening = c .before .before .open in
+    let good = sym (formed .ensures) ∙ not-false _ (if1 .left) in
+    let shut = sym (is-open .ensures) ∙ if4 .left in
+    begin-done good (omega (arith, if2 .left)) (search needs) shut (opening .ensures)
 
 pub begin-spec : {M : Type 1} → statement M
 begin-spec =

@@ -14,13 +14,22 @@ same-length : tie.Need-same-length
 same-length c = search needs
 
 returns : tie.Need-returns
-returns c = let a = c .before .before .before .before .before .before .before .before .args in cleared (a .i) (a .o) (a .t) _ (c .before .before .before .before .before .field .ensures) (c .before .before .before .before .if1 .taken) (c .before .before .set-field .ensures)
+returns c =
+    let a = c .before .before .before .before .before .before .before .before .args in
+    let field = c .before .before .before .before .before .field in
+    let if1 = c .before .before .before .before .if1 in
+    let set-field = c .before .before .set-field in
+    cleared (a .i) (a .o) (a .t) _ (field .ensures) (if1 .taken) (set-field .ensures)
 
 same-length-2 : tie.Need-same-length-2
 same-length-2 c = search needs
 
 returns-2 : tie.Need-returns-2
-returns-2 c = let a = c .before .before .before .before .args in not-cleared _ (a .i) (a .o) (a .t) _ (c .before .field .ensures) (c .if1 .left) (c .before .before .before .before .pre .2) (c .before .before .before .before .pre .0)
+returns-2 c =
+    let a = c .before .before .before .before .args in
+    let pre = c .before .before .before .before .pre in
+    let field = c .before .field in
+    not-cleared _ (a .i) (a .o) (a .t) _ (field .ensures) (c .if1 .left) (pre .2) (pre .0)
 
 pub clear-mark-spec : {M : Type 1} → statement M
 clear-mark-spec =

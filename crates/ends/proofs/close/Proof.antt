@@ -13,13 +13,21 @@ release-requires : tie.Need-release-requires
 release-requires c κs = search needs
 
 close-requires : tie.Need-close-requires
-close-requires c κs = (c .before .before .before .release .ensures .layout, c .before .before .before .before .before .before .pre .1, c .before .before .before .before .before .before .pre .2, kept-open _ (c .before .before .before .release .ensures) (c .before .before .before .before .before .before .pre .3))
+close-requires c κs =
+    let pre = c .before .before .before .before .before .before .pre in
+    let release = c .before .before .before .release in
+    (release .ensures .layout, pre .1, pre .2, kept-open _ (release .ensures) (pre .3))
 
 same-length : tie.Need-same-length
 same-length c = search needs
 
 returns : tie.Need-returns
-returns c = closed-after (c .before .before .before .before .before .before .before .before .before .args .t) (map (second (released (c .before .before .before .before .before .before .before .before .before .args .t))) (nodes (c .before .before .before .before .before .before .before .before .before .args .s .now))) (λ l. l) (left-kept (c .before .before .before .before .before .before .release .ensures)) (c .before .before .close .ensures)
+returns c =
+    let args = c .before .before .before .before .before .before .before .before .before .args in
+    let release = c .before .before .before .before .before .before .release in
+    let close = c .before .before .close in
+    let rows = map (second (released (args .t))) (nodes (args .s .now)) in
+    closed-after (args .t) rows (λ l. l) (left-kept (release .ensures)) (close .ensures)
 
 pub close-spec : {M : Type 1} → statement M
 close-spec =

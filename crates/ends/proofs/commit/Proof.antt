@@ -23,7 +23,11 @@ same-length-2 : tie.Need-same-length-2
 same-length-2 c = search needs
 
 returns-2 : tie.Need-returns-2
-returns-2 c = commit-done (c .before .before .before .before .before .caller .ensures .opened (c .before .before .before .before .if1 .left)) (c .before .before .commit-open .ensures)
+returns-2 c =
+    let caller = c .before .before .before .before .before .caller in
+    let if1 = c .before .before .before .before .if1 in
+    let commit-open = c .before .before .commit-open in
+    commit-done (caller .ensures .opened (if1 .left)) (commit-open .ensures)
 
 pub commit-spec : {M : Type 1} → statement M
 commit-spec =

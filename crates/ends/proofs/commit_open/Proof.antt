@@ -14,13 +14,26 @@ settle-requires : tie.Need-settle-requires
 settle-requires c κs = search needs
 
 close-requires : tie.Need-close-requires
-close-requires c κs = (c .before .before .before .settle .ensures .layout, c .before .before .before .before .before .before .before .before .before .before .pre .low, c .before .before .before .before .before .before .before .before .before .before .pre .high, kept-open _ (c .before .before .before .settle .ensures) (left-open _ (c .before .before .before .before .before .before .before .prune .ensures) (c .before .before .before .before .before .before .before .before .before .before .pre .is-open)))
+close-requires c κs =
+    let c8 = c .before .before .before .before .before .before .before .before in
+    let pre = c8 .before .before .pre in
+    let prune = c .before .before .before .before .before .before .before .prune in
+    let settle = c .before .before .before .settle in
+    let still-open = left-open _ (prune .ensures) (pre .is-open) in
+    (settle .ensures .layout, pre .low, pre .high, kept-open _ (settle .ensures) still-open)
 
 same-length : tie.Need-same-length
 same-length c = search needs
 
 returns : tie.Need-returns
-returns c = let t = c .before .before .before .before .before .before .before .before .before .before .before .before .before .args .t in ended (seen-by t) (settled-marks t) (settled t) t (settled-whole t) (c .before .before .before .before .before .before .before .before .before .before .prune .ensures) (c .before .before .before .before .before .before .settle .ensures) (c .before .before .close .ensures)
+returns c =
+    let c8 = c .before .before .before .before .before .before .before .before in
+    let args = c8 .before .before .before .before .before .args in
+    let prune = c8 .before .before .prune in
+    let settle = c .before .before .before .before .before .before .settle in
+    let close = c .before .before .close in
+    let t = args .t in
+    ended (seen-by t) (settled-marks t) (settled t) t (settled-whole t) (prune .ensures) (settle .ensures) (close .ensures)
 
 pub commit-open-spec : {M : Type 1} → statement M
 commit-open-spec =

@@ -14,7 +14,11 @@ same-length : tie.Need-same-length
 same-length c = search needs
 
 returns : tie.Need-returns
-returns c = rewritten-own _ _ _ (c .before .before .before .before .before .writer .ensures) (c .before .before .before .before .if1 .taken) (c .before .before .restore-content .ensures)
+returns c =
+    let writer = c .before .before .before .before .before .writer in
+    let if1 = c .before .before .before .before .if1 in
+    let restore-content = c .before .before .restore-content in
+    rewritten-own _ _ _ (writer .ensures) (if1 .taken) (restore-content .ensures)
 
 same-length-2 : tie.Need-same-length-2
 same-length-2 c = search needs

@@ -32,7 +32,10 @@ loop-less : tie.Need-loop-less Inv-loop μ-loop
 loop-less c = search needs
 
 loop-again : tie.Need-loop-again Inv-loop μ-loop
-loop-again c = (c .before .before .settle-node .ensures .many ∙ c .before .before .before .before .before .loop .inv .0, first-next _ _ (c .before .before .before .before .before .loop .inv .1) (c .before .before .settle-node .ensures))
+loop-again c =
+    let l = c .before .before .before .before .before .loop in
+    let settle-node = c .before .before .settle-node in
+    (settle-node .ensures .many ∙ l .inv .0, first-next _ _ (l .inv .1) (settle-node .ensures))
 
 same-length : tie.Need-same-length Inv-loop μ-loop
 same-length c = search needs

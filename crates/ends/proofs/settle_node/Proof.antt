@@ -15,7 +15,11 @@ same-length : tie.Need-same-length
 same-length c = search needs
 
 returns : tie.Need-returns
-returns c = both-marks _ (without-mark 1 (c .before .before .before .before .before .before .before .before .before .args .t)) (without-mark 2 (c .before .before .before .before .before .before .before .before .before .args .t)) (c .before .before .before .before .before .before .clear-mark .ensures) (c .before .before .clear-mark2 .ensures)
+returns c =
+    let args = c .before .before .before .before .before .before .before .before .before .args in
+    let clear-mark = c .before .before .before .before .before .before .clear-mark in
+    let clear-mark2 = c .before .before .clear-mark2 in
+    both-marks _ (without-mark 1 (args .t)) (without-mark 2 (args .t)) (clear-mark .ensures) (clear-mark2 .ensures)
 
 pub settle-node-spec : {M : Type 1} → statement M
 settle-node-spec =

@@ -13,13 +13,26 @@ clear-mark-requires : tie.Need-clear-mark-requires
 clear-mark-requires c κs = search needs
 
 clear-mark-requires-2 : tie.Need-clear-mark-requires-2
-clear-mark-requires-2 c κs = (c .before .before .before .clear-mark .ensures .layout, omega (arith, c .before .before .before .clear-mark .ensures .many, c .before .before .before .before .before .before .before .rewrite .ensures .many, c .before .before .before .before .before .before .before .before .before .before .pre .1), search needs)
+clear-mark-requires-2 c κs =
+    let c8 = c .before .before .before .before .before .before .before .before in
+    let pre = c8 .before .before .pre in
+    let rewrite = c .before .before .before .before .before .before .before .rewrite in
+    let clear-mark = c .before .before .before .clear-mark in
+    (clear-mark .ensures .layout, omega (arith, clear-mark .ensures .many, rewrite .ensures .many, pre .1), search needs)
 
 same-length : tie.Need-same-length
 same-length c = search needs
 
 returns : tie.Need-returns
-returns c = let t = c .before .before .before .before .before .before .before .before .before .before .before .before .before .args .t in both-marks _ (λ (a : Marked). without-mark 1 t (rewritten t a)) (without-mark 3 t) (both-marks _ (rewritten t) (without-mark 1 t) (c .before .before .before .before .before .before .before .before .before .before .rewrite .ensures) (c .before .before .before .before .before .before .clear-mark .ensures)) (c .before .before .clear-mark2 .ensures)
+returns c =
+    let c8 = c .before .before .before .before .before .before .before .before in
+    let args = c8 .before .before .before .before .before .args in
+    let rewrite = c8 .before .before .rewrite in
+    let clear-mark = c .before .before .before .before .before .before .clear-mark in
+    let clear-mark2 = c .before .before .clear-mark2 in
+    let t = args .t in
+    let first-two = both-marks _ (rewritten t) (without-mark 1 t) (rewrite .ensures) (clear-mark .ensures) in
+    both-marks _ (λ (a : Marked). without-mark 1 t (rewritten t a)) (without-mark 3 t) first-two (clear-mark2 .ensures)
 
 pub undo-node-spec : {M : Type 1} → statement M
 undo-node-spec =

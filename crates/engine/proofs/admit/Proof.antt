@@ -31,7 +31,13 @@ count-requires c κs = c .before .before .caller .ensures .opened (c .before .if
 
 -- src/lib.rt:83:9
 returns-2 : tie.Need-returns-2
-returns-2 c = admit-missing _ (c .before .before .before .before .caller .ensures .opened (c .before .before .before .if1 .left)) _ (c .before .before .find .ensures) (omega (arith, c .before .count .ensures))
+returns-2 c =
+    let caller = c .before .before .before .before .caller in
+    let if1 = c .before .before .before .if1 in
+    let find = c .before .before .find in
+    let count = c .before .count in
+    let opened = caller .ensures .opened (if1 .left) in
+    admit-missing _ opened _ (find .ensures) (omega (arith, count .ensures))
 
 -- src/lib.rt:85:17
 cast-seen : tie.Need-cast-seen
@@ -39,15 +45,35 @@ cast-seen c = record { fits = omega (arith, c .before .before .before .before .c
 
 -- src/lib.rt:85:9
 seen-requires : tie.Need-seen-requires
-seen-requires c κs = (c .before .before .before .before .caller .ensures .opened (c .before .before .before .if1 .left) .layout, omega (arith, c .before .count .ensures))
+seen-requires c κs =
+    let caller = c .before .before .before .before .caller in
+    let if1 = c .before .before .before .if1 in
+    let count = c .before .count in
+    (caller .ensures .opened (if1 .left) .layout, omega (arith, count .ensures))
 
 -- src/lib.rt:86:9
 returns-3 : tie.Need-returns-3
-returns-3 c = admit-deleted _ (c .before .before .before .before .before .before .caller .ensures .opened (c .before .before .before .before .before .if1 .left)) _ (c .before .before .before .before .find .ensures) (omega (arith, c .before .before .before .count .ensures)) (sym (c .before .seen .ensures) ∙ not-true _ (c .if3 .taken))
+returns-3 c =
+    let caller = c .before .before .before .before .before .before .caller in
+    let if1 = c .before .before .before .before .before .if1 in
+    let find = c .before .before .before .before .find in
+    let count = c .before .before .before .count in
+    let seen = c .before .seen in
+    let opened = caller .ensures .opened (if1 .left) in
+    let unseen = sym (seen .ensures) ∙ not-true _ (c .if3 .taken) in
+    admit-deleted _ opened _ (find .ensures) (omega (arith, count .ensures)) unseen
 
 -- src/lib.rt:74:1
 returns-4 : tie.Need-returns-4
-returns-4 c = admit-found _ (c .before .before .before .before .before .before .caller .ensures .opened (c .before .before .before .before .before .if1 .left)) _ (c .before .before .before .before .find .ensures) (omega (arith, c .before .before .before .count .ensures)) (sym (c .before .seen .ensures) ∙ not-false _ (c .if3 .left))
+returns-4 c =
+    let caller = c .before .before .before .before .before .before .caller in
+    let if1 = c .before .before .before .before .before .if1 in
+    let find = c .before .before .before .before .find in
+    let count = c .before .before .before .count in
+    let seen = c .before .seen in
+    let opened = caller .ensures .opened (if1 .left) in
+    let is-seen = sym (seen .ensures) ∙ not-false _ (c .if3 .left) in
+    admit-found _ opened _ (find .ensures) (omega (arith, count .ensures)) is-seen
 
 pub admit-spec : {M : Type 1} → statement M
 admit-spec =

@@ -30,15 +30,32 @@ returns-3 c = caller-high (sym (c .before .before .before .formed .ensures) ∙ 
 
 -- src/lib.rt:37:9
 is-open-requires : tie.Need-is-open-requires
-is-open-requires c κs = (form-layout (sym (c .before .before .before .formed .ensures) ∙ not-false _ (c .before .before .if1 .left)), omega (arith, c .before .if2 .left), search needs)
+is-open-requires c κs =
+    let formed = c .before .before .before .formed in
+    let if1 = c .before .before .if1 in
+    let if2 = c .before .if2 in
+    let good = sym (formed .ensures) ∙ not-false _ (if1 .left) in
+    (form-layout good, omega (arith, if2 .left), search needs)
 
 -- src/lib.rt:38:9
 returns-4 : tie.Need-returns-4
-returns-4 c = caller-shut (sym (c .before .before .before .before .before .formed .ensures) ∙ not-false _ (c .before .before .before .before .if1 .left)) (c .before .before .before .if2 .left) (search needs) (sym (c .before .is-open .ensures) ∙ not-true _ (c .if4 .taken))
+returns-4 c =
+    let formed = c .before .before .before .before .before .formed in
+    let if1 = c .before .before .before .before .if1 in
+    let if2 = c .before .before .before .if2 in
+    let is-open = c .before .is-open in
+    let good = sym (formed .ensures) ∙ not-false _ (if1 .left) in
+    caller-shut good (if2 .left) (search needs) (sym (is-open .ensures) ∙ not-true _ (c .if4 .taken))
 
 -- src/lib.rt:25:1
 returns-5 : tie.Need-returns-5
-returns-5 c = caller-open (sym (c .before .before .before .before .before .formed .ensures) ∙ not-false _ (c .before .before .before .before .if1 .left)) (c .before .before .before .if2 .left) (search needs) (sym (c .before .is-open .ensures) ∙ not-false _ (c .if4 .left))
+returns-5 c =
+    let formed = c .before .before .before .before .before .formed in
+    let if1 = c .before .before .before .before .if1 in
+    let if2 = c .before .before .before .if2 in
+    let is-open = c .before .is-open in
+    let good = sym (formed .ensures) ∙ not-false _ (if1 .left) in
+    caller-open good (if2 .left) (search needs) (sym (is-open .ensures) ∙ not-false _ (c .if4 .left))
 
 pub caller-spec : {M : Type 1} → statement M
 caller-spec =

@@ -50,7 +50,10 @@ loop-less c = search needs
 
 -- src/lib.rt:53:5
 loop-again : tie.Need-loop-again Inv-loop μ-loop
-loop-again c = (search needs, seen-passed _ _ _ _ (c .before .before .before .loop .i) (c .before .before .before .loop .inv .1) (search needs) _ (c .before .depth2 .ensures) (c .if2 .taken))
+loop-again c =
+    let l = c .before .before .before .loop in
+    let depth2 = c .before .depth2 in
+    (search needs, seen-passed _ _ _ _ (l .i) (l .inv .1) (search needs) _ (depth2 .ensures) (c .if2 .taken))
 
 -- src/lib.rt:59:12
 deleter-requires-2 : tie.Need-deleter-requires-2 Inv-loop μ-loop
@@ -58,7 +61,12 @@ deleter-requires-2 c κs = search needs
 
 -- src/lib.rt:60:13
 returns-2 : tie.Need-returns-2 Inv-loop μ-loop
-returns-2 c = seen-deleted _ _ _ _ (c .before .before .before .before .before .loop .i) (c .before .before .before .before .before .loop .inv .1) (search needs) _ (c .before .before .before .depth2 .ensures) (search needs) _ (c .before .deleter2 .ensures) (c .if3 .taken)
+returns-2 c =
+    let l = c .before .before .before .before .before .loop in
+    let depth2 = c .before .before .before .depth2 in
+    let deleter2 = c .before .deleter2 in
+    seen-deleted _ _ _ _ (l .i) (l .inv .1) (search needs) _ (depth2 .ensures) (search needs) _ (deleter2 .ensures)
+    (c .if3 .taken)
 
 -- src/lib.rt:53:5
 loop-less-2 : tie.Need-loop-less-2 Inv-loop μ-loop
@@ -66,7 +74,14 @@ loop-less-2 c = search needs
 
 -- src/lib.rt:53:5
 loop-again-2 : tie.Need-loop-again-2 Inv-loop μ-loop
-loop-again-2 c = (search needs, seen-turn _ _ _ _ (c .before .before .before .before .before .loop .i) (c .before .before .before .before .before .loop .inv .1) (search needs) _ (c .before .before .before .depth2 .ensures) (search needs) _ (c .before .deleter2 .ensures) (c .if3 .left))
+loop-again-2 c =
+    let l = c .before .before .before .before .before .loop in
+    let depth2 = c .before .before .before .depth2 in
+    let deleter2 = c .before .deleter2 in (
+      search needs,
+      seen-turn _ _ _ _ (l .i) (l .inv .1) (search needs) _ (depth2 .ensures) (search needs) _ (deleter2 .ensures)
+          (c .if3 .left),
+    )
 
 -- src/lib.rt:44:1
 returns-3 : tie.Need-returns-3 Inv-loop μ-loop

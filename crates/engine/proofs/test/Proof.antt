@@ -41,7 +41,12 @@ same-length-2 c = search needs
 
 -- src/lib.rt:119:1
 returns-2 : tie.Need-returns-2
-returns-2 c = performed-as T no-room (admission-at _ _ _ _ _ (c .before .before .before .before .before .place2 .given .1) (c .before .before .before .before .before .before .before .admit .ensures) .1) (c .before .before .test-at .ensures)
+returns-2 c =
+    let admit = c .before .before .before .before .before .before .before .admit in
+    let place2 = c .before .before .before .before .before .place2 in
+    let test-at = c .before .before .test-at in
+    let admitted = admission-at _ _ _ _ _ (place2 .given .1) (admit .ensures) in
+    performed-as T no-room (admitted .1) (test-at .ensures)
 
 pub test-spec : {M : Type 1} → statement M
 test-spec =

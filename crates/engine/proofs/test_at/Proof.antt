@@ -26,7 +26,11 @@ same-length c = search needs
 
 -- src/lib.rt:110:9
 returns : tie.Need-returns
-returns c = test-waits (c .before .before .before .before .before .before .pre) _ (c .before .before .before .way-up .ensures) _ (c .before .waits .ensures) (c .if1 .taken)
+returns c =
+    let pre = c .before .before .before .before .before .before .pre in
+    let way-up = c .before .before .before .way-up in
+    let waits = c .before .waits in
+    test-waits pre _ (way-up .ensures) _ (waits .ensures) (c .if1 .taken)
 
 -- src/lib.rt:112:9
 kind-requires : tie.Need-kind-requires
@@ -46,7 +50,16 @@ same-length-2 c = search needs
 
 -- src/lib.rt:103:1
 returns-2 : tie.Need-returns-2
-returns-2 c = test-granted (c .before .before .before .before .before .before .before .before .before .before .before .before .before .before .pre) _ (c .before .before .before .before .before .before .before .before .before .before .before .way-up .ensures) _ (c .before .before .before .before .before .before .before .before .before .waits .ensures) _ _ (c .before .before .before .before .before .before .before .before .if1 .left) (c .before .before .before .before .before .before .kind .ensures) (c .before .before .before .before .parent .ensures) (c .before .before .grant .ensures)
+returns-2 c =
+    let c8 = c .before .before .before .before .before .before .before .before in
+    let pre = c8 .before .before .before .before .before .before .pre in
+    let way-up = c8 .before .before .before .way-up in
+    let waits = c8 .before .waits in
+    let if1 = c8 .if1 in
+    let kind = c .before .before .before .before .before .before .kind in
+    let parent = c .before .before .before .before .parent in
+    let grant = c .before .before .grant in
+    test-granted pre _ (way-up .ensures) _ (waits .ensures) _ _ (if1 .left) (kind .ensures) (parent .ensures) (grant .ensures)
 
 pub test-at-spec : {M : Type 1} → statement M
 test-at-spec =

@@ -47,7 +47,11 @@ has-bit-requires : tie.Need-has-bit-requires Inv-loop μ-loop
 has-bit-requires c κs = search needs
 
 returns-2 : tie.Need-returns-2 Inv-loop μ-loop
-returns-2 c = fresh-met _ _ _ _ _ _ (c .before .before .before .before .before .loop .inv .2) _ (search needs) (c .before .before .before .word .ensures) (search needs) _ (c .before .has-bit .ensures) (c .if2 .taken)
+returns-2 c =
+    let l = c .before .before .before .before .before .loop in
+    let word = c .before .before .before .word in
+    let has-bit = c .before .has-bit in
+    fresh-met _ _ _ _ _ _ (l .inv .2) _ (search needs) (word .ensures) (search needs) _ (has-bit .ensures) (c .if2 .taken)
 
 power-requires : tie.Need-power-requires Inv-loop μ-loop
 power-requires c κs = search needs
@@ -65,7 +69,16 @@ loop-less : tie.Need-loop-less Inv-loop μ-loop
 loop-less c = search needs
 
 loop-again : tie.Need-loop-again Inv-loop μ-loop
-loop-again c = (search needs, simp length-set (c .before .before .before .before .before .before .loop .inv .1), fresh-next _ _ _ _ _ _ (c .before .before .before .before .before .before .loop .inv .2) _ (search needs) (c .before .before .before .before .word .ensures) (search needs) _ (c .before .before .has-bit .ensures) (c .before .if2 .left) (c .before .before .before .before .before .before .loop .inv .1) _ (c .power .ensures))
+loop-again c =
+    let l = c .before .before .before .before .before .before .loop in
+    let word = c .before .before .before .before .word in
+    let has-bit = c .before .before .has-bit in
+    let if2 = c .before .if2 in (
+      search needs,
+      simp length-set (l .inv .1),
+      fresh-next _ _ _ _ _ _ (l .inv .2) _ (search needs) (word .ensures) (search needs) _ (has-bit .ensures) (if2 .left)
+          (l .inv .1) _ (c .power .ensures),
+    )
 
 returns-3 : tie.Need-returns-3 Inv-loop μ-loop
 returns-3 c = fresh-end _ _ _ _ _ _ (c .before .loop .inv .2) (search needs)

@@ -33,7 +33,11 @@ cell-requires : tie.Need-cell-requires
 cell-requires c κs = (search needs, slot-small _ 0 _ (search needs) (omega arith) (c .word3 .ensures))
 
 returns-3 : tie.Need-returns-3
-returns-3 c = first-cell _ _ (c .before .before .before .before .before .word .ensures) (search needs) _ (c .before .before .before .word2 .ensures) (search needs) _ (c .before .word3 .ensures) _ (c .cell .ensures)
+returns-3 c =
+    let word = c .before .before .before .before .before .word in
+    let word2 = c .before .before .before .word2 in
+    let word3 = c .before .word3 in
+    first-cell _ _ (word .ensures) (search needs) _ (word2 .ensures) (search needs) _ (word3 .ensures) _ (c .cell .ensures)
 
 pub document-spec : {M : Type 1} → statement M
 document-spec =

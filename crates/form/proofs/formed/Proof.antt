@@ -23,17 +23,33 @@ apart-requires : tie.Need-apart-requires
 apart-requires c κs = (header-size _ (sym (c .before .before .header .ensures) ∙ not-false _ (c .before .if1 .left)), omega arith, omega arith)
 
 returns-2 : tie.Need-returns-2
-returns-2 c = formed-slots _ (sym (c .before .before .before .before .header .ensures) ∙ not-false _ (c .before .before .before .if1 .left)) (sym (c .before .apart .ensures) ∙ not-true _ (c .if2 .taken))
+returns-2 c =
+    let header = c .before .before .before .before .header in
+    let if1 = c .before .before .before .if1 in
+    let apart = c .before .apart in
+    let headed = sym (header .ensures) ∙ not-false _ (if1 .left) in
+    formed-slots _ headed (sym (apart .ensures) ∙ not-true _ (c .if2 .taken))
 
 nodes-requires : tie.Need-nodes-requires
 unfolding count
 nodes-requires c κs =
-    (outlined _ (sym (c .before .before .before .before .header .ensures) ∙ not-false _ (c .before .before .before .if1 .left)) (sym (c .before .apart .ensures) ∙ not-false _ (c .if2 .left)), c .before .before .word .ensures)
+    let header = c .before .before .before .before .header in
+    let if1 = c .before .before .before .if1 in
+    let word = c .before .before .word in
+    let apart = c .before .apart in
+    let headed = sym (header .ensures) ∙ not-false _ (if1 .left) in
+    let slots-apart = sym (apart .ensures) ∙ not-false _ (c .if2 .left) in
+    (outlined _ headed slots-apart, word .ensures)
 
 returns-3 : tie.Need-returns-3
 returns-3 c =
-    formed-nodes _ (sym (c .before .before .before .before .before .before .header .ensures) ∙ not-false _ (c .before .before .before .before .before .if1 .left)) (sym (c .before .before .before .apart .ensures) ∙ not-false _ (c .before .before .if2 .left))
-    (sym (c .before .nodes .ensures) ∙ not-true _ (c .if3 .taken))
+    let header = c .before .before .before .before .before .before .header in
+    let if1 = c .before .before .before .before .before .if1 in
+    let apart = c .before .before .before .apart in
+    let if2 = c .before .before .if2 in
+    let nodes = c .before .nodes in
+    let headed = sym (header .ensures) ∙ not-false _ (if1 .left) in
+    formed-nodes _ headed (rw (← apart .ensures) (not-false _ (if2 .left))) (rw (← nodes .ensures) (not-true _ (c .if3 .taken)))
 
 apart-requires-2 : tie.Need-apart-requires-2
 unfolding count
@@ -44,9 +60,18 @@ apart-requires-2 c κs =
 returns-4 : tie.Need-returns-4
 unfolding count
 returns-4 c =
+    let shared-slice-known = c .before .before .before .before .before .before .before .before .shared-slice-known in
+    let header = c .before .before .before .before .before .before .before .header in
+    let if1 = c .before .before .before .before .before .before .if1 in
+    let word = c .before .before .before .before .before .word in
+    let apart = c .before .before .before .before .apart in
+    let if2 = c .before .before .before .if2 in
+    let nodes = c .before .before .nodes in
+    let if3 = c .before .if3 in
+    let headed = sym (header .ensures) ∙ not-false _ (if1 .left) in
     c .apart2 .ensures
-    ∙ formed-numbers _ (sym (c .before .before .before .before .before .before .before .header .ensures) ∙ not-false _ (c .before .before .before .before .before .before .if1 .left)) (sym (c .before .before .before .before .apart .ensures) ∙ not-false _ (c .before .before .before .if2 .left))
-    (sym (c .before .before .nodes .ensures) ∙ not-false _ (c .before .if3 .left)) (λ j. omega (arith, c .before .before .before .before .before .before .before .before .shared-slice-known .given j)) _ (c .before .before .before .before .before .word .ensures)
+    ∙ formed-numbers _ headed (rw (← apart .ensures) (not-false _ (if2 .left))) (rw (← nodes .ensures) (not-false _ (if3 .left)))
+    (λ j. omega (arith, shared-slice-known .given j)) _ (word .ensures)
 
 pub formed-spec : {M : Type 1} → statement M
 formed-spec =

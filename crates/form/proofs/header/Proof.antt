@@ -27,11 +27,19 @@ cast-n c = search needs
 
 returns-3 : tie.Need-returns-3
 unfolding count
-returns-3 c = header-none _ (search needs) (sym (c .before .before .before .begins .ensures) ∙ not-false _ (c .before .before .if2 .left)) _ (c .before .word .ensures) (search needs)
+returns-3 c =
+    let begins = c .before .before .before .begins in
+    let if2 = c .before .before .if2 in
+    let word = c .before .word in
+    header-none _ (search needs) (sym (begins .ensures) ∙ not-false _ (if2 .left)) _ (word .ensures) (search needs)
 
 returns-4 : tie.Need-returns-4
 unfolding count
-returns-4 c = header-many _ (search needs) (sym (c .before .before .before .begins .ensures) ∙ not-false _ (c .before .before .if2 .left)) _ (c .before .word .ensures) (search needs)
+returns-4 c =
+    let begins = c .before .before .before .begins in
+    let if2 = c .before .before .if2 in
+    let word = c .before .word in
+    header-many _ (search needs) (sym (begins .ensures) ∙ not-false _ (if2 .left)) _ (word .ensures) (search needs)
 
 pub header-spec : {M : Type 1} → statement M
 header-spec =

@@ -49,7 +49,10 @@ add-if3 : tie.Need-add-if3 Inv-loop μ-loop
 add-if3 c = search needs
 
 returns-3 : tie.Need-returns-3 Inv-loop μ-loop
-returns-3 c = rows-high _ _ _ _ (c .before .before .before .before .loop .inv .3) (search needs) (c .before .before .word .ensures) (search needs) (search needs)
+returns-3 c =
+    let l = c .before .before .before .before .loop in
+    let word = c .before .before .word in
+    rows-high _ _ _ _ (l .inv .3) (search needs) (word .ensures) (search needs) (search needs)
 
 mul-word-2 : tie.Need-mul-word-2 Inv-loop μ-loop
 mul-word-2 c = search needs
@@ -67,7 +70,13 @@ cell-requires : tie.Need-cell-requires Inv-loop μ-loop
 cell-requires c κs = (search needs, slot-small _ (c .before .before .before .before .before .loop .i) _ (search needs) (search needs) (c .word2 .ensures))
 
 returns-4 : tie.Need-returns-4 Inv-loop μ-loop
-returns-4 c = rows-bad _ _ _ _ (c .before .before .before .before .before .before .before .loop .inv .3) (search needs) (c .before .before .before .before .before .word .ensures) _ (c .before .before .word2 .ensures) (search needs) (search needs) (sym (c .before .cell .ensures) ∙ not-true _ (c .if4 .taken))
+returns-4 c =
+    let l = c .before .before .before .before .before .before .before .loop in
+    let word = c .before .before .before .before .before .word in
+    let word2 = c .before .before .word2 in
+    let cell = c .before .cell in
+    rows-bad _ _ _ _ (l .inv .3) (search needs) (word .ensures) _ (word2 .ensures) (search needs) (search needs)
+    (rw (← cell .ensures) (not-true _ (c .if4 .taken)))
 
 add-i : tie.Need-add-i Inv-loop μ-loop
 add-i c = search needs
@@ -76,7 +85,17 @@ loop-less : tie.Need-loop-less Inv-loop μ-loop
 loop-less c = search needs
 
 loop-again : tie.Need-loop-again Inv-loop μ-loop
-loop-again c = (search needs, search needs, search needs, rows-next _ _ _ _ (c .before .before .before .before .before .before .before .loop .inv .3) (search needs) (c .before .before .before .before .before .word .ensures) _ (c .before .before .word2 .ensures) (search needs) (search needs) (sym (c .before .cell .ensures) ∙ not-false _ (c .if4 .left)))
+loop-again c =
+    let l = c .before .before .before .before .before .before .before .loop in
+    let word = c .before .before .before .before .before .word in
+    let word2 = c .before .before .word2 in
+    let cell = c .before .cell in (
+      search needs,
+      search needs,
+      search needs,
+      rows-next _ _ _ _ (l .inv .3) (search needs) (word .ensures) _ (word2 .ensures) (search needs) (search needs)
+          (rw (← cell .ensures) (not-false _ (c .if4 .left))),
+    )
 
 returns-5 : tie.Need-returns-5 Inv-loop μ-loop
 returns-5 c = rows-end _ (c .before .loop .before) (c .before .loop .i) (c .before .loop .inv .3) (search needs)

@@ -36,7 +36,13 @@ loop-less : tie.Need-loop-less Inv-loop μ-loop
 loop-less c = search needs
 
 loop-again : tie.Need-loop-again Inv-loop μ-loop
-loop-again c = (search needs, filled-more _ _ _ _ _ _ (c .before .before .loop .inv .1) (search needs) (filled-far _ (c .before .before .loop .inv .1) (λ i h. c .before .before .before .pre .2 _ (search needs) i (omega arith))))
+loop-again c =
+    let pre = c .before .before .before .pre in
+    let l = c .before .before .loop in (
+      search needs,
+      filled-more _ _ _ _ _ _ (l .inv .1) (search needs)
+          (filled-far _ (l .inv .1) (λ i h. pre .2 _ (search needs) i (omega arith))),
+    )
 
 same-length : tie.Need-same-length Inv-loop μ-loop
 same-length c = search needs

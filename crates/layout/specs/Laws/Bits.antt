@@ -23,7 +23,9 @@ bit-power m n = go (eqb m n) refl (ltb m n) refl
         ap (λ (j : ℕ). 2 ^ j / 2 ^ n % 2) e ∙ rw (pow-add 2 (suc (m - n - 1)) n, shl-shr (2 ^ suc (m - n - 1)) n, pow-suc 2 (m - n - 1)) (omega arith)
 
 xor-digit : (a b n : ℕ) → bitXor a b / 2 ^ n % 2 ≡ differ (a / 2 ^ n % 2) (b / 2 ^ n % 2)
-xor-digit a b n = rw (xor-shr a b n, xor-step (a / 2 ^ n) (b / 2 ^ n)) (digit (bitXor (a / 2 ^ n / 2) (b / 2 ^ n / 2)) (a / 2 ^ n % 2) (b / 2 ^ n % 2) (omega arith) (omega arith))
+xor-digit a b n =
+    rw (xor-shr a b n, xor-step (a / 2 ^ n) (b / 2 ^ n))
+    (digit (bitXor (a / 2 ^ n / 2) (b / 2 ^ n / 2)) (a / 2 ^ n % 2) (b / 2 ^ n % 2) (omega arith) (omega arith))
   where
     digit : (q x y : ℕ) → x < 2 → y < 2 → (q * 2 + differ x y) % 2 ≡ differ x y
     digit q zero y h k = omega arith

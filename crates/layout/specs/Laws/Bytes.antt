@@ -37,14 +37,19 @@ put-word s k v = set (set s k (v % 256)) (k + 1) (v / 256)
 pub only-word : (s : List ℕ) (k v : ℕ) → Only k 2 s (put-word s k v)
 unfolding put-word
 only-word s k v =
-    only-then (only-wider k 2 (only-set s k (v % 256)) (omega arith) (omega arith)) (only-wider k 2 (only-set (set s k (v % 256)) (k + 1) (v / 256)) (omega arith) (omega arith))
+    only-then (only-wider k 2 (only-set s k (v % 256)) (omega arith) (omega arith))
+    (only-wider k 2 (only-set (set s k (v % 256)) (k + 1) (v / 256)) (omega arith) (omega arith))
 
 pub word-put : (s : List ℕ) (k v : ℕ) → k + 1 < length s → word (put-word s k v) k ≡ v
 unfolding put-word word
 word-put s k v h =
     let a : k + 1 < length (set s k (v % 256)) = rw length-set h in
     let b : k < length s = omega arith in
-    rw (getD-set-same (set s k (v % 256)) (k + 1) (v / 256) 0 a, getD-set-other (set s k (v % 256)) (k + 1) k (v / 256) 0 (λ e. omega arith), getD-set-same s k (v % 256) 0 b)
+    rw (
+      getD-set-same (set s k (v % 256)) (k + 1) (v / 256) 0 a,
+      getD-set-other (set s k (v % 256)) (k + 1) k (v / 256) 0 (λ e. omega arith),
+      getD-set-same s k (v % 256) 0 b,
+    )
     (omega arith)
 
 -- bytes that agree give the same words and the same parts

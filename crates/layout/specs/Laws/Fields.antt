@@ -12,7 +12,8 @@ use Rattle.locks.specs.Modes.{ModeSet, no-mode, in-word}
 use Rattle.protocol.specs.State.{is-transaction, Marked}
 use Rattle.layout.specs.Lists.{modify}
 use Rattle.layout.specs.Flat.{second}
-use Rattle.layout.specs.Layout.{state-size, entry-at, cell-at, word, part, count, slot, depth, number, cell, held, decode, Entry, entry, nodes, no-entry, Sized, Layout, Kept}
+use Rattle.layout.specs.Layout.{state-size, entry-at, cell-at, word, part, count, slot, depth, number, cell, held, decode, Entry, entry, nodes}
+use Rattle.layout.specs.Layout.{no-entry, Sized, Layout, Kept}
 use Rattle.layout.specs.Fields.{field, with-field}
 use Rattle.layout.specs.Laws.Lists.{getD-set-eqb}
 use Rattle.layout.specs.Laws.Bytes.{Only, only-set, only-wider, part-at, part-set}
@@ -48,7 +49,12 @@ decode-field : (o v m : ℕ) (c : List ℕ) (h : ℕ → ModeSet) → o < 4 → 
 unfolding decode
 decode-field o v m c h l e =
     let k : o < length c = omega arith in
-    rw (drop-set-lt 6 c o v (omega arith), drop-set-lt 38 c o v (omega arith), getD-set-other c o 4 v 0 (λ q. omega arith), getD-set-other c o 5 v 0 (λ q. omega arith))
+    rw (
+      drop-set-lt 6 c o v (omega arith),
+      drop-set-lt 38 c o v (omega arith),
+      getD-set-other c o 4 v 0 (λ q. omega arith),
+      getD-set-other c o 5 v 0 (λ q. omega arith),
+    )
     (simp getD-set-eqb)
 
 sized-field : (o v : ℕ) (c : List ℕ) → o < 4 → Sized c → Sized (set c o v)
@@ -58,9 +64,11 @@ sized-field o v c l z = record {
 }
 
 -- the one law of the four
-pub field-kept : (s : List ℕ) (i o v k : ℕ) → k ≡ slot s i → Layout s → i < length (nodes s) → o < 4 → Kept s (set s (cell-at k + o) v) (modify i (second (with-field o v)) (nodes s))
+pub field-kept : (s : List ℕ) (i o v k : ℕ) → k ≡ slot s i → Layout s → i < length (nodes s) → o < 4
+    → Kept s (set s (cell-at k + o) v) (modify i (second (with-field o v)) (nodes s))
 unfolding cell
 field-kept s i o v k e h l b =
     let p : cell (set s (cell-at k + o) v) k ≡ set (cell s k) o v = part-set s (cell-at k) 70 o v (omega arith) in
-    cell-kept {k = k} (only-wider (cell-at k) 70 (only-set s (cell-at k + o) v) (omega arith) (omega arith)) h i (sym e) (omega (arith, length-nodes s)) (with-field o v)
+    cell-kept {k = k} (only-wider (cell-at k) 70 (only-set s (cell-at k + o) v) (omega arith) (omega arith)) h i (sym e)
+    (omega (arith, length-nodes s)) (with-field o v)
     (λ m g q z. rw p (decode-field o v m (cell s k) g b q)) (λ z. rw p (sized-field o v (cell s k) b z))

@@ -38,6 +38,7 @@ unfolding first
 first-passes t [] d h = absurd (omega arith)
 first-passes t (x ∷ l) d h = go (t x) refl h (first-passes t l d)
   where
-    go : (b : Bool) → t x ≡ b → cond b 0 (suc (first t l)) < suc (length l) → (first t l < length l → t (getD l (first t l) d) ≡ true) → t (getD (x ∷ l) (cond b 0 (suc (first t l))) d) ≡ true
+    go : (b : Bool) → t x ≡ b → cond b 0 (suc (first t l)) < suc (length l) → (first t l < length l → t (getD l (first t l) d) ≡ true)
+        → t (getD (x ∷ l) (cond b 0 (suc (first t l))) d) ≡ true
     go true e h r = e
     go false e h r = r (omega arith)

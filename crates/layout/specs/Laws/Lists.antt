@@ -82,12 +82,16 @@ module _ {A : Type 0} where
   modify-none (suc i) f (x ∷ xs) d h = rw (modify-none i f xs d h)
 
   -- one element of a rule changed
-  pub modify-tabulate : (n i : ℕ) (f f′ : ℕ → A) (g : A → A) → i < n → f′ i ≡ g (f i) → ((j : ℕ) → j < n → (j ≡ i → ⊥) → f′ j ≡ f j) → tabulate n f′ ≡ modify i g (tabulate n f)
+  pub modify-tabulate : (n i : ℕ) (f f′ : ℕ → A) (g : A → A) → i < n → f′ i ≡ g (f i) → ((j : ℕ) → j < n → (j ≡ i → ⊥) → f′ j ≡ f j)
+      → tabulate n f′ ≡ modify i g (tabulate n f)
   unfolding tabulate modify
   modify-tabulate zero i f f′ g h e k = absurd (omega arith)
   modify-tabulate (suc n) zero f f′ g h e k = rw (e, tabulate-same n (λ j. f′ (suc j)) (λ j. f (suc j)) (λ j l. k (suc j) (omega arith) (λ m. omega arith)))
   modify-tabulate (suc n) (suc i) f f′ g h e k =
-      rw (k 0 (omega arith) (λ m. omega arith), modify-tabulate n i (λ j. f (suc j)) (λ j. f′ (suc j)) g (omega arith) e (λ j l m. k (suc j) (omega arith) (λ o. m (omega arith))))
+      rw (
+        k 0 (omega arith) (λ m. omega arith),
+        modify-tabulate n i (λ j. f (suc j)) (λ j. f′ (suc j)) g (omega arith) e (λ j l m. k (suc j) (omega arith) (λ o. m (omega arith))),
+      )
 
 -- every element of a rule changed
 pub map-tabulate : {A B : Type 0} (n : ℕ) (f : ℕ → A) (f′ : ℕ → B) (g : A → B) → ((j : ℕ) → j < n → f′ j ≡ g (f j)) → tabulate n f′ ≡ map g (tabulate n f)

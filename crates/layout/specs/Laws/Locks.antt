@@ -11,7 +11,8 @@ use Rattle.locks.specs.Modes.{Mode, ModeSet, no-mode, in-word, LT, LC, LR, LU, 
 use Rattle.protocol.specs.State.{is-transaction, Marked, none-of}
 use Rattle.layout.specs.Lists.{tabulate, modify}
 use Rattle.layout.specs.Flat.{second}
-use Rattle.layout.specs.Layout.{state-size, cell-at, lock-at, word, part, count, slot, number, cell, held, decode, Entry, entry, nodes, no-entry, Sized, Layout, Kept}
+use Rattle.layout.specs.Layout.{state-size, cell-at, lock-at, word, part, count, slot, number, cell, held, decode, Entry, entry, nodes}
+use Rattle.layout.specs.Layout.{no-entry, Sized, Layout, Kept}
 use borrow.Author.Count.{below-more}
 use lib.Seq.{getD-set-same, getD-set-other}
 use Rattle.layout.specs.Transaction.{Loaded}
@@ -57,7 +58,8 @@ no-modes = fun-ext go
     go LICW = refl
 
 -- the word of transaction t and the node at i, whose slot is k
-pub held-at : (s : List ℕ) (t i k : ℕ) → k ≡ slot s i → 1 ≤ t → t ≤ 16 → i < length (nodes s) → in-word (word s (lock-at t k)) ≡ getD (nodes s) i no-entry .1 .held t
+pub held-at : (s : List ℕ) (t i k : ℕ) → k ≡ slot s i → 1 ≤ t → t ≤ 16 → i < length (nodes s)
+    → in-word (word s (lock-at t k)) ≡ getD (nodes s) i no-entry .1 .held t
 unfolding entry decode held
 held-at s t i k e a b l = rw (e, node-at s i (omega (arith, length-nodes s)), is-transaction-of t a b)
 
@@ -87,7 +89,8 @@ module _ (s : List ℕ) (t k w : ℕ) (a : 1 ≤ t) (b : t ≤ 16) (l : k < 1024
   held-here = fun-ext (λ u. go u (eqb u t) refl (is-transaction u) refl)
     where
       go : (u : ℕ) (x : Bool) → eqb u t ≡ x → (y : Bool) → is-transaction u ≡ y →
-          cond (is-transaction u) (in-word (word (put-word s (lock-at t k) w) (lock-at u k))) no-mode ≡ cond x (in-word w) (cond (is-transaction u) (in-word (word s (lock-at u k))) no-mode)
+          cond (is-transaction u) (in-word (word (put-word s (lock-at t k) w) (lock-at u k))) no-mode
+          ≡ cond x (in-word w) (cond (is-transaction u) (in-word (word s (lock-at u k))) no-mode)
       go u true p y q = rw (eqb-true u t p, is-transaction-of t a b, word-put s (lock-at t k) w (omega arith))
       go u false p true q = rw (q, other-word u k (transaction-low u q) l (λ z r. eqb-false u t p z))
       go u false p false q = rw q
@@ -106,7 +109,8 @@ module _ (s : List ℕ) (t k w : ℕ) (a : 1 ≤ t) (b : t ≤ 16) (l : k < 1024
   lock-cell j c = part-low only (cell-at j) 70 (omega arith)
 
 -- a lock word stored
-pub lock-kept : (s s′ : List ℕ) (t i k w : ℕ) → s′ ≡ put-word s (lock-at t k) w → k ≡ slot s i → Layout s → 1 ≤ t → t ≤ 16 → i < length (nodes s) → Kept s s′ (modify i (second (with-modes t w)) (nodes s))
+pub lock-kept : (s s′ : List ℕ) (t i k w : ℕ) → s′ ≡ put-word s (lock-at t k) w → k ≡ slot s i → Layout s → 1 ≤ t → t ≤ 16 → i < length (nodes s)
+    → Kept s s′ (modify i (second (with-modes t w)) (nodes s))
 unfolding decode
 lock-kept s s′ t i k w q e h a b l =
     let c : i < count s = omega (arith, length-nodes s) in
@@ -150,17 +154,20 @@ module _ (s s′ : List ℕ) (t p₀ : ℕ) (f : Filled p₀ 2048 (λ j. 0) s s�
   unfolding decode cell
   released-kept h =
       let in-range : (j : ℕ) → j < count s → slot s j < 1024 = λ j x. h .slots j (omega (arith, h .room)) in
-      let same : (j : ℕ) → j < count s → cell s′ (slot s j) ≡ cell s (slot s j) = λ j x. part-low (f .only) (cell-at (slot s j)) 70 (omega (arith, in-range j x)) in
+      let same : (j : ℕ) → j < count s → cell s′ (slot s j) ≡ cell s (slot s j) =
+      λ j x. part-low (f .only) (cell-at (slot s j)) 70 (omega (arith, in-range j x)) in
       kept-map (f .only) (omega arith) h (omega arith) (released t)
       (λ j x. rw (released-held (slot s j) (in-range j x), same j x)) same
 
 -- the words of t by slots
-pub loaded-of : (s : List ℕ) (t : ℕ) (modes : List ℕ) → Layout s → 1 ≤ t → t ≤ 16 → ((k : ℕ) → k < 1024 → getD modes k 0 ≡ word s (lock-at t k)) → Loaded s t modes
+pub loaded-of : (s : List ℕ) (t : ℕ) (modes : List ℕ) → Layout s → 1 ≤ t → t ≤ 16 → ((k : ℕ) → k < 1024 → getD modes k 0 ≡ word s (lock-at t k))
+    → Loaded s t modes
 loaded-of s t modes h a b f = record {
   held = λ i l. rw (f (slot s i) (h .slots i (omega (arith, length-nodes s, h .room)))) (held-at s t i (slot s i) refl a b l);
 }
 
-pub loaded-more : (f : ℕ → ℕ) (l : List ℕ) (i v : ℕ) → i < length l → ((k : ℕ) → k < i → getD l k 0 ≡ f k) → v ≡ f i → (k : ℕ) → k < i + 1 → getD (set l i v) k 0 ≡ f k
+pub loaded-more : (f : ℕ → ℕ) (l : List ℕ) (i v : ℕ) → i < length l → ((k : ℕ) → k < i → getD l k 0 ≡ f k) → v ≡ f i → (k : ℕ) → k < i + 1
+    → getD (set l i v) k 0 ≡ f k
 loaded-more f l i v h all here =
     below-more (λ (k : ℕ). getD (set l i v) k 0 ≡ f k) i (λ k lt. getD-set-other l i k v 0 (λ e. omega arith) ∙ all k lt) (getD-set-same l i v 0 h ∙ here)
 
@@ -189,9 +196,13 @@ not-transaction u h = go (is-transaction u) refl
     go true e = absurd (h (transaction-low u e) (transaction-high u e))
     go false e = refl
 
+-- a with other modes
+abbrev holding : Marked → (ℕ → ModeSet) → Marked
+holding a f = record { now = a .now; before = a .before; writer = a .writer; inserter = a .inserter; deleter = a .deleter; held = f }
+
 cleared-none : (a : Marked) → a .held 0 ≡ no-mode → cleared 1 a ≡ a
 unfolding cleared
-cleared-none a h = ap (λ (f : ℕ → ModeSet). record { now = a .now; before = a .before; writer = a .writer; inserter = a .inserter; deleter = a .deleter; held = f }) (fun-ext go)
+cleared-none a h = ap (holding a) (fun-ext go)
   where
     go : (u : ℕ) → cond (ltb u 1) no-mode (a .held u) ≡ a .held u
     go zero = sym h
@@ -199,16 +210,17 @@ cleared-none a h = ap (λ (f : ℕ → ModeSet). record { now = a .now; before =
 
 cleared-more : (t : ℕ) (a : Marked) → with-modes t 0 (cleared t a) ≡ cleared (t + 1) a
 unfolding cleared
-cleared-more t a = ap (λ (f : ℕ → ModeSet). record { now = a .now; before = a .before; writer = a .writer; inserter = a .inserter; deleter = a .deleter; held = f }) (fun-ext (λ u. go u (eqb u t) refl (ltb u t) refl))
+cleared-more t a = ap (holding a) (fun-ext (λ u. go u (eqb u t) refl (ltb u t) refl))
   where
-    go : (u : ℕ) (x : Bool) → eqb u t ≡ x → (y : Bool) → ltb u t ≡ y → cond (eqb u t) (in-word 0) (cond (ltb u t) no-mode (a .held u)) ≡ cond (ltb u (t + 1)) no-mode (a .held u)
+    go : (u : ℕ) (x : Bool) → eqb u t ≡ x → (y : Bool) → ltb u t ≡ y
+        → cond (eqb u t) (in-word 0) (cond (ltb u t) no-mode (a .held u)) ≡ cond (ltb u (t + 1)) no-mode (a .held u)
     go u true p y q = rw (p, no-modes, lt-ltb u (t + 1) (omega (arith, eqb-true u t p)))
     go u false p true q = rw (p, q, lt-ltb u (t + 1) (omega (arith, ltb-true u t q)))
     go u false p false q = let ne : u ≡ t → ⊥ = eqb-false u t p in rw (p, q, le-ltb u (t + 1) (omega (arith, ltb-false u t q, ne)))
 
 cleared-all : (a : Marked) → ((u : ℕ) → is-transaction u ≡ false → a .held u ≡ no-mode) → cleared 17 a ≡ unlocked a
 unfolding cleared
-cleared-all a h = ap (λ (f : ℕ → ModeSet). record { now = a .now; before = a .before; writer = a .writer; inserter = a .inserter; deleter = a .deleter; held = f }) (fun-ext (λ u. go u (ltb u 17) refl))
+cleared-all a h = ap (holding a) (fun-ext (λ u. go u (ltb u 17) refl))
   where
     go : (u : ℕ) (x : Bool) → ltb u 17 ≡ x → cond x no-mode (a .held u) ≡ no-mode
     go u true p = refl
@@ -216,14 +228,21 @@ cleared-all a h = ap (λ (f : ℕ → ModeSet). record { now = a .now; before = 
 
 -- the loop: start, a turn, the end
 pub clear-start : (s : List ℕ) (i : ℕ) → Layout s → i < length (nodes s) → Kept s s (modify i (second (cleared 1)) (nodes s))
-clear-start s i h l = kept-as _ _ (sym (modify-none i (second (cleared 1)) (nodes s) no-entry (rw (cleared-none (getD (nodes s) i no-entry .1) (held-none s i 0 l refl))))) (kept-same s h)
+clear-start s i h l =
+    kept-as _ _
+    (sym (modify-none i (second (cleared 1)) (nodes s) no-entry (rw (cleared-none (getD (nodes s) i no-entry .1) (held-none s i 0 l refl)))))
+    (kept-same s h)
 
-pub clear-turn : {s s′ s″ : List ℕ} (i t : ℕ) → Kept s s′ (modify i (second (cleared t)) (nodes s)) → Kept s′ s″ (modify i (second (with-modes t 0)) (nodes s′)) → Kept s s″ (modify i (second (cleared (t + 1))) (nodes s))
+pub clear-turn : {s s′ s″ : List ℕ} (i t : ℕ) → Kept s s′ (modify i (second (cleared t)) (nodes s))
+    → Kept s′ s″ (modify i (second (with-modes t 0)) (nodes s′)) → Kept s s″ (modify i (second (cleared (t + 1))) (nodes s))
 clear-turn {s} i t a b =
-    kept-as _ _ (modify-modify i (second (with-modes t 0)) (second (cleared t)) (nodes s) ∙ modify-same i _ (second (cleared (t + 1))) (nodes s) no-entry (rw (cleared-more t (getD (nodes s) i no-entry .1))))
+    kept-as _ _ (modify-modify i (second (with-modes t 0)) (second (cleared t)) (nodes s)
+    ∙ modify-same i _ (second (cleared (t + 1))) (nodes s) no-entry (rw (cleared-more t (getD (nodes s) i no-entry .1))))
     (kept-then (modify i (second (cleared t)) (nodes s)) (modify i (second (with-modes t 0))) a b)
 
-pub clear-done : {s s′ : List ℕ} (i t : ℕ) → i < length (nodes s) → t ≡ 17 → Kept s s′ (modify i (second (cleared t)) (nodes s)) → Kept s s′ (modify i (second unlocked) (nodes s))
+pub clear-done : {s s′ : List ℕ} (i t : ℕ) → i < length (nodes s) → t ≡ 17 → Kept s s′ (modify i (second (cleared t)) (nodes s))
+    → Kept s s′ (modify i (second unlocked) (nodes s))
 clear-done {s} {s′} i t l e a =
     let b : Kept s s′ (modify i (second (cleared 17)) (nodes s)) = rw e at a in
-    kept-as _ _ (modify-same i (second (cleared 17)) (second unlocked) (nodes s) no-entry (rw (cleared-all (getD (nodes s) i no-entry .1) (λ u x. held-none s i u l x)))) b
+    kept-as _ _ (modify-same i (second (cleared 17)) (second unlocked) (nodes s) no-entry
+    (rw (cleared-all (getD (nodes s) i no-entry .1) (λ u x. held-none s i u l x)))) b

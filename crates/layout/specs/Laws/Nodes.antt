@@ -11,7 +11,8 @@ use Rattle.locks.specs.Modes.{ModeSet, no-mode, in-word}
 use Rattle.protocol.specs.State.{is-transaction, Marked}
 use Rattle.layout.specs.Lists.{tabulate, modify}
 use Rattle.layout.specs.Flat.{second}
-use Rattle.layout.specs.Layout.{state-size, open-at, entry-at, cell-at, lock-at, word, part, count, slot, depth, number, cell, is-open, held, decode, Entry, entry, nodes, no-entry, Sized, Layout, Left, Kept}
+use Rattle.layout.specs.Layout.{state-size, open-at, entry-at, cell-at, lock-at, word, part, count, slot, depth, number, cell, is-open, held}
+use Rattle.layout.specs.Layout.{decode, Entry, entry, nodes, no-entry, Sized, Layout, Left, Kept}
 use Rattle.layout.specs.Laws.Lists.{length-tabulate, getD-tabulate, tabulate-same, modify-tabulate, map-tabulate}
 use Rattle.layout.specs.Laws.Bytes.{Only, word-low, word-high, part-low, part-high, part-same, drop-high, length-part, part-at, part-set}
 
@@ -56,7 +57,8 @@ module _ {k n : ℕ} {s s′ : List ℕ} (o : Only k n s s′) (low : cell-at 0 
   entry-as i h = rw (same-slot i h, same-depth i h, same-number i h)
 
   -- one law for every change of nodes
-  pub kept-all : Layout s → k + n ≤ state-size → (ns : List Entry) → tabulate (count s) (entry s′) ≡ ns → ((j : ℕ) → j < count s → Sized (cell s′ (slot s j))) → Kept s s′ ns
+  pub kept-all : Layout s → k + n ≤ state-size → (ns : List Entry) → tabulate (count s) (entry s′) ≡ ns
+      → ((j : ℕ) → j < count s → Sized (cell s′ (slot s j))) → Kept s s′ ns
   unfolding nodes
   kept-all h b ns e z =
       record {
@@ -98,7 +100,8 @@ module _ {k n : ℕ} {s s′ : List ℕ} (o : Only k n s s′) (low : cell-at 0 
   -- of every node alike
   pub kept-map :
       Layout s → k + n ≤ state-size → (g : Marked → Marked) →
-      ((j : ℕ) → j < count s → decode (number s j) (cell s′ (slot s j)) (held s′ (slot s j)) ≡ g (decode (number s j) (cell s (slot s j)) (held s (slot s j)))) →
+      ((j : ℕ) → j < count s → decode (number s j) (cell s′ (slot s j)) (held s′ (slot s j))
+      ≡ g (decode (number s j) (cell s (slot s j)) (held s (slot s j)))) →
       ((j : ℕ) → j < count s → cell s′ (slot s j) ≡ cell s (slot s j)) → Kept s s′ (map (second g) (nodes s))
   unfolding nodes entry
   kept-map h b g here same =
@@ -109,11 +112,13 @@ module _ {k n : ℕ} {s s′ : List ℕ} (o : Only k n s s′) (low : cell-at 0 
 
   -- of none
   pub kept-none :
-      Layout s → k + n ≤ state-size → ((j : ℕ) → j < count s → (cell s′ (slot s j) ≡ cell s (slot s j)) × (held s′ (slot s j) ≡ held s (slot s j))) → Kept s s′ (nodes s)
+      Layout s → k + n ≤ state-size → ((j : ℕ) → j < count s → (cell s′ (slot s j) ≡ cell s (slot s j)) × (held s′ (slot s j) ≡ held s (slot s j)))
+      → Kept s s′ (nodes s)
   unfolding nodes entry
   kept-none h b same =
       let m : count s ≤ 1024 = h .room in
-      kept-all h b (nodes s) (tabulate-same (count s) (entry s′) (entry s) (λ j x. entry-as j (omega arith) ∙ rw (same j x .0, same j x .1))) (λ j x. rw (same j x .0) (h .sizes j x))
+      kept-all h b (nodes s) (tabulate-same (count s) (entry s′) (entry s) (λ j x. entry-as j (omega arith) ∙ rw (same j x .0, same j x .1)))
+      (λ j x. rw (same j x .0) (h .sizes j x))
 
 -- a store to one cell --------------------------------------------------------------------
 

@@ -10,7 +10,8 @@ use lib.Dec.{eqb}
 use borrow.Author.Tests.{eqb-true, eqb-false, eq-eqb, ne-eqb}
 use Rattle.locks.specs.Words.{bit}
 use Rattle.protocol.specs.State.{is-transaction}
-use Rattle.layout.specs.Layout.{state-size, open-at, entry-at, cell-at, lock-at, word, part, count, slot, depth, number, cell, is-open, held, decode, Entry, entry, nodes, Sized, Layout, Left}
+use Rattle.layout.specs.Layout.{state-size, open-at, entry-at, cell-at, lock-at, word, part, count, slot, depth, number, cell, is-open, held}
+use Rattle.layout.specs.Layout.{decode, Entry, entry, nodes, Sized, Layout, Left}
 use Rattle.layout.specs.Laws.Lists.{tabulate-same}
 use Rattle.layout.specs.Laws.Bytes.{Only, only-word, put-word, word-put, word-high, part-low, part-high, drop-high}
 use Rattle.layout.specs.Laws.Nodes.{length-nodes}
@@ -30,7 +31,8 @@ module _ (s s′ : List ℕ) (o : Only open-at 2 s s′) where
   unfolding entry depth number held
   same-entry i =
       let h : held s′ (slot s i) ≡ held s (slot s i) = fun-ext (λ t. rw (word-high o (lock-at t (slot s i)) (omega arith))) in
-      rw (same-slot i, same-cell (slot s i), word-high o (entry-at i + 2) (omega arith), word-high o (entry-at i + 4) (omega arith)) (ap (λ m. (depth s i, decode (number s i) (cell s (slot s i)) m)) h)
+      rw (same-slot i, same-cell (slot s i), word-high o (entry-at i + 2) (omega arith), word-high o (entry-at i + 4) (omega arith))
+      (ap (λ m. (depth s i, decode (number s i) (cell s (slot s i)) m)) h)
 
   pub opens-left : Layout s → (flags : ℕ → Bool) → is-open s′ ≡ flags → Left s s′ flags (nodes s)
   unfolding nodes count
@@ -57,7 +59,9 @@ module _ (s : List ℕ) (t m : ℕ) (e : m ≡ t - 1) (a : 1 ≤ t) (b : t ≤ 1
   -- one transaction opened that was not open, or closed that was
   turned : is-open (put-word s open-at (bitXor (word s open-at) (2 ^ m))) ≡ (λ u. cond (eqb u t) (not (is-open s t)) (is-open s u))
   unfolding is-open
-  turned = fun-ext (λ u. rw (word-put s open-at (bitXor (word s open-at) (2 ^ m)) (omega (arith, h .size)), bit-xor (word s open-at) m (u - 1), e) (go u (eqb u t) refl (is-transaction u) refl))
+  turned =
+      fun-ext (λ u. rw (word-put s open-at (bitXor (word s open-at) (2 ^ m)) (omega (arith, h .size)), bit-xor (word s open-at) m (u - 1), e)
+      (go u (eqb u t) refl (is-transaction u) refl))
     where
       go : (u : ℕ) (x : Bool) → eqb u t ≡ x → (y : Bool) → is-transaction u ≡ y →
           cond (is-transaction u) (cond (eqb (t - 1) (u - 1)) (not (bit (word s open-at) (t - 1))) (bit (word s open-at) (u - 1))) false ≡
@@ -67,13 +71,15 @@ module _ (s : List ℕ) (t m : ℕ) (e : m ≡ t - 1) (a : 1 ≤ t) (b : t ≤ 1
       go u false p false q = rw q
 
 -- w is the word that was read, p the transaction's bit
-module _ (s s′ : List ℕ) (t w p : ℕ) (e : s′ ≡ put-word s open-at (bitXor w p)) (x : w ≡ word s open-at) (y : p ≡ 2 ^ (t - 1)) (h : Layout s) (a : 1 ≤ t) (b : t ≤ 16) where
+module _ (s s′ : List ℕ) (t w p : ℕ) (e : s′ ≡ put-word s open-at (bitXor w p)) (x : w ≡ word s open-at) (y : p ≡ 2 ^ (t - 1)) (h : Layout s)
+    (a : 1 ≤ t) (b : t ≤ 16) where
   stored : s′ ≡ put-word s open-at (bitXor (word s open-at) (2 ^ (t - 1)))
   stored = e ∙ rw (x, y)
 
   pub opened-left : is-open s t ≡ false → Left s s′ (λ u. eqb u t || is-open s u) (nodes s)
   opened-left f =
-      rw stored (opens-left s _ (only-word s open-at (bitXor (word s open-at) (2 ^ (t - 1)))) h _ (turned s t (t - 1) refl a b h ∙ fun-ext (λ u. rw f (go u (eqb u t)))))
+      rw stored (opens-left s _ (only-word s open-at (bitXor (word s open-at) (2 ^ (t - 1)))) h _
+      (turned s t (t - 1) refl a b h ∙ fun-ext (λ u. rw f (go u (eqb u t)))))
     where
       go : (u : ℕ) (x : Bool) → cond x true (is-open s u) ≡ (x || is-open s u)
       go u true = refl
@@ -81,7 +87,8 @@ module _ (s s′ : List ℕ) (t w p : ℕ) (e : s′ ≡ put-word s open-at (bit
 
   pub closed-left : is-open s t ≡ true → Left s s′ (λ u. not (eqb u t) && is-open s u) (nodes s)
   closed-left f =
-      rw stored (opens-left s _ (only-word s open-at (bitXor (word s open-at) (2 ^ (t - 1)))) h _ (turned s t (t - 1) refl a b h ∙ fun-ext (λ u. rw f (go u (eqb u t)))))
+      rw stored (opens-left s _ (only-word s open-at (bitXor (word s open-at) (2 ^ (t - 1)))) h _
+      (turned s t (t - 1) refl a b h ∙ fun-ext (λ u. rw f (go u (eqb u t)))))
     where
       go : (u : ℕ) (x : Bool) → cond x false (is-open s u) ≡ (not x && is-open s u)
       go u true = refl

@@ -43,7 +43,8 @@ length-stored o c l e z =
 
 byte-stored : (o j : ℕ) (c : List ℕ) → o < 2 → Sized c → j < getD c (4 + o) 0 → getD (stored o c) j 0 ≡ getD c (6 + 32 * o + j) 0
 byte-stored o j c l z k =
-    getD-take (getD c (4 + o) 0) (take 32 (drop (6 + 32 * o) c)) j 0 k ∙ getD-take 32 (drop (6 + 32 * o) c) j 0 (omega (arith, size-stored o c l z)) ∙ getD-drop (6 + 32 * o) c j 0
+    getD-take (getD c (4 + o) 0) (take 32 (drop (6 + 32 * o) c)) j 0 k ∙ getD-take 32 (drop (6 + 32 * o) c) j 0 (omega (arith, size-stored o c l z))
+    ∙ getD-drop (6 + 32 * o) c j 0
 
 -- reading: k is the slot of the node at i
 module _ (s : List ℕ) (i o k : ℕ) (e : k ≡ slot s i) (h : Layout s) (l : i < length (nodes s)) (b : o < 2) where
@@ -64,7 +65,8 @@ module _ (s : List ℕ) (i o k : ℕ) (e : k ≡ slot s i) (h : Layout s) (l : i
   size-at =
       rw (text-is, length-stored o (cell s k) b (length-cell s k (h .size) in-range) sized, add-assoc (cell-at k) 4 o) (cell-byte s k (4 + o) (omega arith))
 
-  pub byte-at : (j : ℕ) → j < length (text o (getD (nodes s) i no-entry .1)) → getD s (cell-at k + 6 + 32 * o + j) 0 ≡ getD (text o (getD (nodes s) i no-entry .1)) j 0
+  pub byte-at : (j : ℕ) → j < length (text o (getD (nodes s) i no-entry .1))
+      → getD s (cell-at k + 6 + 32 * o + j) 0 ≡ getD (text o (getD (nodes s) i no-entry .1)) j 0
   byte-at j q =
       let n : length (stored o (cell s k)) ≡ getD (cell s k) (4 + o) 0 = length-stored o (cell s k) b (length-cell s k (h .size) in-range) sized in
       let r : j < length (stored o (cell s k)) = rw text-is at q in
@@ -110,17 +112,22 @@ text-kept s s″ i o k x n v b e h l q a p w f g =
     let r : k < 1024 = in-range s i o k e h l q in
     let s′ : List ℕ = set s (cell-at k + 4 + o) x in
     let u : Only (cell-at k + 4 + o) 1 s s′ = only-set s (cell-at k + 4 + o) x in
-    let y : Only (cell-at k) 70 s s″ = only-then (only-wider (cell-at k) 70 u (omega arith) (omega arith)) (only-wider (cell-at k) 70 (f .only) (omega arith) (omega arith)) in
+    let y : Only (cell-at k) 70 s s″ =
+    only-then (only-wider (cell-at k) 70 u (omega arith) (omega arith)) (only-wider (cell-at k) 70 (f .only) (omega arith) (omega arith)) in
     let same : (j : ℕ) → j < 70 → getD s″ (cell-at k + j) 0 ≡ getD s (cell-at k + j) 0 → getD (cell s″ k) j 0 ≡ getD (cell s k) j 0 =
     λ j m z. sym (cell-byte s″ k j m) ∙ z ∙ cell-byte s k j m in
-    let early : (j : ℕ) → j < 4 + o → getD s″ (cell-at k + j) 0 ≡ getD s (cell-at k + j) 0 = λ j m. f .only .low (cell-at k + j) (omega arith) ∙ u .low (cell-at k + j) (omega arith) in
+    let early : (j : ℕ) → j < 4 + o → getD s″ (cell-at k + j) 0 ≡ getD s (cell-at k + j) 0 =
+    λ j m. f .only .low (cell-at k + j) (omega arith) ∙ u .low (cell-at k + j) (omega arith) in
     let sizes : getD (cell s″ k) (5 - o) 0 ≡ getD (cell s k) (5 - o) 0 =
-    same (5 - o) (omega arith) (f .only .low (cell-at k + (5 - o)) (omega arith) ∙ getD-set-other s (cell-at k + 4 + o) (cell-at k + (5 - o)) x 0 (λ z. omega arith)) in
+    same (5 - o) (omega arith)
+    (f .only .low (cell-at k + (5 - o)) (omega arith) ∙ getD-set-other s (cell-at k + 4 + o) (cell-at k + (5 - o)) x 0 (λ z. omega arith)) in
     let size : getD (cell s″ k) (4 + o) 0 ≡ length b =
     sym (cell-byte s″ k (4 + o) (omega arith)) ∙ f .only .low (cell-at k + (4 + o)) (omega arith)
     ∙ rw (← add-assoc (cell-at k) 4 o) (getD-set-same s (cell-at k + 4 + o) x 0 (omega (arith, h .size)) ∙ a) in
     let long : length (cell s″ k) ≡ 70 = length-cell s″ k (rw (y .long) (h .size)) r in
-    let is : stored o (cell s″ k) ≡ b = stored-is o (cell s″ k) b q long (omega arith) size (λ j z. sym (cell-byte s″ k (6 + 32 * o + j) (omega arith)) ∙ rw (far j) (f .bytes j (omega arith) ∙ g j z)) in
+    let is : stored o (cell s″ k) ≡ b =
+    stored-is o (cell s″ k) b q long (omega arith) size
+    (λ j z. sym (cell-byte s″ k (6 + 32 * o + j) (omega arith)) ∙ rw (far j) (f .bytes j (omega arith) ∙ g j z)) in
     cell-kept y h i (sym e) (here s i o k e h l q) (with-text o b)
     (λ m held t z. decode-text o m (cell s k) (cell s″ k) b held q (λ j c. same j (omega arith) (early j (omega arith))) sizes (other t long) is)
     (λ z. sized-text o (cell s k) (cell s″ k) q sizes (omega arith) z)
@@ -128,22 +135,30 @@ text-kept s s″ i o k x n v b e h l q a p w f g =
     far : (j : ℕ) → cell-at k + (6 + 32 * o + j) ≡ cell-at k + 6 + 32 * o + j
     far j = omega arith
 
-    behind : (j : ℕ) → j < 70 → 6 ≤ j → (t : Bool) → ltb j (6 + 32 * o) ≡ t → (6 + 32 * o ≤ j → 38 + 32 * o ≤ j) → getD s″ (cell-at k + j) 0 ≡ getD s (cell-at k + j) 0
-    behind j c d true y z = f .only .low (cell-at k + j) (omega (arith, ltb-true j (6 + 32 * o) y)) ∙ getD-set-other s (cell-at k + 4 + o) (cell-at k + j) x 0 (λ z. omega arith)
+    behind : (j : ℕ) → j < 70 → 6 ≤ j → (t : Bool) → ltb j (6 + 32 * o) ≡ t → (6 + 32 * o ≤ j → 38 + 32 * o ≤ j)
+        → getD s″ (cell-at k + j) 0 ≡ getD s (cell-at k + j) 0
+    behind j c d true y z =
+        f .only .low (cell-at k + j) (omega (arith, ltb-true j (6 + 32 * o) y))
+        ∙ getD-set-other s (cell-at k + 4 + o) (cell-at k + j) x 0 (λ z. omega arith)
     behind j c d false y z =
-        f .only .high (cell-at k + j) (omega (arith, z (ltb-false j (6 + 32 * o) y))) ∙ getD-set-other s (cell-at k + 4 + o) (cell-at k + j) x 0 (λ z. omega arith)
+        f .only .high (cell-at k + j) (omega (arith, z (ltb-false j (6 + 32 * o) y)))
+        ∙ getD-set-other s (cell-at k + 4 + o) (cell-at k + j) x 0 (λ z. omega arith)
 
     other : length (cell s k) ≡ 70 → length (cell s″ k) ≡ 70 → take 32 (drop (38 - 32 * o) (cell s″ k)) ≡ take 32 (drop (38 - 32 * o) (cell s k))
     other t u =
         part-same (cell s k) (cell s″ k) (38 - 32 * o) 32 (u ∙ sym t)
-        (λ j c d. sym (cell-byte s″ k j (omega arith)) ∙ behind j (omega arith) (omega arith) (ltb j (6 + 32 * o)) refl (λ z. omega arith) ∙ cell-byte s k j (omega arith))
+        (λ j c d. sym (cell-byte s″ k j (omega arith))
+        ∙ behind j (omega arith) (omega arith) (ltb j (6 + 32 * o)) refl (λ z. omega arith)
+        ∙ cell-byte s k j (omega arith))
 
 -- the same with its places as the code has them: p that of the size, q that of the bytes
-pub stored-kept : (s s″ : List ℕ) (i o k x p q n : ℕ) (v : ℕ → ℕ) (b : List ℕ) → k ≡ slot s i → Filled q n v (set s p x) s″ → p ≡ cell-at k + 4 + o → q ≡ cell-at k + 6 + 32 * o →
+pub stored-kept : (s s″ : List ℕ) (i o k x p q n : ℕ) (v : ℕ → ℕ) (b : List ℕ) → k ≡ slot s i →
+    Filled q n v (set s p x) s″ → p ≡ cell-at k + 4 + o → q ≡ cell-at k + 6 + 32 * o →
     Layout s → i < length (nodes s) → o < 2 → x ≡ length b → length b ≤ n → n ≤ 32 → ((j : ℕ) → j < length b → v j ≡ getD b j 0) →
     Kept s s″ (modify i (second (with-text o b)) (nodes s))
 stored-kept s s″ i o k x p q n v b e f y z h l u w c d g =
-    text-kept s s″ i o k x n v b e h l u w c d (subst (λ (m : ℕ). Filled (cell-at k + 6 + 32 * o) n v (set s m x) s″) y (subst (λ (m : ℕ). Filled m n v (set s p x) s″) z f)) g
+    text-kept s s″ i o k x n v b e h l u w c d
+    (subst (λ (m : ℕ). Filled (cell-at k + 6 + 32 * o) n v (set s m x) s″) y (subst (λ (m : ℕ). Filled m n v (set s p x) s″) z f)) g
 
 -- the content o of the node stored as its content o′, from the places p and q
 pub copied-kept : (s s″ : List ℕ) (i o o′ k p q p′ q′ : ℕ) → k ≡ slot s i →
@@ -153,6 +168,8 @@ pub copied-kept : (s s″ : List ℕ) (i o o′ k p q p′ q′ : ℕ) → k ≡
 copied-kept s s″ i o o′ k p q p′ q′ e f y z y′ z′ h l a c =
     let b : List ℕ = text o (getD (nodes s) i no-entry .1) in
     let x : getD s p 0 ≡ length b = ap (λ (m : ℕ). getD s m 0) y ∙ size-at s i o k e h l a in
-    let t = stored-kept s s″ i o′ k (getD s p 0) p′ q′ 32 (λ j. getD (set s p′ (getD s p 0)) (q + j) 0) b e f y′ z′ h l c x (size-small s i o k e h l a) (omega arith)
-    (λ j w. getD-set-other s p′ (q + j) (getD s p 0) 0 (λ r. omega (arith, size-small s i o k e h l a)) ∙ ap (λ (m : ℕ). getD s (m + j) 0) z ∙ byte-at s i o k e h l a j w) in
+    let small : length b ≤ 32 = size-small s i o k e h l a in
+    let bytes : (j : ℕ) → j < length b → getD (set s p′ (getD s p 0)) (q + j) 0 ≡ getD b j 0 =
+    λ j w. getD-set-other s p′ (q + j) (getD s p 0) 0 (λ r. omega arith) ∙ ap (λ (m : ℕ). getD s (m + j) 0) z ∙ byte-at s i o k e h l a j w in
+    let t = stored-kept s s″ i o′ k (getD s p 0) p′ q′ 32 (λ j. getD (set s p′ (getD s p 0)) (q + j) 0) b e f y′ z′ h l c x small (omega arith) bytes in
     subst (λ (ns : List Entry). Kept s s″ ns) (modify-same i (second (with-text o′ b)) (second (λ a. with-text o′ (text o a) a)) (nodes s) no-entry refl) t

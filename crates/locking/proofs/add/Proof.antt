@@ -27,7 +27,11 @@ same-length c = search needs
 
 -- src/lib.rt:120:1
 returns : tie.Need-returns
-returns c = add-kept _ _ _ _ _ (c .before .before .before .before .before .lock .ensures) (c .before .before .before .union .ensures) (c .before .before .set-lock .ensures)
+returns c =
+    let lock = c .before .before .before .before .before .lock in
+    let union = c .before .before .before .union in
+    let set-lock = c .before .before .set-lock in
+    add-kept _ _ _ _ _ (lock .ensures) (union .ensures) (set-lock .ensures)
 
 pub add-spec : {M : Type 1} → statement M
 add-spec = tie.close (tie.spec lock-requires union-requires set-lock-requires same-length returns)

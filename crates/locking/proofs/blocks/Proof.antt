@@ -28,7 +28,11 @@ touches-requires c κs = search needs
 
 -- src/lib.rt:88:1
 returns-3 : tie.Need-returns-3
-returns-3 c = c .touches .ensures ∙ blocks-other _ _ _ _ _ (sym (c .before .before .before .is-open .ensures) ∙ not-false _ (c .before .before .if1 .left)) (c .before .if2 .left)
+returns-3 c =
+    let is-open = c .before .before .before .is-open in
+    let if1 = c .before .before .if1 in
+    let if2 = c .before .if2 in
+    c .touches .ensures ∙ blocks-other _ _ _ _ _ (sym (is-open .ensures) ∙ not-false _ (if1 .left)) (if2 .left)
 
 pub blocks-spec : {M : Type 1} → statement M
 blocks-spec = tie.close (tie.spec is-open-requires returns returns-2 touches-requires returns-3)

@@ -38,7 +38,12 @@ element-copy-out-add c = omega (arith, c .before .before .before .before .before
 
 -- src/lib.rt:137:19
 cast-add : tie.Need-cast-add Inv-loop μ-loop
-cast-add c = record { fits = omega (arith, granting-inside (c .before .before .before .before .before .before .pre .3) (c .before .before .before .loop .inv .1) (search needs), c .before .before .before .loop .inv .1 .kept .layout .room, c .before .before .before .loop .inv .1 .kept .layout .many) }
+cast-add c =
+    let pre = c .before .before .before .before .before .before .pre in
+    let l = c .before .before .before .loop in
+    let inside = granting-inside (pre .3) (l .inv .1) (search needs) in
+    let layout = l .inv .1 .kept .layout in
+    record { fits = omega (arith, inside, layout .room, layout .many) }
 
 -- src/lib.rt:137:43
 word-at-requires : tie.Need-word-at-requires Inv-loop μ-loop
@@ -46,7 +51,10 @@ word-at-requires c κs = search needs
 
 -- src/lib.rt:137:9
 add-requires : tie.Need-add-requires Inv-loop μ-loop
-add-requires c κs = (c .before .before .before .before .loop .inv .1 .kept .layout, search needs, search needs, granting-inside (c .before .before .before .before .before .before .before .pre .3) (c .before .before .before .before .loop .inv .1) (search needs))
+add-requires c κs =
+    let pre = c .before .before .before .before .before .before .before .pre in
+    let l = c .before .before .before .before .loop in
+    (l .inv .1 .kept .layout, search needs, search needs, granting-inside (pre .3) (l .inv .1) (search needs))
 
 -- src/lib.rt:138:9
 add-j : tie.Need-add-j Inv-loop μ-loop
@@ -58,7 +66,13 @@ loop-less c = search needs
 
 -- src/lib.rt:136:5
 loop-again : tie.Need-loop-again Inv-loop μ-loop
-loop-again c = (search needs, granting-turn (c .before .before .before .before .before .before .before .before .before .before .pre .3) (c .before .before .before .before .before .before .before .loop .inv .1) _ (search needs) (c .before .before .before .word-at .ensures) (c .before .before .add .ensures))
+loop-again c =
+    let c8 = c .before .before .before .before .before .before .before .before in
+    let pre = c8 .before .before .pre in
+    let l = c .before .before .before .before .before .before .before .loop in
+    let word-at = c .before .before .before .word-at in
+    let add = c .before .before .add in
+    (search needs, granting-turn (pre .3) (l .inv .1) _ (search needs) (word-at .ensures) (add .ensures))
 
 -- src/lib.rt:129:1
 same-length : tie.Need-same-length Inv-loop μ-loop
@@ -67,7 +81,12 @@ same-length c = search needs
 -- src/lib.rt:129:1
 returns : tie.Need-returns Inv-loop μ-loop
 unfolding need-words
-returns c = granting-done (c .before .before .before .before .pre .3) (c .before .loop .inv .1) _ (need-sets (step-named (c .before .before .before .before .args .step))) (c .before .before .needed .ensures) (search needs)
+returns c =
+    let pre = c .before .before .before .before .pre in
+    let args = c .before .before .before .before .args in
+    let needed = c .before .before .needed in
+    let l = c .before .loop in
+    granting-done (pre .3) (l .inv .1) _ (need-sets (step-named (args .step))) (needed .ensures) (search needs)
 
 pub grant-spec : {M : Type 1} → statement M
 grant-spec =

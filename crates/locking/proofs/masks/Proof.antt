@@ -22,7 +22,16 @@ mask-requires-3 c κs = search needs
 
 -- src/lib.rt:59:1
 returns : tie.Need-returns
-returns c = (rw (c .before .before .mask .ensures, c .before .mask2 .ensures, c .mask3 .ensures), record { node = rw (c .before .before .mask .ensures) (mask-small _); parent = rw (c .before .mask2 .ensures) (mask-small _); above = rw (c .mask3 .ensures) (mask-small _) })
+returns c =
+    let mask = c .before .before .mask in
+    let mask2 = c .before .mask2 in (
+      rw (mask .ensures, mask2 .ensures, c .mask3 .ensures),
+      record {
+        node = rw (mask .ensures) (mask-small _);
+        parent = rw (mask2 .ensures) (mask-small _);
+        above = rw (c .mask3 .ensures) (mask-small _);
+      },
+    )
 
 pub masks-spec : {M : Type 1} → statement M
 masks-spec = tie.close (tie.spec mask-requires mask-requires-2 mask-requires-3 returns)

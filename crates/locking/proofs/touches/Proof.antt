@@ -40,11 +40,17 @@ element-copy-out-slot c = omega (arith, c .before .before .before .before .pre .
 
 -- src/lib.rt:79:32
 cast-slot : tie.Need-cast-slot Inv-loop μ-loop
-cast-slot c = record { fits = omega (arith, c .before .before .before .before .before .pre .4 .inside (c .before .before .loop .j) (search needs), c .before .before .before .before .before .pre .0 .room, c .before .before .before .before .before .pre .0 .many) }
+cast-slot c =
+    let pre = c .before .before .before .before .before .pre in
+    let l = c .before .before .loop in
+    record { fits = omega (arith, pre .4 .inside (l .j) (search needs), pre .0 .room, pre .0 .many) }
 
 -- src/lib.rt:79:13
 slot-requires : tie.Need-slot-requires Inv-loop μ-loop
-slot-requires c κs = (search needs, omega (arith, c .before .before .before .before .before .pre .4 .inside (c .before .before .loop .j) (search needs), c .before .before .before .before .before .pre .0 .room, c .before .before .before .before .before .pre .0 .many))
+slot-requires c κs =
+    let pre = c .before .before .before .before .before .pre in
+    let l = c .before .before .loop in
+    (search needs, omega (arith, pre .4 .inside (l .j) (search needs), pre .0 .room, pre .0 .many))
 
 -- src/lib.rt:80:25
 mul-share : tie.Need-mul-share Inv-loop μ-loop
@@ -60,11 +66,24 @@ word-at-requires c κs = search needs
 
 -- src/lib.rt:80:12
 share-requires : tie.Need-share-requires Inv-loop μ-loop
-share-requires c κs = rw (c .word-at .ensures) (words-small _ (c .before .before .before .before .before .before .before .before .pre .3) (c .before .before .before .before .before .loop .j))
+share-requires c κs =
+    let pre = c .before .before .before .before .before .before .before .before .pre in
+    let l = c .before .before .before .before .before .loop in
+    rw (c .word-at .ensures) (words-small _ (pre .3) (l .j))
 
 -- src/lib.rt:81:13
 returns : tie.Need-returns Inv-loop μ-loop
-returns c = let j = c .before .before .before .before .before .before .before .loop .j in touch-found (c .before .before .before .before .before .before .before .before .before .before .pre .4) _ _ j (c .before .before .before .before .before .before .before .loop .inv) (search needs) (touches-word (c .before .before .before .before .before .before .before .before .load .ensures) _ _ _ _ _ (c .before .before .before .before .before .before .before .before .before .before .pre .4 .inside j (search needs)) (c .before .before .before .before .slot .ensures .0) (c .before .before .word-at .ensures) (c .before .share .ensures) ∙ c .if1 .taken)
+returns c =
+    let c8 = c .before .before .before .before .before .before .before .before in
+    let pre = c8 .before .before .pre in
+    let load = c8 .load in
+    let l = c .before .before .before .before .before .before .before .loop in
+    let slot = c .before .before .before .before .slot in
+    let word-at = c .before .before .word-at in
+    let share = c .before .share in
+    let inside = pre .4 .inside (l .j) (search needs) in
+    let touches = touches-word (load .ensures) _ _ _ _ _ inside (slot .ensures .0) (word-at .ensures) (share .ensures) in
+    touch-found (pre .4) _ _ (l .j) (l .inv) (search needs) (touches ∙ c .if1 .taken)
 
 -- src/lib.rt:83:9
 add-j : tie.Need-add-j Inv-loop μ-loop
@@ -76,7 +95,17 @@ loop-less c = search needs
 
 -- src/lib.rt:78:5
 loop-again : tie.Need-loop-again Inv-loop μ-loop
-loop-again c = let j = c .before .before .before .before .before .before .before .loop .j in touch-passed (c .before .before .before .before .before .before .before .before .before .before .pre .4) _ _ j (c .before .before .before .before .before .before .before .loop .inv) (search needs) (touches-word (c .before .before .before .before .before .before .before .before .load .ensures) _ _ _ _ _ (c .before .before .before .before .before .before .before .before .before .before .pre .4 .inside j (search needs)) (c .before .before .before .before .slot .ensures .0) (c .before .before .word-at .ensures) (c .before .share .ensures) ∙ c .if1 .left)
+loop-again c =
+    let c8 = c .before .before .before .before .before .before .before .before in
+    let pre = c8 .before .before .pre in
+    let load = c8 .load in
+    let l = c .before .before .before .before .before .before .before .loop in
+    let slot = c .before .before .before .before .slot in
+    let word-at = c .before .before .word-at in
+    let share = c .before .share in
+    let inside = pre .4 .inside (l .j) (search needs) in
+    let touches = touches-word (load .ensures) _ _ _ _ _ inside (slot .ensures .0) (word-at .ensures) (share .ensures) in
+    touch-passed (pre .4) _ _ (l .j) (l .inv) (search needs) (touches ∙ c .if1 .left)
 
 -- src/lib.rt:71:1
 returns-2 : tie.Need-returns-2 Inv-loop μ-loop

@@ -54,12 +54,24 @@ loop-less c = search needs
 
 -- src/lib.rt:109:5
 loop-again : tie.Need-loop-again Inv-loop μ-loop
-loop-again c = (search needs, set-turn _ _ _ _ (c .before .before .before .loop .u) _ _ _ (search needs) (search needs) (c .before .before .before .loop .inv .1) (c .before .blocks2 .ensures) (c .bit-below .ensures))
+loop-again c =
+    let l = c .before .before .before .loop in
+    let blocks2 = c .before .blocks2 in (
+      search needs,
+      set-turn _ _ _ _ (l .u) _ _ _ (search needs) (search needs) (l .inv .1) (blocks2 .ensures) (c .bit-below .ensures),
+    )
 
 -- src/lib.rt:102:1
 returns : tie.Need-returns Inv-loop μ-loop
 unfolding need-words
-returns c = set-whole _ _ _ _ _ (need-sets (step-named (c .before .before .before .before .before .args .step))) (c .before .before .masks .ensures .0 ∙ ap masks-of (c .before .before .before .needed .ensures)) (c .before .loop .u) _ (search needs) (c .before .loop .inv .1)
+returns c =
+    let args = c .before .before .before .before .before .args in
+    let needed = c .before .before .before .needed in
+    let masks = c .before .before .masks in
+    let l = c .before .loop in
+    let sets = need-sets (step-named (args .step)) in
+    let words = masks .ensures .0 ∙ ap masks-of (needed .ensures) in
+    set-whole _ _ _ _ _ sets words (l .u) _ (search needs) (l .inv .1)
 
 pub waits-spec : {M : Type 1} → statement M
 waits-spec =

@@ -30,7 +30,10 @@ loop-less : tie.Need-loop-less Inv-loop μ-loop
 loop-less c = search needs
 
 loop-again : tie.Need-loop-again Inv-loop μ-loop
-loop-again c = (search needs, c .before .before .before .loop .inv .1 ∙ place-passed _ 12 _ (search needs) (sym (c .before .has-clashing .ensures) ∙ c .if1 .left))
+loop-again c =
+    let l = c .before .before .before .loop in
+    let has-clashing = c .before .has-clashing in
+    (search needs, l .inv .1 ∙ place-passed _ 12 _ (search needs) (sym (has-clashing .ensures) ∙ c .if1 .left))
 
 returns-2 : tie.Need-returns-2 Inv-loop μ-loop
 returns-2 c = sym (c .before .loop .inv .1 ∙ place-none _ 12 _ (search needs))

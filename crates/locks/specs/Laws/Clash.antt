@@ -48,4 +48,6 @@ unfolding clash alike
 transposed = refl
 
 pub clash-symmetric : (a b : Mode) → clash a b ≡ clash b a
-clash-symmetric a b = alike-equal _ _ (every-mode (λ y. alike (clash a y) (clash y a)) (every-mode (λ x. every (λ y. alike (clash x y) (clash y x)) modes) transposed a) b)
+clash-symmetric a b =
+    alike-equal _ _
+    (every-mode (λ y. alike (clash a y) (clash y a)) (every-mode (λ x. every (λ y. alike (clash x y) (clash y x)) modes) transposed a) b)

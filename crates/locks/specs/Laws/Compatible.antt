@@ -75,7 +75,8 @@ module _ (s : Step) (p : List ℕ) where
       go [] h = absurd (false≢true h)
       go (x ∷ p) h = split (eqb x q) refl h
         where
-          split : (t : Bool) → eqb x q ≡ t → (t || has q p) ≡ true → All-locked q (need s .parent) (up (need s) (x ∷ p)) ⊎ All-locked q (need s .above) (up (need s) (x ∷ p))
+          split : (t : Bool) → eqb x q ≡ t → (t || has q p) ≡ true
+              → All-locked q (need s .parent) (up (need s) (x ∷ p)) ⊎ All-locked q (need s .above) (up (need s) (x ∷ p))
           split true e i = inl (λ a m. Memᴰ·append-left (every-one (need s .above) p) (in-each x q (need s .parent) e a m))
           split false e i = inr (λ a m. Memᴰ·append-right (each (need s .parent) x) (in-every-one q (need s .above) p i a m))
 

@@ -72,7 +72,8 @@ word-bit q zero u i h = absurd (omega arith)
 word-bit q (suc n) u zero h = let e : u ≡ u + 0 = omega arith in bit-zero (q u) (word q n (suc u)) ∙ ap q e
 word-bit q (suc n) u (suc i) h =
     let e : suc u + i ≡ u + suc i = omega arith in
-    rw (pow-succ' 2 i, ← div-div-eq-div-mul (cond (q u) 1 0 + 2 * word q n (suc u)) 2 (2 ^ i), half (q u) (word q n (suc u))) (word-bit q n (suc u) i (omega arith) ∙ ap q e)
+    rw (pow-succ' 2 i, ← div-div-eq-div-mul (cond (q u) 1 0 + 2 * word q n (suc u)) 2 (2 ^ i), half (q u) (word q n (suc u)))
+    (word-bit q n (suc u) i (omega arith) ∙ ap q e)
 
 pub in-mask : (w : ℕ) (a : Mode) → in-word (mask-of w) a ≡ against (in-word w) a
 unfolding mask-of bit meets some-place
@@ -142,7 +143,12 @@ same-sets w h =
     let ab = sets-same (w .node) && sets-same (w .parent) in
     let p = and-left abc (sets-same (w .new)) h in
     let q = and-left ab (sets-same (w .above)) p in
-    record { node = word-of-list (w .node) (and-left _ _ q); parent = word-of-list (w .parent) (and-right (sets-same (w .node)) _ q); above = word-of-list (w .above) (and-right ab _ p); new = word-of-list (w .new) (and-right abc _ h) }
+    record {
+      node = word-of-list (w .node) (and-left _ _ q);
+      parent = word-of-list (w .parent) (and-right (sets-same (w .node)) _ q);
+      above = word-of-list (w .above) (and-right ab _ p);
+      new = word-of-list (w .new) (and-right abc _ h);
+    }
 
 pub need-sets : (s : Step) → SameSets (need s)
 unfolding all-same sets-same word-of

@@ -25,10 +25,22 @@ add-result : tie.Need-add-result
 add-result c = search needs
 
 returns : tie.Need-returns
-returns c = rw (c .depth .ensures) (below-out (not-marked (c .before .before .before .before .args .o) (c .before .before .before .before .args .t)) 0 (getD (nodes (c .before .before .before .before .args .s .now)) (c .before .before .before .before .args .j) no-entry) (ap not (eq-eqb _ _ (sym (c .before .before .field .ensures) ∙ c .before .if1 .taken))))
+returns c =
+    let args = c .before .before .before .before .args in
+    let field = c .before .before .field in
+    let if1 = c .before .if1 in
+    let keeps = not-marked (args .o) (args .t) in
+    let row = getD (nodes (args .s .now)) (args .j) no-entry in
+    let marked = eq-eqb _ _ (sym (field .ensures) ∙ if1 .taken) in
+    rw (c .depth .ensures) (below-out keeps 0 row (ap not marked))
 
 returns-2 : tie.Need-returns-2
-returns-2 c = below-kept (not-marked (c .before .before .before .args .o) (c .before .before .before .args .t)) 0 (getD (nodes (c .before .before .before .args .s .now)) (c .before .before .before .args .j) no-entry) (ap not (ne-eqb _ _ (λ e. c .if1 .left (c .before .field .ensures ∙ e))))
+returns-2 c =
+    let args = c .before .before .before .args in
+    let field = c .before .field in
+    let keeps = not-marked (args .o) (args .t) in
+    let row = getD (nodes (args .s .now)) (args .j) no-entry in
+    below-kept keeps 0 row (ap not (ne-eqb _ _ (λ e. c .if1 .left (field .ensures ∙ e))))
 
 pub below-marked-spec : {M : Type 1} → statement M
 below-marked-spec =

@@ -37,7 +37,12 @@ same-length c = search needs
 
 returns : tie.Need-returns
 unfolding slot depth number
-returns c = entered-as (c .before .before .set-entry .ensures) (c .before .before .before .before .before .before .before .before .word .ensures) (c .before .before .before .before .before .before .word2 .ensures) (c .before .before .before .before .word3 .ensures)
+returns c =
+    let word = c .before .before .before .before .before .before .before .before .word in
+    let word2 = c .before .before .before .before .before .before .word2 in
+    let word3 = c .before .before .before .before .word3 in
+    let set-entry = c .before .before .set-entry in
+    entered-as (set-entry .ensures) (word .ensures) (word2 .ensures) (word3 .ensures)
 
 pub copy-up-spec : {M : Type 1} → statement M
 copy-up-spec =

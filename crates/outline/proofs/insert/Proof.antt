@@ -11,25 +11,110 @@ set-kind-requires : tie.Need-set-kind-requires
 set-kind-requires c κs = search needs
 
 set-writer-requires : tie.Need-set-writer-requires
-set-writer-requires c κs = (c .before .before .before .set-kind .ensures .layout, omega (arith, c .before .before .before .before .before .before .before .open-place .ensures .many, c .before .before .before .set-kind .ensures .many, c .before .before .before .before .before .before .before .before .before .before .before .pre .2))
+set-writer-requires c κs =
+    let c8 = c .before .before .before .before .before .before .before .before in
+    let pre = c8 .before .before .before .pre in
+    let open-place = c .before .before .before .before .before .before .before .open-place in
+    let set-kind = c .before .before .before .set-kind in
+    (set-kind .ensures .layout, omega (arith, open-place .ensures .many, set-kind .ensures .many, pre .2))
 
 set-inserter-requires : tie.Need-set-inserter-requires
-set-inserter-requires c κs = (c .before .before .before .set-writer .ensures .layout, omega (arith, c .before .before .before .before .before .before .before .before .before .before .before .open-place .ensures .many, c .before .before .before .before .before .before .before .set-kind .ensures .many, c .before .before .before .set-writer .ensures .many, c .before .before .before .before .before .before .before .before .before .before .before .before .before .before .before .pre .2))
+set-inserter-requires c κs =
+    let c8 = c .before .before .before .before .before .before .before .before in
+    let pre = c8 .before .before .before .before .before .before .before .pre in
+    let open-place = c8 .before .before .before .open-place in
+    let set-kind = c .before .before .before .before .before .before .before .set-kind in
+    let set-writer = c .before .before .before .set-writer in (
+      set-writer .ensures .layout,
+      omega (arith, open-place .ensures .many, set-kind .ensures .many, set-writer .ensures .many, pre .2),
+    )
 
 set-deleter-requires : tie.Need-set-deleter-requires
-set-deleter-requires c κs = (c .before .before .before .set-inserter .ensures .layout, omega (arith, c .before .before .before .before .before .before .before .before .before .before .before .before .before .before .before .open-place .ensures .many, c .before .before .before .before .before .before .before .before .before .before .before .set-kind .ensures .many, c .before .before .before .before .before .before .before .set-writer .ensures .many, c .before .before .before .set-inserter .ensures .many, c .before .before .before .before .before .before .before .before .before .before .before .before .before .before .before .before .before .before .before .pre .2))
+set-deleter-requires c κs =
+    let c8 = c .before .before .before .before .before .before .before .before in
+    let c16 = c8 .before .before .before .before .before .before .before .before in
+    let pre = c16 .before .before .before .pre in
+    let open-place = c8 .before .before .before .before .before .before .before .open-place in
+    let set-kind = c8 .before .before .before .set-kind in
+    let set-writer = c .before .before .before .before .before .before .before .set-writer in
+    let set-inserter = c .before .before .before .set-inserter in (
+      set-inserter .ensures .layout,
+      omega (
+        arith,
+        open-place .ensures .many,
+        set-kind .ensures .many,
+        set-writer .ensures .many,
+        set-inserter .ensures .many,
+        pre .2,
+      ),
+    )
 
 set-content-requires : tie.Need-set-content-requires
-set-content-requires c κs = (c .before .before .before .set-deleter .ensures .layout, omega (arith, c .before .before .before .before .before .before .before .before .before .before .before .before .before .before .before .before .before .before .before .open-place .ensures .many, c .before .before .before .before .before .before .before .before .before .before .before .before .before .before .before .set-kind .ensures .many, c .before .before .before .before .before .before .before .before .before .before .before .set-writer .ensures .many, c .before .before .before .before .before .before .before .set-inserter .ensures .many, c .before .before .before .set-deleter .ensures .many, c .before .before .before .before .before .before .before .before .before .before .before .before .before .before .before .before .before .before .before .before .before .before .before .pre .2), c .before .before .before .before .before .before .before .before .before .before .before .before .before .before .before .before .before .before .before .before .before .before .before .pre .3)
+set-content-requires c κs =
+    let c8 = c .before .before .before .before .before .before .before .before in
+    let c16 = c8 .before .before .before .before .before .before .before .before in
+    let pre = c16 .before .before .before .before .before .before .before .pre in
+    let open-place = c16 .before .before .before .open-place in
+    let set-kind = c8 .before .before .before .before .before .before .before .set-kind in
+    let set-writer = c8 .before .before .before .set-writer in
+    let set-inserter = c .before .before .before .before .before .before .before .set-inserter in
+    let set-deleter = c .before .before .before .set-deleter in (
+      set-deleter .ensures .layout,
+      omega (
+        arith,
+        open-place .ensures .many,
+        set-kind .ensures .many,
+        set-writer .ensures .many,
+        set-inserter .ensures .many,
+        set-deleter .ensures .many,
+        pre .2,
+      ),
+      pre .3,
+    )
 
 unlock-requires : tie.Need-unlock-requires
-unlock-requires c κs = (c .before .before .before .set-content .ensures .layout, omega (arith, c .before .before .before .before .before .before .before .before .before .before .before .before .before .before .before .before .before .before .before .before .before .before .before .open-place .ensures .many, c .before .before .before .before .before .before .before .before .before .before .before .before .before .before .before .before .before .before .before .set-kind .ensures .many, c .before .before .before .before .before .before .before .before .before .before .before .before .before .before .before .set-writer .ensures .many, c .before .before .before .before .before .before .before .before .before .before .before .set-inserter .ensures .many, c .before .before .before .before .before .before .before .set-deleter .ensures .many, c .before .before .before .set-content .ensures .many, c .before .before .before .before .before .before .before .before .before .before .before .before .before .before .before .before .before .before .before .before .before .before .before .before .before .before .before .pre .2))
+unlock-requires c κs =
+    let c8 = c .before .before .before .before .before .before .before .before in
+    let c16 = c8 .before .before .before .before .before .before .before .before in
+    let c24 = c16 .before .before .before .before .before .before .before .before in
+    let pre = c24 .before .before .before .pre in
+    let open-place = c16 .before .before .before .before .before .before .before .open-place in
+    let set-kind = c16 .before .before .before .set-kind in
+    let set-writer = c8 .before .before .before .before .before .before .before .set-writer in
+    let set-inserter = c8 .before .before .before .set-inserter in
+    let set-deleter = c .before .before .before .before .before .before .before .set-deleter in
+    let set-content = c .before .before .before .set-content in (
+      set-content .ensures .layout,
+      omega (
+        arith,
+        open-place .ensures .many,
+        set-kind .ensures .many,
+        set-writer .ensures .many,
+        set-inserter .ensures .many,
+        set-deleter .ensures .many,
+        set-content .ensures .many,
+        pre .2,
+      ),
+    )
 
 same-length : tie.Need-same-length
 same-length c = search needs
 
 returns : tie.Need-returns
-returns c = inserted _ _ _ _ _ _ (c .before .before .before .before .before .before .before .before .before .before .before .before .before .before .before .before .before .before .before .before .before .before .before .before .before .before .open-place .ensures) (c .before .before .before .before .before .before .before .before .before .before .before .before .before .before .before .before .before .before .before .before .before .before .set-kind .ensures) (c .before .before .before .before .before .before .before .before .before .before .before .before .before .before .before .before .before .before .set-writer .ensures) (c .before .before .before .before .before .before .before .before .before .before .before .before .before .before .set-inserter .ensures) (c .before .before .before .before .before .before .before .before .before .before .set-deleter .ensures) (c .before .before .before .before .before .before .set-content .ensures) (c .before .before .unlock .ensures) (c .before .before .before .before .before .before .before .before .before .before .before .before .before .before .before .before .before .before .before .before .before .before .before .before .before .before .before .before .before .before .pre .2)
+returns c =
+    let c8 = c .before .before .before .before .before .before .before .before in
+    let c16 = c8 .before .before .before .before .before .before .before .before in
+    let c24 = c16 .before .before .before .before .before .before .before .before in
+    let pre = c24 .before .before .before .before .before .before .pre in
+    let open-place = c24 .before .before .open-place in
+    let set-kind = c16 .before .before .before .before .before .before .set-kind in
+    let set-writer = c16 .before .before .set-writer in
+    let set-inserter = c8 .before .before .before .before .before .before .set-inserter in
+    let set-deleter = c8 .before .before .set-deleter in
+    let set-content = c .before .before .before .before .before .before .set-content in
+    let unlock = c .before .before .unlock in
+    inserted _ _ _ _ _ _ (open-place .ensures) (set-kind .ensures) (set-writer .ensures) (set-inserter .ensures)
+    (set-deleter .ensures) (set-content .ensures) (unlock .ensures) (pre .2)
 
 pub insert-spec : {M : Type 1} → statement M
 insert-spec =

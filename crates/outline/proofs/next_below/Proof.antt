@@ -23,13 +23,24 @@ cast-if2 : tie.Need-cast-if2
 cast-if2 c = search needs
 
 returns-2 : tie.Need-returns-2
-returns-2 c = below-deep (not-marked (c .before .before .before .before .args .o) (c .before .before .before .before .args .t)) _ (getD (nodes (c .before .before .before .before .args .s .now)) (c .before .before .before .before .args .j) no-entry) (c .before .before .if1 .left) (rw (← c .before .depth .ensures) (c .if2 .taken))
+returns-2 c =
+    let args = c .before .before .before .before .args in
+    let if1 = c .before .before .if1 in
+    let depth = c .before .depth in
+    let keeps = not-marked (args .o) (args .t) in
+    let row = getD (nodes (args .s .now)) (args .j) no-entry in
+    below-deep keeps _ row (if1 .left) (rw (← depth .ensures) (c .if2 .taken))
 
 below-marked-requires-2 : tie.Need-below-marked-requires-2
 below-marked-requires-2 c κs = search needs
 
 returns-3 : tie.Need-returns-3
-returns-3 c = c .below-marked2 .ensures ∙ below-past (not-marked (c .before .before .before .before .before .args .o) (c .before .before .before .before .before .args .t)) _ (getD (nodes (c .before .before .before .before .before .args .s .now)) (c .before .before .before .before .before .args .j) no-entry) (rw (← c .before .before .depth .ensures) (omega arith))
+returns-3 c =
+    let args = c .before .before .before .before .before .args in
+    let depth = c .before .before .depth in
+    let keeps = not-marked (args .o) (args .t) in
+    let row = getD (nodes (args .s .now)) (args .j) no-entry in
+    c .below-marked2 .ensures ∙ below-past keeps _ row (rw (← depth .ensures) (omega arith))
 
 pub next-below-spec : {M : Type 1} → statement M
 next-below-spec =

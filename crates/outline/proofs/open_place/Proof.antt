@@ -46,7 +46,17 @@ same-length : tie.Need-same-length
 same-length c = search needs
 
 returns : tie.Need-returns
-returns c = opened _ _ _ _ _ _ _ _ _ _ (search needs) (sym (length-nodes _) ∙ sym (c .before .before .before .before .before .before .before .before .before .before .before .before .before .before .before .before .before .before .count .ensures)) (search needs) (search needs) (c .before .before .before .before .before .before .before .before .before .before .before .before .before .before .before .before .slot .ensures .0) (c .before .before .before .before .before .before .before .before .before .before .before .before .before .before .clear .ensures) (c .before .before .before .before .before .before .before .before .before .before .shift .ensures) (c .before .before .before .before .before .before .set-entry .ensures) (c .before .before .set-word .ensures)
+returns c =
+    let c8 = c .before .before .before .before .before .before .before .before in
+    let c16 = c8 .before .before .before .before .before .before .before .before in
+    let count = c16 .before .before .count in
+    let slot = c16 .slot in
+    let clear = c8 .before .before .before .before .before .before .clear in
+    let shift = c8 .before .before .shift in
+    let set-entry = c .before .before .before .before .before .before .set-entry in
+    let set-word = c .before .before .set-word in
+    opened _ _ _ _ _ _ _ _ _ _ (search needs) (sym (length-nodes _) ∙ sym (count .ensures)) (search needs) (search needs)
+    (slot .ensures .0) (clear .ensures) (shift .ensures) (set-entry .ensures) (set-word .ensures)
 
 pub open-place-spec : {M : Type 1} → statement M
 open-place-spec =

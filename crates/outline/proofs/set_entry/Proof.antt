@@ -29,7 +29,13 @@ same-length : tie.Need-same-length
 same-length c = search needs
 
 returns : tie.Need-returns
-returns c = entered-of _ _ _ _ _ _ _ _ _ _ _ (c .before .before .before .before .before .before .before .before .before .before .set-word .ensures) (c .before .before .before .before .before .before .set-word2 .ensures) (c .before .before .set-word3 .ensures) (omega arith) (omega arith) (omega arith) (omega arith)
+returns c =
+    let c8 = c .before .before .before .before .before .before .before .before in
+    let set-word = c8 .before .before .set-word in
+    let set-word2 = c .before .before .before .before .before .before .set-word2 in
+    let set-word3 = c .before .before .set-word3 in
+    entered-of _ _ _ _ _ _ _ _ _ _ _ (set-word .ensures) (set-word2 .ensures) (set-word3 .ensures) (omega arith) (omega arith)
+    (omega arith) (omega arith)
 
 pub set-entry-spec : {M : Type 1} → statement M
 set-entry-spec =

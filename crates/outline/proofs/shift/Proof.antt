@@ -29,7 +29,10 @@ loop-less : tie.Need-loop-less Inv-loop μ-loop
 loop-less c = search needs
 
 loop-again : tie.Need-loop-again Inv-loop μ-loop
-loop-again c = (search needs, search needs, shift-turn _ _ _ (c .before .before .before .before .before .loop .inv .2) (c .before .before .copy-up .ensures) (omega arith) (search needs) (search needs))
+loop-again c =
+    let l = c .before .before .before .before .before .loop in
+    let copy-up = c .before .before .copy-up in
+    (search needs, search needs, shift-turn _ _ _ (l .inv .2) (copy-up .ensures) (omega arith) (search needs) (search needs))
 
 same-length : tie.Need-same-length Inv-loop μ-loop
 same-length c = search needs

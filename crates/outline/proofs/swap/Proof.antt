@@ -66,7 +66,22 @@ same-length c = search needs
 
 returns-2 : tie.Need-returns-2
 unfolding slot depth number
-returns-2 c = exchanged _ _ _ _ _ (c .before .before .before .before .before .before .before .before .before .before .before .before .before .before .before .before .before .before .before .before .before .before .pre .0) (omega (arith, c .before .before .before .before .before .before .before .before .before .before .before .before .before .before .before .before .before .before .before .before .if1 .left, c .before .before .before .before .before .before .before .before .before .before .before .before .before .before .before .before .before .before .before .before .before .before .pre .1)) (c .before .before .before .before .before .before .before .before .before .before .before .before .before .before .before .before .before .before .before .before .before .before .pre .2) (entered-as (c .before .before .before .before .before .before .set-entry .ensures) (c .before .before .before .before .before .before .before .before .before .before .before .before .word4 .ensures) (c .before .before .before .before .before .before .before .before .before .before .word5 .ensures) (c .before .before .before .before .before .before .before .before .word6 .ensures)) (entered-as (c .before .before .set-entry2 .ensures) (c .before .before .before .before .before .before .before .before .before .before .before .before .before .before .before .before .before .before .word .ensures) (c .before .before .before .before .before .before .before .before .before .before .before .before .before .before .before .before .word2 .ensures) (c .before .before .before .before .before .before .before .before .before .before .before .before .before .before .word3 .ensures))
+returns-2 c =
+    let c8 = c .before .before .before .before .before .before .before .before in
+    let c16 = c8 .before .before .before .before .before .before .before .before in
+    let pre = c16 .before .before .before .before .before .before .pre in
+    let if1 = c16 .before .before .before .before .if1 in
+    let word = c16 .before .before .word in
+    let word2 = c16 .word2 in
+    let word3 = c8 .before .before .before .before .before .before .word3 in
+    let word4 = c8 .before .before .before .before .word4 in
+    let word5 = c8 .before .before .word5 in
+    let word6 = c8 .word6 in
+    let set-entry = c .before .before .before .before .before .before .set-entry in
+    let set-entry2 = c .before .before .set-entry2 in
+    let first = entered-as (set-entry .ensures) (word4 .ensures) (word5 .ensures) (word6 .ensures) in
+    let second = entered-as (set-entry2 .ensures) (word .ensures) (word2 .ensures) (word3 .ensures) in
+    exchanged _ _ _ _ _ (pre .0) (omega (arith, if1 .left, pre .1)) (pre .2) first second
 
 pub swap-spec : {M : Type 1} → statement M
 swap-spec =

@@ -31,7 +31,10 @@ element-copy-out-put-cell c = search needs
 
 -- src/lib.rt:155:21
 cast-put-cell : tie.Need-cast-put-cell Inv-loop μ-loop
-cast-put-cell c = record { fits = omega (arith, c .before .before .before .before .before .pre .1 .inside (c .before .before .loop .j) (search needs), c .before .before .before .before .before .pre .0 .room, c .before .before .before .before .before .pre .0 .many) }
+cast-put-cell c =
+    let pre = c .before .before .before .before .before .pre in
+    let l = c .before .before .loop in
+    record { fits = omega (arith, pre .1 .inside (l .j) (search needs), pre .0 .room, pre .0 .many) }
 
 -- src/lib.rt:155:51
 mul-put-cell-2 : tie.Need-mul-put-cell-2 Inv-loop μ-loop
@@ -39,7 +42,10 @@ mul-put-cell-2 c = search needs
 
 -- src/lib.rt:155:9
 put-cell-requires : tie.Need-put-cell-requires Inv-loop μ-loop
-put-cell-requires c κs = (c .before .before .before .before .before .before .pre .0, c .before .before .before .before .before .before .pre .1 .inside (c .before .before .before .loop .j) (search needs), omega (arith, c .before .before .before .loop .inv .1 .long))
+put-cell-requires c κs =
+    let pre = c .before .before .before .before .before .before .pre in
+    let l = c .before .before .before .loop in
+    (pre .0, pre .1 .inside (l .j) (search needs), omega (arith, l .inv .1 .long))
 
 -- src/lib.rt:156:9
 add-j : tie.Need-add-j Inv-loop μ-loop
@@ -51,7 +57,10 @@ loop-less c = search needs
 
 -- src/lib.rt:154:5
 loop-again : tie.Need-loop-again Inv-loop μ-loop
-loop-again c = (search needs, written-more (c .before .before .before .before .before .before .loop .inv .1) _ refl (search needs) (c .before .before .put-cell .ensures .1) (c .before .before .put-cell .ensures .0 .bytes))
+loop-again c =
+    let l = c .before .before .before .before .before .before .loop in
+    let put-cell = c .before .before .put-cell in
+    (search needs, written-more (l .inv .1) _ refl (search needs) (put-cell .ensures .1) (put-cell .ensures .0 .bytes))
 
 -- src/lib.rt:148:1
 same-length : tie.Need-same-length Inv-loop μ-loop

@@ -52,7 +52,12 @@ same-length c = search needs
 
 -- src/lib.rt:103:1
 returns : tie.Need-returns Inv-loop μ-loop
-returns c = copied (item (nodes (c .before .before .before .before .args .s .now)) (c .before .before .before .before .args .i) .now .content) (filled-done _ (c .before .before .before .before .args .n) (c .before .loop .inv .1) (search needs) (search needs)) (search needs) (search needs)
+returns c =
+    let args = c .before .before .before .before .args in
+    let l = c .before .loop in
+    let content = item (nodes (args .s .now)) (args .i) .now .content in
+    let filled = filled-done _ (args .n) (l .inv .1) (search needs) (search needs) in
+    copied content filled (search needs) (search needs)
 
 pub copy-spec : {M : Type 1} → statement M
 copy-spec =

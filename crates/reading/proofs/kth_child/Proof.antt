@@ -3,7 +3,8 @@ use native.Mathlib.Omega.{arith}
 use Prim.Native.Nat.{ℕ, _+_, _-_, _≤_, _<_}
 use lib.ListN.{length}
 use Rattle.layout.specs.Layout.{nodes}
-use Rattle.reading.specs.Laws.Child.{Counting, counting-start, none-of-zero, counting-end, counting-left, counting-passed, counting-deleted, counting-found, counting-later}
+use Rattle.reading.specs.Laws.Child.{Counting, counting-start, none-of-zero, counting-end, counting-left, counting-passed}
+use Rattle.reading.specs.Laws.Child.{counting-deleted, counting-found, counting-later}
 use Rattle.reading.proofs.kth_child.Statement.{statement}
 use Rattle.reading.proofs.kth_child.Tie as tie
 use Rattle.reading.proofs.kth_child.Reads as reads
@@ -74,7 +75,11 @@ loop-less-2 c = search needs
 
 -- src/lib.rt:30:5
 loop-again-2 : tie.Need-loop-again-2 Inv-loop μ-loop
-loop-again-2 c = counting-deleted (c .before .before .before .before .before .before .loop .inv) (search needs) (c .before .before .before .before .depth2 .ensures) (search needs) (search needs) (c .before .deleter .ensures) (c .if4 .taken)
+loop-again-2 c =
+    let l = c .before .before .before .before .before .before .loop in
+    let depth2 = c .before .before .before .before .depth2 in
+    let deleter = c .before .deleter in
+    counting-deleted (l .inv) (search needs) (depth2 .ensures) (search needs) (search needs) (deleter .ensures) (c .if4 .taken)
 
 -- src/lib.rt:44:17
 kind-requires : tie.Need-kind-requires Inv-loop μ-loop
@@ -86,7 +91,15 @@ number-requires c κs = (c .before .before .before .before .before .before .befo
 
 -- src/lib.rt:46:13
 returns-3 : tie.Need-returns-3 Inv-loop μ-loop
-returns-3 c = counting-found (c .before .before .before .before .before .before .before .before .before .loop .inv) (search needs) (c .before .before .before .before .before .before .before .depth2 .ensures) (search needs) (search needs) (c .before .before .before .before .deleter .ensures) (c .before .before .before .if4 .left) (c .before .before .if5 .taken) (c .before .kind .ensures) (c .number .ensures)
+returns-3 c =
+    let l = c .before .before .before .before .before .before .before .before .before .loop in
+    let depth2 = c .before .before .before .before .before .before .before .depth2 in
+    let deleter = c .before .before .before .before .deleter in
+    let if4 = c .before .before .before .if4 in
+    let if5 = c .before .before .if5 in
+    let kind = c .before .kind in
+    counting-found (l .inv) (search needs) (depth2 .ensures) (search needs) (search needs) (deleter .ensures) (if4 .left)
+    (if5 .taken) (kind .ensures) (c .number .ensures)
 
 -- src/lib.rt:48:9
 sub-left : tie.Need-sub-left Inv-loop μ-loop
@@ -98,7 +111,13 @@ loop-less-3 c = search needs
 
 -- src/lib.rt:30:5
 loop-again-3 : tie.Need-loop-again-3 Inv-loop μ-loop
-loop-again-3 c = counting-later (c .before .before .before .before .before .before .before .loop .inv) (search needs) (c .before .before .before .before .before .depth2 .ensures) (search needs) (search needs) (c .before .before .deleter .ensures) (c .before .if4 .left) (c .if5 .left)
+loop-again-3 c =
+    let l = c .before .before .before .before .before .before .before .loop in
+    let depth2 = c .before .before .before .before .before .depth2 in
+    let deleter = c .before .before .deleter in
+    let if4 = c .before .if4 in
+    counting-later (l .inv) (search needs) (depth2 .ensures) (search needs) (search needs) (deleter .ensures) (if4 .left)
+    (c .if5 .left)
 
 -- src/lib.rt:19:1
 returns-4 : tie.Need-returns-4 Inv-loop μ-loop

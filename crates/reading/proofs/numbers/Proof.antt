@@ -32,7 +32,10 @@ element-copy-out-number c = search needs
 
 -- src/lib.rt:141:34
 cast-number : tie.Need-cast-number Inv-loop μ-loop
-cast-number c = record { fits = omega (arith, c .before .before .before .before .before .pre .1 .inside (c .before .before .loop .j) (search needs), c .before .before .before .before .before .pre .0 .room, c .before .before .before .before .before .pre .0 .many) }
+cast-number c =
+    let pre = c .before .before .before .before .before .pre in
+    let l = c .before .before .loop in
+    record { fits = omega (arith, pre .1 .inside (l .j) (search needs), pre .0 .room, pre .0 .many) }
 
 -- src/lib.rt:141:13
 number-requires : tie.Need-number-requires Inv-loop μ-loop
@@ -56,7 +59,11 @@ loop-less c = search needs
 
 -- src/lib.rt:140:5
 loop-again : tie.Need-loop-again Inv-loop μ-loop
-loop-again c = (search needs, written-number (c .before .before .before .before .before .before .before .loop .inv .1) _ _ refl (search needs) (c .before .before .before .before .number .ensures) (c .before .before .set-word .ensures))
+loop-again c =
+    let l = c .before .before .before .before .before .before .before .loop in
+    let number = c .before .before .before .before .number in
+    let set-word = c .before .before .set-word in
+    (search needs, written-number (l .inv .1) _ _ refl (search needs) (number .ensures) (set-word .ensures))
 
 -- src/lib.rt:134:1
 same-length : tie.Need-same-length Inv-loop μ-loop

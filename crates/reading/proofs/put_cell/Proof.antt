@@ -28,7 +28,10 @@ add-copy c = search needs
 
 -- src/lib.rt:129:5
 copy-requires : tie.Need-copy-requires
-copy-requires c κs = (c .before .before .before .before .pre .0, c .before .before .before .before .pre .1, c .before .size .ensures .0, simp length-set (omega arith))
+copy-requires c κs =
+    let pre = c .before .before .before .before .pre in
+    let size = c .before .size in
+    (pre .0, pre .1, size .ensures .0, simp length-set (omega arith))
 
 -- src/lib.rt:130:24
 add-clear : tie.Need-add-clear
@@ -44,15 +47,29 @@ sub-clear c = search needs
 
 -- src/lib.rt:130:5
 clear-requires : tie.Need-clear-requires
-clear-requires c κs = omega (arith, c .before .before .before .copy .ensures .long, length-set (c .before .before .before .before .before .before .before .before .args .out .now) (c .before .before .before .before .before .before .before .before .args .k) (c .before .before .before .before .before .size .result))
+clear-requires c κs =
+    let args = c .before .before .before .before .before .before .before .before .args in
+    let size = c .before .before .before .before .before .size in
+    let copy = c .before .before .before .copy in
+    omega (arith, copy .ensures .long, length-set (args .out .now) (args .k) (size .result))
 
 -- src/lib.rt:123:1
 same-length : tie.Need-same-length
-same-length c = omega (arith, c .before .before .clear .ensures .only .long, c .before .before .before .before .before .before .copy .ensures .long, length-set (c .before .before .before .before .before .before .before .before .before .before .before .args .out .now) (c .before .before .before .before .before .before .before .before .before .before .before .args .k) (c .before .before .before .before .before .before .before .before .size .result))
+same-length c =
+    let c8 = c .before .before .before .before .before .before .before .before in
+    let args = c8 .before .before .before .args in
+    let size = c8 .size in
+    let copy = c .before .before .before .before .before .before .copy in
+    let clear = c .before .before .clear in
+    omega (arith, clear .ensures .only .long, copy .ensures .long, length-set (args .out .now) (args .k) (size .result))
 
 -- src/lib.rt:123:1
 returns : tie.Need-returns
-returns c = cell-stored (c .before .before .before .before .before .before .before .before .size .ensures .0) (c .before .before .before .before .before .before .before .before .size .ensures .1) (c .before .before .before .before .before .before .copy .ensures) (c .before .before .clear .ensures) (search needs)
+returns c =
+    let size = c .before .before .before .before .before .before .before .before .size in
+    let copy = c .before .before .before .before .before .before .copy in
+    let clear = c .before .before .clear in
+    cell-stored (size .ensures .0) (size .ensures .1) (copy .ensures) (clear .ensures) (search needs)
 
 pub put-cell-spec : {M : Type 1} → statement M
 put-cell-spec =

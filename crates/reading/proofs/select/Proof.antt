@@ -66,7 +66,11 @@ loop-less c = search needs
 
 -- src/lib.rt:81:5
 loop-again : tie.Need-loop-again Inv-loop μ-loop
-loop-again c = selecting-hidden (c .before .before .before .before .before .loop .inv) (search needs) (c .before .before .before .depth2 .ensures) (search needs) (sym (c .before .is-hidden .ensures) ∙ c .if2 .taken)
+loop-again c =
+    let l = c .before .before .before .before .before .loop in
+    let depth2 = c .before .before .before .depth2 in
+    let is-hidden = c .before .is-hidden in
+    selecting-hidden (l .inv) (search needs) (depth2 .ensures) (search needs) (sym (is-hidden .ensures) ∙ c .if2 .taken)
 
 -- src/lib.rt:91:12
 deleter-requires : tie.Need-deleter-requires Inv-loop μ-loop
@@ -86,7 +90,14 @@ loop-less-2 c = search needs
 
 -- src/lib.rt:81:5
 loop-again-2 : tie.Need-loop-again-2 Inv-loop μ-loop
-loop-again-2 c = selecting-deleted (c .before .before .before .before .before .before .before .loop .inv) (search needs) (c .before .before .before .before .before .depth2 .ensures) (search needs) (sym (c .before .before .before .is-hidden .ensures) ∙ c .before .before .if2 .left) (c .before .deleter .ensures) (c .if3 .taken)
+loop-again-2 c =
+    let l = c .before .before .before .before .before .before .before .loop in
+    let depth2 = c .before .before .before .before .before .depth2 in
+    let is-hidden = c .before .before .before .is-hidden in
+    let if2 = c .before .before .if2 in
+    let deleter = c .before .deleter in
+    selecting-deleted (l .inv) (search needs) (depth2 .ensures) (search needs) (sym (is-hidden .ensures) ∙ if2 .left)
+    (deleter .ensures) (c .if3 .taken)
 
 -- src/lib.rt:96:25
 cast-places-2 : tie.Need-cast-places-2 Inv-loop μ-loop
@@ -110,7 +121,14 @@ loop-less-3 c = search needs
 
 -- src/lib.rt:81:5
 loop-again-3 : tie.Need-loop-again-3 Inv-loop μ-loop
-loop-again-3 c = selecting-found (c .before .before .before .before .before .before .before .loop .inv) (search needs) (c .before .before .before .before .before .depth2 .ensures) (search needs) (sym (c .before .before .before .is-hidden .ensures) ∙ c .before .before .if2 .left) (c .before .deleter .ensures) (search needs) (c .if3 .left)
+loop-again-3 c =
+    let l = c .before .before .before .before .before .before .before .loop in
+    let depth2 = c .before .before .before .before .before .depth2 in
+    let is-hidden = c .before .before .before .is-hidden in
+    let if2 = c .before .before .if2 in
+    let deleter = c .before .deleter in
+    selecting-found (l .inv) (search needs) (depth2 .ensures) (search needs) (sym (is-hidden .ensures) ∙ if2 .left)
+    (deleter .ensures) (search needs) (c .if3 .left)
 
 -- src/lib.rt:70:1
 returns-2 : tie.Need-returns-2 Inv-loop μ-loop

@@ -18,13 +18,22 @@ name-start-requires : tie.Need-name-start-requires
 name-start-requires c κs = search needs
 
 returns-3 : tie.Need-returns-3
-returns-3 c = sym (name-is _ (c .before .before .before .before .if1 .left) (c .before .before .before .if2 .left) ∙ rw (sym (c .before .name-start .ensures) ∙ not-true _ (c .if3 .taken)))
+returns-3 c =
+    let if1 = c .before .before .before .before .if1 in
+    let if2 = c .before .before .before .if2 in
+    let name-start = c .before .name-start in
+    sym (name-is _ (if1 .left) (if2 .left) ∙ rw (sym (name-start .ensures) ∙ not-true _ (c .if3 .taken)))
 
 all-in-requires : tie.Need-all-in-requires
 all-in-requires c κs = search needs
 
 returns-4 : tie.Need-returns-4
-returns-4 c = c .all-in .ensures ∙ sym (name-is _ (c .before .before .before .before .before .if1 .left) (c .before .before .before .before .if2 .left) ∙ rw (sym (c .before .before .name-start .ensures) ∙ not-false _ (c .before .if3 .left)))
+returns-4 c =
+    let if1 = c .before .before .before .before .before .if1 in
+    let if2 = c .before .before .before .before .if2 in
+    let name-start = c .before .before .name-start in
+    let if3 = c .before .if3 in
+    c .all-in .ensures ∙ sym (name-is _ (if1 .left) (if2 .left) ∙ rw (sym (name-start .ensures) ∙ not-false _ (if3 .left)))
 
 pub is-name-spec : {M : Type 1} → statement M
 is-name-spec =

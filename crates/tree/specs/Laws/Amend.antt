@@ -20,7 +20,12 @@ module _ {A K : Type 0} (key : A → K) where
     unfolding rows amend
     rows-amend p nil = refl
     rows-amend p (node a ks fs) =
-        rw (new-line a p, rows-amend (key a ∷ p) ks, rows-amend p fs, map-append (λ (r : Row A K). row (g r) (above' (r .above))) (rows key (key a ∷ p) ks) (rows key p fs))
+        rw (
+          new-line a p,
+          rows-amend (key a ∷ p) ks,
+          rows-amend p fs,
+          map-append (λ (r : Row A K). row (g r) (above' (r .above))) (rows key (key a ∷ p) ks) (rows key p fs),
+        )
 
     -- one amendment after another
     pub amend-amend : (g' : Row A K' → A) (p : List K) (f : Forest A)
@@ -38,7 +43,8 @@ module _ {A K : Type 0} (key : A → K) where
 
     -- a row is there afterwards
     pub amend-in : (p : List K) (f : Forest A) {s : Row A K} → In key s p f → In key' (row (g s) (above' (s .above))) (above' p) (amend key g p f)
-    amend-in p f {s} m = of-rows key' _ (above' p) (amend key g p f) (rw (rows-amend p f) (map-in (λ (r : Row A K). row (g r) (above' (r .above))) (to-rows key m)))
+    amend-in p f {s} m =
+        of-rows key' _ (above' p) (amend key g p f) (rw (rows-amend p f) (map-in (λ (r : Row A K). row (g r) (above' (r .above))) (to-rows key m)))
 
   -- where the keys stay
   module _ (g : Row A K → A) (same-key : (r : Row A K) → key (g r) ≡ key (r .it)) where

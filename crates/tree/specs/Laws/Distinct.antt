@@ -46,7 +46,9 @@ module _ {A : Type 0} (number : A → ℕ) where
   distinct-count (x ∷ l) h n = rw (count-cons (numbered n) x l) (go (eqb (number x) n) refl (distinct-count l (head-new x l h .1) n))
     where
       none : eqb (number x) n ≡ true → count (numbered n) l ≡ 0
-      none e = rw (keep-none (numbered n) l (λ a m. refuted _ (λ q. not-in x a l (head-new x l h .0) m (eqb-true (number a) n q ∙ sym (eqb-true (number x) n e)))))
+      none e =
+          rw (keep-none (numbered n) l
+          (λ a m. refuted _ (λ q. not-in x a l (head-new x l h .0) m (eqb-true (number a) n q ∙ sym (eqb-true (number x) n e)))))
 
       go : (t : Bool) → eqb (number x) n ≡ t → count (numbered n) l ≤ 1 → cond t 1 0 + count (numbered n) l ≤ 1
       go true e i = rw (none e) (omega arith)
@@ -82,12 +84,21 @@ module _ {A : Type 0} (number : A → ℕ) where
 
   -- of two lists, one behind the other
   pub distinct-left : (l k : List A) → distinct (map number (l ++ k)) ≡ true → distinct (map number l) ≡ true
-  distinct-left l k h = count-distinct l (λ n. let i : count (numbered n) l + count (numbered n) k ≤ 1 = rw (count-append (numbered n) l k) at (distinct-count (l ++ k) h n) in omega arith)
+  distinct-left l k h =
+      count-distinct l (λ n. let i : count (numbered n) l + count (numbered n) k ≤ 1 = rw (count-append (numbered n) l k) at
+      (distinct-count (l ++ k) h n) in omega arith)
 
   pub distinct-right : (l k : List A) → distinct (map number (l ++ k)) ≡ true → distinct (map number k) ≡ true
-  distinct-right l k h = count-distinct k (λ n. let i : count (numbered n) l + count (numbered n) k ≤ 1 = rw (count-append (numbered n) l k) at (distinct-count (l ++ k) h n) in omega arith)
+  distinct-right l k h =
+      count-distinct k (λ n. let i : count (numbered n) l + count (numbered n) k ≤ 1 = rw (count-append (numbered n) l k) at
+      (distinct-count (l ++ k) h n) in omega arith)
 
   pub distinct-apart : (l k : List A) → distinct (map number (l ++ k)) ≡ true → {a b : A} → List·Memᴰ a l → List·Memᴰ b k → number a ≡ number b → ⊥
   distinct-apart l k h {a} {b} i j e =
-      let c : count (numbered (number a)) l + count (numbered (number a)) k ≤ 1 = rw (count-append (numbered (number a)) l k) at (distinct-count (l ++ k) h (number a)) in
-      omega (arith, count-some (numbered (number a)) l i (eq-eqb (number a) (number a) refl), count-some (numbered (number a)) k j (eq-eqb (number b) (number a) (sym e)))
+      let c : count (numbered (number a)) l + count (numbered (number a)) k ≤ 1 =
+      rw (count-append (numbered (number a)) l k) at (distinct-count (l ++ k) h (number a)) in
+      omega (
+        arith,
+        count-some (numbered (number a)) l i (eq-eqb (number a) (number a) refl),
+        count-some (numbered (number a)) k j (eq-eqb (number b) (number a) (sym e)),
+      )

@@ -68,7 +68,8 @@ module _ {A : Type 0} where
   keep-append t [] k = refl
   keep-append t (x ∷ xs) k = go (t x) (keep-append t xs k)
     where
-      go : (b : Bool) → keep t (xs ++ k) ≡ keep t xs ++ keep t k → cond b (x ∷ keep t (xs ++ k)) (keep t (xs ++ k)) ≡ cond b (x ∷ keep t xs) (keep t xs) ++ keep t k
+      go : (b : Bool) → keep t (xs ++ k) ≡ keep t xs ++ keep t k
+          → cond b (x ∷ keep t (xs ++ k)) (keep t (xs ++ k)) ≡ cond b (x ∷ keep t xs) (keep t xs) ++ keep t k
       go true e = rw e
       go false e = e
 
@@ -116,7 +117,8 @@ module _ {A : Type 0} where
       split p below (inl e) = (List·Memᴰ·head e, ap t e ∙ p)
       split p below (inr i) = down (below i)
 
-      go : (b : Bool) → t x ≡ b → (List·Memᴰ a (keep t xs) → List·Memᴰ a xs × (t a ≡ true)) → List·Memᴰ a (cond b (x ∷ keep t xs) (keep t xs)) → List·Memᴰ a (x ∷ xs) × (t a ≡ true)
+      go : (b : Bool) → t x ≡ b → (List·Memᴰ a (keep t xs) → List·Memᴰ a xs × (t a ≡ true)) → List·Memᴰ a (cond b (x ∷ keep t xs) (keep t xs))
+          → List·Memᴰ a (x ∷ xs) × (t a ≡ true)
       go true p below i = split p below (List·Memᴰ·cases-cons i)
       go false p below i = down (below i)
 
@@ -132,12 +134,14 @@ module _ {A : Type 0} where
       go false i = i
 
   -- a test of what a map gives
-  pub keep-map : {B : Type 0} (t : B → Bool) (s : A → Bool) (f : A → B) (l : List A) → ((a : A) → List·Memᴰ a l → t (f a) ≡ s a) → keep t (map f l) ≡ map f (keep s l)
+  pub keep-map : {B : Type 0} (t : B → Bool) (s : A → Bool) (f : A → B) (l : List A) → ((a : A) → List·Memᴰ a l → t (f a) ≡ s a)
+      → keep t (map f l) ≡ map f (keep s l)
   unfolding keep
   keep-map t s f [] h = refl
   keep-map t s f (x ∷ xs) h = rw (h x (List·Memᴰ·head refl)) (go (s x) (keep-map t s f xs (λ a m. h a (List·Memᴰ·tail m))))
     where
-      go : (b : Bool) → keep t (map f xs) ≡ map f (keep s xs) → cond b (f x ∷ keep t (map f xs)) (keep t (map f xs)) ≡ map f (cond b (x ∷ keep s xs) (keep s xs))
+      go : (b : Bool) → keep t (map f xs) ≡ map f (keep s xs)
+          → cond b (f x ∷ keep t (map f xs)) (keep t (map f xs)) ≡ map f (cond b (x ∷ keep s xs) (keep s xs))
       go true e = rw e
       go false e = e
 

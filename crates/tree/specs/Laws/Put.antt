@@ -32,17 +32,29 @@ module _ {A : Type 0} (parent counts : A → Bool) (k : ℕ) (new : A) where
     abbrev pub new-row : Row A K → Row A K
     new-row s = row new (line key s)
 
-    place-kept : (t : Row A K → Bool) (k : ℕ) (p : List K) (f : Forest A) → t (row new p) ≡ false → keep t (rows key p (place counts k new f)) ≡ keep t (rows key p f)
+    place-kept : (t : Row A K → Bool) (k : ℕ) (p : List K) (f : Forest A) → t (row new p) ≡ false
+        → keep t (rows key p (place counts k new f)) ≡ keep t (rows key p f)
     unfolding rows place keep
     place-kept t zero p f h = rw h
     place-kept t (suc zero) p f h = rw h
     place-kept t (suc (suc k)) p nil h = rw h
     place-kept t (suc (suc k)) p (node a ks fs) h = go (counts a) (place-kept t (suc k) p fs h) (place-kept t (suc (suc k)) p fs h)
       where
-        go : (c : Bool) → keep t (rows key p (place counts (suc k) new fs)) ≡ keep t (rows key p fs) → keep t (rows key p (place counts (suc (suc k)) new fs)) ≡ keep t (rows key p fs)
+        go : (c : Bool) → keep t (rows key p (place counts (suc k) new fs)) ≡ keep t (rows key p fs)
+            → keep t (rows key p (place counts (suc (suc k)) new fs)) ≡ keep t (rows key p fs)
             → keep t (rows key p (node a ks (cond c (place counts (suc k) new fs) (place counts (suc (suc k)) new fs)))) ≡ keep t (rows key p (node a ks fs))
-        go true u v = rw (keep-append t (rows key (key a ∷ p) ks) (rows key p (place counts (suc k) new fs)), u, ← keep-append t (rows key (key a ∷ p) ks) (rows key p fs))
-        go false u v = rw (keep-append t (rows key (key a ∷ p) ks) (rows key p (place counts (suc (suc k)) new fs)), v, ← keep-append t (rows key (key a ∷ p) ks) (rows key p fs))
+        go true u v =
+            rw (
+              keep-append t (rows key (key a ∷ p) ks) (rows key p (place counts (suc k) new fs)),
+              u,
+              ← keep-append t (rows key (key a ∷ p) ks) (rows key p fs),
+            )
+        go false u v =
+            rw (
+              keep-append t (rows key (key a ∷ p) ks) (rows key p (place counts (suc (suc k)) new fs)),
+              v,
+              ← keep-append t (rows key (key a ∷ p) ks) (rows key p fs),
+            )
 
     -- of the rows that pass a test which new rows fail nothing changes
     pub put-kept : (t : Row A K → Bool) (p : List K) (f : Forest A) → ((s : Row A K) → In key s p f → parent (s .it) ≡ true → t (new-row s) ≡ false)
@@ -64,7 +76,12 @@ module _ {A : Type 0} (parent counts : A → Bool) (k : ℕ) (new : A) where
               ← keep-append t (rows key (key a ∷ p) ks) (rows key p fs),
             )
         go false e u v =
-            rw (keep-append t (rows key (key a ∷ p) (put parent counts k new ks)) (rows key p (put parent counts k new fs)), v, u, ← keep-append t (rows key (key a ∷ p) ks) (rows key p fs))
+            rw (
+              keep-append t (rows key (key a ∷ p) (put parent counts k new ks)) (rows key p (put parent counts k new fs)),
+              v,
+              u,
+              ← keep-append t (rows key (key a ∷ p) ks) (rows key p fs),
+            )
 
     -- the new row of some parent
     abbrev pub New : Row A K → List K → Forest A → Type 0
@@ -90,7 +107,8 @@ module _ {A : Type 0} (parent counts : A → Bool) (k : ℕ) (new : A) where
         lift (inr x) = inr x
 
         go : (c : Bool) → In key r p (cond c (place counts (suc k) new fs) (place counts (suc (suc k)) new fs))
-            → (In key r p (place counts (suc k) new fs) → In key r p fs ⊎ (r ≡ row new p)) → (In key r p (place counts (suc (suc k)) new fs) → In key r p fs ⊎ (r ≡ row new p))
+            → (In key r p (place counts (suc k) new fs) → In key r p fs ⊎ (r ≡ row new p))
+            → (In key r p (place counts (suc (suc k)) new fs) → In key r p fs ⊎ (r ≡ row new p))
             → In key r p (node a ks fs) ⊎ (r ≡ row new p)
         go true j u v = lift (u j)
         go false j u v = lift (v j)
@@ -112,7 +130,8 @@ module _ {A : Type 0} (parent counts : A → Bool) (k : ℕ) (new : A) where
         fresh e below (inr x) = inr (row a p, self refl, e, x)
 
         go : (t : Bool) → parent a ≡ t → In key r (key a ∷ p) (cond t (place counts k new (put parent counts k new ks)) (put parent counts k new ks))
-            → (In key r (key a ∷ p) (put parent counts k new ks) → In key r (key a ∷ p) ks ⊎ New r (key a ∷ p) ks) → In key r p (node a ks fs) ⊎ New r p (node a ks fs)
+            → (In key r (key a ∷ p) (put parent counts k new ks) → In key r (key a ∷ p) ks ⊎ New r (key a ∷ p) ks)
+            → In key r p (node a ks fs) ⊎ New r p (node a ks fs)
         go true e x below = fresh e below (in-place k (key a ∷ p) (put parent counts k new ks) x)
         go false e x below = up (below x)
     in-put {r} p (node a ks fs) (later m) = go (in-put p fs m)
@@ -153,7 +172,8 @@ module _ {A : Type 0} (parent counts : A → Bool) (k : ℕ) (new : A) where
     put-in (self e) = self e
     put-in {r} (inner {a = a} {p = p} {ks = ks} m) = inner (go (parent a) (put-in m))
       where
-        go : (t : Bool) → In key r (key a ∷ p) (put parent counts k new ks) → In key r (key a ∷ p) (cond t (place counts k new (put parent counts k new ks)) (put parent counts k new ks))
+        go : (t : Bool) → In key r (key a ∷ p) (put parent counts k new ks)
+            → In key r (key a ∷ p) (cond t (place counts k new (put parent counts k new ks)) (put parent counts k new ks))
         go true i = place-in k (put parent counts k new ks) i
         go false i = i
     put-in (later m) = later (put-in m)
@@ -161,10 +181,12 @@ module _ {A : Type 0} (parent counts : A → Bool) (k : ℕ) (new : A) where
     -- each parent has a new row below it
     pub put-new : {s : Row A K} {p : List K} {f : Forest A} → In key s p f → parent (s .it) ≡ true → In key (new-row s) p (put parent counts k new f)
     unfolding put
-    put-new {s} (self {a = a} {p = p} {ks = ks} {fs = fs} e) h = rw (e, sym (ap (λ (r : Row A K). parent (r .it)) e) ∙ h) (inner (place-new k (key a ∷ p) (put parent counts k new ks)))
+    put-new {s} (self {a = a} {p = p} {ks = ks} {fs = fs} e) h =
+        rw (e, sym (ap (λ (r : Row A K). parent (r .it)) e) ∙ h) (inner (place-new k (key a ∷ p) (put parent counts k new ks)))
     put-new {s} (inner {a = a} {p = p} {ks = ks} m) h = inner (go (parent a) (put-new m h))
       where
-        go : (t : Bool) → In key (new-row s) (key a ∷ p) (put parent counts k new ks) → In key (new-row s) (key a ∷ p) (cond t (place counts k new (put parent counts k new ks)) (put parent counts k new ks))
+        go : (t : Bool) → In key (new-row s) (key a ∷ p) (put parent counts k new ks)
+            → In key (new-row s) (key a ∷ p) (cond t (place counts k new (put parent counts k new ks)) (put parent counts k new ks))
         go true i = place-in k (put parent counts k new ks) i
         go false i = i
     put-new (later m) h = later (put-new m h)
@@ -180,8 +202,11 @@ module _ {A : Type 0} (parent counts : A → Bool) (k : ℕ) (new : A) where
         (go (counts a) (place-count t (suc k) p fs h) (place-count t (suc (suc k)) p fs h))
       where
         one-more : (f : Forest A) → count t (rows key p f) ≡ 1 + count t (rows key p fs)
-            → count t (row a p ∷ (rows key (key a ∷ p) ks ++ rows key p f)) ≡ 1 + (cond (t (row a p)) 1 0 + (count t (rows key (key a ∷ p) ks) + count t (rows key p fs)))
-        one-more f e = rw (count-cons t (row a p) (rows key (key a ∷ p) ks ++ rows key p f), count-append t (rows key (key a ∷ p) ks) (rows key p f), e) (omega arith)
+            → count t (row a p ∷ (rows key (key a ∷ p) ks ++ rows key p f))
+            ≡ 1 + (cond (t (row a p)) 1 0 + (count t (rows key (key a ∷ p) ks) + count t (rows key p fs)))
+        one-more f e =
+            rw (count-cons t (row a p) (rows key (key a ∷ p) ks ++ rows key p f), count-append t (rows key (key a ∷ p) ks) (rows key p f), e)
+            (omega arith)
 
         go : (c : Bool) → count t (rows key p (place counts (suc k) new fs)) ≡ 1 + count t (rows key p fs)
             → count t (rows key p (place counts (suc (suc k)) new fs)) ≡ 1 + count t (rows key p fs)
@@ -210,15 +235,21 @@ module _ {A : Type 0} (parent counts : A → Bool) (k : ℕ) (new : A) where
         kids : Forest A
         kids = put parent counts k new ks
 
-        split : (f g : Forest A) → count t (row a p ∷ (rows key (key a ∷ p) f ++ rows key p g)) ≡ cond (t (row a p)) 1 0 + (count t (rows key (key a ∷ p) f) + count t (rows key p g))
-        split f g = count-cons t (row a p) (rows key (key a ∷ p) f ++ rows key p g) ∙ ap (λ (n : ℕ). cond (t (row a p)) 1 0 + n) (count-append t (rows key (key a ∷ p) f) (rows key p g))
+        split : (f g : Forest A)
+            → count t (row a p ∷ (rows key (key a ∷ p) f ++ rows key p g))
+            ≡ cond (t (row a p)) 1 0 + (count t (rows key (key a ∷ p) f) + count t (rows key p g))
+        split f g =
+            count-cons t (row a p) (rows key (key a ∷ p) f ++ rows key p g)
+            ∙ ap (λ (n : ℕ). cond (t (row a p)) 1 0 + n) (count-append t (rows key (key a ∷ p) f) (rows key p g))
 
         go : (e : Bool) → parent a ≡ e → count t (rows key (key a ∷ p) kids) ≡ count is-parent (rows key (key a ∷ p) ks) + count t (rows key (key a ∷ p) ks)
             → count t (rows key p (put parent counts k new fs)) ≡ count is-parent (rows key p fs) + count t (rows key p fs)
             → count t (rows key p (node a (cond e (place counts k new kids) kids) (put parent counts k new fs)))
             ≡ (cond e 1 0 + (count is-parent (rows key (key a ∷ p) ks) + count is-parent (rows key p fs)))
             + (cond (t (row a p)) 1 0 + (count t (rows key (key a ∷ p) ks) + count t (rows key p fs)))
-        go true e u v = rw (split (place counts k new kids) (put parent counts k new fs), place-count t k (key a ∷ p) kids (h (row a p) (self refl) e), u, v) (omega arith)
+        go true e u v =
+            rw (split (place counts k new kids) (put parent counts k new fs), place-count t k (key a ∷ p) kids (h (row a p) (self refl) e), u, v)
+            (omega arith)
         go false e u v = rw (split kids (put parent counts k new fs), u, v) (omega arith)
 
   -- an insertion and another edit --------------------------------------------------------
@@ -236,7 +267,8 @@ module _ {A : Type 0} (parent counts : A → Bool) (k : ℕ) (new : A) where
         go : (t : Bool) → amend key c p (place counts (suc k) new fs) ≡ place counts' (suc k) new' (amend key c p fs)
             → amend key c p (place counts (suc (suc k)) new fs) ≡ place counts' (suc (suc k)) new' (amend key c p fs)
             → node (c (row a p)) (amend key c (key a ∷ p) ks) (amend key c p (cond t (place counts (suc k) new fs) (place counts (suc (suc k)) new fs)))
-            ≡ node (c (row a p)) (amend key c (key a ∷ p) ks) (cond t (place counts' (suc k) new' (amend key c p fs)) (place counts' (suc (suc k)) new' (amend key c p fs)))
+            ≡ node (c (row a p)) (amend key c (key a ∷ p) ks)
+            (cond t (place counts' (suc k) new' (amend key c p fs)) (place counts' (suc (suc k)) new' (amend key c p fs)))
         go true u v = rw u
         go false u v = rw v
 
@@ -249,8 +281,10 @@ module _ {A : Type 0} (parent counts : A → Bool) (k : ℕ) (new : A) where
       where
         go : (t : Bool) → parent a ≡ t → amend key c (key a ∷ p) (put parent counts k new ks) ≡ put parent' counts' k new' (amend key c (key a ∷ p) ks)
             → amend key c p (put parent counts k new fs) ≡ put parent' counts' k new' (amend key c p fs)
-            → node (c (row a p)) (amend key c (key a ∷ p) (cond t (place counts k new (put parent counts k new ks)) (put parent counts k new ks))) (amend key c p (put parent counts k new fs))
-            ≡ node (c (row a p)) (cond t (place counts' k new' (put parent' counts' k new' (amend key c (key a ∷ p) ks))) (put parent' counts' k new' (amend key c (key a ∷ p) ks)))
+            → node (c (row a p)) (amend key c (key a ∷ p) (cond t (place counts k new (put parent counts k new ks)) (put parent counts k new ks)))
+            (amend key c p (put parent counts k new fs))
+            ≡ node (c (row a p))
+            (cond t (place counts' k new' (put parent' counts' k new' (amend key c (key a ∷ p) ks))) (put parent' counts' k new' (amend key c (key a ∷ p) ks)))
             (put parent' counts' k new' (amend key c p fs))
         go true q u v = rw (amend-place k (key a ∷ p) (put parent counts k new ks) (e (row a p) (self refl) q), u, v)
         go false q u v = rw (u, v)
@@ -276,12 +310,14 @@ module _ {A : Type 0} (parent counts : A → Bool) (k : ℕ) (new : A) where
     view-put-hidden (node a ks fs) e = go (parent a) (view-put-hidden ks e) (view-put-hidden fs e)
       where
         go : (t : Bool) → view shown g (put parent counts k new ks) ≡ view shown g ks → view shown g (put parent counts k new fs) ≡ view shown g fs
-            → view shown g (node a (cond t (place counts k new (put parent counts k new ks)) (put parent counts k new ks)) (put parent counts k new fs)) ≡ view shown g (node a ks fs)
+            → view shown g (node a (cond t (place counts k new (put parent counts k new ks)) (put parent counts k new ks)) (put parent counts k new fs))
+            ≡ view shown g (node a ks fs)
         go true u v = rw (view-place-hidden k (put parent counts k new ks) e, u, v)
         go false u v = rw (u, v)
 
     -- an insertion into the view, if among the parent's children those that are not shown do not count, and those that are count alike
-    module _ {K : Type 0} (key : A → K) (parent' counts' : B → Bool) (new-shown : shown new ≡ true) (same-parent : (a : A) → shown a ≡ true → parent' (g a) ≡ parent a) where
+    module _ {K : Type 0} (key : A → K) (parent' counts' : B → Bool) (new-shown : shown new ≡ true)
+        (same-parent : (a : A) → shown a ≡ true → parent' (g a) ≡ parent a) where
       abbrev pub Counted : A → Type 0
       Counted a = counts a ≡ (shown a && counts' (g a))
 
@@ -290,7 +326,8 @@ module _ {A : Type 0} (parent counts : A → Bool) (k : ℕ) (new : A) where
       view-place zero f h = rw new-shown
       view-place (suc zero) f h = rw new-shown
       view-place (suc (suc k)) nil h = rw new-shown
-      view-place (suc (suc k)) (node a ks fs) h = rw (h .0) (go (shown a) (counts' (g a)) refl (view-place (suc k) fs (h .1)) (view-place (suc (suc k)) fs (h .1)))
+      view-place (suc (suc k)) (node a ks fs) h =
+          rw (h .0) (go (shown a) (counts' (g a)) refl (view-place (suc k) fs (h .1)) (view-place (suc (suc k)) fs (h .1)))
         where
           next : Bool → Forest A
           next t = cond t (place counts (suc k) new fs) (place counts (suc (suc k)) new fs)
@@ -309,7 +346,8 @@ module _ {A : Type 0} (parent counts : A → Bool) (k : ℕ) (new : A) where
       unfolding view put
       view-put p nil h = refl
       view-put p (node a ks fs) h =
-          go (shown a) refl (parent a) refl (view-put (key a ∷ p) ks (λ s r i e j. h s r (inner i) e (inner j))) (view-put p fs (λ s r i e j. h s r (later i) e (later j)))
+          go (shown a) refl (parent a) refl (view-put (key a ∷ p) ks (λ s r i e j. h s r (inner i) e (inner j)))
+          (view-put p fs (λ s r i e j. h s r (later i) e (later j)))
         where
           counted : parent a ≡ true → Tops Counted (put parent counts k new ks)
           counted e = put-tops Counted ks (rows-tops key Counted (key a ∷ p) ks (λ r m q. h (row a p) r (self refl) e (inner m) q))
@@ -317,7 +355,8 @@ module _ {A : Type 0} (parent counts : A → Bool) (k : ℕ) (new : A) where
           kids : Bool → Forest A
           kids t = cond t (place counts k new (put parent counts k new ks)) (put parent counts k new ks)
 
-          go : (s : Bool) → shown a ≡ s → (t : Bool) → parent a ≡ t → view shown g (put parent counts k new ks) ≡ put parent' counts' k (g new) (view shown g ks)
+          go : (s : Bool) → shown a ≡ s → (t : Bool) → parent a ≡ t
+              → view shown g (put parent counts k new ks) ≡ put parent' counts' k (g new) (view shown g ks)
               → view shown g (put parent counts k new fs) ≡ put parent' counts' k (g new) (view shown g fs)
               → cond s (node (g a) (view shown g (kids t)) (view shown g (put parent counts k new fs))) (view shown g (put parent counts k new fs))
               ≡ put parent' counts' k (g new) (cond s (node (g a) (view shown g ks) (view shown g fs)) (view shown g fs))
@@ -332,7 +371,8 @@ module _ {A : Type 0} (parent counts : A → Bool) (k : ℕ) (new : A) where
   place-put parent' counts' k' new' zero f e = rw e
   place-put parent' counts' k' new' (suc zero) f e = rw e
   place-put parent' counts' k' new' (suc (suc k)) nil e = rw e
-  place-put parent' counts' k' new' (suc (suc k)) (node a ks fs) e = go (counts a) (place-put parent' counts' k' new' (suc k) fs e) (place-put parent' counts' k' new' (suc (suc k)) fs e)
+  place-put parent' counts' k' new' (suc (suc k)) (node a ks fs) e =
+      go (counts a) (place-put parent' counts' k' new' (suc k) fs e) (place-put parent' counts' k' new' (suc (suc k)) fs e)
     where
       go : (t : Bool) → put parent' counts' k' new' (place counts (suc k) new fs) ≡ place counts (suc k) new (put parent' counts' k' new' fs)
           → put parent' counts' k' new' (place counts (suc (suc k)) new fs) ≡ place counts (suc (suc k)) new (put parent' counts' k' new' fs)
@@ -357,8 +397,12 @@ module _ {A : Type 0} (parent parent' counts counts' : A → Bool) (k k' : ℕ) 
       two = put parent' counts' k' new'
 
       go : (s : Bool) → parent a ≡ s → (t : Bool) → parent' a ≡ t → one (two ks) ≡ two (one ks) → one (two fs) ≡ two (one fs)
-          → node a (cond s (place counts k new (one (cond t (place counts' k' new' (two ks)) (two ks)))) (one (cond t (place counts' k' new' (two ks)) (two ks)))) (one (two fs))
-          ≡ node a (cond t (place counts' k' new' (two (cond s (place counts k new (one ks)) (one ks)))) (two (cond s (place counts k new (one ks)) (one ks)))) (two (one fs))
+          → node a
+          (cond s (place counts k new (one (cond t (place counts' k' new' (two ks)) (two ks)))) (one (cond t (place counts' k' new' (two ks)) (two ks))))
+          (one (two fs))
+          ≡ node a
+          (cond t (place counts' k' new' (two (cond s (place counts k new (one ks)) (one ks)))) (two (cond s (place counts k new (one ks)) (one ks))))
+          (two (one fs))
       go true i true j u v = absurd (true≢false (sym j ∙ apart a i))
       go true i false j u v = rw (u, v, place-put parent counts k new parent' counts' k' new' k (put parent counts k new ks) no-parent)
       go false i true j u v = rw (← u, v, place-put parent' counts' k' new' parent counts k new k' (put parent' counts' k' new' ks) no-parent')

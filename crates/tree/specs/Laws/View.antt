@@ -46,7 +46,8 @@ module _ {A K : Type 0} (key : A → K) (shown : A → Bool) (shown-key : K → 
             → (every shown-key (key a ∷ p) ≡ true → rows key' (above' (key a ∷ p)) (view shown g ks) ≡ map viewed (keep visible (rows key (key a ∷ p) ks)))
             → rows key' (above' p) (view shown g fs) ≡ map viewed (keep visible (rows key p fs))
             → rows key' (above' p) (cond t (node (g a) (view shown g ks) (view shown g fs)) (view shown g fs))
-            ≡ map viewed (cond (t && every shown-key p) (row a p ∷ keep visible (rows key (key a ∷ p) ks ++ rows key p fs)) (keep visible (rows key (key a ∷ p) ks ++ rows key p fs)))
+            ≡ map viewed (cond (t && every shown-key p) (row a p ∷ keep visible (rows key (key a ∷ p) ks ++ rows key p fs))
+            (keep visible (rows key (key a ∷ p) ks ++ rows key p fs)))
         go true e u v =
             rw (
               h,
@@ -67,7 +68,8 @@ module _ {A K : Type 0} (key : A → K) (shown : A → Bool) (shown-key : K → 
         (i .0, of-rows key (i .0) p f (j .0), j .1, i .2)
 
     -- what is shown with all its ancestors is a row of the view
-    view-in-along : (p : List K) (f : Forest A) → every shown-key p ≡ true → {s : Row A K} → In key s p f → visible s ≡ true → In key' (viewed s) (above' p) (view shown g f)
+    view-in-along : (p : List K) (f : Forest A) → every shown-key p ≡ true → {s : Row A K} → In key s p f → visible s ≡ true
+        → In key' (viewed s) (above' p) (view shown g f)
     view-in-along p f h {s} m v =
         of-rows key' (viewed s) (above' p) (view shown g f) (rw (rows-view-along p f h) (map-in viewed (keep-in visible (rows key p f) (to-rows key m) v)))
 
@@ -86,7 +88,8 @@ module _ {A K : Type 0} (key : A → K) (shown : A → Bool) (shown-key : K → 
         → (s : Row A K) × In key s p f × (visible s ≡ true) × (r ≡ seen s)
     in-view p f e m = in-view-along g key' (map h) new-line p f e m
 
-    pub view-in : (p : List K) (f : Forest A) → every shown-key p ≡ true → {s : Row A K} → In key s p f → visible s ≡ true → In key' (seen s) (map h p) (view shown g f)
+    pub view-in : (p : List K) (f : Forest A) → every shown-key p ≡ true → {s : Row A K} → In key s p f → visible s ≡ true
+        → In key' (seen s) (map h p) (view shown g f)
     view-in p f e m v = view-in-along g key' (map h) new-line p f e m v
 
   -- by the same key, of the same nodes: what is left of a forest
@@ -106,7 +109,8 @@ module _ {A K : Type 0} (key : A → K) (shown : A → Bool) (shown-key : K → 
       (view-agree shown' g g' p fs e (λ r m. t r (later m)) (λ r m. c r (later m))))
     where
       go : (s : Bool) → shown a ≡ s → (shown-key (key a) ≡ true → view shown' g' ks ≡ view shown g ks) → view shown' g' fs ≡ view shown g fs
-          → cond s (node (g' a) (view shown' g' ks) (view shown' g' fs)) (view shown' g' fs) ≡ cond s (node (g a) (view shown g ks) (view shown g fs)) (view shown g fs)
+          → cond s (node (g' a) (view shown' g' ks) (view shown' g' fs)) (view shown' g' fs)
+          ≡ cond s (node (g a) (view shown g ks) (view shown g fs)) (view shown g fs)
       go true q u v = rw (c (row a p) (self refl) (rw (← by-key a, q, e)), u (sym (by-key a) ∙ q), v)
       go false q u v = v
 
@@ -127,7 +131,8 @@ module _ {A K : Type 0} (key : A → K) (shown : A → Bool) (shown-key : K → 
       go : (s : Bool) → shown a ≡ s
           → (shown-key (key a) ≡ true → view shown' g' (amend key c (key a ∷ p) ks) ≡ amend key' c' (above' (key a ∷ p)) (view shown g ks))
           → view shown' g' (amend key c p fs) ≡ amend key' c' (above' p) (view shown g fs)
-          → cond s (node (g' (c (row a p))) (view shown' g' (amend key c (key a ∷ p) ks)) (view shown' g' (amend key c p fs))) (view shown' g' (amend key c p fs))
+          → cond s (node (g' (c (row a p))) (view shown' g' (amend key c (key a ∷ p) ks)) (view shown' g' (amend key c p fs)))
+          (view shown' g' (amend key c p fs))
           ≡ amend key' c' (above' p) (cond s (node (g a) (view shown g ks) (view shown g fs)) (view shown g fs))
       go true q u v = rw (d (row a p) (self refl) (rw (← by-key a, q, e)), u (sym (by-key a) ∙ q), v, n a p q)
       go false q u v = v

@@ -26,7 +26,11 @@ both-requires-2 : tie.Need-both-requires-2
 both-requires-2 c κs = search needs
 
 returns-2 : tie.Need-returns-2
-returns-2 c = counted-attribute _ _ _ _ (c .before .before .before .before .before .both .ensures ∙ rw (c .before .before .before .before .before .before .takes .ensures)) (c .before .before .before .before .if1 .left) _ (c .both2 .ensures)
+returns-2 c =
+    let takes = c .before .before .before .before .before .before .takes in
+    let both = c .before .before .before .before .before .both in
+    let if1 = c .before .before .before .before .if1 in
+    counted-attribute _ _ _ _ (both .ensures ∙ rw (takes .ensures)) (if1 .left) _ (c .both2 .ensures)
 
 pub counted-spec : {M : Type 1} → statement M
 counted-spec =

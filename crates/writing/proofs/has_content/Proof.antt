@@ -20,7 +20,11 @@ size-requires : tie.Need-size-requires Inv-loop μ-loop
 size-requires c κs = search needs
 
 returns : tie.Need-returns Inv-loop μ-loop
-returns c = sym (same-long (c .before .before .before .before .args .a .now) (item (nodes (c .before .before .before .before .args .s .now)) (c .before .before .before .before .args .p) .now .content) (λ e. c .if1 .taken (c .before .size .ensures .0 ∙ e)))
+returns c =
+    let args = c .before .before .before .before .args in
+    let size = c .before .size in
+    sym (same-long (args .a .now) (item (nodes (args .s .now)) (args .p) .now .content)
+    (λ e. c .if1 .taken (size .ensures .0 ∙ e)))
 
 loop-holds : tie.Need-loop-holds Inv-loop μ-loop
 loop-holds c = refl
@@ -32,7 +36,13 @@ shared-slice-read-if2 : tie.Need-shared-slice-read-if2 Inv-loop μ-loop
 shared-slice-read-if2 c = search needs
 
 returns-2 : tie.Need-returns-2 Inv-loop μ-loop
-returns-2 c = sym (same-differs _ _ (c .before .before .before .before .loop .j) (c .before .before .before .before .loop .inv) (sym (c .before .before .before .before .before .before .size .ensures .0) ∙ c .before .before .before .before .before .if1 .left) (search needs) (λ z. c .if2 .taken (c .before .before .content .ensures ∙ z)))
+returns-2 c =
+    let size = c .before .before .before .before .before .before .size in
+    let if1 = c .before .before .before .before .before .if1 in
+    let l = c .before .before .before .before .loop in
+    let content = c .before .before .content in
+    sym (same-differs _ _ (l .j) (l .inv) (sym (size .ensures .0) ∙ if1 .left) (search needs)
+    (λ z. c .if2 .taken (content .ensures ∙ z)))
 
 add-j : tie.Need-add-j Inv-loop μ-loop
 add-j c = search needs
@@ -41,10 +51,19 @@ loop-less : tie.Need-loop-less Inv-loop μ-loop
 loop-less c = search needs
 
 loop-again : tie.Need-loop-again Inv-loop μ-loop
-loop-again c = same-turn _ _ (c .before .before .before .before .loop .j) (c .before .before .before .before .loop .inv) (sym (c .before .before .before .before .before .before .size .ensures .0) ∙ c .before .before .before .before .before .if1 .left) (search needs) (sym (c .before .before .content .ensures) ∙ c .if2 .left)
+loop-again c =
+    let size = c .before .before .before .before .before .before .size in
+    let if1 = c .before .before .before .before .before .if1 in
+    let l = c .before .before .before .before .loop in
+    let content = c .before .before .content in
+    same-turn _ _ (l .j) (l .inv) (sym (size .ensures .0) ∙ if1 .left) (search needs) (sym (content .ensures) ∙ c .if2 .left)
 
 returns-3 : tie.Need-returns-3 Inv-loop μ-loop
-returns-3 c = sym (same-end _ _ (c .before .loop .j) (c .before .loop .inv) (sym (c .before .before .before .size .ensures .0) ∙ c .before .before .if1 .left) (search needs))
+returns-3 c =
+    let size = c .before .before .before .size in
+    let if1 = c .before .before .if1 in
+    let l = c .before .loop in
+    sym (same-end _ _ (l .j) (l .inv) (sym (size .ensures .0) ∙ if1 .left) (search needs))
 
 pub has-content-spec : {M : Type 1} → statement M
 has-content-spec =

@@ -10,13 +10,21 @@ kind-requires : tie.Need-kind-requires
 kind-requires c κs = search needs
 
 returns : tie.Need-returns
-returns c = sym (named-other (c .before .before .before .before .args .a .now) (item (nodes (c .before .before .before .before .args .s .now)) (c .before .before .before .before .args .p)) (λ e. c .if1 .taken (c .before .kind .ensures ∙ e)))
+returns c =
+    let args = c .before .before .before .before .args in
+    let kind = c .before .kind in
+    sym (named-other (args .a .now) (item (nodes (args .s .now)) (args .p)) (λ e. c .if1 .taken (kind .ensures ∙ e)))
 
 has-content-requires : tie.Need-has-content-requires
 has-content-requires c κs = search needs
 
 returns-2 : tie.Need-returns-2
-returns-2 c = c .has-content .ensures ∙ sym (named-element (c .before .before .before .before .before .args .a .now) (item (nodes (c .before .before .before .before .before .args .s .now)) (c .before .before .before .before .before .args .p)) (sym (c .before .before .kind .ensures) ∙ c .before .if1 .left))
+returns-2 c =
+    let args = c .before .before .before .before .before .args in
+    let kind = c .before .before .kind in
+    let if1 = c .before .if1 in
+    c .has-content .ensures ∙ sym
+    (named-element (args .a .now) (item (nodes (args .s .now)) (args .p)) (sym (kind .ensures) ∙ if1 .left))
 
 pub is-named-spec : {M : Type 1} → statement M
 is-named-spec = tie.close (tie.spec kind-requires returns has-content-requires returns-2)

@@ -43,7 +43,14 @@ cast-d : tie.Need-cast-d Inv-loop μ-loop
 cast-d c = search needs
 
 returns : tie.Need-returns Inv-loop μ-loop
-returns c = let l = c .before .before .before .loop in (sym (placed-out (seen-by _) _ _ _ (l .i) (l .j) no-entry (l .inv .1) (search needs) (omega (arith, c .before .depth2 .ensures, c .before .before .before .before .depth .ensures, c .if1 .taken))), l .inv .0)
+returns c =
+    let depth = c .before .before .before .before .depth in
+    let l = c .before .before .before .loop in
+    let depth2 = c .before .depth2 in (
+      sym (placed-out (seen-by _) _ _ _ (l .i) (l .j) no-entry (l .inv .1) (search needs)
+          (omega (arith, depth2 .ensures, depth .ensures, c .if1 .taken))),
+      l .inv .0,
+    )
 
 add-if2 : tie.Need-add-if2 Inv-loop μ-loop
 add-if2 c = search needs
@@ -55,22 +62,53 @@ loop-less : tie.Need-loop-less Inv-loop μ-loop
 loop-less c = search needs
 
 loop-again : tie.Need-loop-again Inv-loop μ-loop
-loop-again c = let l = c .before .before .before .before .loop in (search needs, placed-deeper (seen-by _) _ _ _ (l .i) (l .j) no-entry (l .inv .1) (search needs) (omega (arith, c .before .before .depth2 .ensures, c .before .before .before .before .before .depth .ensures, c .before .if1 .left, c .if2 .taken)))
+loop-again c =
+    let depth = c .before .before .before .before .before .depth in
+    let l = c .before .before .before .before .loop in
+    let depth2 = c .before .before .depth2 in
+    let if1 = c .before .if1 in (
+      search needs,
+      placed-deeper (seen-by _) _ _ _ (l .i) (l .j) no-entry (l .inv .1) (search needs)
+          (omega (arith, depth2 .ensures, depth .ensures, if1 .left, c .if2 .taken)),
+    )
 
 returns-2 : tie.Need-returns-2 Inv-loop μ-loop
-returns-2 c = let l = c .before .before .before .before .before .loop in (sym (placed-here (seen-by _) _ _ _ (l .i) (l .j) no-entry (l .inv .1) (search needs) (omega (arith, c .before .before .before .depth2 .ensures, c .before .before .before .before .before .before .depth .ensures, c .before .if2 .left)) (c .if3 .taken)), l .inv .0)
+returns-2 c =
+    let depth = c .before .before .before .before .before .before .depth in
+    let l = c .before .before .before .before .before .loop in
+    let depth2 = c .before .before .before .depth2 in
+    let if2 = c .before .if2 in (
+      sym (placed-here (seen-by _) _ _ _ (l .i) (l .j) no-entry (l .inv .1) (search needs)
+          (omega (arith, depth2 .ensures, depth .ensures, if2 .left)) (c .if3 .taken)),
+      l .inv .0,
+    )
 
 add-i-3 : tie.Need-add-i-3 Inv-loop μ-loop
 add-i-3 c = search needs
 
 deleter-requires : tie.Need-deleter-requires Inv-loop μ-loop
-deleter-requires c κs = (c .before .before .before .before .before .before .before .before .before .pre .0, omega (arith, c .before .before .before .before .loop-test .taken, c .before .before .before .before .before .before .before .count .ensures))
+deleter-requires c κs =
+    let pre = c .before .before .before .before .before .before .before .before .before .pre in
+    let count = c .before .before .before .before .before .before .before .count in
+    let test = c .before .before .before .before .loop-test in
+    (pre .0, omega (arith, test .taken, count .ensures))
 
 loop-less-2 : tie.Need-loop-less-2 Inv-loop μ-loop
 loop-less-2 c = search needs
 
 loop-again-2 : tie.Need-loop-again-2 Inv-loop μ-loop
-loop-again-2 c = let l = c .before .before .before .before .before .before .before .loop in (search needs, placed-other (seen-by _) _ _ _ (l .i) (l .j) no-entry (l .inv .1) (search needs) (omega (arith, c .before .before .before .before .before .depth2 .ensures, c .before .before .before .before .before .before .before .before .depth .ensures, c .before .before .before .if2 .left)) (omega (arith, c .before .before .if3 .left)) (rw (eq-eqb _ _ (sym (c .before .deleter .ensures) ∙ c .if4 .taken))))
+loop-again-2 c =
+    let depth = c .before .before .before .before .before .before .before .before .depth in
+    let l = c .before .before .before .before .before .before .before .loop in
+    let depth2 = c .before .before .before .before .before .depth2 in
+    let if2 = c .before .before .before .if2 in
+    let if3 = c .before .before .if3 in
+    let deleter = c .before .deleter in (
+      search needs,
+      placed-other (seen-by _) _ _ _ (l .i) (l .j) no-entry (l .inv .1) (search needs)
+          (omega (arith, depth2 .ensures, depth .ensures, if2 .left)) (omega (arith, if3 .left))
+          (rw (eq-eqb _ _ (sym (deleter .ensures) ∙ c .if4 .taken))),
+    )
 
 sub-j-2 : tie.Need-sub-j-2 Inv-loop μ-loop
 sub-j-2 c = search needs
@@ -79,7 +117,18 @@ loop-less-3 : tie.Need-loop-less-3 Inv-loop μ-loop
 loop-less-3 c = search needs
 
 loop-again-3 : tie.Need-loop-again-3 Inv-loop μ-loop
-loop-again-3 c = let l = c .before .before .before .before .before .before .before .loop in (search needs, placed-counted (seen-by _) _ _ _ (l .i) (l .j) no-entry (l .inv .1) (search needs) (omega (arith, c .before .before .before .before .before .depth2 .ensures, c .before .before .before .before .before .before .before .before .depth .ensures, c .before .before .before .if2 .left)) (omega (arith, c .before .before .if3 .left)) (rw (ne-eqb _ _ (λ e. c .if4 .left (c .before .deleter .ensures ∙ e)))))
+loop-again-3 c =
+    let depth = c .before .before .before .before .before .before .before .before .depth in
+    let l = c .before .before .before .before .before .before .before .loop in
+    let depth2 = c .before .before .before .before .before .depth2 in
+    let if2 = c .before .before .before .if2 in
+    let if3 = c .before .before .if3 in
+    let deleter = c .before .deleter in (
+      search needs,
+      placed-counted (seen-by _) _ _ _ (l .i) (l .j) no-entry (l .inv .1) (search needs)
+          (omega (arith, depth2 .ensures, depth .ensures, if2 .left)) (omega (arith, if3 .left))
+          (rw (ne-eqb _ _ (λ e. c .if4 .left (deleter .ensures ∙ e)))),
+    )
 
 returns-3 : tie.Need-returns-3 Inv-loop μ-loop
 returns-3 c = let l = c .before .loop in (sym (placed-end (seen-by _) _ _ _ (l .i) (l .j) no-entry (l .inv .1) (search needs)), l .inv .0)

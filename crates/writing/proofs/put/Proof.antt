@@ -16,14 +16,30 @@ needed-requires : tie.Need-needed-requires
 needed-requires c κs = search needs
 
 set-lock-requires : tie.Need-set-lock-requires
-set-lock-requires c κs = (c .before .before .before .before .insert .ensures .layout, search needs, search needs, omega (arith, put-long _ _ (c .before .before .before .before .insert .ensures), c .before .before .before .before .before .before .before .before .pre .2))
+set-lock-requires c κs = (
+  c .before .before .before .before .insert .ensures .layout,
+  search needs,
+  search needs,
+  omega (
+    arith,
+    put-long _ _ (c .before .before .before .before .insert .ensures),
+    c .before .before .before .before .before .before .before .before .pre .2,
+  ),
+)
 
 same-length : tie.Need-same-length
 same-length c = search needs
 
 returns : tie.Need-returns
 unfolding need-words
-returns c = put-left _ _ _ _ _ (need-sets (I 0 0 [] 0 0) .new) _ (ap (λ z. z .fresh) (c .before .before .before .before .needed .ensures)) (c .before .before .before .before .before .before .before .before .before .before .before .pre .2) (c .before .before .before .before .before .before .before .insert .ensures) (c .before .before .set-lock .ensures)
+returns c =
+    let c8 = c .before .before .before .before .before .before .before .before in
+    let pre = c8 .before .before .before .pre in
+    let insert = c .before .before .before .before .before .before .before .insert in
+    let needed = c .before .before .before .before .needed in
+    let set-lock = c .before .before .set-lock in
+    put-left _ _ _ _ _ (need-sets (I 0 0 [] 0 0) .new) _ (ap (λ z. z .fresh) (needed .ensures)) (pre .2) (insert .ensures)
+    (set-lock .ensures)
 
 pub put-spec : {M : Type 1} → statement M
 put-spec =

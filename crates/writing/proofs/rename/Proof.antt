@@ -21,7 +21,11 @@ same-length-2 : tie.Need-same-length-2
 same-length-2 c = search needs
 
 returns-2 : tie.Need-returns-2
-returns-2 c = renamed-one _ _ _ _ (sym (c .before .before .before .before .before .is-named .ensures) ∙ not-false _ (c .before .before .before .before .if1 .left)) (c .before .before .write .ensures)
+returns-2 c =
+    let is-named = c .before .before .before .before .before .is-named in
+    let if1 = c .before .before .before .before .if1 in
+    let write = c .before .before .write in
+    renamed-one _ _ _ _ (sym (is-named .ensures) ∙ not-false _ (if1 .left)) (write .ensures)
 
 pub rename-spec : {M : Type 1} → statement M
 rename-spec =

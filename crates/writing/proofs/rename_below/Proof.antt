@@ -16,7 +16,12 @@ same-length : tie.Need-same-length
 same-length c = search needs
 
 returns : tie.Need-returns
-returns c = renamed-whole (c .before .before .before .before .before .before .before .before .before .before .before .pre .1) (c .before .before .before .before .before .before .rename .ensures) (c .before .before .rename-rest .ensures)
+returns c =
+    let c8 = c .before .before .before .before .before .before .before .before in
+    let pre = c8 .before .before .before .pre in
+    let rename = c .before .before .before .before .before .before .rename in
+    let rename-rest = c .before .before .rename-rest in
+    renamed-whole (pre .1) (rename .ensures) (rename-rest .ensures)
 
 pub rename-below-spec : {M : Type 1} → statement M
 rename-below-spec =

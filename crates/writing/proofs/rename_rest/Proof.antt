@@ -25,16 +25,29 @@ add-i : tie.Need-add-i Inv-loop μ-loop
 add-i c = search needs
 
 loop-holds : tie.Need-loop-holds Inv-loop μ-loop
-loop-holds c = (omega (arith, c .before .before .before .before .before .before .before .pre .1), renaming-start _ _ _ _ (c .before .before .before .before .before .before .before .pre .0))
+loop-holds c =
+    let pre = c .before .before .before .before .before .before .before .pre in
+    (omega (arith, pre .1), renaming-start _ _ _ _ (pre .0))
 
 depth-requires-2 : tie.Need-depth-requires-2 Inv-loop μ-loop
-depth-requires-2 c κs = let l = c .before .before .loop in (l .inv .1 .kept .layout, omega (arith, c .before .loop-test .taken, c .before .before .before .before .before .count .ensures, l .inv .1 .kept .many))
+depth-requires-2 c κs =
+    let count = c .before .before .before .before .before .count in
+    let l = c .before .before .loop in
+    let test = c .before .loop-test in
+    (l .inv .1 .kept .layout, omega (arith, test .taken, count .ensures, l .inv .1 .kept .many))
 
 same-length : tie.Need-same-length Inv-loop μ-loop
 same-length c = search needs
 
 returns : tie.Need-returns Inv-loop μ-loop
-returns c = let l = c .before .before .before .before .loop in renaming-out (l .inv .1) (omega (arith, c .before .before .before .loop-test .taken, c .before .before .before .before .before .before .before .count .ensures, l .inv .1 .kept .many)) (omega (arith, c .before .depth2 .ensures, c .before .before .before .before .before .depth .ensures, c .if1 .taken))
+returns c =
+    let count = c .before .before .before .before .before .before .before .count in
+    let depth = c .before .before .before .before .before .depth in
+    let l = c .before .before .before .before .loop in
+    let test = c .before .before .before .loop-test in
+    let depth2 = c .before .depth2 in
+    renaming-out (l .inv .1) (omega (arith, test .taken, count .ensures, l .inv .1 .kept .many))
+    (omega (arith, depth2 .ensures, depth .ensures, c .if1 .taken))
 
 add-i-2 : tie.Need-add-i-2 Inv-loop μ-loop
 add-i-2 c = search needs
@@ -49,12 +62,27 @@ loop-less : tie.Need-loop-less Inv-loop μ-loop
 loop-less c = search needs
 
 loop-again : tie.Need-loop-again Inv-loop μ-loop
-loop-again c = let l = c .before .before .before .before .before .before .loop in
-    let h : l .i < length (nodes (l .s)) = omega (arith, c .before .before .before .before .before .loop-test .taken, c .before .before .before .before .before .before .before .before .before .count .ensures, l .inv .1 .kept .many) in
-    (omega arith, renaming-hidden (l .inv .1) h (omega (arith, c .before .before .before .depth2 .ensures, c .before .before .before .before .before .before .before .depth .ensures, c .before .before .if1 .left)) (rw (← c .before .before .before .depth2 .ensures) (sym (c .before .left-out .ensures) ∙ c .if2 .taken)))
+loop-again c =
+    let count = c .before .before .before .before .before .before .before .before .before .count in
+    let depth = c .before .before .before .before .before .before .before .depth in
+    let l = c .before .before .before .before .before .before .loop in
+    let test = c .before .before .before .before .before .loop-test in
+    let depth2 = c .before .before .before .depth2 in
+    let if1 = c .before .before .if1 in
+    let left-out = c .before .left-out in
+    let h : l .i < length (nodes (l .s)) = omega (arith, test .taken, count .ensures, l .inv .1 .kept .many) in (
+      omega arith,
+      renaming-hidden (l .inv .1) h (omega (arith, depth2 .ensures, depth .ensures, if1 .left))
+          (rw (← depth2 .ensures) (sym (left-out .ensures) ∙ c .if2 .taken)),
+    )
 
 deleter-requires : tie.Need-deleter-requires Inv-loop μ-loop
-deleter-requires c κs = let l = c .before .before .before .before .before .before .before .loop in (l .inv .1 .kept .layout, omega (arith, c .before .before .before .before .before .before .loop-test .taken, c .before .before .before .before .before .before .before .before .before .before .count .ensures, l .inv .1 .kept .many))
+deleter-requires c κs =
+    let c8 = c .before .before .before .before .before .before .before .before in
+    let count = c8 .before .before .count in
+    let l = c .before .before .before .before .before .before .before .loop in
+    let test = c .before .before .before .before .before .before .loop-test in
+    (l .inv .1 .kept .layout, omega (arith, test .taken, count .ensures, l .inv .1 .kept .many))
 
 cast-hidden : tie.Need-cast-hidden Inv-loop μ-loop
 cast-hidden c = search needs
@@ -66,29 +94,79 @@ loop-less-2 : tie.Need-loop-less-2 Inv-loop μ-loop
 loop-less-2 c = search needs
 
 loop-again-2 : tie.Need-loop-again-2 Inv-loop μ-loop
-loop-again-2 c = let l = c .before .before .before .before .before .before .before .before .before .loop in
-    let h : l .i < length (nodes (l .s)) = omega (arith, c .before .before .before .before .before .before .before .before .loop-test .taken, c .before .before .before .before .before .before .before .before .before .before .before .before .count .ensures, l .inv .1 .kept .many) in
-    (omega arith, rw (c .before .before .before .before .before .before .depth2 .ensures) (renaming-unseen (l .inv .1) h (omega (arith, c .before .before .before .before .before .before .depth2 .ensures, c .before .before .before .before .before .before .before .before .before .before .depth .ensures, c .before .before .before .before .before .if1 .left)) (rw (← c .before .before .before .before .before .before .depth2 .ensures) (sym (c .before .before .before .before .left-out .ensures) ∙ c .before .before .before .if2 .left)) (sym (c .before .deleter .ensures) ∙ c .if3 .taken)))
+loop-again-2 c =
+    let c8 = c .before .before .before .before .before .before .before .before in
+    let count = c8 .before .before .before .before .count in
+    let depth = c8 .before .before .depth in
+    let l = c8 .before .loop in
+    let test = c8 .loop-test in
+    let depth2 = c .before .before .before .before .before .before .depth2 in
+    let if1 = c .before .before .before .before .before .if1 in
+    let left-out = c .before .before .before .before .left-out in
+    let if2 = c .before .before .before .if2 in
+    let deleter = c .before .deleter in
+    let h : l .i < length (nodes (l .s)) = omega (arith, test .taken, count .ensures, l .inv .1 .kept .many) in (
+      omega arith,
+      rw (depth2 .ensures) (renaming-unseen (l .inv .1) h (omega (arith, depth2 .ensures, depth .ensures, if1 .left))
+          (rw (← depth2 .ensures) (sym (left-out .ensures) ∙ if2 .left))
+          (sym (deleter .ensures) ∙ c .if3 .taken)),
+    )
 
 rename-requires : tie.Need-rename-requires Inv-loop μ-loop
-rename-requires c κs = let l = c .before .before .before .before .before .before .before .before .before .before .loop in (l .inv .1 .kept .layout, omega (arith, c .before .before .before .before .before .before .before .before .before .loop-test .taken, c .before .before .before .before .before .before .before .before .before .before .before .before .before .count .ensures, l .inv .1 .kept .many), c .before .before .before .before .before .before .before .before .before .before .before .before .before .before .before .before .before .before .pre .2)
+rename-requires c κs =
+    let c8 = c .before .before .before .before .before .before .before .before in
+    let c16 = c8 .before .before .before .before .before .before .before .before in
+    let pre = c16 .before .before .pre in
+    let count = c8 .before .before .before .before .before .count in
+    let l = c8 .before .before .loop in
+    let test = c8 .before .loop-test in
+    (l .inv .1 .kept .layout, omega (arith, test .taken, count .ensures, l .inv .1 .kept .many), pre .2)
 
 add-hits : tie.Need-add-hits Inv-loop μ-loop
-add-hits c = let l = c .before .before .before .before .before .before .before .before .before .before .before .before .before .loop in omega (arith, l .inv .1 .few, c .before .before .rename .ensures .few, c .before .before .before .before .before .before .before .before .before .before .before .before .loop-test .taken, c .before .before .before .before .before .before .before .before .before .before .before .before .before .before .before .before .count .ensures, c .before .before .before .before .before .before .before .before .before .before .before .before .before .before .before .before .before .before .before .before .before .pre .0 .room, c .before .before .before .before .before .before .before .before .before .before .before .before .before .before .before .before .before .before .before .before .before .pre .0 .many)
+add-hits c =
+    let c8 = c .before .before .before .before .before .before .before .before in
+    let c16 = c8 .before .before .before .before .before .before .before .before in
+    let pre = c16 .before .before .before .before .before .pre in
+    let count = c16 .count in
+    let l = c8 .before .before .before .before .before .loop in
+    let test = c8 .before .before .before .before .loop-test in
+    let rename = c .before .before .rename in
+    omega (arith, l .inv .1 .few, rename .ensures .few, test .taken, count .ensures, pre .0 .room, pre .0 .many)
 
 loop-less-3 : tie.Need-loop-less-3 Inv-loop μ-loop
 loop-less-3 c = search needs
 
 loop-again-3 : tie.Need-loop-again-3 Inv-loop μ-loop
-loop-again-3 c = let l = c .before .before .before .before .before .before .before .before .before .before .before .before .before .loop in
-    let h : l .i < length (nodes (l .s)) = omega (arith, c .before .before .before .before .before .before .before .before .before .before .before .before .loop-test .taken, c .before .before .before .before .before .before .before .before .before .before .before .before .before .before .before .before .count .ensures, l .inv .1 .kept .many) in
-    (omega (arith, c .before .before .rename .ensures .kept .many), renaming-seen (l .inv .1) h (omega (arith, c .before .before .before .before .before .before .before .before .before .before .depth2 .ensures, c .before .before .before .before .before .before .before .before .before .before .before .before .before .before .depth .ensures, c .before .before .before .before .before .before .before .before .before .if1 .left)) (rw (← c .before .before .before .before .before .before .before .before .before .before .depth2 .ensures) (sym (c .before .before .before .before .before .before .before .before .left-out .ensures) ∙ c .before .before .before .before .before .before .before .if2 .left)) (λ e. c .before .before .before .before .if3 .left (c .before .before .before .before .before .deleter .ensures ∙ e)) (c .before .before .rename .ensures))
+loop-again-3 c =
+    let c8 = c .before .before .before .before .before .before .before .before in
+    let c16 = c8 .before .before .before .before .before .before .before .before in
+    let count = c16 .count in
+    let depth = c8 .before .before .before .before .before .before .depth in
+    let l = c8 .before .before .before .before .before .loop in
+    let test = c8 .before .before .before .before .loop-test in
+    let depth2 = c8 .before .before .depth2 in
+    let if1 = c8 .before .if1 in
+    let left-out = c8 .left-out in
+    let if2 = c .before .before .before .before .before .before .before .if2 in
+    let deleter = c .before .before .before .before .before .deleter in
+    let if3 = c .before .before .before .before .if3 in
+    let rename = c .before .before .rename in
+    let h : l .i < length (nodes (l .s)) = omega (arith, test .taken, count .ensures, l .inv .1 .kept .many) in (
+      omega (arith, rename .ensures .kept .many),
+      renaming-seen (l .inv .1) h (omega (arith, depth2 .ensures, depth .ensures, if1 .left))
+          (rw (← depth2 .ensures) (sym (left-out .ensures) ∙ if2 .left)) (λ e. if3 .left (deleter .ensures ∙ e))
+          (rename .ensures),
+    )
 
 same-length-2 : tie.Need-same-length-2 Inv-loop μ-loop
 same-length-2 c = search needs
 
 returns-2 : tie.Need-returns-2 Inv-loop μ-loop
-returns-2 c = let l = c .before .loop in renaming-end (l .inv .1) (omega (arith, c .loop-test .left, c .before .before .before .before .count .ensures, l .inv .1 .kept .many)) (omega (arith, l .inv .0, l .inv .1 .few, l .inv .1 .kept .layout .room, l .inv .1 .kept .layout .many))
+returns-2 c =
+    let count = c .before .before .before .before .count in
+    let l = c .before .loop in
+    renaming-end (l .inv .1) (omega (arith, c .loop-test .left, count .ensures, l .inv .1 .kept .many))
+    (omega (arith, l .inv .0, l .inv .1 .few, l .inv .1 .kept .layout .room, l .inv .1 .kept .layout .many))
 
 pub rename-rest-spec : {M : Type 1} → statement M
 rename-rest-spec =

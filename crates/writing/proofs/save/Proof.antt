@@ -20,7 +20,11 @@ same-length-2 : tie.Need-same-length-2
 same-length-2 c = search needs
 
 returns-2 : tie.Need-returns-2
-returns-2 c = saved-now _ (sym (c .before .before .before .before .before .writer .ensures) ∙ c .before .before .before .before .if1 .left) (c .before .before .save-content .ensures)
+returns-2 c =
+    let writer = c .before .before .before .before .before .writer in
+    let if1 = c .before .before .before .before .if1 in
+    let save-content = c .before .before .save-content in
+    saved-now _ (sym (writer .ensures) ∙ if1 .left) (save-content .ensures)
 
 pub save-spec : {M : Type 1} → statement M
 save-spec =

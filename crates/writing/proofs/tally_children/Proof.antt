@@ -36,7 +36,15 @@ cast-d : tie.Need-cast-d Inv-loop μ-loop
 cast-d c = search needs
 
 returns : tie.Need-returns Inv-loop μ-loop
-returns c = let l = c .before .before .before .loop in (passing-out _ _ _ _ (l .i) (l .c) (l .inv .2) (search needs) (omega (arith, c .before .depth2 .ensures, c .before .before .before .before .depth .ensures, c .if1 .taken)), omega (arith, l .inv .0, l .inv .1, c .before .before .before .before .before .before .before .pre .0 .room, c .before .before .before .before .before .before .before .pre .0 .many))
+returns c =
+    let pre = c .before .before .before .before .before .before .before .pre in
+    let depth = c .before .before .before .before .depth in
+    let l = c .before .before .before .loop in
+    let depth2 = c .before .depth2 in (
+      passing-out _ _ _ _ (l .i) (l .c) (l .inv .2) (search needs)
+          (omega (arith, depth2 .ensures, depth .ensures, c .if1 .taken)),
+      omega (arith, l .inv .0, l .inv .1, pre .0 .room, pre .0 .many),
+    )
 
 add-i-2 : tie.Need-add-i-2 Inv-loop μ-loop
 add-i-2 c = search needs
@@ -48,34 +56,88 @@ loop-less : tie.Need-loop-less Inv-loop μ-loop
 loop-less c = search needs
 
 loop-again : tie.Need-loop-again Inv-loop μ-loop
-loop-again c = let l = c .before .before .before .before .loop in (search needs, search needs, passing-deeper _ _ _ _ (l .i) (l .c) (l .inv .2) (search needs) (omega (arith, c .before .before .depth2 .ensures, c .before .before .before .before .before .depth .ensures, c .before .if1 .left, c .if2 .taken)))
+loop-again c =
+    let depth = c .before .before .before .before .before .depth in
+    let l = c .before .before .before .before .loop in
+    let depth2 = c .before .before .depth2 in
+    let if1 = c .before .if1 in (
+      search needs,
+      search needs,
+      passing-deeper _ _ _ _ (l .i) (l .c) (l .inv .2) (search needs)
+          (omega (arith, depth2 .ensures, depth .ensures, if1 .left, c .if2 .taken)),
+    )
 
 deleter-requires : tie.Need-deleter-requires Inv-loop μ-loop
-deleter-requires c κs = (c .before .before .before .before .before .before .before .before .pre .0, omega (arith, c .before .before .before .loop-test .taken, c .before .before .before .before .before .before .count .ensures))
+deleter-requires c κs =
+    let pre = c .before .before .before .before .before .before .before .before .pre in
+    let count = c .before .before .before .before .before .before .count in
+    let test = c .before .before .before .loop-test in
+    (pre .0, omega (arith, test .taken, count .ensures))
 
 loop-less-2 : tie.Need-loop-less-2 Inv-loop μ-loop
 loop-less-2 c = search needs
 
 loop-again-2 : tie.Need-loop-again-2 Inv-loop μ-loop
-loop-again-2 c = let l = c .before .before .before .before .before .before .loop in (search needs, search needs, passing-deleted _ _ _ _ (l .i) (l .c) (l .inv .2) (search needs) (omega (arith, c .before .before .before .before .depth2 .ensures, c .before .before .before .before .before .before .before .depth .ensures, c .before .before .if2 .left)) (sym (c .before .deleter .ensures) ∙ c .if3 .taken))
+loop-again-2 c =
+    let depth = c .before .before .before .before .before .before .before .depth in
+    let l = c .before .before .before .before .before .before .loop in
+    let depth2 = c .before .before .before .before .depth2 in
+    let if2 = c .before .before .if2 in
+    let deleter = c .before .deleter in (
+      search needs,
+      search needs,
+      passing-deleted _ _ _ _ (l .i) (l .c) (l .inv .2) (search needs)
+          (omega (arith, depth2 .ensures, depth .ensures, if2 .left)) (sym (deleter .ensures) ∙ c .if3 .taken),
+    )
 
 kind-requires : tie.Need-kind-requires Inv-loop μ-loop
-kind-requires c κs = (c .before .before .before .before .before .before .before .before .before .before .pre .0, omega (arith, c .before .before .before .before .before .loop-test .taken, c .before .before .before .before .before .before .before .before .count .ensures))
+kind-requires c κs =
+    let c8 = c .before .before .before .before .before .before .before .before in
+    let pre = c8 .before .before .pre in
+    let count = c8 .count in
+    let test = c .before .before .before .before .before .loop-test in
+    (pre .0, omega (arith, test .taken, count .ensures))
 
 cast-counted : tie.Need-cast-counted Inv-loop μ-loop
 cast-counted c = search needs
 
 counted-requires : tie.Need-counted-requires Inv-loop μ-loop
-counted-requires c κs = let l = c .before .before .before .before .before .before .before .loop in (omega (arith, l .inv .1, c .before .before .before .before .before .before .loop-test .taken, c .before .before .before .before .before .before .before .before .before .count .ensures, c .before .before .before .before .before .before .before .before .before .before .before .pre .0 .room, c .before .before .before .before .before .before .before .before .before .before .before .pre .0 .many), omega (arith, l .inv .1, l .inv .2 .tallying .few, c .before .before .before .before .before .before .loop-test .taken, c .before .before .before .before .before .before .before .before .before .count .ensures, c .before .before .before .before .before .before .before .before .before .before .before .pre .0 .room, c .before .before .before .before .before .before .before .before .before .before .before .pre .0 .many))
+counted-requires c κs =
+    let c8 = c .before .before .before .before .before .before .before .before in
+    let pre = c8 .before .before .before .pre in
+    let count = c8 .before .count in
+    let l = c .before .before .before .before .before .before .before .loop in
+    let test = c .before .before .before .before .before .before .loop-test in (
+      omega (arith, l .inv .1, test .taken, count .ensures, pre .0 .room, pre .0 .many),
+      omega (arith, l .inv .1, l .inv .2 .tallying .few, test .taken, count .ensures, pre .0 .room, pre .0 .many),
+    )
 
 loop-less-3 : tie.Need-loop-less-3 Inv-loop μ-loop
 loop-less-3 c = search needs
 
 loop-again-3 : tie.Need-loop-again-3 Inv-loop μ-loop
-loop-again-3 c = let l = c .before .before .before .before .before .before .before .before .loop in (search needs, omega (arith, l .inv .1, counted-count _ _ _ _ (c .counted .ensures)), rw (c .counted .ensures) (passing-child _ _ _ _ (l .i) (l .c) (l .inv .2) (search needs) (omega (arith, c .before .before .before .before .before .before .depth2 .ensures, c .before .before .before .before .before .before .before .before .before .depth .ensures, c .before .before .before .before .if2 .left)) (λ e. c .before .before .if3 .left (c .before .before .before .deleter .ensures ∙ e)) _ (c .before .kind .ensures)))
+loop-again-3 c =
+    let depth = c .before .before .before .before .before .before .before .before .before .depth in
+    let l = c .before .before .before .before .before .before .before .before .loop in
+    let depth2 = c .before .before .before .before .before .before .depth2 in
+    let if2 = c .before .before .before .before .if2 in
+    let deleter = c .before .before .before .deleter in
+    let if3 = c .before .before .if3 in
+    let kind = c .before .kind in (
+      search needs,
+      omega (arith, l .inv .1, counted-count _ _ _ _ (c .counted .ensures)),
+      rw (c .counted .ensures) (passing-child _ _ _ _ (l .i) (l .c) (l .inv .2) (search needs)
+          (omega (arith, depth2 .ensures, depth .ensures, if2 .left))
+          (λ e. if3 .left (deleter .ensures ∙ e)) _ (kind .ensures)),
+    )
 
 returns-2 : tie.Need-returns-2 Inv-loop μ-loop
-returns-2 c = let l = c .before .loop in (passing-end _ _ _ _ (l .i) (l .c) (l .inv .2) (search needs), omega (arith, l .inv .0, l .inv .1, c .before .before .before .before .before .pre .0 .room, c .before .before .before .before .before .pre .0 .many))
+returns-2 c =
+    let pre = c .before .before .before .before .before .pre in
+    let l = c .before .loop in (
+      passing-end _ _ _ _ (l .i) (l .c) (l .inv .2) (search needs),
+      omega (arith, l .inv .0, l .inv .1, pre .0 .room, pre .0 .many),
+    )
 
 pub tally-children-spec : {M : Type 1} → statement M
 tally-children-spec =

@@ -11,13 +11,23 @@ set-content-requires : tie.Need-set-content-requires
 set-content-requires c κs = search needs
 
 set-writer-requires : tie.Need-set-writer-requires
-set-writer-requires c κs = (c .before .before .before .set-content .ensures .layout, omega (arith, c .before .before .before .set-content .ensures .many, c .before .before .before .before .before .before .before .save .ensures .many, c .before .before .before .before .before .before .before .before .before .before .before .pre .1))
+set-writer-requires c κs =
+    let c8 = c .before .before .before .before .before .before .before .before in
+    let pre = c8 .before .before .before .pre in
+    let save = c .before .before .before .before .before .before .before .save in
+    let set-content = c .before .before .before .set-content in
+    (set-content .ensures .layout, omega (arith, set-content .ensures .many, save .ensures .many, pre .1))
 
 same-length : tie.Need-same-length
 same-length c = search needs
 
 returns : tie.Need-returns
-returns c = written _ _ _ (c .before .before .before .before .before .before .before .before .before .before .save .ensures) (c .before .before .before .before .before .before .set-content .ensures) (c .before .before .set-writer .ensures)
+returns c =
+    let c8 = c .before .before .before .before .before .before .before .before in
+    let save = c8 .before .before .save in
+    let set-content = c .before .before .before .before .before .before .set-content in
+    let set-writer = c .before .before .set-writer in
+    written _ _ _ (save .ensures) (set-content .ensures) (set-writer .ensures)
 
 pub write-spec : {M : Type 1} → statement M
 write-spec =
