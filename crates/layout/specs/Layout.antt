@@ -1,4 +1,4 @@
--- Where the lent bytes hold what: docs/STATE.md. No other crate names an offset.
+-- Where the lent bytes hold what: docs/STATE.md.
 use Prim.Native.Nat.{ℕ, _+_, _*_, _-_, _≤_, _<_}
 use mathlib.Core.Path.{_≡_}
 use mathlib.Core.Bool.{Bool, true, false, cond}

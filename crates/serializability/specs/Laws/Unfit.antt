@@ -15,7 +15,7 @@ use Rattle.protocol.specs.State.{State, is-transaction, transactions, opened}
 use Rattle.protocol.specs.Lent.{Room}
 use Rattle.protocol.specs.Calls.{Input, unreadable, stands-for, Call, start, load, begin, commit, abort, step, write}
 use Rattle.protocol.specs.Calls.{Outcome, granted, written, waits, refused, refused-at, Next, unchanged, becomes, judged, if-open, loaded, next}
-use Rattle.protocol.specs.History.{history, is-granted, value-of, Ledger, new-ledger, with-log, entered, ledger}
+use Rattle.protocol.specs.History.{history, is-granted, value-of, Log, new-log, with-log, logged, log-after}
 use Rattle.serializability.specs.Theorem.{GrantedFits}
 use Rattle.serializability.specs.Laws.Outcomes.{Reason, by-misfit, by-number, by-clash, by-place, by-limit, by-room, Verdict, judged-verdict}
 
@@ -118,7 +118,7 @@ granted-fits write M e = false≢true (ap with-value e)
 abbrev note : Step → Value → Value
 note s v = v
 
-record Noted (L : Ledger Value) : Type 0 where
+record Noted (L : Log Value) : Type 0 where
   committed : every fit (L .committed) ≡ true
   open-log : (u : ℕ) → every fit (L .open-log u) ≡ true
 
@@ -138,41 +138,41 @@ with-log-fit t l log h k u = go (eqb u t)
     go true = h
     go false = k u
 
-new-noted : (d : Document) → Noted (new-ledger d)
+new-noted : (d : Document) → Noted (new-log d)
 new-noted d = record { committed = refl; open-log = λ u. refl }
 
 -- only a step notes its value
-entered-noted : (c : Call) (M : State) (L : Ledger Value) → is-granted (next c M .outcome) ≡ true → Noted L
-    → Noted (entered note c (value-of (next c M .outcome)) L)
+logged-noted : (c : Call) (M : State) (L : Log Value) → is-granted (next c M .outcome) ≡ true → Noted L
+    → Noted (logged note c (value-of (next c M .outcome)) L)
 unfolding next
-entered-noted start M L g h = new-noted _
-entered-noted (load (unreadable c o)) M L g h = h
-entered-noted (load (stands-for d l)) M L g h = new-noted d
-entered-noted (begin t) M L g h = record { committed = h .committed; open-log = with-log-fit t [] (L .open-log) refl (h .open-log) }
-entered-noted (commit t) M L g h = record {
+logged-noted start M L g h = new-noted _
+logged-noted (load (unreadable c o)) M L g h = h
+logged-noted (load (stands-for d l)) M L g h = new-noted d
+logged-noted (begin t) M L g h = record { committed = h .committed; open-log = with-log-fit t [] (L .open-log) refl (h .open-log) }
+logged-noted (commit t) M L g h = record {
   committed = all-append (L .committed) (L .open-log t) (h .committed) (h .open-log t);
   open-log = with-log-fit t [] (L .open-log) refl (h .open-log);
 }
-entered-noted (abort t) M L g h = record { committed = h .committed; open-log = with-log-fit t [] (L .open-log) refl (h .open-log) }
-entered-noted (step t s room) M L g h =
+logged-noted (abort t) M L g h = record { committed = h .committed; open-log = with-log-fit t [] (L .open-log) refl (h .open-log) }
+logged-noted (step t s room) M L g h =
     let v : Value = value-of (next (step t s room) M .outcome) in
     record {
       committed = h .committed;
       open-log = with-log-fit t (L .open-log t ++ (v ∷ [])) (L .open-log)
           (longer-fit (L .open-log t) v (h .open-log t) (open-fits t M _ (judged-fits t s room M _) g)) (h .open-log);
     }
-entered-noted write M L g h = h
+logged-noted write M L g h = h
 
-history-noted : (M : State) (cs : List Call) (L : Ledger Value) → Noted L → Noted (ledger note L (history M cs))
-unfolding ledger history
+history-noted : (M : State) (cs : List Call) (L : Log Value) → Noted L → Noted (log-after note L (history M cs))
+unfolding log-after history
 history-noted M [] L h = h
 history-noted M (c ∷ cs) L h = history-noted (next c M .state) cs _ (go (is-granted (next c M .outcome)) refl)
   where
-    go : (b : Bool) → is-granted (next c M .outcome) ≡ b → Noted (cond b (entered note c (value-of (next c M .outcome)) L) L)
-    go true g = entered-noted c M L g h
+    go : (b : Bool) → is-granted (next c M .outcome) ≡ b → Noted (cond b (logged note c (value-of (next c M .outcome)) L) L)
+    go true g = logged-noted c M L g h
     go false g = h
 
 -- in what any list of calls had committed
-pub none-unfit : (M : State) (cs : List Call) (d : Document) → List·Memᴰ unfit (ledger (λ s v. v) (new-ledger d) (history M cs) .committed) → ⊥
+pub none-unfit : (M : State) (cs : List Call) (d : Document) → List·Memᴰ unfit (log-after (λ s v. v) (new-log d) (history M cs) .committed) → ⊥
 unfolding fit
-none-unfit M cs d i = false≢true (every-at fit _ (history-noted M cs (new-ledger d) (new-noted d) .committed) i)
+none-unfit M cs d i = false≢true (every-at fit _ (history-noted M cs (new-log d) (new-noted d) .committed) i)
