@@ -6,7 +6,7 @@ use native.Mathlib.Omega.{arith}
 use lib.ListN.{length, take, drop, length-append, length-drop, take-append-drop}
 use lib.Seq.{length-take-le, take-all, take-append-le, take-take, drop-append-add, drop-drop}
 use borrow.Rule.Slice.PartMut.{putMid}
-use Rattle.markup.specs.Lending.{Wrote, wrote-as, inside, room, behind}
+use Rattle.markup.specs.Lending.{Wrote, wrote-as, behind}
 
 -- the bytes from `at` on that a window at the end of a piece p copies
 abbrev pub ending : ℕ → List ℕ → List ℕ
@@ -17,8 +17,8 @@ module _ (p o₀ o : List ℕ) (W r : ℕ) (w : Wrote (take W p) o₀ o r) (low 
   wide : length (take W p) ≡ W
   wide = length-take-le W p low
 
-  pub windows-long : length o ≡ length o₀
-  windows-long = ap length (w .bytes) ∙ simp (length-append, length-drop) (omega (arith, wide))
+  long : length o ≡ length o₀
+  long = ap length (w .bytes) ∙ simp (length-append, length-drop) (omega (arith, wide))
 
   -- what the other window leaves stands already
   front : Wrote (take (length p - W) p) o o (length p - W)
@@ -26,7 +26,7 @@ module _ (p o₀ o : List ℕ) (W r : ℕ) (w : Wrote (take W p) o₀ o r) (low 
       let n : length (take (length p - W) p) ≡ length p - W = length-take-le (length p - W) p (omega arith) in
       let k : length p - W ≤ length (take W p) = omega (arith, wide) in
       let t : take (length p - W) o ≡ take (length p - W) p =
-          ap (take (length p - W)) (w .bytes) ∙ take-append-le (length p - W) (take W p) _ k ∙ take-take (length p - W) W p (omega arith)
+      ap (take (length p - W)) (w .bytes) ∙ take-append-le (length p - W) (take W p) _ k ∙ take-take (length p - W) W p (omega arith)
       in
       record { count = sym n; bytes = sym (rw (n, ← t) (take-append-drop (length p - W) o)) }
 
@@ -34,18 +34,12 @@ module _ (p o₀ o : List ℕ) (W r : ℕ) (w : Wrote (take W p) o₀ o r) (low 
   all = take-append-drop (length p - W) p
 
   enough : length (take (length p - W) p ++ drop (length p - W) p) ≤ length o
-  enough = omega (arith, ap length all, windows-long)
+  enough = omega (arith, ap length all, long)
 
-  pub windows-inside : length p - W ≤ length o
-  windows-inside = inside (take (length p - W) p) (drop (length p - W) p) o o (length p - W) front enough
-
-  pub windows-last : take W (ending (length p - W) p) ≡ drop (length p - W) p
-  windows-last =
+  last : take W (ending (length p - W) p) ≡ drop (length p - W) p
+  last =
       take-take W (length p - (length p - W)) (drop (length p - W) p) (omega arith)
       ∙ take-all W (drop (length p - W) p) (simp length-drop (omega arith))
-
-  pub windows-room : length (take W (ending (length p - W) p)) ≤ length (take (length o - (length p - W)) (drop (length p - W) o))
-  windows-room = rw windows-last (room (take (length p - W) p) (drop (length p - W) p) o o (length p - W) front enough)
 
   behind-both : drop (length p) o ≡ drop (length p) o₀
   behind-both =
@@ -60,6 +54,6 @@ module _ (p o₀ o : List ℕ) (W r : ℕ) (w : Wrote (take W p) o₀ o r) (low 
       → Wrote p o₀ (putMid (length p - W) (length o - (length p - W)) o rest) ((length p - W) + q)
   windows rest q v =
       let x : Wrote p o (putMid (length p - W) (length o - (length p - W)) o rest) ((length p - W) + q) =
-          wrote-as all (behind (take (length p - W) p) (drop (length p - W) p) o o (length p - W) front enough rest q (wrote-as windows-last v))
+      wrote-as all (behind (take (length p - W) p) (drop (length p - W) p) o o (length p - W) front enough rest q (wrote-as last v))
       in
       record { count = x .count; bytes = rw (← behind-both) (x .bytes) }
