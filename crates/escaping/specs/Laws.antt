@@ -25,10 +25,16 @@ pub escaped-from : (c : List ℕ) (j : ℕ) → j < length c → escaped (drop j
 unfolding escaped
 escaped-from c j h = rw (add-one, drop-cons c j 0 h)
 
-pub escaped-part : (c : List ℕ) (j k : ℕ) → escaped (drop j c) ≡ escaped (take k (drop j c)) ++ escaped (drop (j + k) c)
+-- c[j..j + k]
+abbrev pub part : List ℕ → ℕ → ℕ → List ℕ
+part c j k = take (j + k - j) (drop j c)
+
+pub escaped-part : (c : List ℕ) (j k : ℕ) → escaped (drop j c) ≡ escaped (part c j k) ++ escaped (drop (j + k) c)
 escaped-part c j k =
-    ap escaped (sym (take-append-drop k (drop j c))) ∙ escaped-append (take k (drop j c)) (drop k (drop j c))
-    ∙ ap (λ (l : List ℕ). escaped (take k (drop j c)) ++ escaped l) (drop-drop k j c)
+    let e : j + k - j ≡ k = omega arith in
+    rw e
+    (ap escaped (sym (take-append-drop k (drop j c))) ∙ escaped-append (take k (drop j c)) (drop k (drop j c))
+    ∙ ap (λ (l : List ℕ). escaped (take k (drop j c)) ++ escaped l) (drop-drop k j c))
 
 pub escaped-end : (c : List ℕ) (j : ℕ) → length c ≤ j → escaped (drop j c) ≡ []
 unfolding escaped
@@ -60,8 +66,8 @@ counting-on {c} {j} {sum} k n piece w e l m =
 pub counting-byte : {c : List ℕ} {j sum : ℕ} (n : ℕ) → Counting c j sum → j < length c → n ≡ length (escape (getD c j 0)) → n ≤ 6 → Counting c (j + 1) (sum + n)
 counting-byte {c} {j} n w h l m = counting-on 1 n (escape (getD c j 0)) w (escaped-from c j h) l (omega arith)
 
-pub counting-part : {c : List ℕ} {j sum : ℕ} (k n : ℕ) → Counting c j sum → n ≡ length (escaped (take k (drop j c))) → n ≤ 6 * k → Counting c (j + k) (sum + n)
-counting-part {c} {j} k n w l m = counting-on k n (escaped (take k (drop j c))) w (escaped-part c j k) l m
+pub counting-part : {c : List ℕ} {j sum : ℕ} (k n : ℕ) → Counting c j sum → n ≡ length (escaped (part c j k)) → n ≤ 6 * k → Counting c (j + k) (sum + n)
+counting-part {c} {j} k n w l m = counting-on k n (escaped (part c j k)) w (escaped-part c j k) l m
 
 pub counting-end : {c : List ℕ} {j sum : ℕ} → Counting c j sum → length c ≤ j → sum ≡ length (escaped c)
 counting-end {c} {j} w h = omega (arith, w .whole, ap length (escaped-end c j h))
@@ -169,8 +175,8 @@ next-byte t j b c h k e = next (escape b) (escaped (drop (j + 1) t)) (escaped-fr
 
 -- the next k bytes
 pub next-part : (t : List ℕ) (j k : ℕ) {o₀ o : List ℕ} {at : ℕ} → Partly (escaped t) (escaped (drop j t)) o₀ o at → length (escaped t) ≤ length o₀
-    → Next (escaped (take k (drop j t))) (escaped t) (escaped (drop (j + k) t)) o₀ o at
-next-part t j k c h = next (escaped (take k (drop j t))) (escaped (drop (j + k) t)) (escaped-part t j k) c h
+    → Next (escaped (part t j k)) (escaped t) (escaped (drop (j + k) t)) o₀ o at
+next-part t j k c h = next (escaped (part t j k)) (escaped (drop (j + k) t)) (escaped-part t j k) c h
 
 -- the rest
 pub next-rest : (t : List ℕ) (j : ℕ) {o₀ o : List ℕ} {at : ℕ} → Partly (escaped t) (escaped (drop j t)) o₀ o at → length (escaped t) ≤ length o₀

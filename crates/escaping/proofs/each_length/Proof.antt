@@ -6,9 +6,6 @@ use lib.ListN.{length}
 use Rattle.escaping.specs.Laws.{Counting, counting-start, counting-byte, counting-end}
 use Rattle.escaping.proofs.each_length.Statement.{statement}
 use Rattle.escaping.proofs.each_length.Tie as tie
-use Rattle.escaping.proofs.each_length.Reads as reads
-use Rattle.escaping.proofs.each_length.Lts as lts
-use Rattle.markup.proofs.byte_length.Reads as byte-length-reads
 
 abbrev Inv-loop : tie.InvT-loop
 Inv-loop p n sum₀ i₀ sum i = (i ≤ n) × (n ≡ length p) × Counting p i sum
@@ -16,37 +13,29 @@ Inv-loop p n sum₀ i₀ sum i = (i ≤ n) × (n ≡ length p) × Counting p i s
 abbrev μ-loop : tie.MeasureT-loop
 μ-loop p n sum₀ i₀ sum i = n - i
 
--- src/lib.rt:65:5
 loop-holds : tie.Need-loop-holds Inv-loop μ-loop
 loop-holds c = (omega arith, refl, counting-start _)
 
--- src/lib.rt:66:36
 shared-slice-read-byte-length : tie.Need-shared-slice-read-byte-length Inv-loop μ-loop
 shared-slice-read-byte-length c = search needs
 
--- src/lib.rt:66:16
 byte-length-requires : tie.Need-byte-length-requires Inv-loop μ-loop
 byte-length-requires c κs = search needs
 
--- src/lib.rt:66:9
 add-sum : tie.Need-add-sum Inv-loop μ-loop
 add-sum c = omega (arith, c .before .before .before .loop .inv .2 .small)
 
--- src/lib.rt:67:9
 add-i : tie.Need-add-i Inv-loop μ-loop
 add-i c = search needs
 
--- src/lib.rt:65:5
 loop-less : tie.Need-loop-less Inv-loop μ-loop
 loop-less c = search needs
 
--- src/lib.rt:65:5
 loop-again : tie.Need-loop-again Inv-loop μ-loop
-loop-again c = 
+loop-again c =
     let l = c .before .before .before in
     (omega arith, l .loop .inv .1, counting-byte _ (l .loop .inv .2) (omega arith) (c .byte-length .ensures .0) (c .byte-length .ensures .1))
 
--- src/lib.rt:58:1
 returns : tie.Need-returns Inv-loop μ-loop
 returns c = (counting-end (c .before .loop .inv .2) (omega arith), omega (arith, c .before .loop .inv .2 .small))
 

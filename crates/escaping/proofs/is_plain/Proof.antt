@@ -7,9 +7,6 @@ use Rattle.escaping.specs.Plain.{plain}
 use Rattle.escaping.specs.Laws.{plain-on, plain-not, plain-end}
 use Rattle.escaping.proofs.is_plain.Statement.{statement}
 use Rattle.escaping.proofs.is_plain.Tie as tie
-use Rattle.escaping.proofs.is_plain.Reads as reads
-use Rattle.escaping.proofs.is_plain.Lts as lts
-use Rattle.escaping.proofs.has_entity.Reads as has-entity-reads
 
 abbrev Inv-loop : tie.InvT-loop
 Inv-loop p n i₀ i = (i ≤ n) × (n ≡ length p) × (plain p ≡ plain (drop i p))
@@ -17,43 +14,35 @@ Inv-loop p n i₀ i = (i ≤ n) × (n ≡ length p) × (plain p ≡ plain (drop 
 abbrev μ-loop : tie.MeasureT-loop
 μ-loop p n i₀ i = n - i
 
--- src/lib.rt:34:5
 loop-holds : tie.Need-loop-holds Inv-loop μ-loop
 loop-holds c = (omega arith, refl, refl)
 
--- src/lib.rt:35:23
 shared-slice-read-has-entity : tie.Need-shared-slice-read-has-entity Inv-loop μ-loop
 shared-slice-read-has-entity c = search needs
 
--- src/lib.rt:35:12
 has-entity-requires : tie.Need-has-entity-requires Inv-loop μ-loop
 has-entity-requires c κs = search needs
 
--- src/lib.rt:36:13
 returns : tie.Need-returns Inv-loop μ-loop
-returns c = 
+returns c =
     let l = c .before .before .before .before in
     let k = l .before .before in
     sym (l .loop .inv .2 ∙ plain-not (k .args .p .now) (l .loop .i) (omega arith) (sym (c .before .has-entity .ensures) ∙ c .if1 .taken))
 
--- src/lib.rt:38:9
 add-i : tie.Need-add-i Inv-loop μ-loop
 add-i c = search needs
 
--- src/lib.rt:34:5
 loop-less : tie.Need-loop-less Inv-loop μ-loop
 loop-less c = search needs
 
--- src/lib.rt:34:5
 loop-again : tie.Need-loop-again Inv-loop μ-loop
-loop-again c = 
+loop-again c =
     let l = c .before .before .before .before in
     let k = l .before .before in
     (omega arith, l .loop .inv .1, l .loop .inv .2 ∙ plain-on (k .args .p .now) (l .loop .i) (omega arith) (sym (c .before .has-entity .ensures) ∙ c .if1 .left))
 
--- src/lib.rt:29:1
 returns-2 : tie.Need-returns-2 Inv-loop μ-loop
-returns-2 c = 
+returns-2 c =
     let l = c .before in
     sym (l .loop .inv .2 ∙ plain-end (c .before .before .before .args .p .now) (l .loop .i) (omega arith))
 
