@@ -1,7 +1,4 @@
-use mathlib.Core.Path.{refl, ap, _∙_}
-use native.Mathlib.Omega.{arith}
-use lib.ListN.{length}
-use Rattle.layout.specs.Layout.{slot}
+use mathlib.Core.Path.{refl, _∙_}
 use Rattle.layout.specs.Laws.Texts.{size-small}
 use borrow.Author.Needs.{needs}
 use Rattle.committed.proofs.content.Statement.{statement}

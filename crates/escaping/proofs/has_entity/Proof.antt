@@ -1,5 +1,3 @@
-use borrow.Author.Needs.{needs}
-use native.Mathlib.Omega.{arith}
 use Rattle.escaping.specs.Laws.{entity-amp, entity-lt, entity-gt, entity-quot}
 use Rattle.escaping.proofs.has_entity.Statement.{statement}
 use Rattle.escaping.proofs.has_entity.Tie as tie

@@ -1,4 +1,3 @@
-use native.Mathlib.Omega.{arith}
 use mathlib.Core.Path.{sym, _∙_}
 use Rattle.markup.specs.Lending.{wrote-as}
 use Rattle.escaping.specs.Laws.{escaped-same}

@@ -1,19 +1,19 @@
 -- The pieces by the kind of a node.
-use mathlib.Core.Path.{_≡_, sym, ap, _∙_}
-use Prim.Native.Nat.{ℕ, _+_, _≤_, _<_}
+use mathlib.Core.Path.{_≡_, ap}
+use Prim.Native.Nat.{ℕ, _≤_}
 use native.Mathlib.Omega.{arith}
-use lib.ListN.{length, getD, drop, length-append}
+use lib.ListN.{length, length-append}
 use mathlib.Core.Bool.{true, false, and-false}
 use mathlib.Core.List.{List, [], _++_}
 use lib.Dec.{eqb}
 use borrow.Author.Tests.{eq-eqb, ne-eqb}
 use Rattle.tree.specs.Text.{bytes}
 use Rattle.xml.specs.Shape.{Label}
-use Rattle.xml.specs.Writing.{escape, escaped}
+use Rattle.xml.specs.Writing.{escaped}
 use Rattle.markup.specs.Rows.{in-start-tag, tag-end, begin, end}
-use Rattle.markup.specs.Lending.{Wrote, Partly, partly-as, partly-end}
+use Rattle.markup.specs.Lending.{Wrote}
 use Rattle.writer.specs.Texts.{opening}
-use Rattle.writer.specs.Laws.Next.{Next, next, second}
+use Rattle.writer.specs.Laws.Next.{Next, second}
 
 module _ (parent : Label) (previous : ℕ) where
   pub tag-end-other : (parent .kind ≡ 2 → ⊥) → tag-end parent previous ≡ []
