@@ -8,11 +8,11 @@ use lib.Seq.{length-take-le, take-all, take-append-le, take-take, drop-append-ad
 use borrow.Rule.Slice.PartMut.{putMid}
 use Rattle.markup.specs.Lending.{Wrote, wrote-as, behind}
 
--- the bytes from `at` on that a window at the end of a piece p copies
+-- p[at..]
 abbrev pub ending : ℕ → List ℕ → List ℕ
 ending at p = take (length p - at) (drop at p)
 
--- a window of W bytes is written at the start of a piece p
+-- a window of W bytes is written at the start of a piece p; another one, at its end, begins at length p - W
 module _ (p o₀ o : List ℕ) (W r : ℕ) (w : Wrote (take W p) o₀ o r) (low : W ≤ length p) (high : length p ≤ W + W) (h : length p ≤ length o₀) where
   wide : length (take W p) ≡ W
   wide = length-take-le W p low
@@ -20,15 +20,16 @@ module _ (p o₀ o : List ℕ) (W r : ℕ) (w : Wrote (take W p) o₀ o r) (low 
   long : length o ≡ length o₀
   long = ap length (w .bytes) ∙ simp (length-append, length-drop) (omega (arith, wide))
 
-  -- what the other window leaves stands already
-  front : Wrote (take (length p - W) p) o o (length p - W)
+  -- what stands before the second window
+  front : take (length p - W) o ≡ take (length p - W) p
   front =
+      ap (take (length p - W)) (w .bytes) ∙ take-append-le (length p - W) (take W p) _ (omega (arith, wide))
+      ∙ take-take (length p - W) W p (omega arith)
+
+  fronted : Wrote (take (length p - W) p) o o (length p - W)
+  fronted =
       let n : length (take (length p - W) p) ≡ length p - W = length-take-le (length p - W) p (omega arith) in
-      let k : length p - W ≤ length (take W p) = omega (arith, wide) in
-      let t : take (length p - W) o ≡ take (length p - W) p =
-      ap (take (length p - W)) (w .bytes) ∙ take-append-le (length p - W) (take W p) _ k ∙ take-take (length p - W) W p (omega arith)
-      in
-      record { count = sym n; bytes = sym (rw (n, ← t) (take-append-drop (length p - W) o)) }
+      record { count = sym n; bytes = sym (rw (n, ← front) (take-append-drop (length p - W) o)) }
 
   all : take (length p - W) p ++ drop (length p - W) p ≡ p
   all = take-append-drop (length p - W) p
@@ -41,8 +42,9 @@ module _ (p o₀ o : List ℕ) (W r : ℕ) (w : Wrote (take W p) o₀ o r) (low 
       take-take W (length p - (length p - W)) (drop (length p - W) p) (omega arith)
       ∙ take-all W (drop (length p - W) p) (simp length-drop (omega arith))
 
-  behind-both : drop (length p) o ≡ drop (length p) o₀
-  behind-both =
+  -- what stands behind both
+  kept : drop (length p) o ≡ drop (length p) o₀
+  kept =
       let e : length (take W p) + (length p - W) ≡ length p = omega (arith, wide) in
       ap (drop (length p)) (w .bytes)
       ∙ ap (λ n. drop n (take W p ++ drop (length (take W p)) o₀)) (sym e)
@@ -53,7 +55,5 @@ module _ (p o₀ o : List ℕ) (W r : ℕ) (w : Wrote (take W p) o₀ o r) (low 
   pub windows : (rest : List ℕ) (q : ℕ) → Wrote (take W (ending (length p - W) p)) (take (length o - (length p - W)) (drop (length p - W) o)) rest q
       → Wrote p o₀ (putMid (length p - W) (length o - (length p - W)) o rest) ((length p - W) + q)
   windows rest q v =
-      let x : Wrote p o (putMid (length p - W) (length o - (length p - W)) o rest) ((length p - W) + q) =
-      wrote-as all (behind (take (length p - W) p) (drop (length p - W) p) o o (length p - W) front enough rest q (wrote-as last v))
-      in
-      record { count = x .count; bytes = rw (← behind-both) (x .bytes) }
+      let x = wrote-as all (behind (take (length p - W) p) (drop (length p - W) p) o o (length p - W) fronted enough rest q (wrote-as last v)) in
+      record { count = x .count; bytes = rw (← kept) (x .bytes) }

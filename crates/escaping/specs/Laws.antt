@@ -21,7 +21,7 @@ escaped-append [] b = refl
 escaped-append (x ∷ a) b = rw (escaped-append a b) (sym (append-assoc (escape x) (escaped a) (escaped b)))
 
 -- the next byte, the next k bytes, and none
-pub escaped-from : (c : List ℕ) (j : ℕ) → j < length c → escaped (drop j c) ≡ escape (getD c j 0) ++ escaped (drop (j + 1) c)
+escaped-from : (c : List ℕ) (j : ℕ) → j < length c → escaped (drop j c) ≡ escape (getD c j 0) ++ escaped (drop (j + 1) c)
 unfolding escaped
 escaped-from c j h = rw (add-one, drop-cons c j 0 h)
 
@@ -29,19 +29,19 @@ escaped-from c j h = rw (add-one, drop-cons c j 0 h)
 abbrev pub part : List ℕ → ℕ → ℕ → List ℕ
 part c j k = take (j + k - j) (drop j c)
 
-pub escaped-part : (c : List ℕ) (j k : ℕ) → escaped (drop j c) ≡ escaped (part c j k) ++ escaped (drop (j + k) c)
+escaped-part : (c : List ℕ) (j k : ℕ) → escaped (drop j c) ≡ escaped (part c j k) ++ escaped (drop (j + k) c)
 escaped-part c j k =
     let e : j + k - j ≡ k = omega arith in
     rw e
     (ap escaped (sym (take-append-drop k (drop j c))) ∙ escaped-append (take k (drop j c)) (drop k (drop j c))
     ∙ ap (λ (l : List ℕ). escaped (take k (drop j c)) ++ escaped l) (drop-drop k j c))
 
-pub escaped-end : (c : List ℕ) (j : ℕ) → length c ≤ j → escaped (drop j c) ≡ []
+escaped-end : (c : List ℕ) (j : ℕ) → length c ≤ j → escaped (drop j c) ≡ []
 unfolding escaped
 escaped-end c j h = rw (drop-of-length-le c h)
 
 -- the rest from j on, as a part
-pub rest-part : (c : List ℕ) (j : ℕ) → take (length c - j) (drop j c) ≡ drop j c
+rest-part : (c : List ℕ) (j : ℕ) → take (length c - j) (drop j c) ≡ drop j c
 rest-part c j = take-all (length c - j) (drop j c) (simp length-drop (omega arith))
 
 -- lengths --------------------------------------------------------------------------------
@@ -55,24 +55,27 @@ pub counting-start : (c : List ℕ) → Counting c 0 0
 counting-start c = record { whole = omega arith; small = omega arith }
 
 -- k bytes more, for which n stand
-counting-on : {c : List ℕ} {j sum : ℕ} (k n : ℕ) (piece : List ℕ) → Counting c j sum → escaped (drop j c) ≡ piece ++ escaped (drop (j + k) c) → n ≡ length piece → n ≤ 6 * k
-    → Counting c (j + k) (sum + n)
+counting-on : {c : List ℕ} {j sum : ℕ} (k n : ℕ) (piece : List ℕ) → Counting c j sum
+    → escaped (drop j c) ≡ piece ++ escaped (drop (j + k) c) → n ≡ length piece → n ≤ 6 * k → Counting c (j + k) (sum + n)
 counting-on {c} {j} {sum} k n piece w e l m =
     record {
       whole = w .whole ∙ omega (arith, ap length e ∙ length-append piece (escaped (drop (j + k) c)));
       small = omega (arith, w .small);
     }
 
-pub counting-byte : {c : List ℕ} {j sum : ℕ} (n : ℕ) → Counting c j sum → j < length c → n ≡ length (escape (getD c j 0)) → n ≤ 6 → Counting c (j + 1) (sum + n)
+pub counting-byte : {c : List ℕ} {j sum : ℕ} (n : ℕ) → Counting c j sum
+    → j < length c → n ≡ length (escape (getD c j 0)) → n ≤ 6 → Counting c (j + 1) (sum + n)
 counting-byte {c} {j} n w h l m = counting-on 1 n (escape (getD c j 0)) w (escaped-from c j h) l (omega arith)
 
-pub counting-part : {c : List ℕ} {j sum : ℕ} (k n : ℕ) → Counting c j sum → n ≡ length (escaped (part c j k)) → n ≤ 6 * k → Counting c (j + k) (sum + n)
+pub counting-part : {c : List ℕ} {j sum : ℕ} (k n : ℕ) → Counting c j sum
+    → n ≡ length (escaped (part c j k)) → n ≤ 6 * k → Counting c (j + k) (sum + n)
 counting-part {c} {j} k n w l m = counting-on k n (escaped (part c j k)) w (escaped-part c j k) l m
 
 pub counting-end : {c : List ℕ} {j sum : ℕ} → Counting c j sum → length c ≤ j → sum ≡ length (escaped c)
 counting-end {c} {j} w h = omega (arith, w .whole, ap length (escaped-end c j h))
 
-pub counting-rest : {c : List ℕ} {j sum : ℕ} (n : ℕ) → Counting c j sum → n ≡ length (escaped (take (length c - j) (drop j c))) → sum + n ≡ length (escaped c)
+pub counting-rest : {c : List ℕ} {j sum : ℕ} (n : ℕ) → Counting c j sum
+    → n ≡ length (escaped (take (length c - j) (drop j c))) → sum + n ≡ length (escaped c)
 counting-rest {c} {j} n w l = omega (arith, w .whole, l ∙ ap (λ b. length (escaped b)) (rest-part c j))
 
 -- texts that need no entity --------------------------------------------------------------
@@ -94,7 +97,7 @@ module _ (b : ℕ) where
   unfolding has-entity
   entity-quot h i j = rw (ne-eqb b 38 h, ne-eqb b 60 i, ne-eqb b 62 j)
 
-  pub plain-byte : has-entity b ≡ false → escape b ≡ b ∷ []
+  plain-byte : has-entity b ≡ false → escape b ≡ b ∷ []
   unfolding has-entity
   plain-byte e = go (eqb b 38) (eqb b 60) (eqb b 62) (eqb b 34) refl refl refl refl e
     where
@@ -105,7 +108,7 @@ module _ (b : ℕ) where
       go false false false true f g h i e = absurd (true≢false e)
       go false false false false f g h i e = rw (f, g, h, i)
 
-  pub entity-long : has-entity b ≡ true → 2 ≤ length (escape b)
+  entity-long : has-entity b ≡ true → 2 ≤ length (escape b)
   unfolding has-entity
   entity-long e = go (eqb b 38) (eqb b 60) (eqb b 62) (eqb b 34) refl refl refl refl e
     where
@@ -152,7 +155,7 @@ escaped-plain (b ∷ c) e = go (has-entity b) refl e (escaped-plain c)
     go false t h f = rw (plain-byte b t, f h)
 
 -- the test, byte by byte
-pub plain-from : (c : List ℕ) (j : ℕ) → j < length c → plain (drop j c) ≡ (not (has-entity (getD c j 0)) && plain (drop (j + 1) c))
+plain-from : (c : List ℕ) (j : ℕ) → j < length c → plain (drop j c) ≡ (not (has-entity (getD c j 0)) && plain (drop (j + 1) c))
 unfolding plain
 plain-from c j h = rw (add-one, drop-cons c j 0 h)
 
@@ -169,8 +172,8 @@ plain-end c j h = rw (drop-of-length-le c h)
 -- lent output ----------------------------------------------------------------------------
 
 -- the next byte, b, is the j-th
-pub next-byte : (t : List ℕ) (j b : ℕ) {o₀ o : List ℕ} {at : ℕ} → Partly (escaped t) (escaped (drop j t)) o₀ o at → length (escaped t) ≤ length o₀ → j < length t → b ≡ getD t j 0
-    → Next (escape b) (escaped t) (escaped (drop (j + 1) t)) o₀ o at
+pub next-byte : (t : List ℕ) (j b : ℕ) {o₀ o : List ℕ} {at : ℕ} → Partly (escaped t) (escaped (drop j t)) o₀ o at → length (escaped t) ≤ length o₀
+    → j < length t → b ≡ getD t j 0 → Next (escape b) (escaped t) (escaped (drop (j + 1) t)) o₀ o at
 next-byte t j b c h k e = next (escape b) (escaped (drop (j + 1) t)) (escaped-from t j k ∙ ap (λ (x : ℕ). escape x ++ escaped (drop (j + 1) t)) (sym e)) c h
 
 -- the next k bytes

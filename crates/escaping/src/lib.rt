@@ -1,5 +1,5 @@
-// The entities of texts and values: how long a content of at most 32 bytes is with them, and it is put so. Eight bytes at a time are counted with
-// no branch, and where no entity stands for any of them they are copied as they are.
+// Contents with entities: their length, and how they are put at the front of the lent bytes. A content has at most 32 bytes. Eight bytes at a
+// time are counted with no branch, and copied as they are where no entity stands for any of them.
 ghost use mathlib.Core.Path.{_≡_};
 ghost use Prim.Native.Nat.{_*_, _≤_};
 ghost use lib.ListN.{length};

@@ -64,7 +64,9 @@ add-result : tie.Need-add-result Inv-loop μ-loop
 add-result c = omega (arith, c .before .before .before .loop .inv .2 .small)
 
 returns : tie.Need-returns Inv-loop μ-loop
-returns c = (counting-rest _ (c .before .before .before .loop .inv .2) (c .rest-length .ensures .0), omega (arith, c .before .before .before .loop .inv .2 .small))
+returns c =
+    let l = c .before .before .before in
+    (counting-rest _ (l .loop .inv .2) (c .rest-length .ensures .0), omega (arith, l .loop .inv .2 .small))
 
 pub escaped-length-spec : {M : Type 1} → statement M
 escaped-length-spec =

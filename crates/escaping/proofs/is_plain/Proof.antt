@@ -27,7 +27,8 @@ returns : tie.Need-returns Inv-loop μ-loop
 returns c =
     let l = c .before .before .before .before in
     let k = l .before .before in
-    sym (l .loop .inv .2 ∙ plain-not (k .args .p .now) (l .loop .i) (omega arith) (sym (c .before .has-entity .ensures) ∙ c .if1 .taken))
+    let e = sym (c .before .has-entity .ensures) ∙ c .if1 .taken in
+    sym (l .loop .inv .2 ∙ plain-not (k .args .p .now) (l .loop .i) (omega arith) e)
 
 add-i : tie.Need-add-i Inv-loop μ-loop
 add-i c = search needs
@@ -39,7 +40,8 @@ loop-again : tie.Need-loop-again Inv-loop μ-loop
 loop-again c =
     let l = c .before .before .before .before in
     let k = l .before .before in
-    (omega arith, l .loop .inv .1, l .loop .inv .2 ∙ plain-on (k .args .p .now) (l .loop .i) (omega arith) (sym (c .before .has-entity .ensures) ∙ c .if1 .left))
+    let e = sym (c .before .has-entity .ensures) ∙ c .if1 .left in
+    (omega arith, l .loop .inv .1, l .loop .inv .2 ∙ plain-on (k .args .p .now) (l .loop .i) (omega arith) e)
 
 returns-2 : tie.Need-returns-2 Inv-loop μ-loop
 returns-2 c =

@@ -24,12 +24,14 @@ shared-slice-read-b c = search needs
 sub-put-byte : tie.Need-sub-put-byte Inv-loop μ-loop
 sub-put-byte c =
     let l = c .before .before in
-    next-byte (l .before .before .before .args .p .now) (l .loop .j) _ (l .loop .inv .3) (l .before .before .before .pre) (omega (arith, l .loop .inv .1)) refl .inside
+    let a = l .before .before .before in
+    next-byte (a .args .p .now) (l .loop .j) _ (l .loop .inv .3) (a .pre) (omega (arith, l .loop .inv .1)) refl .inside
 
 part-put-byte-start : tie.Need-part-put-byte-start Inv-loop μ-loop
 part-put-byte-start c =
     let l = c .before .before in
-    next-byte (l .before .before .before .args .p .now) (l .loop .j) _ (l .loop .inv .3) (l .before .before .before .pre) (omega (arith, l .loop .inv .1)) refl .inside
+    let a = l .before .before .before in
+    next-byte (a .args .p .now) (l .loop .j) _ (l .loop .inv .3) (a .pre) (omega (arith, l .loop .inv .1)) refl .inside
 
 part-put-byte-end : tie.Need-part-put-byte-end Inv-loop μ-loop
 part-put-byte-end c = search needs
@@ -37,12 +39,14 @@ part-put-byte-end c = search needs
 put-byte-requires : tie.Need-put-byte-requires Inv-loop μ-loop
 put-byte-requires c κs =
     let l = c .before .before .before in
-    next-byte (l .before .before .before .args .p .now) (l .loop .j) _ (l .loop .inv .3) (l .before .before .before .pre) (omega (arith, l .loop .inv .1)) refl .room
+    let a = l .before .before .before in
+    next-byte (a .args .p .now) (l .loop .j) _ (l .loop .inv .3) (a .pre) (omega (arith, l .loop .inv .1)) refl .room
 
 add-at : tie.Need-add-at Inv-loop μ-loop
 add-at c =
     let l = c .before .before .before .before .before .before in
-    let x = next-byte (l .before .before .before .args .p .now) (l .loop .j) _ (l .loop .inv .3) (l .before .before .before .pre) (omega (arith, l .loop .inv .1)) refl in
+    let a = l .before .before .before in
+    let x = next-byte (a .args .p .now) (l .loop .j) _ (l .loop .inv .3) (a .pre) (omega (arith, l .loop .inv .1)) refl in
     omega (arith, x .small, c .before .before .put-byte .ensures .count)
 
 add-j : tie.Need-add-j Inv-loop μ-loop
@@ -53,19 +57,21 @@ loop-less c = search needs
 
 loop-again : tie.Need-loop-again Inv-loop μ-loop
 loop-again c =
-    let l = c .before .before .before .before .before .before in (
+    let l = c .before .before .before .before .before .before in
+    let a = l .before .before .before in (
       omega arith,
       l .loop .inv .1,
       search needs,
-      next-byte (l .before .before .before .args .p .now) (l .loop .j) _ (l .loop .inv .3) (l .before .before .before .pre) (omega (arith, l .loop .inv .1))
-          refl .on _ _ (c .before .before .put-byte .ensures),
+      next-byte (a .args .p .now) (l .loop .j) _ (l .loop .inv .3) (a .pre) (omega (arith, l .loop .inv .1)) refl .on _ _ (c .before .before .put-byte .ensures),
     )
 
 same-length : tie.Need-same-length Inv-loop μ-loop
 same-length c = c .before .loop .inv .2
 
 returns : tie.Need-returns Inv-loop μ-loop
-returns c = no-byte (c .before .before .before .before .args .p .now) (c .before .loop .j) (c .before .loop .inv .3) (omega (arith, c .before .loop .inv .1))
+returns c =
+    let l = c .before in
+    no-byte (l .before .before .before .args .p .now) (l .loop .j) (l .loop .inv .3) (omega (arith, l .loop .inv .1))
 
 pub put-each-spec : {M : Type 1} → statement M
 put-each-spec =

@@ -18,7 +18,9 @@ returns : tie.Need-returns
 returns c =
     let f = c .before .before .before .before in
     let l = f .before in
-    wrote-as (sym (escaped-same _ (sym (l .eight-length .ensures .0) ∙ f .if1 .taken ∙ sym (c .before .before .before .before .before .before .before .before .pre .0)))) (c .before .before .put-8 .ensures)
+    let a = l .before .before .before in
+    let e = sym (l .eight-length .ensures .0) ∙ f .if1 .taken ∙ sym (a .pre .0) in
+    wrote-as (sym (escaped-same (a .args .p .now) e)) (c .before .before .put-8 .ensures)
 
 put-each-requires : tie.Need-put-each-requires
 put-each-requires c κs = search needs

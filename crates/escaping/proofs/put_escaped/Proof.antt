@@ -23,10 +23,16 @@ add-loop : tie.Need-add-loop Inv-loop μ-loop
 add-loop c = search needs
 
 sub-put-eight : tie.Need-sub-put-eight Inv-loop μ-loop
-sub-put-eight c = next-part (c .before .before .before .before .args .p .now) (c .before .loop .j) 8 (c .before .loop .inv .3) (c .before .before .before .before .pre .1) .inside
+sub-put-eight c =
+    let l = c .before in
+    let a = l .before .before .before in
+    next-part (a .args .p .now) (l .loop .j) 8 (l .loop .inv .3) (a .pre .1) .inside
 
 part-put-eight-start : tie.Need-part-put-eight-start Inv-loop μ-loop
-part-put-eight-start c = next-part (c .before .before .before .before .args .p .now) (c .before .loop .j) 8 (c .before .loop .inv .3) (c .before .before .before .before .pre .1) .inside
+part-put-eight-start c =
+    let l = c .before in
+    let a = l .before .before .before in
+    next-part (a .args .p .now) (l .loop .j) 8 (l .loop .inv .3) (a .pre .1) .inside
 
 part-put-eight-end : tie.Need-part-put-eight-end Inv-loop μ-loop
 part-put-eight-end c = search needs
@@ -72,10 +78,16 @@ loop-again c =
     )
 
 sub-put-rest : tie.Need-sub-put-rest Inv-loop μ-loop
-sub-put-rest c = next-rest (c .before .before .before .before .args .p .now) (c .before .loop .j) (c .before .loop .inv .3) (c .before .before .before .before .pre .1) .inside
+sub-put-rest c =
+    let l = c .before in
+    let a = l .before .before .before in
+    next-rest (a .args .p .now) (l .loop .j) (l .loop .inv .3) (a .pre .1) .inside
 
 part-put-rest-start : tie.Need-part-put-rest-start Inv-loop μ-loop
-part-put-rest-start c = next-rest (c .before .before .before .before .args .p .now) (c .before .loop .j) (c .before .loop .inv .3) (c .before .before .before .before .pre .1) .inside
+part-put-rest-start c =
+    let l = c .before in
+    let a = l .before .before .before in
+    next-rest (a .args .p .now) (l .loop .j) (l .loop .inv .3) (a .pre .1) .inside
 
 part-put-rest-end : tie.Need-part-put-rest-end Inv-loop μ-loop
 part-put-rest-end c = search needs
