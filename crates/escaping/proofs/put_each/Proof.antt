@@ -58,11 +58,12 @@ loop-less c = search needs
 loop-again : tie.Need-loop-again Inv-loop μ-loop
 loop-again c =
     let l = c .before .before .before .before .before .before in
-    let a = l .before .before .before in (
+    let a = l .before .before .before in
+    let n = next-byte (a .args .p .now) (l .loop .j) _ (l .loop .inv .3) (a .pre) (omega (arith, l .loop .inv .1)) refl in (
       omega arith,
       l .loop .inv .1,
       search needs,
-      next-byte (a .args .p .now) (l .loop .j) _ (l .loop .inv .3) (a .pre) (omega (arith, l .loop .inv .1)) refl .on _ _ (c .before .before .put-byte .ensures),
+      n .on _ _ (c .before .before .put-byte .ensures),
     )
 
 same-length : tie.Need-same-length Inv-loop μ-loop
