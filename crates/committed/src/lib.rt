@@ -69,7 +69,7 @@ pub fn version(s: &[u8], p: usize) -> usize
 // The committed content of the node at p.
 pub fn content(s: &[u8], p: usize) -> &[u8]
     requires { ⌜ (Layout (now s)) × (p < length (nodes (now s))) ⌝ }
-    ensures { λ r. ⌜ now r ≡ label-at (nodes (now (s .entry))) p .content ⌝ }
+    ensures { λ r. ⌜ (now r ≡ label-at (nodes (now (s .entry))) p .content) × (length (now r) ≤ 32) ⌝ }
 {
     let v = version(s, p);
     table::content_bytes(s, p, v)
@@ -88,15 +88,7 @@ pub fn escaped_size(s: &[u8], p: usize) -> usize
     requires { ⌜ (Layout (now s)) × (p < length (nodes (now s))) ⌝ }
     ensures { λ r. ⌜ (r ≡ length (escaped (label-at (nodes (now (s .entry))) p .content))) × (r ≤ 192) ⌝ }
 {
-    let v = version(s, p);
-    let n = table::size(s, p, v);
-    let mut sum: u8 = 0;
-    let mut j: usize = 0;
-    while j < n {
-        sum += markup::byte_length(table::content(s, p, v, j));
-        j += 1;
-    }
-    sum as usize
+    escaping::escaped_length(content(s, p)) as usize
 }
 
 // Whether the nodes at p and q have the same committed content.

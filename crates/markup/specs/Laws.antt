@@ -7,3 +7,4 @@ pub mod Names
 pub mod Judgement
 pub mod Documents
 pub mod Rules
+pub mod Next

@@ -20,7 +20,7 @@ fn put_content(out: &mut [u8], s: &[u8], p: usize) -> usize
     requires { ⌜ (Layout (now s)) × (p < length (nodes (now s))) × (length (label-at (nodes (now s)) p .content) ≤ length (now out)) ⌝ }
     ensures { λ r. ⌜ Wrote (label-at (nodes (now (s .entry))) p .content) (now (out .entry)) (now (out .exit)) r ⌝ }
 {
-    markup::put(out, committed::content(s, p))
+    copying::put_content(out, committed::content(s, p))
 }
 
 // The same, with entities.
@@ -28,16 +28,7 @@ fn put_escaped(out: &mut [u8], s: &[u8], p: usize) -> usize
     requires { ⌜ (Layout (now s)) × (p < length (nodes (now s))) × (length (escaped (label-at (nodes (now s)) p .content)) ≤ length (now out)) ⌝ }
     ensures { λ r. ⌜ Wrote (escaped (label-at (nodes (now (s .entry))) p .content)) (now (out .entry)) (now (out .exit)) r ⌝ }
 {
-    let bytes = committed::content(s, p);
-    let n = bytes.len();
-    let mut at: usize = 0;
-    let mut j: usize = 0;
-    while j < n {
-        let b = bytes[j];
-        at = at + markup::put_byte(&mut out[at..], b);
-        j += 1;
-    }
-    at
+    escaping::put_escaped(out, committed::content(s, p))
 }
 
 // A name behind a prefix.

@@ -1,4 +1,5 @@
-use mathlib.Core.Path.{_∙_}
+use mathlib.Core.Path.{refl, _∙_}
+use Rattle.layout.specs.Laws.Texts.{size-small}
 use borrow.Author.Needs.{needs}
 use Rattle.committed.proofs.content.Statement.{statement}
 use Rattle.committed.proofs.content.Tie as tie
@@ -10,7 +11,11 @@ content-bytes-requires : tie.Need-content-bytes-requires
 content-bytes-requires c κs = search needs
 
 returns : tie.Need-returns
-returns c = c .content-bytes .ensures ∙ c .before .version .ensures .1
+returns c =
+    let v = c .before .version in
+    let a = c .before .before .before in
+    let e = c .content-bytes .ensures in
+    (e ∙ v .ensures .1, rw e (size-small (a .args .s .now) (a .args .p) (v .result) _ refl (a .pre .0) (a .pre .1) (v .ensures .0)))
 
 pub content-spec : {M : Type 1} → statement M
 content-spec = tie.close (tie.spec version-requires content-bytes-requires returns)

@@ -6,14 +6,14 @@ use Rattle.writer.proofs.put_content.Tie as tie
 content-requires : tie.Need-content-requires
 content-requires c κs = search needs
 
-put-requires : tie.Need-put-requires
-put-requires c κs = rw (c .content .ensures) (c .before .before .before .before .pre .2)
+put-content-requires : tie.Need-put-content-requires
+put-content-requires c κs = (c .content .ensures .1, rw (c .content .ensures .0) (c .before .before .before .before .pre .2))
 
 same-length : tie.Need-same-length
 same-length c = search needs
 
 returns : tie.Need-returns
-returns c = wrote-as (c .before .before .before .content .ensures) (c .before .before .put .ensures)
+returns c = wrote-as (c .before .before .before .content .ensures .0) (c .before .before .put-content .ensures)
 
 pub put-content-spec : {M : Type 1} → statement M
-put-content-spec = tie.close (tie.spec content-requires put-requires same-length returns)
+put-content-spec = tie.close (tie.spec content-requires put-content-requires same-length returns)

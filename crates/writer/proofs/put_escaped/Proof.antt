@@ -1,104 +1,21 @@
-use Rattle.writer.specs.Laws.Pieces.{next-byte, no-byte}
-use Rattle.markup.specs.Lending.{Partly, partly-start, wrote-as}
+use mathlib.Core.Path.{ap}
 use Rattle.xml.specs.Writing.{escaped}
-use lib.ListN.{length, drop}
-use mathlib.Core.Path.{_≡_, refl, ap}
-use Prim.Native.Nat.{_-_, _≤_}
-use native.Mathlib.Omega.{arith}
+use Rattle.markup.specs.Lending.{wrote-as}
 use borrow.Author.Needs.{needs}
 use Rattle.writer.proofs.put_escaped.Statement.{statement}
 use Rattle.writer.proofs.put_escaped.Tie as tie
 
-abbrev Inv-loop : tie.InvT-loop
-Inv-loop out₀ s p bytes n at₀ j₀ out at j = (j ≤ n) × (n ≡ length bytes) × (length out ≡ length out₀) × Partly (escaped bytes) (escaped (drop j bytes)) out₀ out at
-
-abbrev μ-loop : tie.MeasureT-loop
-μ-loop out₀ s p bytes n at₀ j₀ out at j = n - j
-
-content-requires : tie.Need-content-requires Inv-loop μ-loop
+content-requires : tie.Need-content-requires
 content-requires c κs = search needs
 
-loop-holds : tie.Need-loop-holds Inv-loop μ-loop
-loop-holds c = (omega arith, refl, refl, partly-start _ _)
+put-escaped-requires : tie.Need-put-escaped-requires
+put-escaped-requires c κs = (c .content .ensures .1, rw (c .content .ensures .0) (c .before .before .before .before .pre .2))
 
-shared-slice-read-b : tie.Need-shared-slice-read-b Inv-loop μ-loop
-shared-slice-read-b c = search needs
+same-length : tie.Need-same-length
+same-length c = search needs
 
-sub-put-byte : tie.Need-sub-put-byte Inv-loop μ-loop
-sub-put-byte c =
-    let l = c .before .before in
-    let k = l .before in
-    let a = k .before .before .before in
-    next-byte (k .content .result .now) (l .loop .j) _ (l .loop .inv .3) (rw (← k .content .ensures) at (a .pre .2)) (omega (arith, l .loop .inv .1)) refl .inside
-
-part-put-byte-start : tie.Need-part-put-byte-start Inv-loop μ-loop
-part-put-byte-start c =
-    let l = c .before .before in
-    let k = l .before in
-    let a = k .before .before .before in
-    next-byte (k .content .result .now) (l .loop .j) _ (l .loop .inv .3) (rw (← k .content .ensures) at (a .pre .2)) (omega (arith, l .loop .inv .1)) refl .inside
-
-part-put-byte-end : tie.Need-part-put-byte-end Inv-loop μ-loop
-part-put-byte-end c = search needs
-
-put-byte-requires : tie.Need-put-byte-requires Inv-loop μ-loop
-put-byte-requires c κs =
-    let l = c .before .before .before in
-    let k = l .before in
-    let a = k .before .before .before in
-    next-byte (k .content .result .now) (l .loop .j) _ (l .loop .inv .3) (rw (← k .content .ensures) at (a .pre .2)) (omega (arith, l .loop .inv .1)) refl .room
-
-add-at : tie.Need-add-at Inv-loop μ-loop
-add-at c =
-    let l = c .before .before .before .before .before .before in
-    let k = l .before in
-    let a = k .before .before .before in
-    let x = next-byte (k .content .result .now) (l .loop .j) _ (l .loop .inv .3) (rw (← k .content .ensures) at (a .pre .2)) (omega (arith, l .loop .inv .1)) refl in
-    omega (arith, x .small, c .before .before .put-byte .ensures .count)
-
-add-j : tie.Need-add-j Inv-loop μ-loop
-add-j c = search needs
-
-loop-less : tie.Need-loop-less Inv-loop μ-loop
-loop-less c = search needs
-
-loop-again : tie.Need-loop-again Inv-loop μ-loop
-loop-again c =
-    let l = c .before .before .before .before .before .before in
-    let k = l .before in
-    let a = k .before .before .before in (
-      omega arith,
-      l .loop .inv .1,
-      search needs,
-      next-byte (k .content .result .now) (l .loop .j) _ (l .loop .inv .3) (rw (← k .content .ensures) at (a .pre .2)) (omega (arith, l .loop .inv .1))
-          refl .on _ _ (c .before .before .put-byte .ensures),
-    )
-
-same-length : tie.Need-same-length Inv-loop μ-loop
-same-length c = c .before .loop .inv .2
-
-returns : tie.Need-returns Inv-loop μ-loop
-returns c =
-    let l = c .before in
-    let k = l .before in
-    wrote-as (ap escaped (k .content .ensures)) (no-byte (k .content .result .now) (l .loop .j) (l .loop .inv .3) (omega (arith, l .loop .inv .1)))
+returns : tie.Need-returns
+returns c = wrote-as (ap escaped (c .before .before .before .content .ensures .0)) (c .before .before .put-escaped .ensures)
 
 pub put-escaped-spec : {M : Type 1} → statement M
-put-escaped-spec =
-    tie.close
-    (tie.spec
-    Inv-loop
-    μ-loop
-    content-requires
-    loop-holds
-    shared-slice-read-b
-    sub-put-byte
-    part-put-byte-start
-    part-put-byte-end
-    put-byte-requires
-    add-at
-    add-j
-    loop-less
-    loop-again
-    same-length
-    returns)
+put-escaped-spec = tie.close (tie.spec content-requires put-escaped-requires same-length returns)

@@ -1,20 +1,19 @@
 -- The pieces by the kind of a node.
-use mathlib.Core.Path.{_≡_, refl, sym, ap, _∙_}
-use Prim.Native.Nat.{ℕ, _+_, _≤_, _<_}
+use mathlib.Core.Path.{_≡_, refl, sym, ap}
+use Prim.Native.Nat.{ℕ, _≤_}
 use native.Mathlib.Omega.{arith}
-use lib.ListN.{length, getD, drop, length-append}
+use lib.ListN.{length, length-append}
 use mathlib.Core.Bool.{true, false, and-false}
 use mathlib.Core.List.{List, [], _++_}
 use lib.Dec.{eqb}
 use borrow.Author.Tests.{eq-eqb, ne-eqb}
 use Rattle.tree.specs.Text.{bytes}
 use Rattle.xml.specs.Shape.{Label}
-use Rattle.xml.specs.Writing.{escape, escaped}
+use Rattle.xml.specs.Writing.{escaped}
 use Rattle.markup.specs.Rows.{in-start-tag, tag-end, begin, end}
-use Rattle.markup.specs.Lending.{Wrote, Partly, partly-as, partly-end}
-use Rattle.committed.specs.Laws.Contents.{escaped-from, escaped-end}
+use Rattle.markup.specs.Lending.{Wrote}
 use Rattle.writer.specs.Texts.{of-kind, opening}
-use Rattle.writer.specs.Laws.Next.{Next, next, second}
+use Rattle.writer.specs.Laws.Next.{Next, second}
 
 module _ (parent : Label) (previous : ℕ) where
   pub tag-end-other : (parent .kind ≡ 2 → ⊥) → tag-end parent previous ≡ []
@@ -76,13 +75,3 @@ module _ (a : Label) where
     pub end-tag : a .kind ≡ 2 → in-start-tag last ≡ false → end a last ≡ (bytes "</" ++ a .content) ++ bytes ">"
     unfolding end
     end-tag e h = rw (h, eq-eqb (a .kind) 2 e)
-
--- loops over the bytes of a content ----------------------------------------------------------------
-
--- the next byte, b, is the j-th
-pub next-byte : (t : List ℕ) (j b : ℕ) {o₀ o : List ℕ} {at : ℕ} → Partly (escaped t) (escaped (drop j t)) o₀ o at → length (escaped t) ≤ length o₀ → j < length t → b ≡ getD t j 0
-    → Next (escape b) (escaped t) (escaped (drop (j + 1) t)) o₀ o at
-next-byte t j b c h k e = next (escape b) (escaped (drop (j + 1) t)) (escaped-from t j k ∙ ap (λ (x : ℕ). escape x ++ escaped (drop (j + 1) t)) (sym e)) c h
-
-pub no-byte : (t : List ℕ) (j : ℕ) {o₀ o : List ℕ} {at : ℕ} → Partly (escaped t) (escaped (drop j t)) o₀ o at → length t ≤ j → Wrote (escaped t) o₀ o at
-no-byte t j c h = partly-end (partly-as (escaped-end t j h) c)
