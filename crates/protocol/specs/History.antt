@@ -7,7 +7,8 @@ use Rattle.tree.specs.Lists.{any, same}
 use Rattle.tree.specs.Document.{Document, lines, here, at, node-0-alone}
 use Rattle.tree.specs.Steps.{Step, Value, unfit, brings, plain-document, plain-answers}
 use Rattle.protocol.specs.State.{State, transactions}
-use Rattle.protocol.specs.Calls.{Call, start, load, begin, commit, abort, step, write, unreadable, stands-for, Outcome, granted, written, waits, refused, refused-at, next}
+use Rattle.protocol.specs.Calls.{Call, start, load, begin, commit, abort, step, write, unreadable, stands-for, Outcome, granted, written, waits}
+use Rattle.protocol.specs.Calls.{refused, refused-at, next}
 
 -- a call with its outcome
 pub record Event : Type 0 where
