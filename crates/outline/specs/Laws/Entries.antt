@@ -52,6 +52,7 @@ entered-of s s₁ s₂ s₃ i k d n p q r a b c x y z h =
     let w₁ : word s₁ p ≡ k = rw a (word-put s p k (omega arith)) in
     let w₂ : word s₂ q ≡ d = rw b (word-put s₁ q d (omega (arith, o₁ .long))) in
     let w₃ : word s₃ r ≡ n = rw c (word-put s₂ r n (omega (arith, o₁ .long, o₂ .long))) in
+    -- each word lies in the entry
     let e₁ = only-wider (entry-at i) 6 o₁ (omega arith) (omega arith) in
     let e₂ = only-wider (entry-at i) 6 o₂ (omega arith) (omega arith) in
     let e₃ = only-wider (entry-at i) 6 o₃ (omega arith) (omega arith) in
