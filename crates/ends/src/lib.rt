@@ -5,7 +5,7 @@ ghost use mathlib.Core.Bool.{true};
 ghost use mathlib.Core.List.{map};
 ghost use Prim.Native.Nat.{_<_, _≤_};
 ghost use lib.ListN.{length};
-ghost use Rattle.protocol.specs.State.{seen-by, settled, undone};
+ghost use Rattle.protocol.specs.State.{seen-by, lasting, undone};
 ghost use Rattle.protocol.specs.Calls.{begin, commit, abort};
 ghost use Rattle.layout.specs.Lists.{modify};
 ghost use Rattle.layout.specs.Flat.{second};
@@ -14,7 +14,7 @@ ghost use Rattle.layout.specs.Fields.{released};
 ghost use Rattle.edits.specs.Rows.{not-inserted-by};
 ghost use Rattle.engine.specs.Contract.{Performed};
 ghost use Rattle.engine.specs.Admission.{Opened};
-ghost use Rattle.ends.specs.Ends.{Restarted, without-mark, rewritten, settled-marks, undone-marks, Closed, Ended};
+ghost use Rattle.ends.specs.Ends.{Restarted, without-mark, rewritten, lasting-marks, undone-marks, Closed, Ended};
 
 const WRITER: usize = 1;
 
@@ -65,7 +65,7 @@ fn clear_mark(s: &mut [u8], i: usize, o: usize, t: u8)
 // What t wrote and inserted of the node at i is everybody's.
 fn settle_node(s: &mut [u8], i: usize, t: u8)
     requires { ⌜ (Layout (now s)) × (i < length (nodes (now s))) ⌝ }
-    ensures { λ r. ⌜ Kept (now (s .entry)) (now (s .exit)) (modify i (second (settled-marks t)) (nodes (now (s .entry)))) ⌝ }
+    ensures { λ r. ⌜ Kept (now (s .entry)) (now (s .exit)) (modify i (second (lasting-marks t)) (nodes (now (s .entry)))) ⌝ }
 {
     clear_mark(s, i, WRITER, t);
     clear_mark(s, i, INSERTER, t);
@@ -74,7 +74,7 @@ fn settle_node(s: &mut [u8], i: usize, t: u8)
 // The same of all nodes.
 fn settle(s: &mut [u8], t: u8)
     requires { ⌜ Layout (now s) ⌝ }
-    ensures { λ r. ⌜ Kept (now (s .entry)) (now (s .exit)) (map (second (settled-marks t)) (nodes (now (s .entry)))) ⌝ }
+    ensures { λ r. ⌜ Kept (now (s .entry)) (now (s .exit)) (map (second (lasting-marks t)) (nodes (now (s .entry)))) ⌝ }
 {
     let m = table::count(s);
     let mut i: usize = 0;
@@ -96,7 +96,7 @@ fn close(s: &mut [u8], t: u8)
 // What t deleted goes, with all below it; what else it did stays; its locks go.
 fn commit_open(s: &mut [u8], t: u8)
     requires { ⌜ Opened (now s) t ⌝ }
-    ensures { λ r. ⌜ Ended (seen-by t) (settled t) t (now (s .entry)) (now (s .exit)) ⌝ }
+    ensures { λ r. ⌜ Ended (seen-by t) (lasting t) t (now (s .entry)) (now (s .exit)) ⌝ }
 {
     outline::prune(s, DELETER, t);
     settle(s, t);

@@ -13,27 +13,27 @@ use Rattle.protocol.specs.State.{nobody, Marked}
 use Rattle.protocol.specs.Calls.{node-limit}
 use Rattle.layout.specs.Lists.{tabulate}
 use Rattle.layout.specs.Layout.{state-size, format-mark, entry-at, word, part, count, slot, depth, number, cell, decode, nodes}
-use Rattle.form.specs.Form.{fair, fine-rows, cells, fair-sizes}
+use Rattle.form.specs.Form.{in-range, valid-rows, cells, sizes-in-range}
 
 -- the first sixteen bytes: length, mark and count
-unfoldable pub fine-header : List ℕ → Bool
-fine-header s = leb state-size (length s) && same (part s 0 8) format-mark && between 1 node-limit (count s)
+unfoldable pub valid-header : List ℕ → Bool
+valid-header s = leb state-size (length s) && same (part s 0 8) format-mark && between 1 node-limit (count s)
 
 -- the words at offset o of the first n entries of the outline
 unfoldable pub column : List ℕ → ℕ → ℕ → List ℕ
 column s o n = tabulate n (λ i. word s (entry-at i + o))
 
 -- a cell of such a node
-unfoldable pub fair-cell : ℕ → ℕ → ℕ → List ℕ → Bool
-fair-cell low high most c = fair low high most (decode 0 c (λ t. no-mode)) && fair-sizes c
+unfoldable pub cell-in-range : ℕ → ℕ → ℕ → List ℕ → Bool
+cell-in-range low high most c = in-range low high most (decode 0 c (λ t. no-mode)) && sizes-in-range c
 
 -- the first row is that of the document
-unfoldable pub fine-first : List ℕ → Bool
-fine-first s = eqb (depth s 0) 0 && (eqb (number s 0) 0 && fair-cell document-kind document-kind nobody (cell s (slot s 0)))
+unfoldable pub valid-first : List ℕ → Bool
+valid-first s = eqb (depth s 0) 0 && (eqb (number s 0) 0 && cell-in-range document-kind document-kind nobody (cell s (slot s 0)))
 
 -- the sizes and the rows of all nodes
-unfoldable pub fine-nodes : List ℕ → Bool
-fine-nodes s = every fair-sizes (cells s) && fine-rows (nodes s)
+unfoldable pub valid-nodes : List ℕ → Bool
+valid-nodes s = every sizes-in-range (cells s) && valid-rows (nodes s)
 
 -- numbers below 65,536 that were met: bit w / 1,024 of word w % 1,024
 unfoldable pub met : List ℕ → ℕ → Bool

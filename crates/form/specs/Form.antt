@@ -18,38 +18,38 @@ use Rattle.lookup.specs.Places.{unique}
 -- nodes --------------------------------------------------------------------------------
 
 -- a kind from low to high, nobody or one of sixteen transactions as the writer, and inserter and deleter at most `most`
-unfoldable pub fair : ℕ → ℕ → ℕ → Marked → Bool
-fair low high most a = between low high (a .now .kind) && (leb (a .writer) 16 && (leb (a .inserter) most && leb (a .deleter) most))
+unfoldable pub in-range : ℕ → ℕ → ℕ → Marked → Bool
+in-range low high most a = between low high (a .now .kind) && (leb (a .writer) 16 && (leb (a .inserter) most && leb (a .deleter) most))
 
 -- a node below the document: element, attribute or text
-unfoldable pub fine : Marked → Bool
-fine a = fair element-kind text-kind 16 a
+unfoldable pub valid : Marked → Bool
+valid a = in-range element-kind text-kind 16 a
 
 -- the document: numbered 0, and nobody inserted or deleted it, so that no end takes it out
-unfoldable pub fine-document : Marked → Bool
-fine-document a = fair document-kind document-kind nobody a && eqb (a .now .number) 0
+unfoldable pub valid-document : Marked → Bool
+valid-document a = in-range document-kind document-kind nobody a && eqb (a .now .number) 0
 
 -- rows -----------------------------------------------------------------------------------
 
--- of the rows behind one of depth `before`: each is fine, at least at depth 1 and at most one deeper than the row before it
-unfoldable pub fine-below : ℕ → List Entry → Bool
-fine-below before [] = true
-fine-below before (x ∷ xs) = between 1 (suc before) (x .0) && fine (x .1) && fine-below (x .0) xs
+-- of the rows behind one of depth `before`: each is valid, at least at depth 1 and at most one deeper than the row before it
+unfoldable pub valid-below : ℕ → List Entry → Bool
+valid-below before [] = true
+valid-below before (x ∷ xs) = between 1 (suc before) (x .0) && valid (x .1) && valid-below (x .0) xs
 
 -- the document at depth 0, and all other rows below it
-unfoldable pub fine-rows : List Entry → Bool
-fine-rows [] = false
-fine-rows (x ∷ xs) = eqb (x .0) 0 && fine-document (x .1) && fine-below 0 xs
+unfoldable pub valid-rows : List Entry → Bool
+valid-rows [] = false
+valid-rows (x ∷ xs) = eqb (x .0) 0 && valid-document (x .1) && valid-below 0 xs
 
 -- the same of a tree
-unfoldable pub all-fine : Tree → Bool
-all-fine nil = true
-all-fine (node a ks fs) = fine a && all-fine ks && all-fine fs
+unfoldable pub all-valid : Tree → Bool
+all-valid nil = true
+all-valid (node a ks fs) = valid a && all-valid ks && all-valid fs
 
-unfoldable pub fine-tree : Tree → Bool
-fine-tree nil = false
-fine-tree (node a ks nil) = fine-document a && all-fine ks
-fine-tree (node a ks (node b js fs)) = false
+unfoldable pub valid-tree : Tree → Bool
+valid-tree nil = false
+valid-tree (node a ks nil) = valid-document a && all-valid ks
+valid-tree (node a ks (node b js fs)) = false
 
 -- bytes ------------------------------------------------------------------------------------
 
@@ -62,8 +62,8 @@ unfoldable pub cells : List ℕ → List (List ℕ)
 cells s = tabulate (count s) (λ i. cell s (slot s i))
 
 -- both sizes of a cell are those of contents
-unfoldable pub fair-sizes : List ℕ → Bool
-fair-sizes c = leb (getD c 4 0) content-limit && leb (getD c 5 0) content-limit
+unfoldable pub sizes-in-range : List ℕ → Bool
+sizes-in-range c = leb (getD c 4 0) content-limit && leb (getD c 5 0) content-limit
 
 -- each number below the limit, and no two alike
 unfoldable pub apart : ℕ → List ℕ → Bool
@@ -73,7 +73,7 @@ apart limit l = every (λ k. ltb k limit) l && distinct l
 unfoldable pub form : List ℕ → Bool
 form s =
     leb state-size (length s) && same (part s 0 8) format-mark && between 1 node-limit (count s)
-    && apart node-limit (slots s) && every fair-sizes (cells s) && fine-rows (nodes s) && unique (nodes s)
+    && apart node-limit (slots s) && every sizes-in-range (cells s) && valid-rows (nodes s) && unique (nodes s)
 
 -- states -------------------------------------------------------------------------------------
 
@@ -83,4 +83,4 @@ pub record Holds (s : List ℕ) (M : State) : Type 0 where
   pub opens : is-open s ≡ M .is-open
   pub rows : nodes s ≡ flat 0 (M .tree)
   pub unique : unique (nodes s) ≡ true
-  pub fine : fine-tree (M .tree) ≡ true
+  pub valid : valid-tree (M .tree) ≡ true

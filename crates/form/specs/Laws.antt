@@ -1,7 +1,7 @@
 pub mod Rows
 pub mod Holds
 pub mod OneState
-pub mod Fine
+pub mod Valid
 pub mod Steps
 pub mod Cells
 pub mod Begins

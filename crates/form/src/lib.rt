@@ -5,10 +5,10 @@ ghost use lib.ListN.{length, getD};
 ghost use Rattle.tree.specs.Lists.{same};
 ghost use Rattle.locks.specs.Words.{bit};
 ghost use Rattle.layout.specs.Layout.{state-size, count, cell, part};
-ghost use Rattle.form.specs.Form.{fair-sizes, apart, form};
+ghost use Rattle.form.specs.Form.{sizes-in-range, apart, form};
 ghost use Rattle.layout.specs.Laws.Bytes.{Filled};
 ghost use Rattle.form.specs.Start.{outline-byte, start-byte, Started};
-ghost use Rattle.form.specs.Check.{fine-header, column, fair-cell, fine-first, fine-nodes, Outlined};
+ghost use Rattle.form.specs.Check.{valid-header, column, cell-in-range, valid-first, valid-nodes, Outlined};
 
 // The bytes that a state takes; those behind are never touched.
 pub const SIZE: usize = 110608;
@@ -43,7 +43,7 @@ fn begins(s: &[u8], b: &[u8]) -> bool
 
 // Whether the bytes are enough, and begin as those of a state.
 fn header(s: &[u8]) -> bool
-    ensures { λ r. ⌜ r ≡ fine-header (now (s .entry)) ⌝ }
+    ensures { λ r. ⌜ r ≡ valid-header (now (s .entry)) ⌝ }
 {
     if s.len() < SIZE {
         return false;
@@ -99,7 +99,7 @@ fn apart(s: &[u8], o: usize, n: usize, limit: usize) -> bool
 // Whether both sizes of the cell of slot k are at most 32.
 fn sizes(s: &[u8], k: usize) -> bool
     requires { ⌜ (state-size ≤ length (now s)) × (k < 1024) ⌝ }
-    ensures { λ r. ⌜ r ≡ fair-sizes (cell (now (s .entry)) k) ⌝ }
+    ensures { λ r. ⌜ r ≡ sizes-in-range (cell (now (s .entry)) k) ⌝ }
 {
     let c = CELLS + CELL * k;
     if 32 < s[c + 4] {
@@ -108,10 +108,10 @@ fn sizes(s: &[u8], k: usize) -> bool
     s[c + 5] <= 32
 }
 
-// Whether the cell of slot k has a kind from low to high, marks in range and fair sizes.
+// Whether the cell of slot k has a kind from low to high, and marks and sizes in range.
 fn cell(s: &[u8], k: usize, low: u8, high: u8, most: u8) -> bool
     requires { ⌜ (state-size ≤ length (now s)) × (k < 1024) ⌝ }
-    ensures { λ r. ⌜ r ≡ fair-cell low high most (cell (now (s .entry)) k) ⌝ }
+    ensures { λ r. ⌜ r ≡ cell-in-range low high most (cell (now (s .entry)) k) ⌝ }
 {
     let c = CELLS + CELL * k;
     if s[c] < low {
@@ -135,7 +135,7 @@ fn cell(s: &[u8], k: usize, low: u8, high: u8, most: u8) -> bool
 // Whether the first row is that of the document, which nobody inserted or deleted.
 fn document(s: &[u8]) -> bool
     requires { ⌜ Outlined (now s) ⌝ }
-    ensures { λ r. ⌜ r ≡ fine-first (now (s .entry)) ⌝ }
+    ensures { λ r. ⌜ r ≡ valid-first (now (s .entry)) ⌝ }
 {
     if layout::word(s, OUTLINE + 2) != 0 {
         return false;
@@ -149,7 +149,7 @@ fn document(s: &[u8]) -> bool
 // Whether the n nodes are those of a tree: the document first, and every other at most one deeper than the node before it.
 fn nodes(s: &[u8], n: usize) -> bool
     requires { ⌜ (Outlined (now s)) × (n ≡ count (now s)) ⌝ }
-    ensures { λ r. ⌜ r ≡ fine-nodes (now (s .entry)) ⌝ }
+    ensures { λ r. ⌜ r ≡ valid-nodes (now (s .entry)) ⌝ }
 {
     if !document(s) {
         return false;

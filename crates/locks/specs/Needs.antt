@@ -2,7 +2,7 @@
 use Prim.Native.Nat.{ℕ}
 use mathlib.Core.List.{List, [], _∷_, _++_, map}
 use Rattle.tree.specs.Document.{Document, at}
-use Rattle.tree.specs.Steps.{Step, T, C, R, U, D, I, TT, RR, UU, target, brings}
+use Rattle.tree.specs.Steps.{Step, T, C, R, U, D, I, TT, RR, UU, target, inserts}
 use Rattle.locks.specs.Modes.{Mode, LT, LC, LR, LU, LW, LTT, LRR, LUU, LIR, LIU, LIW, LICW}
 
 -- the modes on the node that a step is on, on its parent, above the parent, and on a new node
@@ -46,7 +46,7 @@ up w (q ∷ qs) = each (w .parent) q ++ every-one (w .above) qs
 
 -- the locks of a step on a node whose proper ancestors are p
 unfoldable pub locks : Step → List ℕ → List Lock
-locks s p = each (need s .node) (target s) ++ (up (need s) p ++ every-one (need s .new) (brings s))
+locks s p = each (need s .node) (target s) ++ (up (need s) p ++ every-one (need s .new) (inserts s))
 
 -- the locks of a step in a document
 abbrev pub needs : Step → Document → List Lock

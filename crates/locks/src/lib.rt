@@ -127,7 +127,7 @@ pub enum StepName {
     UU,
 }
 
-// What a step needs: sets of modes on its node, on the node's parent, above that, and on a node that it brings in.
+// What a step needs: sets of modes on its node, on the node's parent, above that, and on a node that it inserts.
 pub struct NeedWords {
     pub node: u16,
     pub parent: u16,

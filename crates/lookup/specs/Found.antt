@@ -9,7 +9,7 @@ use Rattle.tree.specs.Lists.{any, keep}
 use Rattle.tree.specs.Forest.{row}
 use Rattle.tree.specs.Content.{document-kind, is-name, allowed, takes}
 use Rattle.tree.specs.Document.{Node, here, at}
-use Rattle.tree.specs.Steps.{Step, T, C, R, U, D, I, TT, RR, UU, target, brings, misfit, misplaced, placed, answer, parent, is-named}
+use Rattle.tree.specs.Steps.{Step, T, C, R, U, D, I, TT, RR, UU, target, inserts, misfit, misplaced, placed, answer, parent, is-named}
 use Rattle.tree.specs.Steps.{Value, done, kind-parent, child-is, none, content-is, numbers-are, cells-are, how-many}
 use Rattle.locks.specs.Modes.{Mode, against}
 use Rattle.locks.specs.Needs.{Need, need, locks, needs}
@@ -92,22 +92,22 @@ pub record Found (l : List Entry) (t : ℕ) (s : Step) (M : State) (p : ℕ) : T
   -- causes 7, 8, 9
   pub misfits : misfit s (callers-document t (M .tree)) ≡ misfit-on s (item l p .now)
   -- cause 10
-  pub held : any (λ m. number-held m (M .tree)) (brings s) ≡ any (λ m. ltb (place-of m l) (length l)) (brings s)
-  pub wait : any (λ m. number-held m (M .tree)) (brings s) ≡ false
+  pub held : any (λ m. number-held m (M .tree)) (inserts s) ≡ any (λ m. ltb (place-of m l) (length l)) (inserts s)
+  pub wait : any (λ m. number-held m (M .tree)) (inserts s) ≡ false
       → wait-set t (needs s (callers-document t (M .tree))) M ≡ wait-word t (need s) (M .is-open) (item l p ∷ ups l p)
   -- cause 11
   pub misplaces : misplaced s (callers-document t (M .tree)) ≡ misplaced-on s (item l p .now .kind) (children t l p)
   -- cause 12
-  pub full : table-full s (M .tree) ≡ any (λ m. leb node-limit (length l)) (brings s)
+  pub full : table-full s (M .tree) ≡ any (λ m. leb node-limit (length l)) (inserts s)
   pub answers : answer s (callers-document t (M .tree)) ≡ answer-at s t l p
 
 -- the whole judgement: 8, 9, 10, wait, 11, 12, 13, then granted
 unfoldable pub judged-at : ℕ → Step → Room → State → List Entry → ℕ → Next
 judged-at t s room M l p =
     cond (not (eqb (misfit-on s (item l p .now)) 0)) (unchanged (refused (misfit-on s (item l p .now))) M)
-    (cond (any (λ m. ltb (place-of m l) (length l)) (brings s)) (unchanged (refused 10) M)
+    (cond (any (λ m. ltb (place-of m l) (length l)) (inserts s)) (unchanged (refused 10) M)
     (cond (not (eqb (wait-word t (need s) (M .is-open) (item l p ∷ ups l p)) 0)) (unchanged (waits (wait-word t (need s) (M .is-open) (item l p ∷ ups l p))) M)
     (cond (misplaced-on s (item l p .now .kind) (children t l p)) (unchanged (refused 11) M)
-    (cond (any (λ m. leb node-limit (length l)) (brings s)) (unchanged (refused 12) M)
+    (cond (any (λ m. leb node-limit (length l)) (inserts s)) (unchanged (refused 12) M)
     (cond (not (has-room (answer-at s t l p) room)) (unchanged (refused 13) M)
     (becomes (answer-at s t l p) (with-tree M (grant t (locks s (numbers-above l p)) (act t s (M .tree))))))))))

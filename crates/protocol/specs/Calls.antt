@@ -7,7 +7,7 @@ use lib.ListN.{length}
 use lib.Dec.{eqb, leb}
 use Rattle.tree.specs.Lists.{any}
 use Rattle.tree.specs.Document.{Document, lines, numbers, legal}
-use Rattle.tree.specs.Steps.{Step, Value, done, how-many, misfit, misplaced, brings, answer}
+use Rattle.tree.specs.Steps.{Step, Value, done, how-many, misfit, misplaced, inserts, answer}
 use Rattle.locks.specs.Modes.{against}
 use Rattle.locks.specs.Needs.{Lock, needs}
 use Rattle.protocol.specs.State.{is-transaction, transactions, Marked, Tree, State, nodes, numbered, number-held, callers-document}
@@ -79,15 +79,15 @@ wait-set t ls M = sum-of-bits (blocks t ls M) transactions
 
 -- steps --------------------------------------------------------------------------------
 
--- cause 12: the step brings in a node, and 1,024 are held
+-- cause 12: the step inserts a node, and 1,024 are held
 abbrev pub table-full : Step → Tree → Bool
-table-full s f = any (λ m. leb node-limit (length (nodes f))) (brings s)
+table-full s f = any (λ m. leb node-limit (length (nodes f))) (inserts s)
 
 -- d is the caller's document: 7, 8, 9, 10, wait, 11, 12, 13
 unfoldable pub judged : ℕ → Step → Room → State → Document → Next
 judged t s room M d =
     cond (not (eqb (misfit s d) 0)) (unchanged (refused (misfit s d)) M)
-    (cond (any (λ m. number-held m (M .tree)) (brings s)) (unchanged (refused 10) M)
+    (cond (any (λ m. number-held m (M .tree)) (inserts s)) (unchanged (refused 10) M)
     (cond (not (eqb (wait-set t (needs s d) M) 0)) (unchanged (waits (wait-set t (needs s d) M)) M)
     (cond (misplaced s d) (unchanged (refused 11) M)
     (cond (table-full s (M .tree)) (unchanged (refused 12) M)

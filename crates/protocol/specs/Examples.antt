@@ -15,7 +15,7 @@ use Rattle.locks.specs.Needs.{locks}
 use Rattle.protocol.specs.State.{State, start-state, nodes, callers-document, document-of, grant, commit-tree, abort-tree, tree-of}
 use Rattle.protocol.specs.Lent.{first-lent, second-lent}
 use Rattle.protocol.specs.Calls.{loadable, stands-for, Call, start, load, begin, abort, step, Outcome, granted, waits, refused, wait-set, judged, next}
-use Rattle.protocol.specs.History.{Event, history, state-after, ledger, plain, pending}
+use Rattle.protocol.specs.History.{Event, history, state-after, log-after, plain, pending}
 
 pub E-loadable : loadable tree-E ≡ true
 unfolding tree-E loadable legal ruled lines rows name-start name-byte text-byte is-name is-text allowed takes attributes-first children-rule
@@ -99,7 +99,7 @@ P =
     []
 
 pub P-holds : map from-E P ≡ P
-unfolding tree-E played from-E state-after history ledger plain pending next judged wait-set loadable first-lent second-lent
+unfolding tree-E played from-E state-after history log-after plain pending next judged wait-set loadable first-lent second-lent
     nodes callers-document document-of grant commit-tree abort-tree tree-of node-0-alone clash locks
     legal ruled lines select rows keep amend view place put name-start name-byte text-byte is-name is-text allowed takes attributes-first children-rule
     insert-at placed plain-document

@@ -5,7 +5,7 @@ use mathlib.Core.List.{List, [], _∷_, _++_}
 use lib.Dec.{eqb}
 use Rattle.tree.specs.Lists.{any, same}
 use Rattle.tree.specs.Document.{Document, lines, here, at, node-0-alone}
-use Rattle.tree.specs.Steps.{Step, Value, unfit, brings, plain-document, plain-answers}
+use Rattle.tree.specs.Steps.{Step, Value, unfit, inserts, plain-document, plain-answers}
 use Rattle.protocol.specs.State.{State, transactions}
 use Rattle.protocol.specs.Calls.{Call, start, load, begin, commit, abort, step, write, unreadable, stands-for, Outcome, granted, written, waits}
 use Rattle.protocol.specs.Calls.{refused, refused-at, next}
@@ -40,36 +40,36 @@ value-of (refused-at c o) = unfit
 
 -- the calls since the last granted start or load, by transaction: the document at first, what the committed transactions noted,
 -- in commit order and each one's in call order, and what each open one noted so far. A step notes an E, made of the step and its answer
-pub record Ledger (E : Type 0) : Type 0 where
+pub record Log (E : Type 0) : Type 0 where
   pub first : Document
   pub committed : List E
   pub open-log : ℕ → List E
 
-abbrev pub new-ledger : {E : Type 0} → Document → Ledger E
-new-ledger d = record { first = d; committed = []; open-log = λ u. [] }
+abbrev pub new-log : {E : Type 0} → Document → Log E
+new-log d = record { first = d; committed = []; open-log = λ u. [] }
 
 abbrev pub with-log : {E : Type 0} → ℕ → List E → (ℕ → List E) → ℕ → List E
 with-log t l log u = cond (eqb u t) l (log u)
 
 -- a granted call; one that is not granted changes nothing
-abbrev pub entered : {E : Type 0} → (Step → Value → E) → Call → Value → Ledger E → Ledger E
-entered note start v L = new-ledger node-0-alone
-entered note (load (unreadable cause offset)) v L = L
-entered note (load (stands-for d h)) v L = new-ledger d
-entered note (begin t) v L = record { first = L .first; committed = L .committed; open-log = with-log t [] (L .open-log) }
-entered note (commit t) v L = record { first = L .first; committed = L .committed ++ L .open-log t; open-log = with-log t [] (L .open-log) }
-entered note (abort t) v L = record { first = L .first; committed = L .committed; open-log = with-log t [] (L .open-log) }
-entered note (step t s room) v L =
+abbrev pub logged : {E : Type 0} → (Step → Value → E) → Call → Value → Log E → Log E
+logged note start v L = new-log node-0-alone
+logged note (load (unreadable cause offset)) v L = L
+logged note (load (stands-for d h)) v L = new-log d
+logged note (begin t) v L = record { first = L .first; committed = L .committed; open-log = with-log t [] (L .open-log) }
+logged note (commit t) v L = record { first = L .first; committed = L .committed ++ L .open-log t; open-log = with-log t [] (L .open-log) }
+logged note (abort t) v L = record { first = L .first; committed = L .committed; open-log = with-log t [] (L .open-log) }
+logged note (step t s room) v L =
     record { first = L .first; committed = L .committed; open-log = with-log t (L .open-log t ++ (note s v ∷ [])) (L .open-log) }
-entered note write v L = L
+logged note write v L = L
 
-unfoldable pub ledger : {E : Type 0} → (Step → Value → E) → Ledger E → List Event → Ledger E
-ledger note L [] = L
-ledger note L (e ∷ es) = ledger note (cond (is-granted (e .outcome)) (entered note (e .call) (value-of (e .outcome)) L) L) es
+unfoldable pub log-after : {E : Type 0} → (Step → Value → E) → Log E → List Event → Log E
+log-after note L [] = L
+log-after note L (e ∷ es) = log-after note (cond (is-granted (e .outcome)) (logged note (e .call) (value-of (e .outcome)) L) L) es
 
 -- the plain run is fed the arguments of the calls, and of their answers only which were granted: a step notes itself
-abbrev pub fed : List Event → Ledger Step
-fed h = ledger (λ s v. s) (new-ledger node-0-alone) h
+abbrev pub fed : List Event → Log Step
+fed h = log-after (λ s v. s) (new-log node-0-alone) h
 
 -- the plain run's document, and its answers to the granted steps of committed transactions
 unfoldable pub plain : List Event → Document
@@ -80,13 +80,13 @@ plain-run-answers h = plain-answers (fed h .first) (fed h .committed)
 
 -- the answers that those steps had, in the same order: a step notes its answer
 unfoldable pub answers-given : List Event → List Value
-answers-given h = ledger (λ s v. v) (new-ledger node-0-alone) h .committed
+answers-given h = log-after (λ s v. v) (new-log node-0-alone) h .committed
 
 -- pending --------------------------------------------------------------------------------
 
 abbrev pub inserted : List Step → List ℕ
 inserted [] = []
-inserted (s ∷ ss) = brings s ++ inserted ss
+inserted (s ∷ ss) = inserts s ++ inserted ss
 
 -- d is the plain document, and e what an open transaction's granted steps leave of it by the plain rules:
 -- "a node inserted by an open transaction and not deleted since; a committed node (one of the plain document) deleted by one;

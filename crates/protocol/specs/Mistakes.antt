@@ -15,7 +15,7 @@ use Rattle.locks.specs.Needs.{locks}
 use Rattle.protocol.specs.State.{nodes, callers-document, document-of, grant, commit-tree, abort-tree, tree-of}
 use Rattle.protocol.specs.Lent.{first-lent, second-lent}
 use Rattle.protocol.specs.Calls.{loadable, begin, commit, abort, write, granted, written, waits, refused, wait-set, judged, next}
-use Rattle.protocol.specs.History.{history, state-after, ledger, plain, pending}
+use Rattle.protocol.specs.History.{history, state-after, log-after, plain, pending}
 use Rattle.protocol.specs.Examples.{Item, gives, is-pending, does, played, from-E}
 
 abbrev pub mistakes : List (List Item)
@@ -82,7 +82,7 @@ mistakes =
     []
 
 pub mistakes-hold : map from-E mistakes ≡ mistakes
-unfolding tree-E played from-E state-after history ledger plain pending next judged wait-set loadable first-lent second-lent
+unfolding tree-E played from-E state-after history log-after plain pending next judged wait-set loadable first-lent second-lent
     nodes callers-document document-of grant commit-tree abort-tree tree-of node-0-alone clash locks
     legal ruled lines select rows keep amend view place put name-start name-byte text-byte is-name is-text allowed takes attributes-first children-rule
     insert-at placed plain-document

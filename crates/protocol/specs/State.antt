@@ -123,16 +123,16 @@ granted-to t ls a = record {
 abbrev pub none-of : ℕ → (ℕ → ModeSet) → ℕ → ModeSet
 none-of t h u = cond (eqb u t) no-mode (h u)
 
-abbrev pub unless : ℕ → ℕ → ℕ
-unless t u = cond (eqb u t) nobody u
+abbrev pub without : ℕ → ℕ → ℕ
+without t u = cond (eqb u t) nobody u
 
 -- "commit makes changes lasting"
-abbrev pub settled : ℕ → Marked → Marked
-settled t a = record {
+abbrev pub lasting : ℕ → Marked → Marked
+lasting t a = record {
   now = a .now;
   before = a .before;
-  writer = unless t (a .writer);
-  inserter = unless t (a .inserter);
+  writer = without t (a .writer);
+  inserter = without t (a .inserter);
   deleter = a .deleter;
   held = none-of t (a .held);
 }
@@ -142,9 +142,9 @@ abbrev pub undone : ℕ → Marked → Marked
 undone t a = record {
   now = with-content (a .now) (cond (eqb (a .writer) t) (a .before) (a .now .content));
   before = a .before;
-  writer = unless t (a .writer);
+  writer = without t (a .writer);
   inserter = a .inserter;
-  deleter = unless t (a .deleter);
+  deleter = without t (a .deleter);
   held = none-of t (a .held);
 }
 
@@ -181,7 +181,7 @@ grant t ls f = mark (λ r. granted-to t ls (r .it)) f
 
 -- what t deleted goes with all below it; the rest of what it did is everybody's; its locks go
 unfoldable pub commit-tree : ℕ → Tree → Tree
-commit-tree t f = view (seen-by t) (settled t) f
+commit-tree t f = view (seen-by t) (lasting t) f
 
 -- what t inserted goes with all below it; what it deleted and wrote is as before; its locks go
 unfoldable pub abort-tree : ℕ → Tree → Tree

@@ -1,7 +1,7 @@
 pub mod Outcomes
 pub mod WaitSet
 pub mod OneCall
-pub mod Ledgers
+pub mod Logs
 pub mod Edited
 pub mod Shown
 pub mod Numbers

@@ -14,7 +14,7 @@ use Rattle.locks.specs.Needs.{Lock, needs}
 use Rattle.protocol.specs.State.{State, Marked, is-transaction, transactions, nodes, callers-document, held-document, document-of, committed-document}
 use Rattle.protocol.specs.Lent.{Room}
 use Rattle.protocol.specs.Calls.{Call, start, abort, step, write, written, waits, refused, blocks, next}
-use Rattle.protocol.specs.History.{Event, history, state-after, is-granted, Ledger, new-ledger, ledger, fed, plain, plain-run-answers, answers-given, pending}
+use Rattle.protocol.specs.History.{Event, history, state-after, is-granted, Log, new-log, log-after, fed, plain, plain-run-answers, answers-given, pending}
 
 -- a list that begins with a start, in any state: a start is always granted
 abbrev pub since-start : State → List Call → List Event
@@ -35,8 +35,8 @@ abbrev pub steps-of : List Event → List ℕ → List Step
 steps-of h b = fed h .committed ++ logs (fed h .open-log) b
 
 -- the answers that these steps had
-abbrev pub answered : List Event → Ledger Value
-answered h = ledger (λ s v. v) (new-ledger node-0-alone) h
+abbrev pub answered : List Event → Log Value
+answered h = log-after (λ s v. v) (new-log node-0-alone) h
 
 abbrev pub answers-of : List Event → List ℕ → List Value
 answers-of h b = answered h .committed ++ logs (answered h .open-log) b

@@ -32,17 +32,17 @@ target (TT n) = n
 target (RR n) = n
 target (UU n a b) = n
 
--- the number that a step brings in
-abbrev pub brings : Step → List ℕ
-brings (T n) = []
-brings (C n k) = []
-brings (R n) = []
-brings (U n b) = []
-brings (D n) = []
-brings (I m kind b n k) = m ∷ []
-brings (TT n) = []
-brings (RR n) = []
-brings (UU n a b) = []
+-- the number that a step inserts
+abbrev pub inserts : Step → List ℕ
+inserts (T n) = []
+inserts (C n k) = []
+inserts (R n) = []
+inserts (U n b) = []
+inserts (D n) = []
+inserts (I m kind b n k) = m ∷ []
+inserts (TT n) = []
+inserts (RR n) = []
+inserts (UU n a b) = []
 
 -- what fits --------------------------------------------------------------------
 
@@ -79,7 +79,7 @@ misplaced (UU n a b) d = false
 
 -- the plain rules allow the step
 abbrev pub fits : Step → Document → Bool
-fits s d = eqb (misfit s d) 0 && not (any (λ m. here m d) (brings s)) && not (misplaced s d)
+fits s d = eqb (misfit s d) 0 && not (any (λ m. here m d) (inserts s)) && not (misplaced s d)
 
 -- answers ------------------------------------------------------------------------
 

@@ -17,7 +17,7 @@ use Rattle.layout.specs.Layout.{nodes}
 use Rattle.lookup.specs.Places.{depth}
 use Rattle.edits.specs.Laws.Ends.{flat-view}
 use Rattle.form.specs.Form.{Holds}
-use Rattle.form.specs.Laws.Fine.{Root, root-of}
+use Rattle.form.specs.Laws.Valid.{Root, root-of}
 use Rattle.form.specs.Laws.Rows.{between-of, between-low, between-high}
 use Rattle.xml.specs.Shape.{Label, Shape, shape, unnumbered}
 use Rattle.markup.specs.Rows.{Line}
@@ -80,7 +80,7 @@ module _ {s : List ℕ} {M : State} (h : Holds s M) where
   committed-rows = rw (h .rows) (sym (ap (flat 0) (shape-of (M .tree)) ∙ flat-view is-committed committed-label 0 (M .tree)))
 
   pub root : Root (M .tree)
-  root = root-of (M .tree) (h .fine)
+  root = root-of (M .tree) (h .valid)
 
   unfoldable pub root-content : List ℕ
   root-content = committed-label (root .it) .content

@@ -5,7 +5,7 @@ use mathlib.Core.Bool.{Bool, true, false, _&&_, false≢true}
 use mathlib.Core.List.{List, [], _∷_}
 use Rattle.tree.specs.Lists.{has}
 use Rattle.tree.specs.Document.{Document, Line, is, under, here, at}
-use Rattle.tree.specs.Steps.{Step, T, C, R, U, D, I, TT, RR, UU, target, brings, after, named, rewrite}
+use Rattle.tree.specs.Steps.{Step, T, C, R, U, D, I, TT, RR, UU, target, inserts, after, named, rewrite}
 use Rattle.locks.specs.Modes.{LW, clash}
 use Rattle.locks.specs.Needs.{Need, need}
 use Rattle.locks.specs.Laws.Compatible.{clashing, excludes}
@@ -17,7 +17,7 @@ pub data Rewriting : Step → Type 0 where
   rename : (n : ℕ) (a b : List ℕ) → Rewriting (UU n a b)
 
 pub data Class : Step → Type 0 where
-  reading : {s : Step} → ((d : Document) → after s d ≡ d) → brings s ≡ [] → Class s
+  reading : {s : Step} → ((d : Document) → after s d ≡ d) → inserts s ≡ [] → Class s
   rewriting : {s : Step} → Rewriting s → Class s
   removing : (n : ℕ) → Class (D n)
   inserting : (m kind : ℕ) (b : List ℕ) (n k : ℕ) → Class (I m kind b n k)
@@ -51,17 +51,17 @@ pub touched-within : {s : Step} (w : Rewriting s) (r : Line) → within (reach s
 touched-within (update n b) r h = h
 touched-within (rename n a b) r h = rw h
 
-pub brings-none : {s : Step} → Rewriting s → brings s ≡ []
-brings-none (update n b) = refl
-brings-none (rename n a b) = refl
+pub inserts-none : {s : Step} → Rewriting s → inserts s ≡ []
+inserts-none (update n b) = refl
+inserts-none (rename n a b) = refl
 
--- only an insertion brings in a number, and then LW is needed on it
-pub new-need : (s : Step) (m : ℕ) → has m (brings s) ≡ true → need s .new ≡ LW ∷ []
+-- only an insertion inserts a number, and then LW is needed on it
+pub new-need : (s : Step) (m : ℕ) → has m (inserts s) ≡ true → need s .new ≡ LW ∷ []
 new-need s m h = go (class s) h
   where
-    go : {s : Step} → Class s → has m (brings s) ≡ true → need s .new ≡ LW ∷ []
+    go : {s : Step} → Class s → has m (inserts s) ≡ true → need s .new ≡ LW ∷ []
     go (reading a e) i = absurd (false≢true (rw e at i))
-    go (rewriting w) i = absurd (false≢true (rw (brings-none w) at i))
+    go (rewriting w) i = absurd (false≢true (rw (inserts-none w) at i))
     go (removing n) i = absurd (false≢true i)
     go (inserting m kind b n k) i = refl
 
@@ -156,6 +156,6 @@ writing-barred (write (rename n c e)) (rename x a b) = refl
 
 -- a step that fits ------------------------------------------------------------------------
 
--- what a step brings in is not there
+-- what a step inserts is not there
 abbrev pub Absent : Step → Document → Type 0
-Absent s d = (m : ℕ) → has m (brings s) ≡ true → here m d ≡ false
+Absent s d = (m : ℕ) → has m (inserts s) ≡ true → here m d ≡ false

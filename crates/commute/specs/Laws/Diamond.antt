@@ -109,7 +109,7 @@ module _ (d : Document) (u : Unique d) where
           let i = insert-whole (record { number = m; kind = kind; content = b }) n k (is (target s)) d (λ r o' e. eqb-flip (target s) m (or-left _ _ o)) in
           (sym (ap some? i) ∙ h, ap (λ (l : List Line). first l .above) i)
 
-  -- s after p without a clash, and what it brings in absent before: s could go first, and all is the same
+  -- s after p without a clash, and what it inserts absent before: s could go first, and all is the same
   pub record Swapped (p s : Step) : Type 0 where
     pub fit : fits s d ≡ true
     pub first-same : Same s d (after p d)

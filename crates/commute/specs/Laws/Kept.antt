@@ -8,7 +8,7 @@ use borrow.Author.Tests.{eqb-true, eq-eqb, ne-eqb, not-true}
 use Rattle.tree.specs.Lists.{any, has}
 use Rattle.tree.specs.Forest.{row}
 use Rattle.tree.specs.Document.{Node, Document, Line, is, here, some?}
-use Rattle.tree.specs.Steps.{Step, T, C, R, U, D, I, TT, RR, UU, target, brings, fits, misfit, misplaced, after, remove, rewrite}
+use Rattle.tree.specs.Steps.{Step, T, C, R, U, D, I, TT, RR, UU, target, inserts, fits, misfit, misplaced, after, remove, rewrite}
 use Rattle.tree.specs.Laws.Tests.{and-left, and-right, or-left, refuted}
 use Rattle.tree.specs.Laws.Lists.{at-any, has-in, eqb-flip}
 use Rattle.locks.specs.Modes.{LW, clash}
@@ -46,17 +46,17 @@ module _ (s : Step) (d : Document) (h : fits s d ≡ true) where
   fits-misfit = and-left _ _ (and-left _ _ h)
 
   pub fits-placed : misplaced s d ≡ false
-  fits-placed = not-true _ (and-right (eqb (misfit s d) 0 && not (any (λ m. here m d) (brings s))) _ h)
+  fits-placed = not-true _ (and-right (eqb (misfit s d) 0 && not (any (λ m. here m d) (inserts s))) _ h)
 
   -- its node is there
   pub fits-here : here (target s) d ≡ true
   fits-here = misfit-here s d fits-misfit
 
-  -- what it brings in is not
+  -- what it inserts is not
   pub fits-absent : Absent s d
-  fits-absent m i = refuted _ (λ e. true≢false (sym (at-any (λ q. here q d) (brings s) (has-in m (brings s) i) e) ∙ none))
+  fits-absent m i = refuted _ (λ e. true≢false (sym (at-any (λ q. here q d) (inserts s) (has-in m (inserts s) i) e) ∙ none))
     where
-      none : any (λ q. here q d) (brings s) ≡ false
+      none : any (λ q. here q d) (inserts s) ≡ false
       none = not-true _ (and-right (eqb (misfit s d) 0) _ (and-left _ _ h))
 
 -- what is left ---------------------------------------------------------------------------------
@@ -105,7 +105,7 @@ module _ (d : Document) (u : Unique d) where
         go subtree e = rw other (off-path (target s) (need s .node) (needs s d) (node-locked s (path (target s) d)) (I m kind b n k) (path n d) c e)
 
     -- both bring in different numbers
-    new-number : (q : ℕ) → has q (brings s) ≡ true → eqb m q ≡ false
+    new-number : (q : ℕ) → has q (inserts s) ≡ true → eqb m q ≡ false
     unfolding clash
     new-number q i =
         or-left _ _ (off-new q (need s .new) (needs s d) (new-locked s (path (target s) d) q i) (I m kind b n k) (path n d) c (rw (new-need s q i)))

@@ -99,7 +99,7 @@ module _ (log : ℕ → List Entry) where
       go true e i f = Memᴰ·append-left {s = log u} (logs a) (rw (eqb-true u t e) m)
       go false e i f = Memᴰ·append-right (log u) (f i)
 
-  -- the locks of different transactions do not clash, and none brings in a number twice
+  -- the locks of different transactions do not clash, and none inserts a number twice
   pub record Apart : Type 0 where
     pub clear : (t u : ℕ) → (t ≡ u → ⊥) → All-clear (log t) (log u)
     pub once : (t : ℕ) → Brings-once (log t)

@@ -5,7 +5,7 @@ use mathlib.Core.Bool.{true, false}
 use mathlib.Core.List.{List, [], _∷_, _++_, map, List·Memᴰ, List·Memᴰ·head, List·Memᴰ·tail, List·Memᴰ·not-nil}
 use Rattle.tree.specs.Lists.{has}
 use Rattle.tree.specs.Document.{Document, at}
-use Rattle.tree.specs.Steps.{Step, target, brings, Value, answer, fits, after, plain-answer, plain-after, plain-document, plain-answers}
+use Rattle.tree.specs.Steps.{Step, target, inserts, Value, answer, fits, after, plain-answer, plain-after, plain-document, plain-answers}
 use Rattle.locks.specs.Needs.{Lock, needs}
 use Rattle.locks.specs.Laws.Compatible.{Compatible}
 use Rattle.commute.specs.Laws.Lines.{Unique}
@@ -13,7 +13,7 @@ use Rattle.commute.specs.Laws.Views.{Same}
 use Rattle.commute.specs.Laws.Classes.{Absent}
 use Rattle.commute.specs.Laws.Diamond.{swap}
 use Rattle.commute.specs.Laws.Uniqueness.{unique-after}
-use Rattle.commute.specs.Laws.Absence.{absent-after, brings-apart}
+use Rattle.commute.specs.Laws.Absence.{absent-after, inserts-apart}
 
 -- a granted step, with its answer and its locks
 pub record Entry : Type 0 where
@@ -91,23 +91,23 @@ Clear x y = Compatible (x .held) (y .held)
 abbrev pub All-clear : List Entry → List Entry → Type 0
 All-clear l k = (x y : Entry) → List·Memᴰ x l → List·Memᴰ y k → Clear x y
 
--- what x brings in, y does not
+-- what x inserts, y does not
 abbrev pub Other-numbers : Entry → Entry → Type 0
-Other-numbers x y = (m : ℕ) → has m (brings (x .step)) ≡ true → has m (brings (y .step)) ≡ false
+Other-numbers x y = (m : ℕ) → has m (inserts (x .step)) ≡ true → has m (inserts (y .step)) ≡ false
 
 pub clear-other-numbers : (x y : Entry) (d e : Document) → Valid x d → Valid y e → Clear x y → Other-numbers x y
-clear-other-numbers x y d e v w c = brings-apart (x .step) (y .step) (at (target (x .step)) d .above) (at (target (y .step)) e .above) (rw (v .need, w .need) c)
+clear-other-numbers x y d e v w c = inserts-apart (x .step) (y .step) (at (target (x .step)) d .above) (at (target (y .step)) e .above) (rw (v .need, w .need) c)
 
 -- no number is brought in twice within a log
 abbrev pub Brings-once : List Entry → Type 0
 Brings-once [] = Unit {0}
 Brings-once (x ∷ l) = ((y : Entry) → List·Memᴰ y l → Other-numbers y x) × Brings-once l
 
--- nothing that the log brings in is there
+-- nothing that the log inserts is there
 abbrev pub All-absent : List Entry → Document → Type 0
 All-absent l d = (y : Entry) → List·Memᴰ y l → Absent (y .step) d
 
--- what is absent stays absent while entries run that do not clash with the one that brings it in
+-- what is absent stays absent while entries run that do not clash with the one that inserts it
 pub absent-run : (d : Document) (l : List Entry) (e : Document) (y : Entry) (c : Document) → Run d l e → Valid y c
     → ((x : Entry) → List·Memᴰ x l → Clear y x) → Absent (y .step) d → Absent (y .step) e
 absent-run d [] e y c r v f a = rw (← r) a

@@ -152,15 +152,15 @@ in-noted t x log v {y} m = go (eqb v t) refl m
     go true e i = more (eqb-true v t e) (List·Memᴰ·append-cases (log t) i)
     go false e i = inl i
 
-brings-once-noted : (l : List Entry) (x : Entry) → Brings-once l → ((y : Entry) → List·Memᴰ y l → Other-numbers x y) → Brings-once (l ++ (x ∷ []))
-brings-once-noted [] x o n = (λ y i. absurd (List·Memᴰ·not-nil i), tt)
-brings-once-noted (z ∷ l) x o n = (λ y i. go y (List·Memᴰ·append-cases l i), brings-once-noted l x (o .1) (λ y i. n y (List·Memᴰ·tail i)))
+inserts-once-noted : (l : List Entry) (x : Entry) → Brings-once l → ((y : Entry) → List·Memᴰ y l → Other-numbers x y) → Brings-once (l ++ (x ∷ []))
+inserts-once-noted [] x o n = (λ y i. absurd (List·Memᴰ·not-nil i), tt)
+inserts-once-noted (z ∷ l) x o n = (λ y i. go y (List·Memᴰ·append-cases l i), inserts-once-noted l x (o .1) (λ y i. n y (List·Memᴰ·tail i)))
   where
     go : (y : Entry) → List·Memᴰ y l ⊎ List·Memᴰ y (x ∷ []) → Other-numbers y z
     go y (inl i) m h = o .0 y i m h
     go y (inr i) m h = n z (List·Memᴰ·head refl) m (rw (List·Memᴰ·eq-of-singleton i) at h)
 
--- x may be granted to t: no lock of another transaction clashes with its locks, and what it brings in was not brought in before by t
+-- x may be granted to t: no lock of another transaction clashes with its locks, and what it inserts was not inserted before by t
 pub record Grantable (t : ℕ) (log : ℕ → List Entry) (x : Entry) : Type 0 where
   pub clear : (v : ℕ) → (v ≡ t → ⊥) → (y : Entry) → List·Memᴰ y (log v) → Clear x y
   pub new : (y : Entry) → List·Memᴰ y (log t) → Other-numbers x y
@@ -181,7 +181,7 @@ apart-noted t log x s g = record { clear = clear; once = once }
     once v = go (eqb v t)
       where
         go : (e : Bool) → Brings-once (cond e (log t ++ (x ∷ [])) (log v))
-        go true = brings-once-noted (log t) x (s .once t) (g .new)
+        go true = inserts-once-noted (log t) x (s .once t) (g .new)
         go false = s .once v
 
 none-there-noted : (t : ℕ) (log : ℕ → List Entry) (x : Entry) (a : List ℕ) (d : Document) → None-there log a d → Absent (x .step) d

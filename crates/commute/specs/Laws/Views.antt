@@ -8,7 +8,7 @@ use borrow.Author.Tests.{eqb-true}
 use Rattle.tree.specs.Lists.{has, keep}
 use Rattle.tree.specs.Forest.{row}
 use Rattle.tree.specs.Document.{Node, Document, Line, lines, is, child, under, select, first, some?, here}
-use Rattle.tree.specs.Steps.{Step, T, C, R, U, D, I, TT, RR, UU, target, brings, fits, answer, kth, numbers-are, with-content, rewrite, remove}
+use Rattle.tree.specs.Steps.{Step, T, C, R, U, D, I, TT, RR, UU, target, inserts, fits, answer, kth, numbers-are, with-content, rewrite, remove}
 use Rattle.tree.specs.Steps.{misfit, misplaced}
 use Rattle.tree.specs.Laws.Lists.{any-same, in-has, keep-keep, keep-all, keep-map, in-keep, map-map, map-self}
 use Rattle.tree.specs.Laws.Put.{put-kept}
@@ -68,7 +68,7 @@ pub record Views (s : Step) (d e : Document) : Type 0 where
   pub node : Shapes (is (target s)) d e
   pub lines : Shapes (within (reach s) (target s)) d e
   pub contents : reads s ≡ true → Whole (within (reach s) (target s)) d e
-  pub absent : (m : ℕ) → has m (brings s) ≡ true → here m e ≡ here m d
+  pub absent : (m : ℕ) → has m (inserts s) ≡ true → here m e ≡ here m d
 
 -- the step fits, is answered and needs locks in e as in d
 pub record Same (s : Step) (d e : Document) : Type 0 where
@@ -147,7 +147,7 @@ views-same s d e v = record { fit = fit; says = says s v; need = ap (locks s) (s
     says (UU n a b) w = rw (w .contents refl)
 
     fit : fits s e ≡ fits s d
-    fit = rw (misfit-same s v, misplaced-same s v, any-same (λ m. here m e) (λ m. here m d) (brings s) (λ m i. v .absent m (in-has m (brings s) i)))
+    fit = rw (misfit-same s v, misplaced-same s v, any-same (λ m. here m e) (λ m. here m d) (inserts s) (λ m i. v .absent m (in-has m (inserts s) i)))
 
 -- new contents: nothing but contents changes; nothing at all where no line is rewritten -------
 

@@ -13,7 +13,7 @@ use Rattle.tree.specs.Laws.Lists.{map-map}
 use Rattle.locks.specs.Modes.{ModeSet, no-mode}
 use Rattle.layout.specs.Fields.{released}
 use Rattle.layout.specs.Layout.{Entry}
-use Rattle.protocol.specs.State.{Marked, Tree, none-of, seen-by, settled, undone, unmarked, commit-tree, abort-tree, tree-of, start-state}
+use Rattle.protocol.specs.State.{Marked, Tree, none-of, seen-by, lasting, undone, unmarked, commit-tree, abort-tree, tree-of, start-state}
 use Rattle.tree.specs.Document.{Document, node-0-alone}
 use Rattle.tree.specs.Content.{document-kind}
 use Rattle.edits.specs.Rows.{left-out, with-held, not-inserted-by}
@@ -99,9 +99,9 @@ module _ {A : Type 0} (shown : A → Bool) where
 
 -- the ends of a transaction, and what a document is loaded as
 
-pub commit-rows : (t : ℕ) (f : Tree) → flat 0 (commit-tree t f) ≡ map (second (settled t)) (prune (seen-by t) 0 (flat 0 f))
+pub commit-rows : (t : ℕ) (f : Tree) → flat 0 (commit-tree t f) ≡ map (second (lasting t)) (prune (seen-by t) 0 (flat 0 f))
 unfolding commit-tree
-commit-rows t f = flat-view (seen-by t) (settled t) 0 f
+commit-rows t f = flat-view (seen-by t) (lasting t) 0 f
 
 pub abort-rows : (t : ℕ) (f : Tree) → flat 0 (abort-tree t f) ≡ map (second (undone t)) (prune (not-inserted-by t) 0 (flat 0 f))
 unfolding abort-tree
@@ -152,10 +152,10 @@ released-twice t h = fun-ext (λ u. go u (eqb u t))
     go u false = refl
 
 -- commit and abort after the caller's locks are released
-pub commit-released : (t : ℕ) (f : Tree) → flat 0 (commit-tree t f) ≡ map (second (settled t)) (prune (seen-by t) 0 (map (second (released t)) (flat 0 f)))
+pub commit-released : (t : ℕ) (f : Tree) → flat 0 (commit-tree t f) ≡ map (second (lasting t)) (prune (seen-by t) 0 (map (second (released t)) (flat 0 f)))
 commit-released t f =
     commit-rows t f
-    ∙ sym (pass-after (seen-by t) (settled t) (released t) (λ a. refl) (λ a. ap (λ h. with-held (settled t a) h) (released-twice t (a .held))) (flat 0 f))
+    ∙ sym (pass-after (seen-by t) (lasting t) (released t) (λ a. refl) (λ a. ap (λ h. with-held (lasting t a) h) (released-twice t (a .held))) (flat 0 f))
 
 pub abort-released : (t : ℕ) (f : Tree) → flat 0 (abort-tree t f) ≡ map (second (undone t)) (prune (not-inserted-by t) 0 (map (second (released t)) (flat 0 f)))
 abort-released t f =

@@ -8,7 +8,7 @@ use lib.ListN.{length, getD, take, drop}
 use lib.Dec.{ltb}
 use borrow.Author.Tests.{ne-eqb}
 use Rattle.tree.specs.Lists.{any, has}
-use Rattle.tree.specs.Steps.{Step, T, C, R, U, D, I, TT, RR, UU, target, brings, is-named}
+use Rattle.tree.specs.Steps.{Step, T, C, R, U, D, I, TT, RR, UU, target, inserts, is-named}
 use Rattle.tree.specs.Laws.Tests.{or-left}
 use Rattle.tree.specs.Laws.Lists.{map-map, map-append}
 use Rattle.locks.specs.Needs.{Lock, need, locks}
@@ -92,12 +92,12 @@ lacks-places n l (i ∷ is) k b =
 
 module _ (t : ℕ) (f : Tree) (p : ℕ) (u : unique (flat 0 f) ≡ true) (h : p < length (flat 0 f)) where
   -- the locks of a step, as they are granted along the way up
-  module _ (s : Step) (e : number-at (flat 0 f) p ≡ target s) (new : any (λ m. number-held m f) (brings s) ≡ false) where
+  module _ (s : Step) (e : number-at (flat 0 f) p ≡ target s) (new : any (λ m. number-held m f) (inserts s) ≡ false) where
     abbrev lock-list : List Lock
     lock-list = locks s (numbers-above (flat 0 f) p)
 
-    none-held : any (λ q. any (numbered q) (items (flat 0 f))) (brings s) ≡ false
-    none-held = ap (λ (ns : List Marked). any (λ q. any (numbered q) ns) (brings s)) (sym (nodes-held f)) ∙ new
+    none-held : any (λ q. any (numbered q) (items (flat 0 f))) (inserts s) ≡ false
+    none-held = ap (λ (ns : List Marked). any (λ q. any (numbered q) ns) (inserts s)) (sym (nodes-held f)) ∙ new
 
     way : all-granted t lock-list (flat 0 f) ≡ granted-up t (need s) p (flat 0 f)
     way =
@@ -116,7 +116,7 @@ module _ (t : ℕ) (f : Tree) (p : ℕ) (u : unique (flat 0 f) ≡ true) (h : p 
         ∙ ap (modify p (second g)) way
 
   -- THE LAW: the locks along the way up, then the step
-  pub step-rows : (s : Step) → number-at (flat 0 f) p ≡ target s → seen-at t (flat 0 f) p ≡ true → any (λ m. number-held m f) (brings s) ≡ false
+  pub step-rows : (s : Step) → number-at (flat 0 f) p ≡ target s → seen-at t (flat 0 f) p ≡ true → any (λ m. number-held m f) (inserts s) ≡ false
       → flat 0 (grant t (locks s (numbers-above (flat 0 f) p)) (act t s f)) ≡ stepped t s p (flat 0 f)
   unfolding stepped
   step-rows (T n) e s new = reads (T n) e new

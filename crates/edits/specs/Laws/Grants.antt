@@ -10,7 +10,7 @@ use borrow.Author.Tests.{eqb-true, eqb-false, eq-eqb, ne-eqb}
 use Rattle.tree.specs.Lists.{any, has, distinct}
 use Rattle.tree.specs.Laws.Lists.{map-map, map-same, map-self, eqb-flip}
 use Rattle.tree.specs.Laws.Tests.{or-left, or-right}
-use Rattle.tree.specs.Steps.{Step, target, brings}
+use Rattle.tree.specs.Steps.{Step, target, inserts}
 use Rattle.locks.specs.Modes.{Mode, ModeSet, no-mode, same-mode, among, union, in-word}
 use Rattle.locks.specs.Needs.{Need, need, Lock, each, every-one, up, locks}
 use Rattle.locks.specs.Words.{word-of}
@@ -71,12 +71,12 @@ along-up w [] = refl
 along-up w (q ∷ qs) = ap (λ ls. each (w .parent) q ++ ls) (along-one (w .above) qs)
 
 locks-way : (s : Step) (ns : List ℕ) (n : ℕ) → target s ≡ n
-    → locks s ns ≡ locks-along (need s .node) (need s .parent) (need s .above) (n ∷ ns) ++ every-one (need s .new) (brings s)
+    → locks s ns ≡ locks-along (need s .node) (need s .parent) (need s .above) (n ∷ ns) ++ every-one (need s .new) (inserts s)
 unfolding locks
 locks-way s ns n e =
-    ap (λ ls. each (need s .node) (target s) ++ (ls ++ every-one (need s .new) (brings s))) (along-up (need s) ns)
-    ∙ sym (append-assoc (each (need s .node) (target s)) (locks-along (need s .parent) (need s .above) (need s .above) ns) (every-one (need s .new) (brings s)))
-    ∙ ap (λ q. (each (need s .node) q ++ locks-along (need s .parent) (need s .above) (need s .above) ns) ++ every-one (need s .new) (brings s)) e
+    ap (λ ls. each (need s .node) (target s) ++ (ls ++ every-one (need s .new) (inserts s))) (along-up (need s) ns)
+    ∙ sym (append-assoc (each (need s .node) (target s)) (locks-along (need s .parent) (need s .above) (need s .above) ns) (every-one (need s .new) (inserts s)))
+    ∙ ap (λ q. (each (need s .node) q ++ locks-along (need s .parent) (need s .above) (need s .above) ns) ++ every-one (need s .new) (inserts s)) e
 
 -- one node -------------------------------------------------------------------------------
 
@@ -167,15 +167,15 @@ module _ (t : ℕ) where
 
   -- THE LAW: the locks of a step, along the places of the node and its proper ancestors
   module _ (s : Step) (l : List Entry) (i : ℕ) (is : List ℕ) (u : unique l ≡ true) (e : number-at l i ≡ target s) (b : Inside (i ∷ is) l)
-      (new : any (λ q. any (numbered q) (items l)) (brings s) ≡ false) where
+      (new : any (λ q. any (numbered q) (items l)) (inserts s) ≡ false) where
     pub rows-locks : all-granted t (locks s (map (number-at l) is)) l ≡ granted-along t (need s .node) (need s .parent) (need s .above) (i ∷ is) l
     rows-locks =
         let w : Need = need s in
         let ks : List Lock = locks-along (w .node) (w .parent) (w .above) (map (number-at l) (i ∷ is)) in
         let f : row-numbers (all-granted t ks l) ≡ row-numbers l = map-map row-number (second (granted-to t ks)) row-number l (λ x m. refl) in
         ap (λ (ls : List Lock). all-granted t ls l) (locks-way s (map (number-at l) is) (number-at l i) (sym e))
-        ∙ rows-append ks (every-one (w .new) (brings s)) l
-        ∙ rows-new (w .new) (brings s) (all-granted t ks l) (ap (λ (z : ℕ → Bool). any z (brings s)) (fun-ext (same-numbers (all-granted t ks l) l f)) ∙ new)
+        ∙ rows-append ks (every-one (w .new) (inserts s)) l
+        ∙ rows-new (w .new) (inserts s) (all-granted t ks l) (ap (λ (z : ℕ → Bool). any z (inserts s)) (fun-ext (same-numbers (all-granted t ks l) l f)) ∙ new)
         ∙ rows-along (w .node) (w .parent) (w .above) (i ∷ is) l u b
 
   -- the new node of an insertion: only the locks on its own number
@@ -187,15 +187,15 @@ module _ (t : ℕ) where
       ∙ ap (granted-to t (locks-along ms′ ms″ ms″ qs)) none
       ∙ granted-absent ms′ ms″ ms″ qs a (or-right (eqb q (a .now .number)) _ h)
 
-  pub granted-new : (s : Step) (ns : List ℕ) (a : Marked) → brings s ≡ a .now .number ∷ [] → has (a .now .number) (target s ∷ ns) ≡ false
+  pub granted-new : (s : Step) (ns : List ℕ) (a : Marked) → inserts s ≡ a .now .number ∷ [] → has (a .now .number) (target s ∷ ns) ≡ false
       → granted-to t (locks s ns) a ≡ granted-modes t (need s .new) a
   granted-new s ns a e h =
       let w : Need = need s in
       let m : ℕ = a .now .number in
       let ks : List Lock = locks-along (w .node) (w .parent) (w .above) (target s ∷ ns) in
       ap (λ (ls : List Lock). granted-to t ls a) (locks-way s ns (target s) refl)
-      ∙ granted-append ks (every-one (w .new) (brings s)) a
-      ∙ ap (granted-to t (every-one (w .new) (brings s))) (granted-absent (w .node) (w .parent) (w .above) (target s ∷ ns) a h)
+      ∙ granted-append ks (every-one (w .new) (inserts s)) a
+      ∙ ap (granted-to t (every-one (w .new) (inserts s))) (granted-absent (w .node) (w .parent) (w .above) (target s ∷ ns) a h)
       ∙ ap (λ (qs : List ℕ). granted-to t (every-one (w .new) qs) a) e
       ∙ granted-append (each (w .new) m) [] a
       ∙ granted-none (granted-to t (each (w .new) m) a)

@@ -8,10 +8,10 @@ use lib.Dec.{eqb}
 use Rattle.tree.specs.Lists.{any, distinct}
 use Rattle.tree.specs.Forest.{nil, node, Row, row, rows, amend}
 use Rattle.tree.specs.Document.{Node, Document, lines, rooted, ruled, legal}
-use Rattle.tree.specs.Steps.{Step, T, C, R, U, D, I, TT, RR, UU, target, brings}
+use Rattle.tree.specs.Steps.{Step, T, C, R, U, D, I, TT, RR, UU, target, inserts}
 use Rattle.tree.specs.Laws.Tests.{or-left, or-right, and-right}
 use Rattle.tree.specs.Laws.Lists.{map-append, map-map, eqb-flip}
-use Rattle.protocol.specs.State.{Marked, Tree, numbered, number-held, seen-by, settled, undone, unmarked, inserted-by, renamed, written-by, grant}
+use Rattle.protocol.specs.State.{Marked, Tree, numbered, number-held, seen-by, lasting, undone, unmarked, inserted-by, renamed, written-by, grant}
 use Rattle.protocol.specs.State.{act, commit-tree, abort-tree, tree-of}
 use Rattle.locks.specs.Needs.{Lock}
 use Rattle.layout.specs.Lists.{insert}
@@ -77,7 +77,7 @@ unique-insert i x l h k =
 -- a step ----------------------------------------------------------------------------------------
 
 pub unique-act : (t : ℕ) (s : Step) (f : Tree) (p : ℕ) → unique (flat 0 f) ≡ true → p < length (flat 0 f) → number-at (flat 0 f) p ≡ target s
-    → any (λ m. number-held m f) (brings s) ≡ false → unique (flat 0 (act t s f)) ≡ true
+    → any (λ m. number-held m f) (inserts s) ≡ false → unique (flat 0 (act t s f)) ≡ true
 unique-act t (T n) f p u h e new = u
 unique-act t (C n k) f p u h e new = u
 unique-act t (R n) f p u h e new = u
@@ -125,7 +125,7 @@ unique-end shown g same l u =
     ap distinct (map-map row-number (second g) row-number (prune shown 0 l) (λ x m. same (x .1))) ∙ unique-prune shown 0 l u
 
 pub unique-commit : (t : ℕ) (f : Tree) → unique (flat 0 f) ≡ true → unique (flat 0 (commit-tree t f)) ≡ true
-unique-commit t f u = ap unique (commit-rows t f) ∙ unique-end (seen-by t) (settled t) (λ a. refl) (flat 0 f) u
+unique-commit t f u = ap unique (commit-rows t f) ∙ unique-end (seen-by t) (lasting t) (λ a. refl) (flat 0 f) u
 
 pub unique-abort : (t : ℕ) (f : Tree) → unique (flat 0 f) ≡ true → unique (flat 0 (abort-tree t f)) ≡ true
 unique-abort t f u = ap unique (abort-rows t f) ∙ unique-end (not-inserted-by t) (undone t) (λ a. refl) (flat 0 f) u

@@ -1,8 +1,8 @@
 use borrow.Author.Needs.{needs}
 use native.Mathlib.Omega.{arith}
-use Rattle.protocol.specs.State.{seen-by, settled}
-use Rattle.ends.specs.Ends.{settled-marks}
-use Rattle.ends.specs.Laws.Marks.{left-open, kept-open, ended, settled-whole}
+use Rattle.protocol.specs.State.{seen-by, lasting}
+use Rattle.ends.specs.Ends.{lasting-marks}
+use Rattle.ends.specs.Laws.Marks.{left-open, kept-open, ended, lasting-whole}
 use Rattle.ends.specs.Laws.Calls.{not-deleted}
 use Rattle.ends.proofs.commit_open.Statement.{statement}
 use Rattle.ends.proofs.commit_open.Tie as tie
@@ -33,7 +33,7 @@ returns c =
     let settle = c .before .before .before .before .before .before .settle in
     let close = c .before .before .close in
     let t = args .t in
-    ended (seen-by t) (settled-marks t) (settled t) t (settled-whole t) (prune .ensures) (settle .ensures) (close .ensures)
+    ended (seen-by t) (lasting-marks t) (lasting t) t (lasting-whole t) (prune .ensures) (settle .ensures) (close .ensures)
 
 pub commit-open-spec : {M : Type 1} → statement M
 commit-open-spec =

@@ -5,13 +5,13 @@ use mathlib.Core.Path.{_≡_, _∙_}
 use lib.ListN.{length}
 use Rattle.layout.specs.Flat.{second}
 use Rattle.layout.specs.Layout.{nodes, Kept}
-use Rattle.ends.specs.Ends.{map-first, settled-marks}
+use Rattle.ends.specs.Ends.{map-first, lasting-marks}
 use Rattle.ends.specs.Laws.Marks.{first-none, first-next, first-done}
 use Rattle.ends.proofs.settle.Statement.{statement}
 use Rattle.ends.proofs.settle.Tie as tie
 
 abbrev Inv-loop : tie.InvT-loop
-Inv-loop s₀ t m i₀ s i = (length (nodes s) ≡ m) × Kept s₀ s (map-first i (second (settled-marks t)) (nodes s₀))
+Inv-loop s₀ t m i₀ s i = (length (nodes s) ≡ m) × Kept s₀ s (map-first i (second (lasting-marks t)) (nodes s₀))
 
 abbrev μ-loop : tie.MeasureT-loop
 μ-loop s₀ t m i₀ s i = m - i

@@ -8,18 +8,18 @@ use lib.ListN.{length, getD, drop}
 use lib.Dec.{eqb, leb}
 use borrow.Author.Tests.{le-leb, lt-leb, leb-true, leb-false, ne-eqb}
 use Rattle.tree.specs.Steps.{done}
-use Rattle.protocol.specs.State.{nobody, is-transaction, Marked, Tree, State, seen-by, settled, undone, commit-tree, abort-tree, opened, closed}
+use Rattle.protocol.specs.State.{nobody, is-transaction, Marked, Tree, State, seen-by, lasting, undone, commit-tree, abort-tree, opened, closed}
 use Rattle.protocol.specs.Calls.{Call, begin, commit, abort, refused, Next, unchanged, becomes, if-open, next}
 use Rattle.protocol.specs.Answers.{answer-of, granted-answer}
 use Rattle.protocol.specs.declared.Answer.the-variants.{Done, Refused}
 use Rattle.layout.specs.Flat.{flat, second, prune}
 use Rattle.layout.specs.Layout.{state-size, is-open, Entry, nodes, no-entry, Left}
 use Rattle.lookup.specs.Places.{unique}
-use Rattle.form.specs.Form.{form, fine-tree, Holds}
+use Rattle.form.specs.Form.{form, valid-tree, Holds}
 use Rattle.form.specs.Start.{Started}
 use Rattle.form.specs.Laws.Holds.{form-holds}
-use Rattle.form.specs.Laws.Fine.{FineDocument, Root, root-of}
-use Rattle.form.specs.Laws.Steps.{holds-left, holds-unique, fine-commit, fine-abort}
+use Rattle.form.specs.Laws.Valid.{FineDocument, Root, root-of}
+use Rattle.form.specs.Laws.Steps.{holds-left, holds-unique, valid-commit, valid-abort}
 use Rattle.outline.specs.Outline.{not-marked}
 use Rattle.edits.specs.Rows.{not-inserted-by}
 use Rattle.edits.specs.Laws.Ends.{commit-rows, abort-rows}
@@ -36,7 +36,7 @@ first-document : (s : List ℕ) → form s ≡ true → FineDocument (getD (node
 unfolding flat
 first-document s f =
     let m = form-holds s f in
-    let r = root-of (m .0 .tree) (m .1 .fine) in
+    let r = root-of (m .0 .tree) (m .1 .valid) in
     let e : getD (nodes s) 0 no-entry .1 ≡ r .it = ap (λ (l : List Entry). getD l 0 no-entry .1) (m .1 .rows ∙ ap (flat 0) (r .whole)) in
     rw e (r .document)
 
@@ -117,7 +117,7 @@ module _ {s : List ℕ} {t : ℕ} (f : form s ≡ true) where
             opens = k .opens ∙ ap {B = ℕ → Bool} (λ (g : ℕ → Bool) (u : ℕ). eqb u t || g u) (h .opens);
             rows = k .nodes ∙ h .rows;
             unique = rw (k .nodes) (h .unique);
-            fine = h .fine;
+            valid = h .valid;
           });
           long = k .long;
           behind = k .behind;
@@ -143,7 +143,7 @@ module _ {s s′ : List ℕ} {t : ℕ} {call : Call} (edit : Tree → Tree) (sho
     (e : (M : State) → next call M ≡ if-open t M (becomes done (closed t (edit (M .tree)) M)))
     (rows : (f : Tree) → flat 0 (edit f) ≡ map (second g) (prune shown 0 (flat 0 f)))
     (distinct : (f : Tree) → unique (flat 0 f) ≡ true → unique (flat 0 (edit f)) ≡ true)
-    (kept : (f : Tree) → fine-tree f ≡ true → fine-tree (edit f) ≡ true) where
+    (kept : (f : Tree) → valid-tree f ≡ true → valid-tree (edit f) ≡ true) where
   performed-end : Opened s t → Ended shown g t s s′ → Performed s s′ Done call
   unfolding granted-answer
   performed-end o k =
@@ -160,7 +160,7 @@ module _ {s s′ : List ℕ} {t : ℕ} {call : Call} (edit : Tree → Tree) (sho
               opens = k .opens ∙ ap {B = ℕ → Bool} (λ (p : ℕ → Bool) (u : ℕ). not (eqb u t) && p u) (h .opens);
               nodes = k .nodes ∙ ap (λ (l : List Entry). map (second g) (prune shown 0 l)) (h .rows) ∙ sym (rows (M .tree));
             })
-            (distinct (M .tree) (holds-unique h)) (kept (M .tree) (h .fine)));
+            (distinct (M .tree) (holds-unique h)) (kept (M .tree) (h .valid)));
         long = k .long;
         behind = k .behind;
       })
@@ -180,10 +180,10 @@ commit-barred {s} {t} cause b = performed-barred (λ M. becomes done (closed t (
 pub abort-barred : {s : List ℕ} {t : ℕ} (cause : ℕ) → Barred s t cause → Performed s s (Refused cause) (abort t)
 abort-barred {s} {t} cause b = performed-barred (λ M. becomes done (closed t (abort-tree t (M .tree)) M)) (next-abort t) cause b
 
-pub commit-done : {s s′ : List ℕ} {t : ℕ} → Opened s t → Ended (seen-by t) (settled t) t s s′ → Performed s s′ Done (commit t)
+pub commit-done : {s s′ : List ℕ} {t : ℕ} → Opened s t → Ended (seen-by t) (lasting t) t s s′ → Performed s s′ Done (commit t)
 commit-done {s} {s′} {t} o k =
-    performed-end (commit-tree t) (seen-by t) (settled t) (next-commit t) (commit-rows t) (unique-commit t) (λ f. fine-commit t f (o .low)) o k
+    performed-end (commit-tree t) (seen-by t) (lasting t) (next-commit t) (commit-rows t) (unique-commit t) (λ f. valid-commit t f (o .low)) o k
 
 pub abort-done : {s s′ : List ℕ} {t : ℕ} → Opened s t → Ended (not-inserted-by t) (undone t) t s s′ → Performed s s′ Done (abort t)
 abort-done {s} {s′} {t} o k =
-    performed-end (abort-tree t) (not-inserted-by t) (undone t) (next-abort t) (abort-rows t) (unique-abort t) (λ f. fine-abort t f (o .low)) o k
+    performed-end (abort-tree t) (not-inserted-by t) (undone t) (next-abort t) (abort-rows t) (unique-abort t) (λ f. valid-abort t f (o .low)) o k

@@ -8,14 +8,14 @@ use lib.ListN.{length, getD}
 use lib.Dec.{eqb}
 use borrow.Author.Tests.{eq-eqb, ne-eqb}
 use Rattle.tree.specs.Laws.Lists.{map-map}
-use Rattle.protocol.specs.State.{nobody, Marked, unless, seen-by, settled, undone}
+use Rattle.protocol.specs.State.{nobody, Marked, without, seen-by, lasting, undone}
 use Rattle.layout.specs.Lists.{modify}
 use Rattle.layout.specs.Flat.{second, prune}
 use Rattle.layout.specs.Layout.{is-open, Entry, nodes, no-entry, Layout, Left, Kept}
 use Rattle.layout.specs.Fields.{field, with-field, restored, released}
 use Rattle.layout.specs.Laws.Lists.{modify-modify, modify-same, modify-none}
 use Rattle.layout.specs.Laws.Kept.{kept-same, kept-then, kept-as, left-kept, left-then, left-as}
-use Rattle.ends.specs.Ends.{without-mark, rewritten, settled-marks, undone-marks, map-first, Closed, Ended}
+use Rattle.ends.specs.Ends.{without-mark, rewritten, lasting-marks, undone-marks, map-first, Closed, Ended}
 
 -- one node -------------------------------------------------------------------------------------
 
@@ -41,14 +41,14 @@ pub cleared : {s s′ : List ℕ} (i o t r : ℕ) → r ≡ field o (getD (nodes
     → Kept s s′ (modify i (second (with-field o 0)) (nodes s)) → Kept s s′ (modify i (second (without-mark o t)) (nodes s))
 cleared {s} i o t r e p k =
     let a : Marked = getD (nodes s) i no-entry .1 in
-    let q : 0 ≡ unless t (field o a) = rw (eq-eqb (field o a) t (sym e ∙ p)) in
+    let q : 0 ≡ without t (field o a) = rw (eq-eqb (field o a) t (sym e ∙ p)) in
     same-kept i (with-field o 0) (without-mark o t) (ap (λ (v : ℕ). with-field o v a) q) k
 
 pub not-cleared : (s : List ℕ) (i o t r : ℕ) → r ≡ field o (getD (nodes s) i no-entry .1) → (r ≡ t → ⊥) → o < 4 → Layout s
     → Kept s s (modify i (second (without-mark o t)) (nodes s))
 not-cleared s i o t r e p l h =
     let a : Marked = getD (nodes s) i no-entry .1 in
-    let q : unless t (field o a) ≡ field o a = rw (ne-eqb (field o a) t (λ x. p (e ∙ x))) in
+    let q : without t (field o a) ≡ field o a = rw (ne-eqb (field o a) t (λ x. p (e ∙ x))) in
     none-kept s i (without-mark o t) (ap (λ (v : ℕ). with-field o v a) q ∙ own-field o a l) h
 
 pub rewritten-own : {s s′ : List ℕ} (i t r : ℕ) → r ≡ getD (nodes s) i no-entry .1 .writer → r ≡ t
@@ -129,8 +129,8 @@ module _ (shown : Marked → Bool) (marks g : Marked → Marked) (t : ℕ) (whol
       (map-map (second (released t)) (second marks) (second g) (prune shown 0 (nodes s)) (λ x i. ap (λ (y : Marked). (x .0, y)) (whole (x .1))))
       (closed-after t _ (map (second (released t))) (left-then (prune shown 0 (nodes s)) (map (second marks)) a b) c)
 
-pub settled-whole : (t : ℕ) (a : Marked) → released t (settled-marks t a) ≡ settled t a
-settled-whole t a = refl
+pub lasting-whole : (t : ℕ) (a : Marked) → released t (lasting-marks t a) ≡ lasting t a
+lasting-whole t a = refl
 
 pub undone-whole : (t : ℕ) (a : Marked) → released t (undone-marks t a) ≡ undone t a
 undone-whole t a = refl

@@ -7,7 +7,7 @@ use lib.ListN.{length}
 use lib.Dec.{eqb, ltb, leb}
 use borrow.Author.Tests.{eq-eqb, ne-eqb}
 use Rattle.tree.specs.Lists.{any}
-use Rattle.tree.specs.Steps.{Step, target, brings}
+use Rattle.tree.specs.Steps.{Step, target, inserts}
 use Rattle.tree.specs.Laws.Lists.{any-same}
 use Rattle.locks.specs.Needs.{need, locks}
 use Rattle.locks.specs.Words.{step-named}
@@ -25,7 +25,7 @@ use Rattle.edits.specs.Rows.{granted-up, stepped}
 use Rattle.edits.specs.Laws.Granted.{step-rows}
 use Rattle.edits.specs.Laws.Kept.{unique-grant, unique-act}
 use Rattle.form.specs.Form.{form, Holds}
-use Rattle.form.specs.Laws.Steps.{holds-unique, fine-grant, fine-act}
+use Rattle.form.specs.Laws.Steps.{holds-unique, valid-grant, valid-act}
 use Rattle.locking.specs.declared.Way.{Way}
 use Rattle.locking.specs.Way.{way-places, way-nodes, Climbed}
 use Rattle.locking.specs.Grants.{granted-on}
@@ -39,7 +39,7 @@ pub record Fits (s : List ℕ) (t p : ℕ) (st : Step) : Type 0 where
   pub admitted : Admitted s t p
   pub on : number-of (item (nodes s) p) ≡ target st
   pub fits : misfit-on st (item (nodes s) p .now) ≡ 0
-  pub new : any (λ m. ltb (place-of m (nodes s)) (length (nodes s))) (brings st) ≡ false
+  pub new : any (λ m. ltb (place-of m (nodes s)) (length (nodes s))) (inserts st) ≡ false
 
 -- nor a wait
 pub record Free (s : List ℕ) (t p : ℕ) (st : Step) : Type 0 where
@@ -50,7 +50,7 @@ pub record Free (s : List ℕ) (t p : ℕ) (st : Step) : Type 0 where
 pub record Placed (s : List ℕ) (t p : ℕ) (st : Step) : Type 0 where
   pub free : Free s t p st
   pub placed : misplaced-on st (item (nodes s) p .now .kind) (children t (nodes s) p) ≡ false
-  pub spare : any (λ m. leb node-limit (length (nodes s))) (brings st) ≡ false
+  pub spare : any (λ m. leb node-limit (length (nodes s))) (inserts st) ≡ false
 
 -- causes 8 to 10 -------------------------------------------------------------------------
 
@@ -59,7 +59,7 @@ module _ {s : List ℕ} {t p : ℕ} (a : Admitted s t p) (st : Step) (on : numbe
   unfolding judged-at
   stays-misfit c e n = record { formed = a .formed; next = λ M h. admitted-next a M h st on room ∙ rw (← e, ne-eqb c 0 n); quiet = refl }
 
-  pub stays-held : misfit-on st (item (nodes s) p .now) ≡ 0 → any (λ m. ltb (place-of m (nodes s)) (length (nodes s))) (brings st) ≡ true
+  pub stays-held : misfit-on st (item (nodes s) p .now) ≡ 0 → any (λ m. ltb (place-of m (nodes s)) (length (nodes s))) (inserts st) ≡ true
       → Stays s (refused 10) (step t st room)
   unfolding judged-at
   stays-held f e = record { formed = a .formed; next = λ M h. admitted-next a M h st on room ∙ rw (f, e); quiet = refl }
@@ -103,7 +103,7 @@ module _ {s : List ℕ} {t p : ℕ} {st : Step} (f : Free s t p st) (room : Room
       record { formed = f .fits .admitted .formed; next = λ M h. to-place M h ∙ rw (f .fits .fits, f .fits .new, none-waits M h, e); quiet = refl }
 
   pub stays-full : misplaced-on st (item (nodes s) p .now .kind) (children t (nodes s) p) ≡ false
-      → any (λ m. leb node-limit (length (nodes s))) (brings st) ≡ true
+      → any (λ m. leb node-limit (length (nodes s))) (inserts st) ≡ true
       → Stays s (refused 12) (step t st room)
   unfolding judged-at
   stays-full e g =
@@ -132,9 +132,9 @@ module _ {s : List ℕ} {t p : ℕ} {st : Step} (f : Placed s t p st) (room : Ro
   unfolding judged-at
   step-next e M h = to-room M h ∙ rw (f .free .fits .fits, f .free .fits .new, none-waits (f .free) room M h, f .placed, f .spare, e)
 
-  none-held : (M : State) → Holds s M → any (λ m. number-held m (M .tree)) (brings st) ≡ false
+  none-held : (M : State) → Holds s M → any (λ m. number-held m (M .tree)) (inserts st) ≡ false
   none-held M h =
-      any-same (λ m. number-held m (M .tree)) (λ m. ltb (place-of m (nodes s)) (length (nodes s))) (brings st)
+      any-same (λ m. number-held m (M .tree)) (λ m. ltb (place-of m (nodes s)) (length (nodes s))) (inserts st)
       (λ m i. held-place m (M .tree) ∙ rw (← h .rows)) ∙ f .free .fits .new
 
   pub grants-step : {s′ : List ℕ} → has-room (answer-at st t (nodes s) p) room ≡ true → Left s s′ (is-open s) (stepped t st p (nodes s))
@@ -155,13 +155,13 @@ module _ {s : List ℕ} {t p : ℕ} {st : Step} (f : Placed s t p st) (room : Ro
           let o : number-of (item (flat 0 g) p) ≡ target st = rw (h .rows) at (f .free .fits .on) in
           let rows : flat 0 (tree-after M) ≡ stepped t st p (nodes s) =
           rw (h .rows) (step-rows t g p (holds-unique h) i st o (rw (h .rows) at (f .free .fits .admitted .seen)) (none-held M h)) in
-          let fine = fine-act t st g p (f .free .fits .admitted .high) (h .fine) (holds-unique h) i o (rw (h .rows) at (f .free .fits .fits)) in
+          let valid = valid-act t st g p (f .free .fits .admitted .high) (h .valid) (holds-unique h) i o (rw (h .rows) at (f .free .fits .fits)) in
           record {
             layout = l .layout;
             opens = l .opens ∙ h .opens;
             rows = l .nodes ∙ sym rows;
             unique = rw (l .nodes, ← rows) (unique-grant t (locks st (numbers-above (nodes s) p)) u ∙ unique-act t st g p (holds-unique h) i o (none-held M h));
-            fine = fine-grant t (locks st (numbers-above (nodes s) p)) u fine;
+            valid = valid-grant t (locks st (numbers-above (nodes s) p)) u valid;
           }
 
 -- what `grant` left, as the rows that the step leaves

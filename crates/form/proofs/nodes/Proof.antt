@@ -7,13 +7,13 @@ use borrow.Author.Tests.{not-true, not-false}
 use lib.ListN.{length, drop}
 use Rattle.layout.specs.Layout as layout
 use Rattle.form.specs.Form.{cells}
-use Rattle.form.specs.Check.{fine-nodes}
-use Rattle.form.specs.Laws.Check.{fine-from, slot-small, first-bad, first-good, rows-low, rows-high, rows-bad, rows-next, rows-end}
+use Rattle.form.specs.Check.{valid-nodes}
+use Rattle.form.specs.Laws.Check.{valid-from, slot-small, first-bad, first-good, rows-low, rows-high, rows-bad, rows-next, rows-end}
 use Rattle.form.proofs.nodes.Statement.{statement}
 use Rattle.form.proofs.nodes.Tie as tie
 
 abbrev Inv-loop : tie.InvT-loop
-Inv-loop s n before₀ i₀ before i = (1 ≤ i) × (i ≤ n) × (before ≤ 65535) × (fine-nodes s ≡ fine-from before (drop i (cells s)) (drop i (layout.nodes s)))
+Inv-loop s n before₀ i₀ before i = (1 ≤ i) × (i ≤ n) × (before ≤ 65535) × (valid-nodes s ≡ valid-from before (drop i (cells s)) (drop i (layout.nodes s)))
 
 abbrev μ-loop : tie.MeasureT-loop
 μ-loop s n before₀ i₀ before i = n - i

@@ -12,8 +12,8 @@ use Rattle.tree.specs.Content.{between, content-limit}
 use Rattle.locks.specs.Modes.{no-mode}
 use Rattle.layout.specs.Layout.{cell-at, cell, decode}
 use Rattle.layout.specs.Laws.Fields.{cell-byte}
-use Rattle.form.specs.Form.{fair, fair-sizes}
-use Rattle.form.specs.Check.{fair-cell}
+use Rattle.form.specs.Form.{in-range, sizes-in-range}
+use Rattle.form.specs.Check.{cell-in-range}
 
 -- a test that fails among others
 pub and-no : (a : Bool) {b : Bool} → b ≡ false → (a && b) ≡ false
@@ -23,21 +23,21 @@ pub and-first : {a : Bool} (b : Bool) → a ≡ false → (a && b) ≡ false
 and-first b h = rw h
 
 module _ (s : List ℕ) (k : ℕ) where
-  sizes-of : fair-sizes (cell s k) ≡ (leb (getD s (cell-at k + 4) 0) 32 && leb (getD s (cell-at k + 5) 0) 32)
-  unfolding fair-sizes
+  sizes-of : sizes-in-range (cell s k) ≡ (leb (getD s (cell-at k + 4) 0) 32 && leb (getD s (cell-at k + 5) 0) 32)
+  unfolding sizes-in-range
   sizes-of = rw (cell-byte s k 4 (omega arith), cell-byte s k 5 (omega arith))
 
-  pub sizes-now : 32 < getD s (cell-at k + 4) 0 → false ≡ fair-sizes (cell s k)
+  pub sizes-now : 32 < getD s (cell-at k + 4) 0 → false ≡ sizes-in-range (cell s k)
   sizes-now h = sym (sizes-of ∙ rw (lt-leb (getD s (cell-at k + 4) 0) 32 h))
 
-  pub sizes-before : getD s (cell-at k + 4) 0 ≤ 32 → leb (getD s (cell-at k + 5) 0) 32 ≡ fair-sizes (cell s k)
+  pub sizes-before : getD s (cell-at k + 4) 0 ≤ 32 → leb (getD s (cell-at k + 5) 0) 32 ≡ sizes-in-range (cell s k)
   sizes-before h = sym (sizes-of ∙ rw (le-leb (getD s (cell-at k + 4) 0) 32 h))
 
   module _ (low high most : ℕ) where
-    cell-of : fair-cell low high most (cell s k)
+    cell-of : cell-in-range low high most (cell s k)
         ≡ (leb low (getD s (cell-at k) 0) && leb (getD s (cell-at k) 0) high
-        && (leb (getD s (cell-at k + 1) 0) 16 && (leb (getD s (cell-at k + 2) 0) most && leb (getD s (cell-at k + 3) 0) most)) && fair-sizes (cell s k))
-    unfolding fair-cell fair decode
+        && (leb (getD s (cell-at k + 1) 0) 16 && (leb (getD s (cell-at k + 2) 0) most && leb (getD s (cell-at k + 3) 0) most)) && sizes-in-range (cell s k))
+    unfolding cell-in-range in-range decode
     cell-of =
         rw (
           ap (λ (i : ℕ). getD s i 0) (sym (add-zero (cell-at k))) ∙ cell-byte s k 0 (omega arith),
@@ -46,26 +46,26 @@ module _ (s : List ℕ) (k : ℕ) where
           cell-byte s k 3 (omega arith),
         )
 
-    pub cell-low : getD s (cell-at k) 0 < low → false ≡ fair-cell low high most (cell s k)
+    pub cell-low : getD s (cell-at k) 0 < low → false ≡ cell-in-range low high most (cell s k)
     cell-low h = sym (cell-of ∙ rw (lt-leb low (getD s (cell-at k) 0) h))
 
-    pub cell-high : low ≤ getD s (cell-at k) 0 → high < getD s (cell-at k) 0 → false ≡ fair-cell low high most (cell s k)
+    pub cell-high : low ≤ getD s (cell-at k) 0 → high < getD s (cell-at k) 0 → false ≡ cell-in-range low high most (cell s k)
     cell-high a h = sym (cell-of ∙ rw (le-leb low (getD s (cell-at k) 0) a, lt-leb (getD s (cell-at k) 0) high h))
 
     module _ (a : low ≤ getD s (cell-at k) 0) (b : getD s (cell-at k) 0 ≤ high) where
-      pub cell-writer : 16 < getD s (cell-at k + 1) 0 → false ≡ fair-cell low high most (cell s k)
+      pub cell-writer : 16 < getD s (cell-at k + 1) 0 → false ≡ cell-in-range low high most (cell s k)
       cell-writer h = sym (cell-of ∙ rw (le-leb low (getD s (cell-at k) 0) a, le-leb (getD s (cell-at k) 0) high b, lt-leb (getD s (cell-at k + 1) 0) 16 h))
 
       module _ (w : getD s (cell-at k + 1) 0 ≤ 16) where
-        cell-then : fair-cell low high most (cell s k) ≡ ((leb (getD s (cell-at k + 2) 0) most && leb (getD s (cell-at k + 3) 0) most) && fair-sizes (cell s k))
+        cell-then : cell-in-range low high most (cell s k) ≡ ((leb (getD s (cell-at k + 2) 0) most && leb (getD s (cell-at k + 3) 0) most) && sizes-in-range (cell s k))
         cell-then = cell-of ∙ rw (le-leb low (getD s (cell-at k) 0) a, le-leb (getD s (cell-at k) 0) high b, le-leb (getD s (cell-at k + 1) 0) 16 w)
 
-        pub cell-inserter : most < getD s (cell-at k + 2) 0 → false ≡ fair-cell low high most (cell s k)
+        pub cell-inserter : most < getD s (cell-at k + 2) 0 → false ≡ cell-in-range low high most (cell s k)
         cell-inserter h = sym (cell-then ∙ rw (lt-leb (getD s (cell-at k + 2) 0) most h))
 
         module _ (i : getD s (cell-at k + 2) 0 ≤ most) where
-          pub cell-deleter : most < getD s (cell-at k + 3) 0 → false ≡ fair-cell low high most (cell s k)
+          pub cell-deleter : most < getD s (cell-at k + 3) 0 → false ≡ cell-in-range low high most (cell s k)
           cell-deleter h = sym (cell-then ∙ rw (le-leb (getD s (cell-at k + 2) 0) most i, lt-leb (getD s (cell-at k + 3) 0) most h))
 
-          pub cell-sizes : getD s (cell-at k + 3) 0 ≤ most → (r : Bool) → r ≡ fair-sizes (cell s k) → r ≡ fair-cell low high most (cell s k)
+          pub cell-sizes : getD s (cell-at k + 3) 0 ≤ most → (r : Bool) → r ≡ sizes-in-range (cell s k) → r ≡ cell-in-range low high most (cell s k)
           cell-sizes h r e = e ∙ sym (cell-then ∙ rw (le-leb (getD s (cell-at k + 2) 0) most i, le-leb (getD s (cell-at k + 3) 0) most h))

@@ -21,8 +21,8 @@ use Rattle.layout.specs.Layout.{state-size, format-mark, entry-at, word, part, 
 use Rattle.layout.specs.Laws.Lists.{length-tabulate, getD-tabulate, tabulate-same, map-tabulate}
 use Rattle.layout.specs.Laws.Nodes.{length-nodes, node-at}
 use Rattle.lookup.specs.Places.{number-of, unique}
-use Rattle.form.specs.Form.{fair, fine, fine-document, fine-below, fine-rows, slots, cells, fair-sizes, apart, form}
-use Rattle.form.specs.Check.{fine-header, column, fair-cell, fine-first, fine-nodes, Outlined}
+use Rattle.form.specs.Form.{in-range, valid, valid-document, valid-below, valid-rows, slots, cells, sizes-in-range, apart, form}
+use Rattle.form.specs.Check.{valid-header, column, cell-in-range, valid-first, valid-nodes, Outlined}
 use Rattle.form.specs.Laws.Rows.{between-of, between-low, between-high}
 use Rattle.form.specs.Laws.Fresh.{apart-distinct}
 use Rattle.form.specs.Laws.Holds.{every-tabulate, tabulate-every}
@@ -30,8 +30,8 @@ use Rattle.form.specs.Laws.Holds.{every-tabulate, tabulate-every}
 -- lists ------------------------------------------------------------------------------------------
 
 -- the sizes and rows from a place on
-unfoldable pub fine-from : ℕ → List (List ℕ) → List Entry → Bool
-fine-from before cs es = every fair-sizes cs && fine-below before es
+unfoldable pub valid-from : ℕ → List (List ℕ) → List Entry → Bool
+valid-from before cs es = every sizes-in-range cs && valid-below before es
 
 swap-and : (a b c d e : Bool) → ((a && b) && ((c && d) && e)) ≡ (c && ((d && a) && (b && e)))
 swap-and true b true true e = refl
@@ -42,18 +42,18 @@ swap-and false b true false e = refl
 swap-and false b false d e = refl
 
 from-cons : (before : ℕ) (c : List ℕ) (cs : List (List ℕ)) (x : Entry) (es : List Entry)
-    → fine-from before (c ∷ cs) (x ∷ es) ≡ (between 1 (suc before) (x .0) && ((fine (x .1) && fair-sizes c) && fine-from (x .0) cs es))
-unfolding fine-from fine-below
-from-cons before c cs x es = swap-and (fair-sizes c) (every fair-sizes cs) (between 1 (suc before) (x .0)) (fine (x .1)) (fine-below (x .0) es)
+    → valid-from before (c ∷ cs) (x ∷ es) ≡ (between 1 (suc before) (x .0) && ((valid (x .1) && sizes-in-range c) && valid-from (x .0) cs es))
+unfolding valid-from valid-below
+from-cons before c cs x es = swap-and (sizes-in-range c) (every sizes-in-range cs) (between 1 (suc before) (x .0)) (valid (x .1)) (valid-below (x .0) es)
 
 -- the cell says all of the node that the test asks
-cell-fair : (low high most n : ℕ) (c : List ℕ) (h : ℕ → _) → fair low high most (decode n c h) ≡ fair low high most (decode 0 c (λ t. no-mode))
-unfolding fair decode
-cell-fair low high most n c h = refl
+cell-is-in-range : (low high most n : ℕ) (c : List ℕ) (h : ℕ → _) → in-range low high most (decode n c h) ≡ in-range low high most (decode 0 c (λ t. no-mode))
+unfolding in-range decode
+cell-is-in-range low high most n c h = refl
 
-node-fair : (s : List ℕ) (i : ℕ) → (fine (entry s i .1) && fair-sizes (cell s (slot s i))) ≡ fair-cell element-kind text-kind 16 (cell s (slot s i))
-unfolding fine entry fair-cell
-node-fair s i = rw (cell-fair element-kind text-kind 16 (number s i) (cell s (slot s i)) _)
+node-in-range : (s : List ℕ) (i : ℕ) → (valid (entry s i .1) && sizes-in-range (cell s (slot s i))) ≡ cell-in-range element-kind text-kind 16 (cell s (slot s i))
+unfolding valid entry cell-in-range
+node-in-range s i = rw (cell-is-in-range element-kind text-kind 16 (number s i) (cell s (slot s i)) _)
 
 length-cells : (s : List ℕ) → length (cells s) ≡ count s
 unfolding cells
@@ -67,9 +67,9 @@ cell-is s i h = getD-tabulate (count s) (λ i. cell s (slot s i)) i [] h
 
 module _ (s : List ℕ) (before i : ℕ) where
   rows-turn : i < count s
-      → fine-from before (drop i (cells s)) (drop i (nodes s))
+      → valid-from before (drop i (cells s)) (drop i (nodes s))
       ≡ (between 1 (suc before) (depth s i) &&
-      (fair-cell element-kind text-kind 16 (cell s (slot s i)) && fine-from (depth s i) (drop (i + 1) (cells s)) (drop (i + 1) (nodes s))))
+      (cell-in-range element-kind text-kind 16 (cell s (slot s i)) && valid-from (depth s i) (drop (i + 1) (cells s)) (drop (i + 1) (nodes s))))
   unfolding entry
   rows-turn h =
       let a : i < length (cells s) = omega (arith, length-cells s) in
@@ -82,17 +82,17 @@ module _ (s : List ℕ) (before i : ℕ) where
         from-cons before (cell s (slot s i)) (drop (suc i) (cells s)) (entry s i) (drop (suc i) (nodes s)),
         add-one i,
       )
-      (rw (node-fair s i))
+      (rw (node-in-range s i))
 
-  module _ (d : ℕ) (v : fine-nodes s ≡ fine-from before (drop i (cells s)) (drop i (nodes s))) (h : i < count s) (q : d ≡ word s (entry-at i + 2)) where
+  module _ (d : ℕ) (v : valid-nodes s ≡ valid-from before (drop i (cells s)) (drop i (nodes s))) (h : i < count s) (q : d ≡ word s (entry-at i + 2)) where
     e : d ≡ depth s i
     unfolding depth
     e = q
 
-    pub rows-low : d < 1 → false ≡ fine-nodes s
+    pub rows-low : d < 1 → false ≡ valid-nodes s
     rows-low l = sym (v ∙ rows-turn h ∙ rw (← e, lt-leb 1 d l))
 
-    pub rows-high : 1 ≤ d → before + 1 < d → false ≡ fine-nodes s
+    pub rows-high : 1 ≤ d → before + 1 < d → false ≡ valid-nodes s
     rows-high l m = sym (v ∙ rows-turn h ∙ rw (← e, le-leb 1 d l, lt-leb d (suc before) (omega arith)))
 
     module _ (k : ℕ) (g : k ≡ word s (entry-at i)) (l : 1 ≤ d) (m : d ≤ before + 1) where
@@ -100,14 +100,14 @@ module _ (s : List ℕ) (before i : ℕ) where
       unfolding slot
       f = g
 
-      pub rows-bad : fair-cell element-kind text-kind 16 (cell s k) ≡ false → false ≡ fine-nodes s
+      pub rows-bad : cell-in-range element-kind text-kind 16 (cell s k) ≡ false → false ≡ valid-nodes s
       rows-bad n = sym (v ∙ rows-turn h ∙ rw (← e, ← f, between-of 1 (suc before) d l (omega arith), n))
 
-      pub rows-next : fair-cell element-kind text-kind 16 (cell s k) ≡ true → fine-nodes s ≡ fine-from d (drop (i + 1) (cells s)) (drop (i + 1) (nodes s))
+      pub rows-next : cell-in-range element-kind text-kind 16 (cell s k) ≡ true → valid-nodes s ≡ valid-from d (drop (i + 1) (cells s)) (drop (i + 1) (nodes s))
       rows-next n = v ∙ rows-turn h ∙ rw (← e, ← f, between-of 1 (suc before) d l (omega arith), n)
 
-pub rows-end : (s : List ℕ) (before i : ℕ) → fine-nodes s ≡ fine-from before (drop i (cells s)) (drop i (nodes s)) → count s ≤ i → true ≡ fine-nodes s
-unfolding fine-from fine-below
+pub rows-end : (s : List ℕ) (before i : ℕ) → valid-nodes s ≡ valid-from before (drop i (cells s)) (drop i (nodes s)) → count s ≤ i → true ≡ valid-nodes s
+unfolding valid-from valid-below
 rows-end s before i v h =
     let a : length (cells s) ≤ i = omega (arith, length-cells s) in
     let b : length (nodes s) ≤ i = omega (arith, length-nodes s) in
@@ -127,35 +127,35 @@ cell-number : (s : List ℕ) → decode (number s 0) (cell s (slot s 0)) (held s
 unfolding decode
 cell-number s = refl
 
-first-is : (s : List ℕ) → 1 ≤ count s → fine-nodes s ≡ (fine-first s && fine-from 0 (drop 1 (cells s)) (drop 1 (nodes s)))
-unfolding fine-nodes fine-rows fine-first fine-document fair-cell fine-from entry
+first-is : (s : List ℕ) → 1 ≤ count s → valid-nodes s ≡ (valid-first s && valid-from 0 (drop 1 (cells s)) (drop 1 (nodes s)))
+unfolding valid-nodes valid-rows valid-first valid-document cell-in-range valid-from entry
 first-is s h =
     let a : 0 < length (cells s) = omega (arith, length-cells s) in
     let b : 0 < length (nodes s) = omega (arith, length-nodes s) in
-    ap₂ (λ (cs : List (List ℕ)) (es : List Entry). every fair-sizes cs && fine-rows es) (drop-cons (cells s) 0 [] a) (drop-cons (nodes s) 0 no-entry b)
-    ∙ rw (cell-is s 0 h, node-at s 0 h, cell-fair document-kind document-kind nobody (number s 0) (cell s (slot s 0)) _, cell-number s)
-    (first-swap (fair-sizes (cell s (slot s 0))) (every fair-sizes (drop 1 (cells s))) (eqb (depth s 0) 0)
-    (fair document-kind document-kind nobody (decode 0 (cell s (slot s 0)) (λ t. no-mode))) (eqb (number s 0) 0) (fine-below 0 (drop 1 (nodes s))))
+    ap₂ (λ (cs : List (List ℕ)) (es : List Entry). every sizes-in-range cs && valid-rows es) (drop-cons (cells s) 0 [] a) (drop-cons (nodes s) 0 no-entry b)
+    ∙ rw (cell-is s 0 h, node-at s 0 h, cell-is-in-range document-kind document-kind nobody (number s 0) (cell s (slot s 0)) _, cell-number s)
+    (first-swap (sizes-in-range (cell s (slot s 0))) (every sizes-in-range (drop 1 (cells s))) (eqb (depth s 0) 0)
+    (in-range document-kind document-kind nobody (decode 0 (cell s (slot s 0)) (λ t. no-mode))) (eqb (number s 0) 0) (valid-below 0 (drop 1 (nodes s))))
 
-pub first-bad : (s : List ℕ) → 1 ≤ count s → fine-first s ≡ false → false ≡ fine-nodes s
+pub first-bad : (s : List ℕ) → 1 ≤ count s → valid-first s ≡ false → false ≡ valid-nodes s
 first-bad s h e = sym (first-is s h ∙ rw e)
 
-pub first-good : (s : List ℕ) → 1 ≤ count s → fine-first s ≡ true → fine-nodes s ≡ fine-from 0 (drop 1 (cells s)) (drop 1 (nodes s))
+pub first-good : (s : List ℕ) → 1 ≤ count s → valid-first s ≡ true → valid-nodes s ≡ valid-from 0 (drop 1 (cells s)) (drop 1 (nodes s))
 first-good s h e = first-is s h ∙ rw e
 
 -- the test of the first row: d, n and k are the words that were read
 module _ (s : List ℕ) (d : ℕ) (e : d ≡ word s 18) where
-  pub first-deep : (d ≡ 0 → ⊥) → false ≡ fine-first s
-  unfolding fine-first depth
+  pub first-deep : (d ≡ 0 → ⊥) → false ≡ valid-first s
+  unfolding valid-first depth
   first-deep h = rw (← e, ne-eqb d 0 h)
 
   module _ (f : d ≡ 0) (n : ℕ) (g : n ≡ word s 20) where
-    pub first-numbered : (n ≡ 0 → ⊥) → false ≡ fine-first s
-    unfolding fine-first depth number
+    pub first-numbered : (n ≡ 0 → ⊥) → false ≡ valid-first s
+    unfolding valid-first depth number
     first-numbered h = rw (← e, eq-eqb d 0 f, ← g, ne-eqb n 0 h)
 
-    pub first-cell : n ≡ 0 → (k : ℕ) → k ≡ word s 16 → (r : Bool) → r ≡ fair-cell document-kind document-kind nobody (cell s k) → r ≡ fine-first s
-    unfolding fine-first depth number slot
+    pub first-cell : n ≡ 0 → (k : ℕ) → k ≡ word s 16 → (r : Bool) → r ≡ cell-in-range document-kind document-kind nobody (cell s k) → r ≡ valid-first s
+    unfolding valid-first depth number slot
     first-cell h k i r j = rw (← e, eq-eqb d 0 f, ← g, eq-eqb n 0 h, ← i) j
 
 -- the slot that was read is in range
@@ -182,11 +182,11 @@ words-small s o n h =
     (λ i l. lt-ltb (word s (entry-at i + o)) 65536 (omega (arith, h (entry-at i + o), h (entry-at i + o + 1))))
 
 -- the form, in the order of the check
-form-is : (s : List ℕ) → form s ≡ (fine-header s && (apart node-limit (column s 0 node-limit) && (fine-nodes s && unique (nodes s))))
-unfolding form fine-header fine-nodes
+form-is : (s : List ℕ) → form s ≡ (valid-header s && (apart node-limit (column s 0 node-limit) && (valid-nodes s && unique (nodes s))))
+unfolding form valid-header valid-nodes
 form-is s =
     go (leb state-size (length s) && same (part s 0 8) format-mark && between 1 node-limit (count s)) (apart node-limit (slots s)) _
-    (every fair-sizes (cells s)) (fine-rows (nodes s)) (unique (nodes s))
+    (every sizes-in-range (cells s)) (valid-rows (nodes s)) (unique (nodes s))
     (ap (apart node-limit) (slots-are s))
   where
     go : (h a b z r u : Bool) → a ≡ b → (h && a && z && r && u) ≡ (h && (b && ((z && r) && u)))
@@ -195,20 +195,20 @@ form-is s =
     go true false b z r u e = rw (← e)
 
 module _ (s : List ℕ) where
-  header-parts : fine-header s ≡ true → (leb state-size (length s) ≡ true) × (between 1 node-limit (count s) ≡ true)
-  unfolding fine-header
+  header-parts : valid-header s ≡ true → (leb state-size (length s) ≡ true) × (between 1 node-limit (count s) ≡ true)
+  unfolding valid-header
   header-parts h = (
     and-left (leb state-size (length s)) _ (and-left (leb state-size (length s) && same (part s 0 8) format-mark) _ h),
     and-right (leb state-size (length s) && same (part s 0 8) format-mark) _ h,
   )
 
-  pub header-size : fine-header s ≡ true → state-size ≤ length s
+  pub header-size : valid-header s ≡ true → state-size ≤ length s
   header-size h = leb-true state-size (length s) (header-parts h .0)
 
-  pub header-room : fine-header s ≡ true → count s ≤ 1024
+  pub header-room : valid-header s ≡ true → count s ≤ 1024
   header-room h = between-high 1 node-limit (count s) (header-parts h .1)
 
-  pub outlined : fine-header s ≡ true → apart node-limit (column s 0 node-limit) ≡ true → Outlined s
+  pub outlined : valid-header s ≡ true → apart node-limit (column s 0 node-limit) ≡ true → Outlined s
   unfolding apart slots
   outlined h k =
       let small = and-left (every (λ k. ltb k node-limit) (slots s)) _ (ap (apart node-limit) (slots-are s) ∙ k) in
@@ -220,37 +220,37 @@ module _ (s : List ℕ) where
       }
 
   -- the header, test by test
-  pub header-short : length s < state-size → false ≡ fine-header s
-  unfolding fine-header
+  pub header-short : length s < state-size → false ≡ valid-header s
+  unfolding valid-header
   header-short h = rw (lt-leb state-size (length s) h)
 
   module _ (l : state-size ≤ length s) where
-    pub header-mark : same (part s 0 8) format-mark ≡ false → false ≡ fine-header s
-    unfolding fine-header
+    pub header-mark : same (part s 0 8) format-mark ≡ false → false ≡ valid-header s
+    unfolding valid-header
     header-mark h = rw (le-leb state-size (length s) l, h)
 
     module _ (m : same (part s 0 8) format-mark ≡ true) (n : ℕ) (e : n ≡ count s) where
-      pub header-none : n < 1 → false ≡ fine-header s
-      unfolding fine-header
+      pub header-none : n < 1 → false ≡ valid-header s
+      unfolding valid-header
       header-none h = rw (le-leb state-size (length s) l, m, ← e, lt-leb 1 n h)
 
-      pub header-many : 1 ≤ n → leb n 1024 ≡ fine-header s
-      unfolding fine-header
+      pub header-many : 1 ≤ n → leb n 1024 ≡ valid-header s
+      unfolding valid-header
       header-many h = rw (le-leb state-size (length s) l, m, ← e, le-leb 1 n h)
 
   -- the check, part by part
-  pub formed-header : fine-header s ≡ false → false ≡ form s
+  pub formed-header : valid-header s ≡ false → false ≡ form s
   formed-header h = sym (form-is s ∙ rw h)
 
-  module _ (h : fine-header s ≡ true) where
+  module _ (h : valid-header s ≡ true) where
     pub formed-slots : apart node-limit (column s 0 node-limit) ≡ false → false ≡ form s
     formed-slots k = sym (form-is s ∙ rw (h, k))
 
     module _ (k : apart node-limit (column s 0 node-limit) ≡ true) where
-      pub formed-nodes : fine-nodes s ≡ false → false ≡ form s
+      pub formed-nodes : valid-nodes s ≡ false → false ≡ form s
       formed-nodes f = sym (form-is s ∙ rw (h, k, f))
 
-      pub formed-numbers : fine-nodes s ≡ true → ((j : ℕ) → getD s j 0 < 256) → (n : ℕ) → n ≡ count s → apart 65536 (column s 4 n) ≡ form s
+      pub formed-numbers : valid-nodes s ≡ true → ((j : ℕ) → getD s j 0 < 256) → (n : ℕ) → n ≡ count s → apart 65536 (column s 4 n) ≡ form s
       formed-numbers f b n e =
           ap (λ (m : ℕ). apart 65536 (column s 4 m)) e ∙ apart-distinct 65536 (column s 4 (count s)) (words-small s 4 (count s) b)
           ∙ sym (form-is s ∙ rw (h, k, f, numbers-are s))

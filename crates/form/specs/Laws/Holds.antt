@@ -17,8 +17,8 @@ use Rattle.layout.specs.Flat.{flat}
 use Rattle.layout.specs.Layout.{state-size, format-mark, part, count, slot, cell, is-open, Entry, nodes, Sized, Layout}
 use Rattle.layout.specs.Laws.Nodes.{length-nodes}
 use Rattle.lookup.specs.Places.{unique}
-use Rattle.form.specs.Form.{fine-rows, fine-tree, slots, cells, fair-sizes, apart, form, Holds}
-use Rattle.form.specs.Laws.Rows.{and-of, between-of, between-low, between-high, rows-fine, fine-forest}
+use Rattle.form.specs.Form.{valid-rows, valid-tree, slots, cells, sizes-in-range, apart, form, Holds}
+use Rattle.form.specs.Laws.Rows.{and-of, between-of, between-low, between-high, rows-valid, valid-forest}
 
 -- tests of lists that are given by a rule ---------------------------------------------------------
 
@@ -85,15 +85,15 @@ same-self (x ∷ l) = rw (eq-eqb x x refl) (same-self l)
 
 -- sizes -----------------------------------------------------------------------------------------------
 
-sized-of : (c : List ℕ) → fair-sizes c ≡ true → Sized c
-unfolding fair-sizes
+sized-of : (c : List ℕ) → sizes-in-range c ≡ true → Sized c
+unfolding sizes-in-range
 sized-of c h = record {
   now = leb-true (getD c 4 0) content-limit (and-left (leb (getD c 4 0) content-limit) _ h);
   before = leb-true (getD c 5 0) content-limit (and-right (leb (getD c 4 0) content-limit) _ h);
 }
 
-of-sized : (c : List ℕ) → Sized c → fair-sizes c ≡ true
-unfolding fair-sizes
+of-sized : (c : List ℕ) → Sized c → sizes-in-range c ≡ true
+unfolding sizes-in-range
 of-sized c z = rw (le-leb (getD c 4 0) content-limit (z .now), le-leb (getD c 5 0) content-limit (z .before))
 
 -- the theorems ------------------------------------------------------------------------------------------
@@ -104,8 +104,8 @@ pub record Parts (s : List ℕ) : Type 0 where
   pub mark : same (part s 0 8) format-mark ≡ true
   pub count : between 1 node-limit (count s) ≡ true
   pub slots : apart node-limit (slots s) ≡ true
-  pub sizes : every fair-sizes (cells s) ≡ true
-  pub rows : fine-rows (nodes s) ≡ true
+  pub sizes : every sizes-in-range (cells s) ≡ true
+  pub rows : valid-rows (nodes s) ≡ true
   pub unique : unique (nodes s) ≡ true
 
 all-seven : (a b c d e f g : Bool) → (a && b && c && d && e && f && g) ≡ true
@@ -129,7 +129,7 @@ pub form-parts : {s : List ℕ} → form s ≡ true → Parts s
 unfolding form
 form-parts {s} h =
     let p = all-seven (leb state-size (length s)) (same (part s 0 8) format-mark) (between 1 node-limit (count s)) (apart node-limit (slots s))
-    (every fair-sizes (cells s)) (fine-rows (nodes s)) (unique (nodes s)) h in
+    (every sizes-in-range (cells s)) (valid-rows (nodes s)) (unique (nodes s)) h in
     record { size = p .0; mark = p .1; count = p .2; slots = p .3; sizes = p .4; rows = p .5; unique = p .6 }
 
 pub parts-form : {s : List ℕ} → Parts s → form s ≡ true
@@ -146,14 +146,14 @@ form-layout {s} h = let p = form-parts h in record {
   many = length-nodes s;
   slots = λ i l. ltb-true (slot s i) node-limit (every-tabulate (λ k. ltb k node-limit) node-limit (slot s) (and-left _ (distinct (slots s)) (p .slots)) i l);
   apart = λ i j a b e. distinct-tabulate node-limit (slot s) (and-right (every (λ k. ltb k node-limit) (slots s)) _ (p .slots)) i j a b e;
-  sizes = λ i l. sized-of (cell s (slot s i)) (every-tabulate fair-sizes (count s) (λ i. cell s (slot s i)) (p .sizes) i l);
+  sizes = λ i l. sized-of (cell s (slot s i)) (every-tabulate sizes-in-range (count s) (λ i. cell s (slot s i)) (p .sizes) i l);
 }
 
 pub form-holds : (s : List ℕ) → form s ≡ true → (M : State) × Holds s M
 form-holds s h =
     let p = form-parts h in
-    let t = fine-forest (nodes s) (p .rows) in
-    (record { is-open = is-open s; tree = t .0 }, record { layout = form-layout h; opens = refl; rows = t .1; unique = p .unique; fine = t .2 })
+    let t = valid-forest (nodes s) (p .rows) in
+    (record { is-open = is-open s; tree = t .0 }, record { layout = form-layout h; opens = refl; rows = t .1; unique = p .unique; valid = t .2 })
 
 pub holds-form : {s : List ℕ} {M : State} → Holds s M → form s ≡ true
 unfolding slots cells apart
@@ -164,7 +164,7 @@ holds-form {s} {M} h = let l = h .layout in
       mark = rw (l .mark) (same-self format-mark);
       count = between-of 1 node-limit (count s) (l .some) (l .room);
       slots = and-of small (tabulate-distinct node-limit (slot s) (l .apart));
-      sizes = tabulate-every fair-sizes (count s) (λ i. cell s (slot s i)) (λ i a. of-sized (cell s (slot s i)) (l .sizes i a));
-      rows = rw (h .rows) (rows-fine (M .tree) (h .fine));
+      sizes = tabulate-every sizes-in-range (count s) (λ i. cell s (slot s i)) (λ i a. of-sized (cell s (slot s i)) (l .sizes i a));
+      rows = rw (h .rows) (rows-valid (M .tree) (h .valid));
       unique = h .unique;
     })

@@ -25,7 +25,7 @@ use Rattle.layout.specs.Laws.Locks.{no-modes, transaction-low, transaction-high
 use Rattle.lookup.specs.Places.{unique}
 use Rattle.form.specs.Form.{Holds}
 use Rattle.form.specs.Start.{outline-byte, start-byte, Started}
-use Rattle.form.specs.Laws.Steps.{fine-start}
+use Rattle.form.specs.Laws.Steps.{valid-start}
 
 -- the rule, part by part ------------------------------------------------------------------------
 
@@ -167,7 +167,7 @@ module _ (s : List ℕ) (l : state-size ≤ length s) (b : (j : ℕ) → j < sta
 
   pub start-holds : Holds s start-state
   unfolding tree-of node-0-alone view flat
-  start-holds = record { layout = start-layout; opens = open-is; rows = nodes-is; unique = rw nodes-is; fine = fine-start }
+  start-holds = record { layout = start-layout; opens = open-is; rows = nodes-is; unique = rw nodes-is; valid = valid-start }
 
 -- the calls ------------------------------------------------------------------------------------------
 

@@ -14,30 +14,30 @@ use Rattle.tree.specs.Document.{Node, Document, node-0-alone, lines, numbers, t
 use Rattle.tree.specs.Steps.{Step, T, C, R, U, D, I, TT, RR, UU, target}
 use Rattle.tree.specs.Laws.Tests.{and-left, and-right, or-left, or-right}
 use Rattle.locks.specs.Needs.{Lock}
-use Rattle.protocol.specs.State.{nobody, Marked, Tree, State, numbered, seen-by, written-by, deleted-by, unmarked, inserted-by, granted-to, settled, undone}
+use Rattle.protocol.specs.State.{nobody, Marked, Tree, State, numbered, seen-by, written-by, deleted-by, unmarked, inserted-by, granted-to, lasting, undone}
 use Rattle.protocol.specs.State.{mark, renamed, act, grant, commit-tree, abort-tree, tree-of, with-tree, start-state}
 use Rattle.layout.specs.Flat.{flat}
 use Rattle.layout.specs.Layout.{Entry, no-entry, is-open, nodes, Layout, Left, Kept}
 use Rattle.lookup.specs.Places.{item, items, number-of, unique}
 use Rattle.lookup.specs.Found.{misfit-on}
 use Rattle.lookup.specs.Laws.Find.{unique-head}
-use Rattle.form.specs.Form.{fair, fine, fine-document, all-fine, fine-tree, Holds}
+use Rattle.form.specs.Form.{in-range, valid, valid-document, all-valid, valid-tree, Holds}
 use Rattle.form.specs.Laws.Rows.{and-of, between-low, between-high}
-use Rattle.form.specs.Laws.Fine.{Fine, FineDocument, is-fine, is-document, Keeps, keeps-written, keeps-granted, keeps-settled, keeps-undone}
-use Rattle.form.specs.Laws.Fine.{fine-deleted, fine-inserted}
-use Rattle.form.specs.Laws.Fine.{Root, root-of, tree-of-root, fine-mark, fine-view, fine-put}
+use Rattle.form.specs.Laws.Valid.{Valid, FineDocument, is-valid, is-document, Keeps, keeps-written, keeps-granted, keeps-lasting, keeps-undone}
+use Rattle.form.specs.Laws.Valid.{valid-deleted, valid-inserted}
+use Rattle.form.specs.Laws.Valid.{Root, root-of, tree-of-root, valid-mark, valid-view, valid-put}
 
 -- bytes that hold a state again ------------------------------------------------------------------
 
 -- after any change
 pub holds-left : {s s′ : List ℕ} (M : State) → Left s s′ (M .is-open) (flat 0 (M .tree)) → unique (flat 0 (M .tree)) ≡ true
-    → fine-tree (M .tree) ≡ true → Holds s′ M
-holds-left M l u f = record { layout = l .layout; opens = l .opens; rows = l .nodes; unique = rw (l .nodes) u; fine = f }
+    → valid-tree (M .tree) ≡ true → Holds s′ M
+holds-left M l u f = record { layout = l .layout; opens = l .opens; rows = l .nodes; unique = rw (l .nodes) u; valid = f }
 
 -- after a change of the nodes alone
-pub holds-kept : {s s′ : List ℕ} {M : State} (f : Tree) → Holds s M → Kept s s′ (flat 0 f) → unique (flat 0 f) ≡ true → fine-tree f ≡ true
+pub holds-kept : {s s′ : List ℕ} {M : State} (f : Tree) → Holds s M → Kept s s′ (flat 0 f) → unique (flat 0 f) ≡ true → valid-tree f ≡ true
     → Holds s′ (with-tree M f)
-holds-kept f h k u g = record { layout = k .layout; opens = k .opens ∙ h .opens; rows = k .nodes; unique = rw (k .nodes) u; fine = g }
+holds-kept f h k u g = record { layout = k .layout; opens = k .opens ∙ h .opens; rows = k .nodes; unique = rw (k .nodes) u; valid = g }
 
 -- in terms of the tree
 pub holds-unique : {s : List ℕ} {M : State} → Holds s M → unique (flat 0 (M .tree)) ≡ true
@@ -45,17 +45,17 @@ holds-unique h = ap unique (sym (h .rows)) ∙ h .unique
 
 -- steps --------------------------------------------------------------------------------------------
 
-pub fine-grant : (t : ℕ) (ls : List Lock) (f : Tree) → fine-tree f ≡ true → fine-tree (grant t ls f) ≡ true
+pub valid-grant : (t : ℕ) (ls : List Lock) (f : Tree) → valid-tree f ≡ true → valid-tree (grant t ls f) ≡ true
 unfolding grant
-fine-grant t ls f h = fine-mark (λ r. granted-to t ls (r .it)) (λ r k. keeps-granted t ls .node (r .it) k) (λ a k. keeps-granted t ls .document a k) f h
+valid-grant t ls f h = valid-mark (λ r. granted-to t ls (r .it)) (λ r k. keeps-granted t ls .node (r .it) k) (λ a k. keeps-granted t ls .document a k) f h
 
 -- a change of the nodes that pass
-fine-some : (test : Row Marked Marked → Bool) (g : Marked → Marked) → ((a : Marked) → Fine a → Fine (g a))
+valid-some : (test : Row Marked Marked → Bool) (g : Marked → Marked) → ((a : Marked) → Valid a → Valid (g a))
     → ((a : Marked) → FineDocument a → test (row a []) ≡ true → FineDocument (g a))
-    → (f : Tree) → fine-tree f ≡ true → fine-tree (mark (λ r. cond (test r) (g (r .it)) (r .it)) f) ≡ true
-fine-some test g k d f h = fine-mark (λ r. cond (test r) (g (r .it)) (r .it)) (λ r m. inner (test r) (r .it) m) (λ a m. top (test (row a [])) a m (d a m)) f h
+    → (f : Tree) → valid-tree f ≡ true → valid-tree (mark (λ r. cond (test r) (g (r .it)) (r .it)) f) ≡ true
+valid-some test g k d f h = valid-mark (λ r. cond (test r) (g (r .it)) (r .it)) (λ r m. inner (test r) (r .it) m) (λ a m. top (test (row a [])) a m (d a m)) f h
   where
-    inner : (b : Bool) (a : Marked) → Fine a → Fine (cond b (g a) a)
+    inner : (b : Bool) (a : Marked) → Valid a → Valid (cond b (g a) a)
     inner true a m = k a m
     inner false a m = m
 
@@ -74,7 +74,7 @@ first-at : (p : ℕ) (a : Marked) (l : List Entry) → FineDocument a → unique
 first-at zero a l d u k e = d .kind
 first-at (suc p) a l d u k e = absurd (lacks-at (number-of a) l p (unique-head (0, a) l u .0) (omega arith) (e ∙ sym (d .number)))
 
-pub is-root : (f : Tree) (p : ℕ) → fine-tree f ≡ true → unique (flat 0 f) ≡ true → p < length (flat 0 f) → number-of (item (flat 0 f) p) ≡ 0
+pub is-root : (f : Tree) (p : ℕ) → valid-tree f ≡ true → unique (flat 0 f) ≡ true → p < length (flat 0 f) → number-of (item (flat 0 f) p) ≡ 0
     → item (flat 0 f) p .now .kind ≡ document-kind
 unfolding flat
 is-root f p h u l e =
@@ -103,48 +103,48 @@ taken true x h = refl
 taken false x h = absurd (omega arith)
 
 -- t is a transaction, and the step finds its node at p, where neither cause 8 nor 9 applies
-pub fine-act : (t : ℕ) (s : Step) (f : Tree) (p : ℕ) → t ≤ 16 → fine-tree f ≡ true → unique (flat 0 f) ≡ true → p < length (flat 0 f)
+pub valid-act : (t : ℕ) (s : Step) (f : Tree) (p : ℕ) → t ≤ 16 → valid-tree f ≡ true → unique (flat 0 f) ≡ true → p < length (flat 0 f)
     → number-of (item (flat 0 f) p) ≡ target s
-    → misfit-on s (item (flat 0 f) p .now) ≡ 0 → fine-tree (act t s f) ≡ true
-fine-act t (T n) f p l h u k e m = h
-fine-act t (C n i) f p l h u k e m = h
-fine-act t (R n) f p l h u k e m = h
-fine-act t (U n b) f p l h u k e m =
-    fine-some (λ r. numbered n (r .it)) (written-by t b) (keeps-written t b l .node) (λ a d v. keeps-written t b l .document a d) f h
-fine-act t (D n) f p l h u k e m = fine-some (λ r. numbered n (r .it)) (deleted-by t) (fine-deleted t l)
+    → misfit-on s (item (flat 0 f) p .now) ≡ 0 → valid-tree (act t s f) ≡ true
+valid-act t (T n) f p l h u k e m = h
+valid-act t (C n i) f p l h u k e m = h
+valid-act t (R n) f p l h u k e m = h
+valid-act t (U n b) f p l h u k e m =
+    valid-some (λ r. numbered n (r .it)) (written-by t b) (keeps-written t b l .node) (λ a d v. keeps-written t b l .document a d) f h
+valid-act t (D n) f p l h u k e m = valid-some (λ r. numbered n (r .it)) (deleted-by t) (valid-deleted t l)
     (λ a d v. absurd (eqb-false _ document-kind (not-eight _ m) (is-root f p h u k (e ∙ sym (eqb-true (a .now .number) n v) ∙ d .number)))) f h
-fine-act t (I x kind b n i) f p l h u k e m =
+valid-act t (I x kind b n i) f p l h u k e m =
     let q : between element-kind text-kind kind ≡ true = takes-low (item (flat 0 f) p .now .kind) kind (taken _ (cond (allowed kind b) 0 9) m) in
     let a : Node = record { number = x; kind = kind; content = b } in
-    fine-put (numbered n) (seen-by t) i (inserted-by t a)
-    (fine-inserted t a l (between-low element-kind text-kind kind q) (between-high element-kind text-kind kind q)) f h
-fine-act t (TT n) f p l h u k e m = h
-fine-act t (RR n) f p l h u k e m = h
-fine-act t (UU n a b) f p l h u k e m = fine-some (renamed t n a) (written-by t b) (keeps-written t b l .node) (λ a d v. keeps-written t b l .document a d) f h
+    valid-put (numbered n) (seen-by t) i (inserted-by t a)
+    (valid-inserted t a l (between-low element-kind text-kind kind q) (between-high element-kind text-kind kind q)) f h
+valid-act t (TT n) f p l h u k e m = h
+valid-act t (RR n) f p l h u k e m = h
+valid-act t (UU n a b) f p l h u k e m = valid-some (renamed t n a) (written-by t b) (keeps-written t b l .node) (λ a d v. keeps-written t b l .document a d) f h
 
 -- ends ------------------------------------------------------------------------------------------------
 
-pub fine-commit : (t : ℕ) (f : Tree) → 1 ≤ t → fine-tree f ≡ true → fine-tree (commit-tree t f) ≡ true
+pub valid-commit : (t : ℕ) (f : Tree) → 1 ≤ t → valid-tree f ≡ true → valid-tree (commit-tree t f) ≡ true
 unfolding commit-tree
-fine-commit t f l h = fine-view (seen-by t) (settled t) (keeps-settled t) (λ a d. rw (d .deleter, ne-eqb nobody t (λ e. omega arith))) f h
+valid-commit t f l h = valid-view (seen-by t) (lasting t) (keeps-lasting t) (λ a d. rw (d .deleter, ne-eqb nobody t (λ e. omega arith))) f h
 
-pub fine-abort : (t : ℕ) (f : Tree) → 1 ≤ t → fine-tree f ≡ true → fine-tree (abort-tree t f) ≡ true
+pub valid-abort : (t : ℕ) (f : Tree) → 1 ≤ t → valid-tree f ≡ true → valid-tree (abort-tree t f) ≡ true
 unfolding abort-tree
-fine-abort t f l h = fine-view (λ a. not (eqb (a .inserter) t)) (undone t) (keeps-undone t) (λ a d. rw (d .inserter, ne-eqb nobody t (λ e. omega arith))) f h
+valid-abort t f l h = valid-view (λ a. not (eqb (a .inserter) t)) (undone t) (keeps-undone t) (λ a d. rw (d .inserter, ne-eqb nobody t (λ e. omega arith))) f h
 
 -- what is loaded ----------------------------------------------------------------------------------------
 
-fine-unmarked : (a : Node) → between element-kind text-kind (a .kind) ≡ true → fine (unmarked a) ≡ true
-unfolding fine fair
-fine-unmarked a h = rw h
+valid-unmarked : (a : Node) → between element-kind text-kind (a .kind) ≡ true → valid (unmarked a) ≡ true
+unfolding valid in-range
+valid-unmarked a h = rw h
 
 children-taken : (kind : ℕ) (kinds : List ℕ) → children-rule kind kinds ≡ true → every (takes kind) kinds ≡ true
 unfolding children-rule
 children-taken kind kinds h = and-left (every (takes kind) kinds) _ h
 
 -- of siblings that their parent's kind takes
-all-loaded : (kind : ℕ) (f : Document) → every (takes kind) (top-kinds f) ≡ true → ruled f ≡ true → all-fine (view (λ a. true) unmarked f) ≡ true
-unfolding view all-fine ruled
+all-loaded : (kind : ℕ) (f : Document) → every (takes kind) (top-kinds f) ≡ true → ruled f ≡ true → all-valid (view (λ a. true) unmarked f) ≡ true
+unfolding view all-valid ruled
 all-loaded kind nil k h = refl
 all-loaded kind (node a ks fs) k h =
     let rule : Bool = allowed (a .kind) (a .content) && children-rule (a .kind) (top-kinds ks) in
@@ -153,11 +153,11 @@ all-loaded kind (node a ks fs) k h =
     let taken = children-taken (a .kind) (top-kinds ks) (and-right (allowed (a .kind) (a .content)) _ q) in
     and-of
     (and-of
-    (fine-unmarked a (takes-low kind (a .kind) (and-left (takes kind (a .kind)) _ k)))
+    (valid-unmarked a (takes-low kind (a .kind) (and-left (takes kind (a .kind)) _ k)))
     (all-loaded (a .kind) ks taken (and-right rule _ p)))
     (all-loaded kind fs (and-right (takes kind (a .kind)) _ k) (and-right (rule && ruled ks) _ h))
 
-loaded-root : (a : Node) (ks : Document) → rooted (node a ks nil) ≡ true → ruled (node a ks nil) ≡ true → fine-tree (tree-of (node a ks nil)) ≡ true
+loaded-root : (a : Node) (ks : Document) → rooted (node a ks nil) ≡ true → ruled (node a ks nil) ≡ true → valid-tree (tree-of (node a ks nil)) ≡ true
 unfolding tree-of view ruled
 loaded-root a ks r h =
     let p : (allowed (a .kind) (a .content) && children-rule (a .kind) (top-kinds ks) && ruled ks) ≡ true =
@@ -174,17 +174,17 @@ loaded-root a ks r h =
     (all-loaded (a .kind) ks (children-taken (a .kind) (top-kinds ks) (and-right (allowed (a .kind) (a .content)) _ q))
     (and-right (allowed (a .kind) (a .content) && children-rule (a .kind) (top-kinds ks)) _ p))
 
-pub fine-load : (d : Document) → legal d ≡ true → fine-tree (tree-of d) ≡ true
+pub valid-load : (d : Document) → legal d ≡ true → valid-tree (tree-of d) ≡ true
 unfolding legal
-fine-load d h =
+valid-load d h =
     let r : (rooted d && ruled d) ≡ true = and-left (rooted d && ruled d) _ h in
     go d (and-left (rooted d) _ r) (and-right (rooted d) _ r)
   where
-    go : (d : Document) → rooted d ≡ true → ruled d ≡ true → fine-tree (tree-of d) ≡ true
+    go : (d : Document) → rooted d ≡ true → ruled d ≡ true → valid-tree (tree-of d) ≡ true
     go nil r h = absurd (false≢true r)
     go (node a ks nil) r h = loaded-root a ks r h
     go (node a ks (node b js fs)) r h = absurd (false≢true r)
 
-pub fine-start : fine-tree (start-state .tree) ≡ true
-unfolding tree-of node-0-alone view fine-tree all-fine fine-document fair
-fine-start = refl
+pub valid-start : valid-tree (start-state .tree) ≡ true
+unfolding tree-of node-0-alone view valid-tree all-valid valid-document in-range
+valid-start = refl

@@ -14,7 +14,7 @@ use Rattle.layout.specs.Layout.{is-open, nodes, Left, Kept}
 use Rattle.layout.specs.Laws.Kept.{left-then, left-as}
 use Rattle.form.specs.Form.{form}
 use Rattle.form.specs.Laws.Holds.{form-holds}
-use Rattle.form.specs.Laws.Fine.{root-of}
+use Rattle.form.specs.Laws.Valid.{root-of}
 
 -- by the form, the first node is the document, which nobody inserted or deleted
 alone : (s : List ℕ) → form s ≡ true →
@@ -23,7 +23,7 @@ alone : (s : List ℕ) → form s ≡ true →
 unfolding flat modify tree-of node-0-alone view
 alone s h =
     let p = form-holds s h in
-    let r = root-of (p .0 .tree) (p .1 .fine) in
+    let r = root-of (p .0 .tree) (p .1 .valid) in
     let d = r .document in
     rw (p .1 .rows, r .whole, d .kind, d .number, d .inserter, d .deleter)
 

@@ -17,7 +17,7 @@ use Rattle.layout.specs.Flat.{flat}
 use Rattle.layout.specs.Layout.{is-open, nodes, Left}
 use Rattle.edits.specs.Laws.Kept.{unique-load}
 use Rattle.form.specs.Form.{form, Holds}
-use Rattle.form.specs.Laws.Steps.{fine-load}
+use Rattle.form.specs.Laws.Steps.{valid-load}
 use Rattle.engine.specs.Contract.{Performed}
 use Rattle.engine.specs.Laws.Outcomes.{Grants, performed-stays, performed-grants}
 use Rattle.xml.specs.Shape.{document}
@@ -75,7 +75,7 @@ module _ {s : List ℕ} (f : form s ≡ true) where
         opens = k .closed ∙ sym (none-open s e) ∙ h .opens;
         rows = k .nodes (d .shape) (d .spelled);
         unique = rw (k .nodes (d .shape) (d .spelled)) (unique-load D (legal-of D (d .fits)));
-        fine = fine-load D (legal-of D (d .fits));
+        valid = valid-load D (legal-of D (d .fits));
       }
 
       grants : Grants s s′ (how-many n) (load (stands-for D (d .fits)))

@@ -7,7 +7,7 @@ use mathlib.Core.Logic.{_⊎_, inl, inr}
 use lib.Dec.{eqb}
 use borrow.Author.Tests.{eqb-true, eq-eqb}
 use Rattle.tree.specs.Lists.{any, has, leads}
-use Rattle.tree.specs.Steps.{Step, target, brings}
+use Rattle.tree.specs.Steps.{Step, target, inserts}
 use Rattle.tree.specs.Laws.Tests.{and-left, and-right, or-cases, refuted}
 use Rattle.tree.specs.Laws.Lists.{any-at, map-in}
 use Rattle.locks.specs.Modes.{Mode, clash}
@@ -51,9 +51,9 @@ module _ (s : Step) (p : List ℕ) where
   unfolding locks
   up-locked q a m = Memᴰ·append-right (each (need s .node) (target s)) (Memᴰ·append-left _ m)
 
-  pub new-locked : (m : ℕ) → has m (brings s) ≡ true → All-locked m (need s .new) (locks s p)
+  pub new-locked : (m : ℕ) → has m (inserts s) ≡ true → All-locked m (need s .new) (locks s p)
   unfolding locks
-  new-locked m h a i = Memᴰ·append-right (each (need s .node) (target s)) (Memᴰ·append-right (up (need s) p) (in-every-one m (need s .new) (brings s) h a i))
+  new-locked m h a i = Memᴰ·append-right (each (need s .node) (target s)) (Memᴰ·append-right (up (need s) p) (in-every-one m (need s .new) (inserts s) h a i))
 
   pub parent-locked : (q : ℕ) → leads q p ≡ true → All-locked q (need s .parent) (locks s p)
   parent-locked q h a m = up-locked q a (go p h)
@@ -104,7 +104,7 @@ module _ (q : ℕ) (held : List Mode) (l : List Lock) (locked : All-locked q hel
   pub off-parent : clashing held (need s .parent) ≡ true → leads q p ≡ false
   off-parent h = refuted _ (λ e. not-both q held (need s .parent) l (locks s p) h c locked (parent-locked s p q e))
 
-  pub off-new : clashing held (need s .new) ≡ true → has q (brings s) ≡ false
+  pub off-new : clashing held (need s .new) ≡ true → has q (inserts s) ≡ false
   off-new h = refuted _ (λ e. not-both q held (need s .new) l (locks s p) h c locked (new-locked s p q e))
 
   -- the step is neither on q nor below it

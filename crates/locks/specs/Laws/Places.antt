@@ -8,7 +8,7 @@ use lib.Dec.{eqb}
 use borrow.Author.Tests.{eqb-true, eq-eqb}
 use Rattle.tree.specs.Lists.{has}
 use Rattle.tree.specs.Laws.Lists.{in-map}
-use Rattle.tree.specs.Steps.{Step, T, C, R, U, D, I, TT, RR, UU, target, brings}
+use Rattle.tree.specs.Steps.{Step, T, C, R, U, D, I, TT, RR, UU, target, inserts}
 use Rattle.locks.specs.Modes.{Mode, LT, LC, LR, LU, LW, LTT, LRR, LUU, LIR, LIU, LIW, LICW}
 use Rattle.locks.specs.Needs.{Lock, Need, need, each, every-one, up, locks}
 use Rattle.locks.specs.Laws.Compatible.{Locked, All-locked, node-locked, above-locked, new-locked}
@@ -37,16 +37,16 @@ up-at w (q ∷ p) l m = go (List·Memᴰ·append-cases (each (w .parent) q) m)
     go (inr i) = rw (in-every-one (w .above) p l i .0) (or-true (eqb q (l .0)))
 
 -- on the node that the step is on, above it, or on the new node
-pub lock-place : (s : Step) (p : List ℕ) (l : Lock) → List·Memᴰ l (locks s p) → (has (l .0) (target s ∷ p) ≡ true) ⊎ (has (l .0) (brings s) ≡ true)
+pub lock-place : (s : Step) (p : List ℕ) (l : Lock) → List·Memᴰ l (locks s p) → (has (l .0) (target s ∷ p) ≡ true) ⊎ (has (l .0) (inserts s) ≡ true)
 unfolding locks
 lock-place s p l m = go (List·Memᴰ·append-cases (each (need s .node) (target s)) m)
   where
-    rest : List·Memᴰ l (up (need s) p) ⊎ List·Memᴰ l (every-one (need s .new) (brings s)) → (has (l .0) (target s ∷ p) ≡ true) ⊎ (has (l .0) (brings s) ≡ true)
+    rest : List·Memᴰ l (up (need s) p) ⊎ List·Memᴰ l (every-one (need s .new) (inserts s)) → (has (l .0) (target s ∷ p) ≡ true) ⊎ (has (l .0) (inserts s) ≡ true)
     rest (inl i) = inl (rw (up-at (need s) p l i) (or-true (eqb (target s) (l .0))))
-    rest (inr i) = inr (in-every-one (need s .new) (brings s) l i .0)
+    rest (inr i) = inr (in-every-one (need s .new) (inserts s) l i .0)
 
-    go : List·Memᴰ l (each (need s .node) (target s)) ⊎ List·Memᴰ l (up (need s) p ++ every-one (need s .new) (brings s))
-        → (has (l .0) (target s ∷ p) ≡ true) ⊎ (has (l .0) (brings s) ≡ true)
+    go : List·Memᴰ l (each (need s .node) (target s)) ⊎ List·Memᴰ l (up (need s) p ++ every-one (need s .new) (inserts s))
+        → (has (l .0) (target s ∷ p) ≡ true) ⊎ (has (l .0) (inserts s) ≡ true)
     go (inl i) = inl (rw (eq-eqb (target s) (l .0) (sym (in-each (need s .node) (target s) l i .0))))
     go (inr i) = rest (List·Memᴰ·append-cases (up (need s) p) i)
 

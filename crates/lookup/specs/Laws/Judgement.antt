@@ -10,7 +10,7 @@ use borrow.Author.Tests.{le-ltb}
 use Rattle.tree.specs.Lists.{any, keep}
 use Rattle.tree.specs.Forest.{row}
 use Rattle.tree.specs.Document.{Node, Document, Line, here, at, child, under, select}
-use Rattle.tree.specs.Steps.{Step, T, C, R, U, D, I, TT, RR, UU, target, brings, misfit, misplaced, answer, kth, is-named}
+use Rattle.tree.specs.Steps.{Step, T, C, R, U, D, I, TT, RR, UU, target, inserts, misfit, misplaced, answer, kth, is-named}
 use Rattle.tree.specs.Steps.{none, numbers-are, cells-are, how-many}
 use Rattle.tree.specs.Laws.Lists.{map-map, any-same, keep-map}
 use Rattle.protocol.specs.State.{Marked, State, number-held, callers-document}
@@ -131,10 +131,10 @@ module _ (l : List Entry) (t : ℕ) (s : Step) (M : State) (rows : l ≡ flat 0 
           line = line-is;
           lock-list = rw line-is;
           misfits = misfit-here s (callers-document t (M .tree)) (item l p .now) (numbers-above l p) here-is line-is;
-          held = any-same (λ m. number-held m (M .tree)) (λ m. ltb (place-of m l) (length l)) (brings s) (λ m i. held-place m (M .tree) ∙ rw (← rows));
+          held = any-same (λ m. number-held m (M .tree)) (λ m. ltb (place-of m l) (length l)) (inserts s) (λ m i. held-place m (M .tree) ∙ rw (← rows));
           wait = λ b. rw line-is (wait-set-at t s M l p (sym rows) u h n b);
           misplaces = misplaced-here s (callers-document t (M .tree)) (item l p .now) (numbers-above l p) (children t l p) line-is children-are;
-          full = ap (λ z. any (λ m. leb node-limit z) (brings s)) (count-held (M .tree) ∙ ap length (sym rows));
+          full = ap (λ z. any (λ m. leb node-limit z) (inserts s)) (count-held (M .tree) ∙ ap length (sym rows));
           answers = answer-here s t l p (callers-document t (M .tree)) line-is children-are all-are;
         }
 
@@ -148,8 +148,8 @@ judged-missing t s room M h = rw h
 pub judged-found : (l : List Entry) (t : ℕ) (s : Step) (room : Room) (M : State) (p : ℕ) → Found l t s M p
     → judged t s room M (callers-document t (M .tree)) ≡ judged-at t s room M l p
 unfolding judged judged-at
-judged-found l t s room M p f = go (any (λ m. number-held m (M .tree)) (brings s)) refl
+judged-found l t s room M p f = go (any (λ m. number-held m (M .tree)) (inserts s)) refl
   where
-    go : (b : Bool) → any (λ m. number-held m (M .tree)) (brings s) ≡ b → judged t s room M (callers-document t (M .tree)) ≡ judged-at t s room M l p
+    go : (b : Bool) → any (λ m. number-held m (M .tree)) (inserts s) ≡ b → judged t s room M (callers-document t (M .tree)) ≡ judged-at t s room M l p
     go true e = let h = sym (f .held) ∙ e in rw (f .misfits, e, h)
     go false e = let h = sym (f .held) ∙ e in rw (f .misfits, e, h, f .wait e, f .lock-list, f .misplaces, f .full, f .answers)

@@ -9,7 +9,7 @@ use lib.ListN.{length}
 use lib.Dec.{eqb}
 use borrow.Author.Tests.{eq-eqb}
 use Rattle.tree.specs.Lists.{any}
-use Rattle.tree.specs.Steps.{Step, target, brings}
+use Rattle.tree.specs.Steps.{Step, target, inserts}
 use Rattle.tree.specs.Laws.Tests.{or-left, or-right}
 use Rattle.tree.specs.Laws.Lists.{any-map, any-same, eqb-flip}
 use Rattle.locks.specs.Modes.{Mode, against}
@@ -157,8 +157,8 @@ module _ (l : List Entry) (t : ℕ) where
           meets-all (w .above) ps (λ i m. h i (List·Memᴰ·tail m)),
         )
 
-    -- the locks of a step on the node at p: the numbers that it brings in are held by no node
-    pub way-blocks : (s : Step) (p : ℕ) → p < length l → number-of (item l p) ≡ target s → any (λ m. any (numbered m) (items l)) (brings s) ≡ false
+    -- the locks of a step on the node at p: the numbers that it inserts are held by no node
+    pub way-blocks : (s : Step) (p : ℕ) → p < length l → number-of (item l p) ≡ target s → any (λ m. any (numbered m) (items l)) (inserts s) ≡ false
         → any (clashes (locks s (numbers-above l p)) t) (items l) ≡ blocks-way (need s .node) (need s .parent) (need s .above) t (item l p ∷ ups l p)
     unfolding locks ups above-places blocks-way
     way-blocks s p h e b =
@@ -166,11 +166,11 @@ module _ (l : List Entry) (t : ℕ) where
         any-clashes (locks s (numbers-above l p))
         ∙ rw (
           ← e,
-          meets-append (each (need s .node) (number-of (item l p))) (up (need s) (map number-of (map (item l) ps)) ++ every-one (need s .new) (brings s)),
-          meets-append (up (need s) (map number-of (map (item l) ps))) (every-one (need s .new) (brings s)),
+          meets-append (each (need s .node) (number-of (item l p))) (up (need s) (map number-of (map (item l) ps)) ++ every-one (need s .new) (inserts s)),
+          meets-append (up (need s) (map number-of (map (item l) ps))) (every-one (need s .new) (inserts s)),
           meets-node (need s .node) p h,
           meets-up (need s) ps (λ i m. let z = climb-before l (depth l p) p m in omega arith),
-          meets-new (need s .new) (brings s) b,
+          meets-new (need s .new) (inserts s) b,
           or-false (blocks-way (need s .parent) (need s .above) (need s .above) t (map (item l) ps)),
         )
 
@@ -202,12 +202,12 @@ bits-transactions q = bits-word q 16 0 ∙ once (word (λ i. q (suc i)) 16 0)
 -- the wait set of a step's locks on the way up from p
 pub wait-set-at : (t : ℕ) (s : Step) (M : State) (l : List Entry) (p : ℕ) → flat 0 (M .tree) ≡ l → unique l ≡ true → p < length l
     → number-of (item l p) ≡ target s
-    → any (λ m. number-held m (M .tree)) (brings s) ≡ false
+    → any (λ m. number-held m (M .tree)) (inserts s) ≡ false
     → wait-set t (locks s (numbers-above l p)) M ≡ wait-word t (need s) (M .is-open) (item l p ∷ ups l p)
 unfolding wait-set wait-word
 wait-set-at t s M l p e u h n b =
     let g : nodes (M .tree) ≡ items l = nodes-held (M .tree) ∙ ap items e in
-    let k : any (λ m. any (numbered m) (items l)) (brings s) ≡ false = sym (ap (λ z. any (λ m. any (numbered m) z) (brings s)) g) ∙ b in
+    let k : any (λ m. any (numbered m) (items l)) (inserts s) ≡ false = sym (ap (λ z. any (λ m. any (numbered m) z) (inserts s)) g) ∙ b in
     bits-transactions (blocks t (locks s (numbers-above l p)) M)
     ∙ ap (λ (q : ℕ → Bool). word q 16 0)
     (fun-ext (λ i. ap (λ c. M .is-open (suc i) && not (eqb (suc i) t) && c)

@@ -6,7 +6,7 @@ use mathlib.Core.List.{List}
 use lib.ListN.{length}
 use lib.Dec.{leb}
 use Rattle.tree.specs.Lists.{any}
-use Rattle.tree.specs.Steps.{Step, brings}
+use Rattle.tree.specs.Steps.{Step, inserts}
 use Rattle.locks.specs.Needs.{need}
 use Rattle.locks.specs.Words.{step-named}
 use Rattle.locks.specs.declared.StepName.{StepName}
@@ -30,7 +30,7 @@ use Rattle.engine.specs.Laws.Judgement.{Fits, Placed, stays-waits, stays-short,
 pub record Reads (s : List ℕ) (t p : ℕ) (st : Step) : Type 0 where
   pub fits : Fits s t p st
   pub placed : misplaced-on st (item (nodes s) p .now .kind) (children t (nodes s) p) ≡ false
-  pub spare : any (λ m. leb node-limit (length (nodes s))) (brings st) ≡ false
+  pub spare : any (λ m. leb node-limit (length (nodes s))) (inserts st) ≡ false
   pub rows : stepped t st p (nodes s) ≡ granted-up t (need st) p (nodes s)
 
 module _ {s : List ℕ} {t p : ℕ} {st : Step} (f : Reads s t p st) (k : StepName) (same : need (step-named k) ≡ need st) (w : Way)

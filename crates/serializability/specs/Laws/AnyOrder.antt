@@ -10,9 +10,9 @@ use Rattle.commute.specs.Laws.Runs.{Entry, Run, run-append, run-document, run-a
 use Rattle.commute.specs.Laws.Orders as orders
 use Rattle.protocol.specs.State.{State, document-of, start-state}
 use Rattle.protocol.specs.Calls.{Call, next}
-use Rattle.protocol.specs.History.{history, state-after, Ledger, new-ledger, ledger, fed}
+use Rattle.protocol.specs.History.{history, state-after, Log, new-log, log-after, fed}
 use Rattle.serializability.specs.Theorem.{since-start, reached, logs, answered, Runs, AnyOrder}
-use Rattle.serializability.specs.Laws.Ledgers.{noted-as, logs-as, tracked, tracked-as}
+use Rattle.serializability.specs.Laws.Logs.{noted-as, logs-as, tracked, tracked-as}
 use Rattle.serializability.specs.Laws.Tracking.{note, Tracks, calls-track, start-tracks}
 
 abbrev pub step-of : Entry → Step
@@ -21,32 +21,32 @@ step-of x = x .step
 abbrev pub value-of-entry : Entry → Value
 value-of-entry x = x .value
 
--- the ledger of entries of a list that begins with a start
-unfoldable pub entries : List Call → Ledger Entry
-entries cs = tracked note start-state (new-ledger node-0-alone) cs
+-- the log of entries of a list that begins with a start
+unfoldable pub entries : List Call → Log Entry
+entries cs = tracked note start-state (new-log node-0-alone) cs
 
 pub reached-tracks : (M : State) (cs : List Call) → Tracks (entries cs) (reached M cs)
 unfolding entries state-after next
-reached-tracks M cs = calls-track (new-ledger node-0-alone) start-state start-tracks cs
+reached-tracks M cs = calls-track (new-log node-0-alone) start-state start-tracks cs
 
--- both ledgers of the history are read off it
+-- both logs of the history are read off it
 pub fed-is : (M : State) (cs : List Call) → fed (since-start M cs) ≡ noted-as step-of (entries cs)
-unfolding entries ledger history next
-fed-is M cs = tracked-as note step-of (λ s v. s) (λ c N s v. refl) start-state (new-ledger node-0-alone) cs
+unfolding entries log-after history next
+fed-is M cs = tracked-as note step-of (λ s v. s) (λ c N s v. refl) start-state (new-log node-0-alone) cs
 
 pub answered-is : (M : State) (cs : List Call) → answered (since-start M cs) ≡ noted-as value-of-entry (entries cs)
-unfolding entries ledger history next
-answered-is M cs = tracked-as note value-of-entry (λ s v. v) (λ c N s v. refl) start-state (new-ledger node-0-alone) cs
+unfolding entries log-after history next
+answered-is M cs = tracked-as note value-of-entry (λ s v. v) (λ c N s v. refl) start-state (new-log node-0-alone) cs
 
 logs-same : (log : ℕ → List Entry) (b : List ℕ) → orders.logs log b ≡ logs log b
 logs-same log [] = refl
 logs-same log (t ∷ b) = rw (logs-same log b)
 
 -- the entries of the committed transactions and then of b
-abbrev entries-of : Ledger Entry → List ℕ → List Entry
+abbrev entries-of : Log Entry → List ℕ → List Entry
 entries-of L b = L .committed ++ logs (L .open-log) b
 
-notes-of : {E : Type 0} (g : Entry → E) (L : Ledger Entry) (b : List ℕ) → map g (L .committed) ++ logs (λ u. map g (L .open-log u)) b ≡ map g (entries-of L b)
+notes-of : {E : Type 0} (g : Entry → E) (L : Log Entry) (b : List ℕ) → map g (L .committed) ++ logs (λ u. map g (L .open-log u)) b ≡ map g (entries-of L b)
 notes-of g L b = rw (logs-as g (L .open-log) b) (sym (map-append g (L .committed) (logs (L .open-log) b)))
 
 -- where the logs of some transactions lead

@@ -9,7 +9,7 @@ use borrow.Author.Tests.{eqb-true, eqb-false, eq-eqb, ne-eqb, not-true, not-fals
 use Rattle.tree.specs.Lists.{every, has}
 use Rattle.tree.specs.Forest.{view}
 use Rattle.tree.specs.Document.{Document}
-use Rattle.tree.specs.Steps.{D, U, brings}
+use Rattle.tree.specs.Steps.{D, U, inserts}
 use Rattle.tree.specs.Laws.Tests.{and-left, and-right}
 use Rattle.tree.specs.Laws.Rows.{Each, each-above}
 use Rattle.locks.specs.Modes.{Mode, LW}
@@ -19,7 +19,7 @@ use Rattle.locks.specs.Laws.Excludes.{LW-clashes}
 use Rattle.commute.specs.Laws.Runs.{Entry, Run, run-one-end}
 use Rattle.commute.specs.Laws.Orders.{Distinct, permuted-has, permuted-distinct, permutation-back, to-front, distinct-head, distinct-tail, distinct-cons}
 use Rattle.commute.specs.Laws.Serial.{Serial, reorder, commit, emptied, in-emptied, forget, idle}
-use Rattle.protocol.specs.State.{nobody, State, Marked, Tree, seen-by, document-of, unless, none-of, settled, undone, commit-tree, abort-tree, closed}
+use Rattle.protocol.specs.State.{nobody, State, Marked, Tree, seen-by, document-of, without, none-of, lasting, undone, commit-tree, abort-tree, closed}
 use Rattle.serializability.specs.Laws.Shown.{Place, Inside, path, numbers-of, plus, minus, commit-shown, abort-shown}
 use Rattle.serializability.specs.Laws.Numbers.{number-of, seen-as, in-part, part-in, part-distinct}
 use Rattle.serializability.specs.Laws.Marks.{Within, Guarded, Renames, Authored, Covered}
@@ -143,13 +143,13 @@ module _ (c : Document) (log : ℕ → List Entry) (M : State) (g : Good c log M
             inserter = λ e. eqb-true _ u (end .inserter-stays (r .it) u ne (eq-eqb _ u e));
           }
 
-  end-brought : (r : Place) → Inside r rest → (r .it .inserter ≡ nobody → ⊥) → (y : Entry) × List·Memᴰ y (log' (r .it .inserter)) × (has (number-of r) (brings (y .step)) ≡ true)
+  end-brought : (r : Place) → Inside r rest → (r .it .inserter ≡ nobody → ⊥) → (y : Entry) × List·Memᴰ y (log' (r .it .inserter)) × (has (number-of r) (inserts (y .step)) ≡ true)
   end-brought r i nu =
       let a = in-part stays h f i in
       let w = end .inserter (a .0 .it) (r .it .inserter) nu (and-left _ _ (a .2)) (eq-eqb _ _ (ap (λ (z : Place). z .it .inserter) (sym (a .3)))) in
       let e : a .0 .it .inserter ≡ r .it .inserter = eqb-true _ _ (w .0) in
       let y = g .brought (a .0) (a .1) (λ z. nu (sym e ∙ z)) in
-      (y .0, moved (a .0 .it .inserter) (r .it .inserter) e (w .1) (y .0) (y .1), ap (λ m. has m (brings (y .0 .step))) (ap number-of (a .3) ∙ end .number (a .0 .it)) ∙ y .2)
+      (y .0, moved (a .0 .it .inserter) (r .it .inserter) e (w .1) (y .0) (y .1), ap (λ m. has m (inserts (y .0 .step))) (ap number-of (a .3) ∙ end .number (a .0 .it)) ∙ y .2)
     where
       moved : (v u : ℕ) → v ≡ u → (u ≡ t → ⊥) → (y : Entry) → List·Memᴰ y (log v) → List·Memᴰ y (log' u)
       moved v u e ne y m = rw (emptied-other t log u ne, ← e) m
@@ -238,15 +238,15 @@ module _ (c : Document) (log : ℕ → List Entry) (M : State) (g : Good c log M
 
 -- both ends ---------------------------------------------------------------------------------------
 
-unless-is : (t x u : ℕ) → (u ≡ nobody → ⊥) → eqb (unless t x) u ≡ true → (eqb x u ≡ true) × (u ≡ t → ⊥)
-unless-is t x u nu h = go (eqb x t) refl h
+without-is : (t x u : ℕ) → (u ≡ nobody → ⊥) → eqb (without t x) u ≡ true → (eqb x u ≡ true) × (u ≡ t → ⊥)
+without-is t x u nu h = go (eqb x t) refl h
   where
     go : (e : Bool) → eqb x t ≡ e → eqb (cond e nobody x) u ≡ true → (eqb x u ≡ true) × (u ≡ t → ⊥)
     go true e i = absurd (nu (sym (eqb-true nobody u i)))
     go false e i = (i, λ q. eqb-false x t e (eqb-true x u i ∙ q))
 
-unless-keeps : (t x u : ℕ) → (u ≡ t → ⊥) → eqb x u ≡ true → eqb (unless t x) u ≡ true
-unless-keeps t x u ne h = rw (ne-eqb x t (λ e. ne (sym (eqb-true x u h) ∙ e)), h)
+without-keeps : (t x u : ℕ) → (u ≡ t → ⊥) → eqb x u ≡ true → eqb (without t x) u ≡ true
+without-keeps t x u ne h = rw (ne-eqb x t (λ e. ne (sym (eqb-true x u h) ∙ e)), h)
 
 none-keeps : (t : ℕ) (a : Marked) (u : ℕ) (m : Mode) → (u ≡ t → ⊥) → a .held u m ≡ true → none-of t (a .held) u m ≡ true
 none-keeps t a u m ne h = rw (ne-eqb u t ne) h
@@ -254,14 +254,14 @@ none-keeps t a u m ne h = rw (ne-eqb u t ne) h
 other-mark : (x t u : ℕ) → not (eqb x t) ≡ true → eqb x u ≡ true → (eqb x u ≡ true) × (u ≡ t → ⊥)
 other-mark x t u s h = (h, λ e. eqb-false x t (not-true (eqb x t) s) (eqb-true x u h ∙ e))
 
-commit-ends : (t : ℕ) → Ending t (seen-by t) (settled t)
+commit-ends : (t : ℕ) → Ending t (seen-by t) (lasting t)
 commit-ends t = record {
   number = λ a. refl;
   cut = λ a e. rw (not-false (eqb (a .deleter) t) e) (or-true (eqb (a .inserter) t));
-  inserter = λ a u nu s e. unless-is t (a .inserter) u nu e;
+  inserter = λ a u nu s e. without-is t (a .inserter) u nu e;
   deleter = λ a u nu s e. other-mark (a .deleter) t u s e;
-  writer = λ a u nu e. unless-is t (a .writer) u nu e;
-  inserter-stays = λ a u ne e. unless-keeps t (a .inserter) u ne e;
+  writer = λ a u nu e. without-is t (a .writer) u nu e;
+  inserter-stays = λ a u ne e. without-keeps t (a .inserter) u ne e;
   held-stays = λ a u m ne e. none-keeps t a u m ne e;
 }
 
@@ -270,8 +270,8 @@ abort-ends t = record {
   number = λ a. refl;
   cut = λ a e. rw (not-false (eqb (a .inserter) t) e);
   inserter = λ a u nu s e. other-mark (a .inserter) t u s e;
-  deleter = λ a u nu s e. unless-is t (a .deleter) u nu e;
-  writer = λ a u nu e. unless-is t (a .writer) u nu e;
+  deleter = λ a u nu s e. without-is t (a .deleter) u nu e;
+  writer = λ a u nu e. without-is t (a .writer) u nu e;
   inserter-stays = λ a u ne e. e;
   held-stays = λ a u m ne e. none-keeps t a u m ne e;
 }
@@ -282,7 +282,7 @@ pub commit-good : (c : Document) (log : ℕ → List Entry) (M : State) → Good
 unfolding commit-tree
 commit-good c log M g t nz =
     let x = commit c t [] log (document-of (λ u. has u (t ∷ [])) (M .tree)) (g .serial (t ∷ []) refl) in
-    (x .0, x .1, end-good c log M g t nz (seen-by t) (settled t) (commit-ends t) (x .0) (commit-serial c log M g t nz (x .0) (x .1)))
+    (x .0, x .1, end-good c log M g t nz (seen-by t) (lasting t) (commit-ends t) (x .0) (commit-serial c log M g t nz (x .0) (x .1)))
 
 -- abort: the committed document stays
 pub abort-good : (c : Document) (log : ℕ → List Entry) (M : State) → Good c log M → (t : ℕ) → (t ≡ nobody → ⊥) → Good c (emptied t log) (closed t (abort-tree t (M .tree)) M)

@@ -8,7 +8,7 @@ use lib.Dec.{eqb}
 use borrow.Author.Tests.{eqb-true, eq-eqb}
 use Rattle.tree.specs.Lists.{has}
 use Rattle.tree.specs.Forest.{row}
-use Rattle.tree.specs.Steps.{Step, T, C, R, U, D, I, TT, RR, UU, target, brings}
+use Rattle.tree.specs.Steps.{Step, T, C, R, U, D, I, TT, RR, UU, target, inserts}
 use Rattle.tree.specs.Laws.Put.{put-in, put-new, in-put, New}
 use Rattle.locks.specs.Modes.{Mode, index, among, union}
 use Rattle.locks.specs.Needs.{Lock, locks}
@@ -94,14 +94,14 @@ step-carries t s ls u f r i =
     }
 
 -- the new node of an insertion
-act-brings : (t : ℕ) (s : Step) (m : ℕ) → has m (brings s) ≡ true → (f : Tree) (r : Place) → Inside r f → number-of r ≡ target s
+act-inserts : (t : ℕ) (s : Step) (m : ℕ) → has m (inserts s) ≡ true → (f : Tree) (r : Place) → Inside r f → number-of r ≡ target s
     → (x : Place) × Inside x (act t s f) × (number-of x ≡ m) × (x .above ≡ path r) × (x .it .inserter ≡ t)
-act-brings t (T n) m h f r i e = absurd (false≢true h)
-act-brings t (C n k) m h f r i e = absurd (false≢true h)
-act-brings t (R n) m h f r i e = absurd (false≢true h)
-act-brings t (U n b) m h f r i e = absurd (false≢true h)
-act-brings t (D n) m h f r i e = absurd (false≢true h)
-act-brings t (I m' kind b n k) m h f r i e = (row new (path r), put-new (numbered n) (seen-by t) k new (λ a. a) i (eq-eqb _ n e), is-m (eqb m' m) refl h, refl, refl)
+act-inserts t (T n) m h f r i e = absurd (false≢true h)
+act-inserts t (C n k) m h f r i e = absurd (false≢true h)
+act-inserts t (R n) m h f r i e = absurd (false≢true h)
+act-inserts t (U n b) m h f r i e = absurd (false≢true h)
+act-inserts t (D n) m h f r i e = absurd (false≢true h)
+act-inserts t (I m' kind b n k) m h f r i e = (row new (path r), put-new (numbered n) (seen-by t) k new (λ a. a) i (eq-eqb _ n e), is-m (eqb m' m) refl h, refl, refl)
   where
     new : Marked
     new = inserted-by t (record { number = m'; kind = kind; content = b })
@@ -109,9 +109,9 @@ act-brings t (I m' kind b n k) m h f r i e = (row new (path r), put-new (numbere
     is-m : (x : Bool) → eqb m' m ≡ x → (x || false) ≡ true → m' ≡ m
     is-m true x y = eqb-true m' m x
     is-m false x y = absurd (false≢true y)
-act-brings t (TT n) m h f r i e = absurd (false≢true h)
-act-brings t (RR n) m h f r i e = absurd (false≢true h)
-act-brings t (UU n a b) m h f r i e = absurd (false≢true h)
+act-inserts t (TT n) m h f r i e = absurd (false≢true h)
+act-inserts t (RR n) m h f r i e = absurd (false≢true h)
+act-inserts t (UU n a b) m h f r i e = absurd (false≢true h)
 
 pub step-standing : (t : ℕ) (s : Step) (p : List ℕ) (f : Tree) (r : Place) → Inside r f → number-of r ≡ target s → numbers-of (r .above) ≡ p
     → Standing (after-step t s (locks s p) f) t s (locks s p)
@@ -130,27 +130,27 @@ step-standing t s p f r i e o = record {
     N : Carried t (after-step t s ls f) r
     N = step-carries t s ls t f r i
 
-    fresh : (m : ℕ) → has m (brings s) ≡ true → (x : Place) × Inside x (after-step t s ls f) × (number-of x ≡ m) × (numbers-of (x .above) ≡ numbers-of (path (N .place))) × (x .it .inserter ≡ t)
+    fresh : (m : ℕ) → has m (inserts s) ≡ true → (x : Place) × Inside x (after-step t s ls f) × (number-of x ≡ m) × (numbers-of (x .above) ≡ numbers-of (path (N .place))) × (x .it .inserter ≡ t)
     fresh m h =
-        let a = act-brings t s m h f r i e in
+        let a = act-inserts t s m h f r i e in
         let g = grant-carries t ls t (act t s f) (a .0) (a .1) in
         (g .place, g .inside, g .number ∙ a .2, g .above ∙ ap numbers-of (a .3) ∙ sym (carried-path N), g .inserter (a .4))
 
     bits : (l : Lock) → List·Memᴰ l ls → (x : Place) × Inside x (after-step t s ls f) × (number-of x ≡ l .0) × (x .it .held t (l .1) ≡ true)
     bits l m = go (lock-place s p l m)
       where
-        go : (has (l .0) (target s ∷ p) ≡ true) ⊎ (has (l .0) (brings s) ≡ true) → (x : Place) × Inside x (after-step t s ls f) × (number-of x ≡ l .0) × (x .it .held t (l .1) ≡ true)
+        go : (has (l .0) (target s ∷ p) ≡ true) ⊎ (has (l .0) (inserts s) ≡ true) → (x : Place) × Inside x (after-step t s ls f) × (number-of x ≡ l .0) × (x .it .held t (l .1) ≡ true)
         go (inl y) =
             let b = ancestor-place f i (l .0) (rw (e, o) y) in
             let a = act-carries t s t f (b .0) (b .1) in
             grant-there t ls (act t s f) l m (a .place) (a .inside) (a .number ∙ b .2)
-        go (inr y) = let a = act-brings t s (l .0) y f r i e in grant-there t ls (act t s f) l m (a .0) (a .1) (a .2)
+        go (inr y) = let a = act-inserts t s (l .0) y f r i e in grant-there t ls (act t s f) l m (a .0) (a .1) (a .2)
 
 -- the places afterwards: those before, and the new one --------------------------------------------
 
 -- a place with such a number and inserter was there before, or is the step's new one
 abbrev pub Known-place : ℕ → Step → Tree → Place → Type 0
-Known-place t s f r = ((x : Place) × Inside x f × (number-of r ≡ number-of x) × (r .it .inserter ≡ x .it .inserter)) ⊎ ((has (number-of r) (brings s) ≡ true) × (r .it .inserter ≡ t))
+Known-place t s f r = ((x : Place) × Inside x f × (number-of r ≡ number-of x) × (r .it .inserter ≡ x .it .inserter)) ⊎ ((has (number-of r) (inserts s) ≡ true) × (r .it .inserter ≡ t))
 
 in-marked : (c : Place → Marked) → ((r : Place) → c r .now .number ≡ number-of r) → ((r : Place) → c r .inserter ≡ r .it .inserter) → (f : Tree) (r : Place) → Inside r (mark c f)
     → (x : Place) × Inside x f × (number-of r ≡ number-of x) × (r .it .inserter ≡ x .it .inserter)

@@ -9,7 +9,7 @@ use borrow.Author.Tests.{eqb-true, eq-eqb}
 use Rattle.tree.specs.Lists.{has}
 use Rattle.tree.specs.Forest.{row, put}
 use Rattle.tree.specs.Document.{Node, here, at}
-use Rattle.tree.specs.Steps.{Step, T, C, R, U, D, I, TT, RR, UU, target, brings}
+use Rattle.tree.specs.Steps.{Step, T, C, R, U, D, I, TT, RR, UU, target, inserts}
 use Rattle.tree.specs.Laws.Rows.{Each, each-above}
 use Rattle.tree.specs.Laws.Put.{in-put, New}
 use Rattle.locks.specs.Needs.{Lock, locks, needs}
@@ -158,7 +158,7 @@ module _ (holds holds' : ℕ → List Lock) (more : (u : ℕ) → Within (holds 
 
     -- a granted step
     module _ (nz : t ≡ nobody → ⊥) where
-      pub act-covered : (s : Step) → here (target s) (callers-document t f) ≡ true → Compatible-step holds f cov t nz s → ((m : ℕ) → has m (brings s) ≡ true → number-held m f ≡ false)
+      pub act-covered : (s : Step) → here (target s) (callers-document t f) ≡ true → Compatible-step holds f cov t nz s → ((m : ℕ) → has m (inserts s) ≡ true → number-held m f ≡ false)
           → Within (needs s (callers-document t f)) (holds' t) → Covered holds' (act t s f)
       act-covered (T n) hs c new w = same-covered
       act-covered (C n k) hs c new w = same-covered

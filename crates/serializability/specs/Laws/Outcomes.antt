@@ -6,7 +6,7 @@ use mathlib.Core.Logic.{_⊎_, inl, inr}
 use lib.Dec.{eqb}
 use Rattle.tree.specs.Lists.{any}
 use Rattle.tree.specs.Document.{Document}
-use Rattle.tree.specs.Steps.{Step, brings, misfit, misplaced, answer}
+use Rattle.tree.specs.Steps.{Step, inserts, misfit, misplaced, answer}
 use Rattle.locks.specs.Needs.{needs}
 use Rattle.protocol.specs.State.{State, is-transaction, number-held, act, grant, with-tree}
 use Rattle.protocol.specs.Lent.{Room, has-room}
@@ -26,7 +26,7 @@ pub data Reason (t : ℕ) (s : Step) (M : State) (d : Document) : Outcome → Ty
 -- what a granted step has passed
 pub record Passed (t : ℕ) (s : Step) (M : State) (d : Document) : Type 0 where
   pub fit : eqb (misfit s d) 0 ≡ true
-  pub unheld : any (λ m. number-held m (M .tree)) (brings s) ≡ false
+  pub unheld : any (λ m. number-held m (M .tree)) (inserts s) ≡ false
   pub clear : eqb (wait-set t (needs s d) M) 0 ≡ true
   pub in-place : misplaced s d ≡ false
 
@@ -36,13 +36,13 @@ Verdict t s M d n = ((o : Outcome) × Reason t s M d o × (n ≡ unchanged o M))
 
 pub judged-verdict : (t : ℕ) (s : Step) (room : Room) (M : State) (d : Document) → Verdict t s M d (judged t s room M d)
 unfolding judged
-judged-verdict t s room M d = go (eqb (misfit s d) 0) refl (any (λ m. number-held m (M .tree)) (brings s)) refl (eqb (wait-set t (needs s d) M) 0) refl
+judged-verdict t s room M d = go (eqb (misfit s d) 0) refl (any (λ m. number-held m (M .tree)) (inserts s)) refl (eqb (wait-set t (needs s d) M) 0) refl
     (misplaced s d) refl (table-full s (M .tree)) (has-room (answer s d) room)
   where
     done-state : State
     done-state = with-tree M (grant t (needs s d) (act t s (M .tree)))
 
-    go : (a : Bool) → eqb (misfit s d) 0 ≡ a → (b : Bool) → any (λ m. number-held m (M .tree)) (brings s) ≡ b
+    go : (a : Bool) → eqb (misfit s d) 0 ≡ a → (b : Bool) → any (λ m. number-held m (M .tree)) (inserts s) ≡ b
         → (c : Bool) → eqb (wait-set t (needs s d) M) 0 ≡ c → (e : Bool) → misplaced s d ≡ e → (f g : Bool)
         → Verdict t s M d (cond (not a) (unchanged (refused (misfit s d)) M) (cond b (unchanged (refused 10) M)
         (cond (not c) (unchanged (waits (wait-set t (needs s d) M)) M) (cond e (unchanged (refused 11) M)

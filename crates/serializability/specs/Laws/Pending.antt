@@ -9,7 +9,7 @@ use borrow.Author.Tests.{eqb-true, eqb-false, eq-eqb, not-true, not-false}
 use Rattle.tree.specs.Lists.{any, every, has, keep, same, distinct}
 use Rattle.tree.specs.Forest.{row}
 use Rattle.tree.specs.Document.{Node, Document, Line, lines, here, at}
-use Rattle.tree.specs.Steps.{Step, D, brings, with-content}
+use Rattle.tree.specs.Steps.{Step, D, inserts, with-content}
 use Rattle.tree.specs.Laws.Tests.{and-left, and-right, or-left, or-right, refuted}
 use Rattle.tree.specs.Laws.Lists.{any-at, at-any, has-in, in-has, in-keep, keep-in, map-self}
 use Rattle.tree.specs.Laws.Distinct.{distinct-keep}
@@ -51,18 +51,18 @@ equal-same b b' e = rw e (same-self b')
 abbrev pub steps : List Entry → List Step
 steps l = map (λ x. x .step) l
 
-in-inserted : (l : List Entry) (y : Entry) → List·Memᴰ y l → (m : ℕ) → has m (brings (y .step)) ≡ true → List·Memᴰ m (inserted (steps l))
+in-inserted : (l : List Entry) (y : Entry) → List·Memᴰ y l → (m : ℕ) → has m (inserts (y .step)) ≡ true → List·Memᴰ m (inserted (steps l))
 in-inserted [] y i m h = absurd (List·Memᴰ·not-nil i)
-in-inserted (x ∷ l) y (List·Memᴰ·head e) m h = Memᴰ·append-left {s = brings (x .step)} (inserted (steps l)) (has-in m (brings (x .step)) (rw e at h))
-in-inserted (x ∷ l) y (List·Memᴰ·tail i) m h = Memᴰ·append-right (brings (x .step)) (in-inserted l y i m h)
+in-inserted (x ∷ l) y (List·Memᴰ·head e) m h = Memᴰ·append-left {s = inserts (x .step)} (inserted (steps l)) (has-in m (inserts (x .step)) (rw e at h))
+in-inserted (x ∷ l) y (List·Memᴰ·tail i) m h = Memᴰ·append-right (inserts (x .step)) (in-inserted l y i m h)
 
-inserted-in : (l : List Entry) (m : ℕ) → List·Memᴰ m (inserted (steps l)) → (y : Entry) × List·Memᴰ y l × (has m (brings (y .step)) ≡ true)
+inserted-in : (l : List Entry) (m : ℕ) → List·Memᴰ m (inserted (steps l)) → (y : Entry) × List·Memᴰ y l × (has m (inserts (y .step)) ≡ true)
 inserted-in [] m i = absurd (List·Memᴰ·not-nil i)
-inserted-in (x ∷ l) m i = go (List·Memᴰ·append-cases (brings (x .step)) i) (λ j. inserted-in l m j)
+inserted-in (x ∷ l) m i = go (List·Memᴰ·append-cases (inserts (x .step)) i) (λ j. inserted-in l m j)
   where
-    go : List·Memᴰ m (brings (x .step)) ⊎ List·Memᴰ m (inserted (steps l)) → (List·Memᴰ m (inserted (steps l)) → (y : Entry) × List·Memᴰ y l × (has m (brings (y .step)) ≡ true))
-        → (y : Entry) × List·Memᴰ y (x ∷ l) × (has m (brings (y .step)) ≡ true)
-    go (inl j) f = (x, List·Memᴰ·head refl, in-has m (brings (x .step)) j)
+    go : List·Memᴰ m (inserts (x .step)) ⊎ List·Memᴰ m (inserted (steps l)) → (List·Memᴰ m (inserted (steps l)) → (y : Entry) × List·Memᴰ y l × (has m (inserts (y .step)) ≡ true))
+        → (y : Entry) × List·Memᴰ y (x ∷ l) × (has m (inserts (y .step)) ≡ true)
+    go (inl j) f = (x, List·Memᴰ·head refl, in-has m (inserts (x .step)) j)
     go (inr j) f = let a = f j in (a .0, List·Memᴰ·tail (a .1), a .2)
 
 -- nothing passes, so each fails
@@ -105,7 +105,7 @@ module _ (c : Document) (log : ℕ → List Entry) (M : State) (g : Good c log M
   -- nothing is pending in t: its document is the committed one ------------------------------------
 
   module _ (t : ℕ) (quiet : pending-in committed (steps (log t)) (with-only t) ≡ false) where
-    no-insertion : (y : Entry) → List·Memᴰ y (log t) → (m : ℕ) → has m (brings (y .step)) ≡ true → here m (with-only t) ≡ false
+    no-insertion : (y : Entry) → List·Memᴰ y (log t) → (m : ℕ) → has m (inserts (y .step)) ≡ true → here m (with-only t) ≡ false
     no-insertion y i m h = none-at (λ n. here n (with-only t)) (inserted (steps (log t))) (or-left _ _ (or-left _ _ quiet)) (in-inserted (log t) y i m h)
 
     no-deletion : (l : Line) → Of l committed → here (l .it .number) (with-only t) ≡ true
@@ -268,7 +268,7 @@ module _ (c : Document) (log : ℕ → List Entry) (M : State) (g : Good c log M
 
     module _ (t : ℕ) (nt : t ≡ nobody → ⊥) where
       -- no number that t inserted is in its document
-      insertions-gone : (y : Entry) → List·Memᴰ y (log t) → (m : ℕ) → has m (brings (y .step)) ≡ true → here m (with-only t) ≡ true → ⊥
+      insertions-gone : (y : Entry) → List·Memᴰ y (log t) → (m : ℕ) → has m (inserts (y .step)) ≡ true → here m (with-only t) ≡ true → ⊥
       insertions-gone y i m h e =
           let n = g .standing t y i .new m h in
           let r : Place = n .0 in

@@ -16,7 +16,7 @@ use Rattle.commute.specs.Laws.Orders as orders
 use Rattle.commute.specs.Laws.Legal.{legal-run}
 use Rattle.protocol.specs.State.{nobody, State, Tree, is-transaction, transactions, done-by, shown, as-shown, document-of, held-document, committed-document, abort-tree, closed}
 use Rattle.protocol.specs.Calls.{Call, abort, unchanged, becomes, refused, next}
-use Rattle.protocol.specs.History.{state-after, Ledger}
+use Rattle.protocol.specs.History.{state-after, Log}
 use Rattle.serializability.specs.Theorem.{reached, all-aborted, Reached}
 use Rattle.serializability.specs.Laws.WaitSet.{transaction-in}
 use Rattle.serializability.specs.Laws.Shown.{Place, Inside, minus, abort-shown}
@@ -136,7 +136,7 @@ aborts-close (t ∷ ts) M h u (List·Memᴰ·tail i) = aborts-close ts (next (ab
 listed : (u : ℕ) → List·Memᴰ u transactions → is-transaction u ≡ true
 listed u i = every-at is-transaction transactions refl i
 
-aborted-held : (L : Ledger Entry) (M : State) → Tracks L M → held-document (all-aborted M) ≡ committed-document M
+aborted-held : (L : Log Entry) (M : State) → Tracks L M → held-document (all-aborted M) ≡ committed-document M
 aborted-held L M tr =
     let N = calls-track L M tr (map abort transactions) in
     held-shown (N .c) _ (all-aborted M) (N .good)

@@ -13,7 +13,7 @@ use Rattle.tree.specs.Laws.Put.{in-put, New}
 use Rattle.locks.specs.Modes.{Mode, union}
 use Rattle.locks.specs.Needs.{Lock, needs}
 use Rattle.protocol.specs.State.{State, Marked, Tree, is-transaction, transactions, nodes, numbered, seen-by, callers-document, inserted-by, modes-on, granted-to}
-use Rattle.protocol.specs.State.{none-of, settled, undone, mark, renamed, act, grant, commit-tree, abort-tree, tree-of, start-state, opened}
+use Rattle.protocol.specs.State.{none-of, lasting, undone, mark, renamed, act, grant, commit-tree, abort-tree, tree-of, start-state, opened}
 use Rattle.protocol.specs.Lent.{Room}
 use Rattle.protocol.specs.Calls.{Call, start, load, begin, commit, abort, step, write, Input, unreadable, stands-for, Next, unchanged, becomes, refused, judged, if-open, loaded, next}
 use Rattle.protocol.specs.History.{state-after}
@@ -86,7 +86,7 @@ none-other t a u m h = go (eqb u t) refl h
 commit-released : (o : ℕ → Bool) (t : ℕ) (f : Tree) → Released o f → Released (λ u. not (eqb u t) && o u) (commit-tree t f)
 unfolding Released commit-tree
 commit-released o t f k r i u m h =
-    let a = in-part (seen-by t) (settled t) f i in
+    let a = in-part (seen-by t) (lasting t) f i in
     let x = none-other t (a .0 .it) u m (rw (a .3) at h) in
     rw (x .0) (k (a .0) (a .1) u m (x .1))
 

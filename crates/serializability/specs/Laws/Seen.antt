@@ -9,7 +9,7 @@ use borrow.Author.Tests.{eqb-true}
 use Rattle.tree.specs.Lists.{every, has, leads, keep}
 use Rattle.tree.specs.Forest.{row, rows, view}
 use Rattle.tree.specs.Document.{Node, Line, lines, select, here}
-use Rattle.tree.specs.Steps.{Step, T, C, R, U, D, I, TT, RR, UU, target, brings, with-content}
+use Rattle.tree.specs.Steps.{Step, T, C, R, U, D, I, TT, RR, UU, target, inserts, with-content}
 use Rattle.tree.specs.Laws.Tests.{and-left, and-right, refuted}
 use Rattle.tree.specs.Laws.Lists.{keep-map, keep-keep, keep-same, in-keep, map-map, map-same}
 use Rattle.tree.specs.Laws.Rows.{of-rows}
@@ -112,7 +112,7 @@ module _ (t : ℕ) (nz : t ≡ nobody → ⊥) (S : ℕ → Bool) (st : S t ≡ 
   pub own-content : (a : Marked) → local t (a .writer) ≡ true → as-shown S a ≡ a .now
   own-content a h = rw (local-done (a .writer) h)
 
--- a step of t on a node of its document, compatible with what the others hold, which brings in no number held
+-- a step of t on a node of its document, compatible with what the others hold, which inserts no number held
 module _ (holds : ℕ → List Lock) (f : Tree) (cov : Covered holds f) (t : ℕ) (nz : t ≡ nobody → ⊥) where
   abbrev pub Compatible-step : Step → Type 0
   Compatible-step s = (u : ℕ) → (u ≡ t → ⊥) → Compatible (needs s (callers-document t f)) (holds u)
@@ -146,7 +146,7 @@ module _ (holds : ℕ → List Lock) (f : Tree) (cov : Covered holds f) (t : ℕ
       (contents-kept (renames-below n a b) .0) (contents-kept (renames-below n a b) .1) r i e
 
   pub seen : (S : ℕ → Bool) → S t ≡ true → (s : Step) → here (target s) (callers-document t f) ≡ true → Compatible-step s
-      → ((m : ℕ) → has m (brings s) ≡ true → number-held m f ≡ false) → Views s (callers-document t f) (document-of S f)
+      → ((m : ℕ) → has m (inserts s) ≡ true → number-held m f ≡ false) → Views s (callers-document t f) (document-of S f)
   unfolding callers-document document-of
   seen S st s hs c new = record {
     node = agree-shapes (seen-by t) (shown S) (λ a. a .now .content) (λ a. as-shown S a .content) f itself (target s)

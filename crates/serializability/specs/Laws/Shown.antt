@@ -16,7 +16,7 @@ use Rattle.tree.specs.Laws.View.{view-view, view-agree, view-amend}
 use Rattle.tree.specs.Laws.Put.{view-put, view-put-hidden}
 use Rattle.locks.specs.Needs.{Lock}
 use Rattle.protocol.specs.State.{nobody, Marked, Tree, numbered, seen-by, done-by, shown, as-shown, document-of, written-by, deleted-by, inserted-by, granted-to}
-use Rattle.protocol.specs.State.{unless, settled, undone, mark, mark-node, renamed, grant, commit-tree, abort-tree, tree-of}
+use Rattle.protocol.specs.State.{without, lasting, undone, mark, mark-node, renamed, grant, commit-tree, abort-tree, tree-of}
 
 -- a node held, with the nodes above it
 abbrev pub Place : Type 0
@@ -232,8 +232,8 @@ abbrev pub minus : ℕ → (ℕ → Bool) → ℕ → Bool
 minus t S u = not (eqb u t) && S u
 
 module _ (t : ℕ) (nz : t ≡ nobody → ⊥) (S : ℕ → Bool) where
-  settled-done : (u : ℕ) → done-by S (unless t u) ≡ done-by (plus t S) u
-  settled-done u = go (eqb u t) refl
+  lasting-done : (u : ℕ) → done-by S (without t u) ≡ done-by (plus t S) u
+  lasting-done u = go (eqb u t) refl
     where
       go : (e : Bool) → eqb u t ≡ e → done-by S (cond e nobody u) ≡ (eqb u 0 || (e || S u))
       go true e = sym (or-true (eqb u 0))
@@ -242,10 +242,10 @@ module _ (t : ℕ) (nz : t ≡ nobody → ⊥) (S : ℕ → Bool) where
   -- after a commit a set shows what it showed with t
   pub commit-shown : (f : Tree) → document-of S (commit-tree t f) ≡ document-of (plus t S) f
   unfolding document-of commit-tree
-  commit-shown f = view-view (seen-by t) (settled t) (shown S) (as-shown S) f ∙ view-same (shown (plus t S)) _ (as-shown (plus t S)) _ f sight (λ a e. rw (settled-done (a .writer)))
+  commit-shown f = view-view (seen-by t) (lasting t) (shown S) (as-shown S) f ∙ view-same (shown (plus t S)) _ (as-shown (plus t S)) _ f sight (λ a e. rw (lasting-done (a .writer)))
     where
-      sight : (a : Marked) → (seen-by t a && shown S (settled t a)) ≡ shown (plus t S) a
-      sight a = rw (settled-done (a .inserter)) (go (eqb (a .deleter) t) refl)
+      sight : (a : Marked) → (seen-by t a && shown S (lasting t a)) ≡ shown (plus t S) a
+      sight a = rw (lasting-done (a .inserter)) (go (eqb (a .deleter) t) refl)
         where
           go : (x : Bool) → eqb (a .deleter) t ≡ x
               → (not x && (done-by (plus t S) (a .inserter) && not (not (eqb (a .deleter) 0) && S (a .deleter)))) ≡ (done-by (plus t S) (a .inserter) && not (not (eqb (a .deleter) 0) && (x || S (a .deleter))))

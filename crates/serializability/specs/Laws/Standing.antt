@@ -8,7 +8,7 @@ use lib.Dec.{eqb}
 use borrow.Author.Tests.{eqb-true, eq-eqb, ne-eqb, not-true}
 use Rattle.tree.specs.Lists.{any, has}
 use Rattle.tree.specs.Forest.{row}
-use Rattle.tree.specs.Steps.{Step, target, brings}
+use Rattle.tree.specs.Steps.{Step, target, inserts}
 use Rattle.tree.specs.Laws.Tests.{refuted}
 use Rattle.tree.specs.Laws.Lists.{at-any, every-not}
 use Rattle.tree.specs.Laws.Rows.{Each, each-above}
@@ -30,7 +30,7 @@ pub record Standing (f : Tree) (u : ℕ) (s : Step) (hs : List Lock) : Type 0 wh
   pub inside : Inside node f
   pub number : number-of node ≡ target s
   pub locked : hs ≡ locks s (numbers-of (node .above))
-  pub new : (m : ℕ) → has m (brings s) ≡ true → (r : Place) × Inside r f × (number-of r ≡ m) × (numbers-of (r .above) ≡ numbers-of (path node)) × (r .it .inserter ≡ u)
+  pub new : (m : ℕ) → has m (inserts s) ≡ true → (r : Place) × Inside r f × (number-of r ≡ m) × (numbers-of (r .above) ≡ numbers-of (path node)) × (r .it .inserter ≡ u)
   pub held : (l : Lock) → List·Memᴰ l hs → (r : Place) × Inside r f × (number-of r ≡ l .0) × (r .it .held u (l .1) ≡ true)
 
 -- paths ------------------------------------------------------------------------------------
@@ -62,14 +62,14 @@ covers f d u s hs g l m r i e q h = rw (g .locked) (go (lock-place s P l (rw (g 
     on-path : has q (numbers-of (path (g .node))) ≡ true → (a : Mode) × Locked q a (locks s P)
     on-path y = path-locked s P q (rw (g .number) at y)
 
-    below-new : (x : (r : Place) × Inside r f × (number-of r ≡ l .0) × (numbers-of (r .above) ≡ numbers-of (path (g .node))) × (r .it .inserter ≡ u)) → has (l .0) (brings s) ≡ true → (a : Mode) × Locked q a (locks s P)
+    below-new : (x : (r : Place) × Inside r f × (number-of r ≡ l .0) × (numbers-of (r .above) ≡ numbers-of (path (g .node))) × (r .it .inserter ≡ u)) → has (l .0) (inserts s) ≡ true → (a : Mode) × Locked q a (locks s P)
     below-new x b = step (eqb (number-of r) q) refl h
       where
         step : (y : Bool) → eqb (number-of r) q ≡ y → (y || has q (numbers-of (r .above))) ≡ true → (a : Mode) × Locked q a (locks s P)
         step true y z = (LW, rw (sym e ∙ eqb-true (number-of r) q y) at (new-locked s P (l .0) b LW (rw (new-need s (l .0) b) (List·Memᴰ·head refl))))
         step false y z = on-path (rw (ap (λ (w : Place). numbers-of (w .above)) (one-place f d i (x .1) (e ∙ sym (x .2))) ∙ x .3) at z)
 
-    go : (has (l .0) (target s ∷ P) ≡ true) ⊎ (has (l .0) (brings s) ≡ true) → (a : Mode) × Locked q a (locks s P)
+    go : (has (l .0) (target s ∷ P) ≡ true) ⊎ (has (l .0) (inserts s) ≡ true) → (a : Mode) × Locked q a (locks s P)
     go (inl y) =
         let b = ancestor-place f (g .inside) (l .0) (rw (← g .number) at y) in
         on-path (b .3 q (rw (one-place f d i (b .1) (e ∙ sym (b .2))) at h))
@@ -136,7 +136,7 @@ standing-carried f f' d u s hs g carry = record {
     N : Carried u f' (g .node)
     N = carry (g .node) (g .inside) on-path
 
-    fresh : (m : ℕ) → has m (brings s) ≡ true → (r : Place) × Inside r f × (number-of r ≡ m) × (numbers-of (r .above) ≡ numbers-of (path (g .node))) × (r .it .inserter ≡ u)
+    fresh : (m : ℕ) → has m (inserts s) ≡ true → (r : Place) × Inside r f × (number-of r ≡ m) × (numbers-of (r .above) ≡ numbers-of (path (g .node))) × (r .it .inserter ≡ u)
         → (r : Place) × Inside r f' × (number-of r ≡ m) × (numbers-of (r .above) ≡ numbers-of (path (N .place))) × (r .it .inserter ≡ u)
     fresh m h x =
         let lw : Locked m LW hs = rw (g .locked) (new-locked s (numbers-of (g .node .above)) m h LW (rw (new-need s m h) (List·Memᴰ·head refl))) in

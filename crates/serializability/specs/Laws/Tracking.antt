@@ -1,4 +1,4 @@
--- Every call keeps the state in step with a ledger of entries.
+-- Every call keeps the state in step with a log of entries.
 use mathlib.Core.Path.{_≡_, refl, sym, ap, _∙_, fun-ext}
 use Prim.Native.Nat.{ℕ}
 use mathlib.Core.Bool.{Bool, true, false, cond, not, _&&_, _||_, false≢true, true≢false}
@@ -22,10 +22,10 @@ use Rattle.commute.specs.Laws.Serial.{emptied}
 use Rattle.protocol.specs.State.{nobody, State, Marked, is-transaction, transactions, callers-document, unmarked, tree-of, start-state, opened, closed}
 use Rattle.protocol.specs.Lent.{Room}
 use Rattle.protocol.specs.Calls.{Call, start, load, begin, commit, abort, step, write, Input, unreadable, stands-for, loadable, Outcome, Next, unchanged, becomes, refused, judged, if-open, loaded, next}
-use Rattle.protocol.specs.History.{state-after, is-granted, value-of, Ledger, new-ledger, entered}
+use Rattle.protocol.specs.History.{state-after, is-granted, value-of, Log, new-log, logged}
 use Rattle.serializability.specs.Laws.Outcomes.{Reason, by-misfit, by-number, by-clash, by-place, by-limit, by-room, Verdict, judged-verdict, if-open-cases}
 use Rattle.serializability.specs.Laws.OneCall.{not-granted}
-use Rattle.serializability.specs.Laws.Ledgers.{entered-in, tracked}
+use Rattle.serializability.specs.Laws.Logs.{logged-in, tracked}
 use Rattle.serializability.specs.Laws.Shown.{Place, Inside, load-shown}
 use Rattle.serializability.specs.Laws.Numbers as places
 use Rattle.serializability.specs.Laws.Whole.{Good, step-good}
@@ -97,7 +97,7 @@ load-good d u o n = record {
     unwritten-by : (r : Place) → Inside r (tree-of d) → (v : ℕ) → (v ≡ nobody → ⊥) → eqb (r .it .writer) v ≡ true → ⊥
     unwritten-by r i v nv h = true≢false (sym h ∙ rw (load-unmarked d r i .1) (is-nobody v nv))
 
--- the ledger ---------------------------------------------------------------------------------
+-- the log ------------------------------------------------------------------------------------
 
 -- the locks of a step call
 abbrev pub call-locks : Call → State → Step → List Lock
@@ -113,8 +113,8 @@ call-locks write M s = []
 abbrev pub note : Call → State → Step → Value → Entry
 note c M s v = record { step = s; value = v; held = call-locks c M s }
 
--- the ledger's committed log leads from its first document, a legal one, to c, which is the committed document
-pub record Tracks (L : Ledger Entry) (M : State) : Type 0 where
+-- the log's committed log leads from its first document, a legal one, to c, which is the committed document
+pub record Tracks (L : Log Entry) (M : State) : Type 0 where
   pub first-legal : legal (L .first) ≡ true
   pub c : Document
   pub run : Run (L .first) (L .committed) c
@@ -125,41 +125,41 @@ unfolding legal
 legal-unique d h = and-right (Rattle.tree.specs.Document.rooted d && ruled d) _ h
 
 -- a new document, with no open transaction that did anything
-new-tracks : (d : Document) → legal d ≡ true → (o : ℕ → Bool) → ((u : ℕ) → o u ≡ true → is-transaction u ≡ true) → Tracks (new-ledger d) (record { is-open = o; tree = tree-of d })
+new-tracks : (d : Document) → legal d ≡ true → (o : ℕ → Bool) → ((u : ℕ) → o u ≡ true → is-transaction u ≡ true) → Tracks (new-log d) (record { is-open = o; tree = tree-of d })
 new-tracks d h o n = record { first-legal = h; c = d; run = refl; good = load-good d (legal-unique d h) o n }
 
 node-0-legal : legal node-0-alone ≡ true
 unfolding legal ruled lines rows node-0-alone allowed children-rule
 node-0-legal = refl
 
-module _ (L : Ledger Entry) (M : State) (tr : Tracks L M) where
+module _ (L : Log Entry) (M : State) (tr : Tracks L M) where
   Entered : Call → Next → Type 0
-  Entered c n = is-granted (n .outcome) ≡ true → Tracks (entered (note c M) c (value-of (n .outcome)) L) (n .state)
+  Entered c n = is-granted (n .outcome) ≡ true → Tracks (logged (note c M) c (value-of (n .outcome)) L) (n .state)
 
   -- no claim where a call is refused
-  entered-refused : (c : Call) (o : Outcome) (n : Next) → is-granted o ≡ false → n ≡ unchanged o M → Entered c n
+  logged-refused : (c : Call) (o : Outcome) (n : Next) → is-granted o ≡ false → n ≡ unchanged o M → Entered c n
   unfolding Entered
-  entered-refused c o n g e h = absurd (true≢false (sym h ∙ ap (λ (x : Next). is-granted (x .outcome)) e ∙ g))
+  logged-refused c o n g e h = absurd (true≢false (sym h ∙ ap (λ (x : Next). is-granted (x .outcome)) e ∙ g))
 
   -- a call of an open transaction
-  entered-open : (c : Call) (t : ℕ) (n : Next) → (is-transaction t ≡ true → M .is-open t ≡ true → Entered c n) → Entered c (if-open t M n)
+  logged-open : (c : Call) (t : ℕ) (n : Next) → (is-transaction t ≡ true → M .is-open t ≡ true → Entered c n) → Entered c (if-open t M n)
   unfolding Entered
-  entered-open c t n k = go (if-open-cases t M n)
+  logged-open c t n k = go (if-open-cases t M n)
     where
       go : ((x : ℕ) × ((eqb x 1 || eqb x 3) ≡ true) × (if-open t M n ≡ unchanged (refused x) M)) ⊎ ((is-transaction t ≡ true) × (M .is-open t ≡ true) × (if-open t M n ≡ n)) → Entered c (if-open t M n)
-      go (inl v) = entered-refused c (refused (v .0)) (if-open t M n) refl (v .2)
+      go (inl v) = logged-refused c (refused (v .0)) (if-open t M n) refl (v .2)
       go (inr v) = rw (v .2) (k (v .0) (v .1))
 
   somebody : (t : ℕ) → is-transaction t ≡ true → t ≡ nobody → ⊥
   somebody t h e = false≢true (rw e at h)
 
-  entered-load : (i : Input) → Entered (load i) (loaded i M)
+  logged-load : (i : Input) → Entered (load i) (loaded i M)
   unfolding Entered loadable
-  entered-load (unreadable cause offset) h = absurd (false≢true h)
-  entered-load (stands-for d l) h = new-tracks d (and-left _ _ (and-left _ _ l)) (M .is-open) (tr .good .numbered)
+  logged-load (unreadable cause offset) h = absurd (false≢true h)
+  logged-load (stands-for d l) h = new-tracks d (and-left _ _ (and-left _ _ l)) (M .is-open) (tr .good .numbered)
 
-  entered-begin : (t : ℕ) → is-transaction t ≡ true → M .is-open t ≡ false → Good (tr .c) (emptied t (L .open-log)) (opened t M)
-  entered-begin t h e = rw log-same (record {
+  logged-begin : (t : ℕ) → is-transaction t ≡ true → M .is-open t ≡ false → Good (tr .c) (emptied t (L .open-log)) (opened t M)
+  logged-begin t h e = rw log-same (record {
     closed = λ u x. tr .good .closed u (or-off u x);
     numbered = λ u x. numbers u (eqb u t) refl x;
     covered = tr .good .covered;
@@ -186,9 +186,9 @@ module _ (L : Ledger Entry) (M : State) (tr : Tracks L M) where
       numbers u true y x = rw (eqb-true u t y) h
       numbers u false y x = tr .good .numbered u x
 
-  entered-step : (t : ℕ) (s : Step) (room : Room) → is-transaction t ≡ true → M .is-open t ≡ true → Entered (step t s room) (judged t s room M (callers-document t (M .tree)))
+  logged-step : (t : ℕ) (s : Step) (room : Room) → is-transaction t ≡ true → M .is-open t ≡ true → Entered (step t s room) (judged t s room M (callers-document t (M .tree)))
   unfolding Entered
-  entered-step t s room h o = go (judged-verdict t s room M (callers-document t (M .tree)))
+  logged-step t s room h o = go (judged-verdict t s room M (callers-document t (M .tree)))
     where
       d : Document
       d = callers-document t (M .tree)
@@ -202,46 +202,46 @@ module _ (L : Ledger Entry) (M : State) (tr : Tracks L M) where
       refusal x by-room = refl
 
       go : Verdict t s M d (judged t s room M d) → Entered (step t s room) (judged t s room M d)
-      go (inl v) = entered-refused (step t s room) (v .0) (judged t s room M d) (refusal (v .0) (v .1)) (v .2)
+      go (inl v) = logged-refused (step t s room) (v .0) (judged t s room M d) (refusal (v .0) (v .1)) (v .2)
       go (inr v) = rw (v .1) (λ x. record { first-legal = tr .first-legal; c = tr .c; run = tr .run; good = step-good (tr .c) (L .open-log) M (tr .good) t s h o (v .0) })
 
-  entered-any : (c : Call) → Entered c (next c M)
+  logged-any : (c : Call) → Entered c (next c M)
   unfolding next Entered
-  entered-any start = λ x. new-tracks node-0-alone node-0-legal (λ u. false) (λ u e. absurd (false≢true e))
-  entered-any (load i) = go (any (M .is-open) transactions)
+  logged-any start = λ x. new-tracks node-0-alone node-0-legal (λ u. false) (λ u e. absurd (false≢true e))
+  logged-any (load i) = go (any (M .is-open) transactions)
     where
       go : (b : Bool) → Entered (load i) (cond b (unchanged (refused 15) M) (loaded i M))
-      go true = entered-refused (load i) (refused 15) _ refl refl
-      go false = entered-load i
-  entered-any (begin t) = go (is-transaction t) refl (M .is-open t) refl
+      go true = logged-refused (load i) (refused 15) _ refl refl
+      go false = logged-load i
+  logged-any (begin t) = go (is-transaction t) refl (M .is-open t) refl
     where
       go : (a : Bool) → is-transaction t ≡ a → (b : Bool) → M .is-open t ≡ b
           → Entered (begin t) (cond (not a) (unchanged (refused 1) M) (cond b (unchanged (refused 2) M) (becomes Value.done (opened t M))))
-      go false p b q = entered-refused (begin t) (refused 1) _ refl refl
-      go true p true q = entered-refused (begin t) (refused 2) _ refl refl
-      go true p false q = λ x. record { first-legal = tr .first-legal; c = tr .c; run = tr .run; good = entered-begin t p q }
-  entered-any (commit t) = entered-open (commit t) t _ (λ h o x.
+      go false p b q = logged-refused (begin t) (refused 1) _ refl refl
+      go true p true q = logged-refused (begin t) (refused 2) _ refl refl
+      go true p false q = λ x. record { first-legal = tr .first-legal; c = tr .c; run = tr .run; good = logged-begin t p q }
+  logged-any (commit t) = logged-open (commit t) t _ (λ h o x.
       let e = commit-good (tr .c) (L .open-log) M (tr .good) t (somebody t h) in
       record { first-legal = tr .first-legal; c = e .0; run = run-append (L .first) (L .committed) (L .open-log t) (tr .c) (e .0) (tr .run) (e .1); good = e .2 })
-  entered-any (abort t) = entered-open (abort t) t _ (λ h o x.
+  logged-any (abort t) = logged-open (abort t) t _ (λ h o x.
       record { first-legal = tr .first-legal; c = tr .c; run = tr .run; good = abort-good (tr .c) (L .open-log) M (tr .good) t (somebody t h) })
-  entered-any (step t s room) = entered-open (step t s room) t _ (λ h o. entered-step t s room h o)
-  entered-any write = λ x. tr
+  logged-any (step t s room) = logged-open (step t s room) t _ (λ h o. logged-step t s room h o)
+  logged-any write = λ x. tr
 
   -- every call
-  pub call-tracks : (c : Call) → Tracks (entered-in note M c L) (next c M .state)
+  pub call-tracks : (c : Call) → Tracks (logged-in note M c L) (next c M .state)
   unfolding Entered
   call-tracks c = go (is-granted (next c M .outcome)) refl
     where
-      go : (b : Bool) → is-granted (next c M .outcome) ≡ b → Tracks (cond b (entered (note c M) c (value-of (next c M .outcome)) L) L) (next c M .state)
-      go true e = entered-any c e
+      go : (b : Bool) → is-granted (next c M .outcome) ≡ b → Tracks (cond b (logged (note c M) c (value-of (next c M .outcome)) L) L) (next c M .state)
+      go true e = logged-any c e
       go false e = rw (not-granted c M e) tr
 
-pub calls-track : (L : Ledger Entry) (M : State) → Tracks L M → (cs : List Call) → Tracks (tracked note M L cs) (state-after M cs)
+pub calls-track : (L : Log Entry) (M : State) → Tracks L M → (cs : List Call) → Tracks (tracked note M L cs) (state-after M cs)
 unfolding tracked state-after
 calls-track L M tr [] = tr
-calls-track L M tr (c ∷ cs) = calls-track (entered-in note M c L) (next c M .state) (call-tracks L M tr c) cs
+calls-track L M tr (c ∷ cs) = calls-track (logged-in note M c L) (next c M .state) (call-tracks L M tr c) cs
 
--- the ledger of a list that begins with a start
-pub start-tracks : Tracks (new-ledger node-0-alone) start-state
+-- the log of a list that begins with a start
+pub start-tracks : Tracks (new-log node-0-alone) start-state
 start-tracks = new-tracks node-0-alone node-0-legal (λ u. false) (λ u e. absurd (false≢true e))

@@ -9,7 +9,7 @@ use lib.Dec.{eqb}
 use borrow.Author.Tests.{eqb-true, eq-eqb, ne-eqb}
 use Rattle.tree.specs.Lists.{any, every, has}
 use Rattle.tree.specs.Document.{Document, here, at}
-use Rattle.tree.specs.Steps.{Step, target, brings, fits, answer, after}
+use Rattle.tree.specs.Steps.{Step, target, inserts, fits, answer, after}
 use Rattle.tree.specs.Laws.Tests.{refuted}
 use Rattle.tree.specs.Laws.Lists.{at-any, any-at, has-in, in-has}
 use Rattle.locks.specs.Needs.{Lock, needs}
@@ -61,7 +61,7 @@ pub record Good (c : Document) (log : ℕ → List Entry) (M : State) : Type 0 w
   pub covered : Covered (holds log) (M .tree)
   pub standing : (u : ℕ) (y : Entry) → List·Memᴰ y (log u) → Standing (M .tree) u (y .step) (y .held)
   -- a node that a transaction inserted is one that its log brought in
-  pub brought : (r : Place) → Inside r (M .tree) → (r .it .inserter ≡ nobody → ⊥) → (y : Entry) × List·Memᴰ y (log (r .it .inserter)) × (has (number-of r) (brings (y .step)) ≡ true)
+  pub brought : (r : Place) → Inside r (M .tree) → (r .it .inserter ≡ nobody → ⊥) → (y : Entry) × List·Memᴰ y (log (r .it .inserter)) × (has (number-of r) (inserts (y .step)) ≡ true)
   pub serial : (b : List ℕ) → Distinct b → Serial c b log (document-of (λ u. has u b) (M .tree))
 
 -- whoever has a log is open
@@ -97,14 +97,14 @@ module _ (c : Document) (log : ℕ → List Entry) (M : State) (g : Good c log M
   nz : t ≡ nobody → ⊥
   nz e = false≢true (rw e at tr)
 
-  unheld : (m : ℕ) → has m (brings s) ≡ true → number-held m f ≡ false
-  unheld m h = refuted _ (λ e. true≢false (sym (at-any (λ n. number-held n f) (brings s) (has-in m (brings s) h) e) ∙ ok .unheld))
+  unheld : (m : ℕ) → has m (inserts s) ≡ true → number-held m f ≡ false
+  unheld m h = refuted _ (λ e. true≢false (sym (at-any (λ n. number-held n f) (inserts s) (has-in m (inserts s) h) e) ∙ ok .unheld))
 
-  nothing-there : any (λ m. here m d) (brings s) ≡ false
+  nothing-there : any (λ m. here m d) (inserts s) ≡ false
   unfolding callers-document
   nothing-there = refuted _ (λ e.
-      let a = any-at (λ m. here m d) (brings s) e in
-      true≢false (sym (a .2) ∙ unheld-absent (seen-by t) (λ y. y .now .content) f (a .0) (unheld (a .0) (in-has (a .0) (brings s) (a .1)))))
+      let a = any-at (λ m. here m d) (inserts s) e in
+      true≢false (sym (a .2) ∙ unheld-absent (seen-by t) (λ y. y .now .content) f (a .0) (unheld (a .0) (in-has (a .0) (inserts s) (a .1)))))
 
   fit : fits s d ≡ true
   fit = rw (ok .fit, nothing-there, ok .in-place)
@@ -132,7 +132,7 @@ module _ (c : Document) (log : ℕ → List Entry) (M : State) (g : Good c log M
       clear : (v : ℕ) → (v ≡ t → ⊥) → (y : Entry) → List·Memᴰ y (log v) → Clear x y
       clear v ne y i q a b j k = compat v ne q a b j (in-locks-of (log v) y i (q, b) k)
 
-      twice : (y : Entry) → List·Memᴰ y (log t) → (m : ℕ) → has m (brings s) ≡ true → has m (brings (y .step)) ≡ true → ⊥
+      twice : (y : Entry) → List·Memᴰ y (log t) → (m : ℕ) → has m (inserts s) ≡ true → has m (inserts (y .step)) ≡ true → ⊥
       twice y i m h e = let r = g .standing t y i .new m e in true≢false (sym (place-held m f (r .1) (r .2)) ∙ unheld m h)
 
   -- the step in every document with t, and in every document without
@@ -182,16 +182,16 @@ module _ (c : Document) (log : ℕ → List Entry) (M : State) (g : Good c log M
       go (inr j) = rw (j .0, j .1) (step-standing t s (at (target s) d .above) f (at-target .0) (at-target .1) (at-target .2) (at-target .3))
 
   step-brought : (r : Place) → Inside r (after-step t s (needs s d) f) → (r .it .inserter ≡ nobody → ⊥)
-      → (y : Entry) × List·Memᴰ y (noted t x log (r .it .inserter)) × (has (number-of r) (brings (y .step)) ≡ true)
+      → (y : Entry) × List·Memᴰ y (noted t x log (r .it .inserter)) × (has (number-of r) (inserts (y .step)) ≡ true)
   step-brought r i ne = go (step-places t s (needs s d) f r i)
     where
       moved : (u : ℕ) → r .it .inserter ≡ u → (y : Entry) → List·Memᴰ y (noted t x log u) → List·Memᴰ y (noted t x log (r .it .inserter))
       moved u e y m = rw e m
 
-      go : Known-place t s f r → (y : Entry) × List·Memᴰ y (noted t x log (r .it .inserter)) × (has (number-of r) (brings (y .step)) ≡ true)
+      go : Known-place t s f r → (y : Entry) × List·Memᴰ y (noted t x log (r .it .inserter)) × (has (number-of r) (inserts (y .step)) ≡ true)
       go (inl w) =
           let y = g .brought (w .0) (w .1) (λ e. ne (w .3 ∙ e)) in
-          (y .0, moved (w .0 .it .inserter) (w .3) (y .0) (kept-noted (w .0 .it .inserter) (y .1)), ap (λ m. has m (brings (y .0 .step))) (w .2) ∙ y .2)
+          (y .0, moved (w .0 .it .inserter) (w .3) (y .0) (kept-noted (w .0 .it .inserter) (y .1)), ap (λ m. has m (inserts (y .0 .step))) (w .2) ∙ y .2)
       go (inr w) = (x, moved t (w .1) x last-noted, w .0)
 
   -- a granted step keeps all this

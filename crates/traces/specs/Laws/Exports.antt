@@ -9,7 +9,7 @@ use lib.Dec.{eqb, leb}
 use borrow.Author.Tests.{leb-true}
 use Rattle.tree.specs.Lists.{any}
 use Rattle.tree.specs.Document.{Document, lines}
-use Rattle.tree.specs.Steps.{Step, Value, done, how-many, misfit, misplaced, brings, answer}
+use Rattle.tree.specs.Steps.{Step, Value, done, how-many, misfit, misplaced, inserts, answer}
 use Rattle.tree.specs.Laws.Tests.{and-left, and-right}
 use Rattle.locks.specs.Needs.{needs}
 use Rattle.protocol.specs.State.{State, is-transaction, transactions, number-held, callers-document, act, grant, with-tree, opened}
@@ -48,7 +48,7 @@ judged-unlent : (lent : Value → List ℕ) (t : ℕ) (s : Step) (room : Room) (
     → ((v : Value) → has-room v room ≡ true → lent v ≡ []) → Unlent lent (judged t s room M d)
 unfolding judged lent-after
 judged-unlent lent t s room M d h =
-    go (not (eqb (misfit s d) 0)) (any (λ m. number-held m (M .tree)) (brings s)) (not (eqb (wait-set t (needs s d) M) 0)) (misplaced s d) (table-full s (M .tree))
+    go (not (eqb (misfit s d) 0)) (any (λ m. number-held m (M .tree)) (inserts s)) (not (eqb (wait-set t (needs s d) M) 0)) (misplaced s d) (table-full s (M .tree))
     (has-room (answer s d) room) refl
   where
     go : (a b c e f g : Bool) → has-room (answer s d) room ≡ g

@@ -29,7 +29,7 @@ use Rattle.edits.specs.Rows.{granted-modes, new-place, stepped}
 use Rattle.locking.specs.declared.Way.{Way}
 use Rattle.locking.specs.Way.{way-places, way-nodes, Climbed}
 use Rattle.locking.specs.Grants.{granted-on}
-use Rattle.form.specs.Form.{fine, fine-document, fine-below, fine-rows}
+use Rattle.form.specs.Form.{valid, valid-document, valid-below, valid-rows}
 use Rattle.form.specs.Laws.Rows.{between-high}
 use Rattle.form.specs.Laws.Holds.{form-parts}
 use Rattle.engine.specs.Contract.{Performed, no-room}
@@ -43,20 +43,20 @@ use Rattle.write_steps.specs.Laws.Contents.{allowed-short}
 
 -- depths are small -------------------------------------------------------------------------
 
-depth-below : (before : ℕ) (l : List Entry) (i : ℕ) → fine-below before l ≡ true → i < length l → depth l i ≤ before + suc i
-unfolding fine-below
+depth-below : (before : ℕ) (l : List Entry) (i : ℕ) → valid-below before l ≡ true → i < length l → depth l i ≤ before + suc i
+unfolding valid-below
 depth-below before [] i h k = absurd (omega arith)
 depth-below before (x ∷ l) zero h k =
-    omega (arith, between-high 1 (suc before) (x .0) (and-left _ _ (and-left (between 1 (suc before) (x .0) && fine (x .1)) _ h)))
+    omega (arith, between-high 1 (suc before) (x .0) (and-left _ _ (and-left (between 1 (suc before) (x .0) && valid (x .1)) _ h)))
 depth-below before (x ∷ l) (suc i) h k =
-    let d = between-high 1 (suc before) (x .0) (and-left _ _ (and-left (between 1 (suc before) (x .0) && fine (x .1)) _ h)) in
-    omega (arith, d, depth-below (x .0) l i (and-right (between 1 (suc before) (x .0) && fine (x .1)) _ h) (omega arith))
+    let d = between-high 1 (suc before) (x .0) (and-left _ _ (and-left (between 1 (suc before) (x .0) && valid (x .1)) _ h)) in
+    omega (arith, d, depth-below (x .0) l i (and-right (between 1 (suc before) (x .0) && valid (x .1)) _ h) (omega arith))
 
-depth-small : (l : List Entry) (i : ℕ) → fine-rows l ≡ true → i < length l → depth l i ≤ i
-unfolding fine-rows
+depth-small : (l : List Entry) (i : ℕ) → valid-rows l ≡ true → i < length l → depth l i ≤ i
+unfolding valid-rows
 depth-small [] i h k = absurd (omega arith)
-depth-small (x ∷ l) zero h k = omega (arith, eqb-true (x .0) 0 (and-left (eqb (x .0) 0) _ (and-left (eqb (x .0) 0 && fine-document (x .1)) _ h)))
-depth-small (x ∷ l) (suc i) h k = omega (arith, depth-below 0 l i (and-right (eqb (x .0) 0 && fine-document (x .1)) _ h) (omega arith))
+depth-small (x ∷ l) zero h k = omega (arith, eqb-true (x .0) 0 (and-left (eqb (x .0) 0) _ (and-left (eqb (x .0) 0 && valid-document (x .1)) _ h)))
+depth-small (x ∷ l) (suc i) h k = omega (arith, depth-below 0 l i (and-right (eqb (x .0) 0 && valid-document (x .1)) _ h) (omega arith))
 
 pub admitted-depth : {s : List ℕ} {t p : ℕ} → Admitted s t p → depth (nodes s) p < 1024
 admitted-depth {s} {t} {p} a = omega (arith, depth-small (nodes s) p (form-parts (a .formed) .rows) (a .inside), a .inside, a .layout .room, a .layout .many)

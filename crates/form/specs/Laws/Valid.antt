@@ -15,28 +15,28 @@ use Rattle.tree.specs.Steps.{Step, T, C, R, U, D, I, TT, RR, UU, target}
 use Rattle.tree.specs.Laws.Tests.{and-left, and-right, or-left, or-right, refuted}
 use Rattle.locks.specs.Needs.{Lock}
 use Rattle.protocol.specs.State.{nobody, is-transaction, Marked, Tree, numbered, seen-by, written-by, deleted-by, unmarked, inserted-by, granted-to}
-use Rattle.protocol.specs.State.{unless, settled, undone}
+use Rattle.protocol.specs.State.{without, lasting, undone}
 use Rattle.protocol.specs.State.{mark, renamed, act, grant, commit-tree, abort-tree, tree-of}
 use Rattle.layout.specs.Flat.{flat}
 use Rattle.layout.specs.Layout.{Entry, no-entry}
 use Rattle.lookup.specs.Places.{item, items, number-of, unique}
 use Rattle.lookup.specs.Found.{misfit-on}
 use Rattle.lookup.specs.Laws.Find.{unique-head}
-use Rattle.form.specs.Form.{fair, fine, fine-document, all-fine, fine-tree}
+use Rattle.form.specs.Form.{in-range, valid, valid-document, all-valid, valid-tree}
 use Rattle.form.specs.Laws.Rows.{and-of, between-of, between-low, between-high}
 
 -- nodes ------------------------------------------------------------------------------------
 
-pub record Fair (least greatest most : ℕ) (a : Marked) : Type 0 where
+pub record InRange (least greatest most : ℕ) (a : Marked) : Type 0 where
   pub low : least ≤ a .now .kind
   pub high : a .now .kind ≤ greatest
   pub writer : a .writer ≤ 16
   pub inserter : a .inserter ≤ most
   pub deleter : a .deleter ≤ most
 
-fair-is : (low high most : ℕ) (a : Marked) → fair low high most a ≡ true → Fair low high most a
-unfolding fair
-fair-is low high most a h =
+in-range-is : (low high most : ℕ) (a : Marked) → in-range low high most a ≡ true → InRange low high most a
+unfolding in-range
+in-range-is low high most a h =
     let k : between low high (a .now .kind) ≡ true = and-left (between low high (a .now .kind)) _ h in
     let m : (leb (a .writer) 16 && (leb (a .inserter) most && leb (a .deleter) most)) ≡ true = and-right (between low high (a .now .kind)) _ h in
     let n : (leb (a .inserter) most && leb (a .deleter) most) ≡ true = and-right (leb (a .writer) 16) _ m in
@@ -48,23 +48,23 @@ fair-is low high most a h =
       deleter = leb-true (a .deleter) most (and-right (leb (a .inserter) most) _ n);
     }
 
-is-fair : (low high most : ℕ) (a : Marked) → Fair low high most a → fair low high most a ≡ true
-unfolding fair
-is-fair low high most a h =
+is-in-range : (low high most : ℕ) (a : Marked) → InRange low high most a → in-range low high most a ≡ true
+unfolding in-range
+is-in-range low high most a h =
     and-of (between-of low high (a .now .kind) (h .low) (h .high))
     (and-of (le-leb (a .writer) 16 (h .writer)) (and-of (le-leb (a .inserter) most (h .inserter)) (le-leb (a .deleter) most (h .deleter))))
 
 -- what the form asks of a node below the document
-abbrev pub Fine : Marked → Type 0
-Fine a = Fair element-kind text-kind 16 a
+abbrev pub Valid : Marked → Type 0
+Valid a = InRange element-kind text-kind 16 a
 
-pub fine-is : {a : Marked} → fine a ≡ true → Fine a
-unfolding fine
-fine-is {a} h = fair-is element-kind text-kind 16 a h
+pub valid-is : {a : Marked} → valid a ≡ true → Valid a
+unfolding valid
+valid-is {a} h = in-range-is element-kind text-kind 16 a h
 
-pub is-fine : (a : Marked) → Fine a → fine a ≡ true
-unfolding fine
-is-fine a h = is-fair element-kind text-kind 16 a h
+pub is-valid : (a : Marked) → Valid a → valid a ≡ true
+unfolding valid
+is-valid a h = is-in-range element-kind text-kind 16 a h
 
 -- and of the document
 pub record FineDocument (a : Marked) : Type 0 where
@@ -74,23 +74,23 @@ pub record FineDocument (a : Marked) : Type 0 where
   pub inserter : a .inserter ≡ nobody
   pub deleter : a .deleter ≡ nobody
 
-pub document-is : {a : Marked} → fine-document a ≡ true → FineDocument a
-unfolding fine-document
+pub document-is : {a : Marked} → valid-document a ≡ true → FineDocument a
+unfolding valid-document
 document-is {a} h =
-    let f = fair-is document-kind document-kind nobody a (and-left (fair document-kind document-kind nobody a) _ h) in
+    let f = in-range-is document-kind document-kind nobody a (and-left (in-range document-kind document-kind nobody a) _ h) in
     record {
       kind = omega (arith, f .low, f .high);
-      number = eqb-true (a .now .number) 0 (and-right (fair document-kind document-kind nobody a) _ h);
+      number = eqb-true (a .now .number) 0 (and-right (in-range document-kind document-kind nobody a) _ h);
       writer = f .writer;
       inserter = omega (arith, f .inserter);
       deleter = omega (arith, f .deleter);
     }
 
-pub is-document : (a : Marked) → FineDocument a → fine-document a ≡ true
-unfolding fine-document
+pub is-document : (a : Marked) → FineDocument a → valid-document a ≡ true
+unfolding valid-document
 is-document a h =
     and-of
-    (is-fair document-kind document-kind nobody a
+    (is-in-range document-kind document-kind nobody a
     (record {
       low = omega (arith, h .kind);
       high = omega (arith, h .kind);
@@ -104,18 +104,18 @@ is-document a h =
 
 -- a change that keeps what the form asks, of a node below the document and of the document
 pub record Keeps (g : Marked → Marked) : Type 0 where
-  pub node : (a : Marked) → Fine a → Fine (g a)
+  pub node : (a : Marked) → Valid a → Valid (g a)
   pub document : (a : Marked) → FineDocument a → FineDocument (g a)
 
-unless-small : (t u : ℕ) → u ≤ 16 → unless t u ≤ 16
-unless-small t u h = go (eqb u t)
+without-small : (t u : ℕ) → u ≤ 16 → without t u ≤ 16
+without-small t u h = go (eqb u t)
   where
     go : (b : Bool) → cond b nobody u ≤ 16
     go true = omega arith
     go false = h
 
-unless-nobody : (t u : ℕ) → u ≡ nobody → unless t u ≡ nobody
-unless-nobody t u h = go (eqb u t)
+without-nobody : (t u : ℕ) → u ≡ nobody → without t u ≡ nobody
+without-nobody t u h = go (eqb u t)
   where
     go : (b : Bool) → cond b nobody u ≡ nobody
     go true = refl
@@ -136,20 +136,20 @@ keeps-granted t ls = record {
   document = λ a h. record { kind = h .kind; number = h .number; writer = h .writer; inserter = h .inserter; deleter = h .deleter };
 }
 
-pub keeps-settled : (t : ℕ) → Keeps (settled t)
-keeps-settled t = record {
+pub keeps-lasting : (t : ℕ) → Keeps (lasting t)
+keeps-lasting t = record {
   node = λ a h. record {
     low = h .low;
     high = h .high;
-    writer = unless-small t (a .writer) (h .writer);
-    inserter = unless-small t (a .inserter) (h .inserter);
+    writer = without-small t (a .writer) (h .writer);
+    inserter = without-small t (a .inserter) (h .inserter);
     deleter = h .deleter;
   };
   document = λ a h. record {
     kind = h .kind;
     number = h .number;
-    writer = unless-small t (a .writer) (h .writer);
-    inserter = unless-nobody t (a .inserter) (h .inserter);
+    writer = without-small t (a .writer) (h .writer);
+    inserter = without-nobody t (a .inserter) (h .inserter);
     deleter = h .deleter;
   };
 }
@@ -159,59 +159,59 @@ keeps-undone t = record {
   node = λ a h. record {
     low = h .low;
     high = h .high;
-    writer = unless-small t (a .writer) (h .writer);
+    writer = without-small t (a .writer) (h .writer);
     inserter = h .inserter;
-    deleter = unless-small t (a .deleter) (h .deleter);
+    deleter = without-small t (a .deleter) (h .deleter);
   };
   document = λ a h. record {
     kind = h .kind;
     number = h .number;
-    writer = unless-small t (a .writer) (h .writer);
+    writer = without-small t (a .writer) (h .writer);
     inserter = h .inserter;
-    deleter = unless-nobody t (a .deleter) (h .deleter);
+    deleter = without-nobody t (a .deleter) (h .deleter);
   };
 }
 
-pub fine-deleted : (t : ℕ) → t ≤ 16 → (a : Marked) → Fine a → Fine (deleted-by t a)
-fine-deleted t l a h = record { low = h .low; high = h .high; writer = h .writer; inserter = h .inserter; deleter = l }
+pub valid-deleted : (t : ℕ) → t ≤ 16 → (a : Marked) → Valid a → Valid (deleted-by t a)
+valid-deleted t l a h = record { low = h .low; high = h .high; writer = h .writer; inserter = h .inserter; deleter = l }
 
-pub fine-inserted : (t : ℕ) (a : Node) → t ≤ 16 → element-kind ≤ a .kind → a .kind ≤ text-kind → Fine (inserted-by t a)
-fine-inserted t a l low high = record { low = low; high = high; writer = omega arith; inserter = l; deleter = omega arith }
+pub valid-inserted : (t : ℕ) (a : Node) → t ≤ 16 → element-kind ≤ a .kind → a .kind ≤ text-kind → Valid (inserted-by t a)
+valid-inserted t a l low high = record { low = low; high = high; writer = omega arith; inserter = l; deleter = omega arith }
 
 -- changes of a tree ----------------------------------------------------------------------------
 
-all-parts : (a : Marked) (ks fs : Tree) → all-fine (node a ks fs) ≡ true → Fine a × (all-fine ks ≡ true) × (all-fine fs ≡ true)
-unfolding all-fine
+all-parts : (a : Marked) (ks fs : Tree) → all-valid (node a ks fs) ≡ true → Valid a × (all-valid ks ≡ true) × (all-valid fs ≡ true)
+unfolding all-valid
 all-parts a ks fs h =
-    let p : (fine a && all-fine ks) ≡ true = and-left (fine a && all-fine ks) _ h in
-    (fine-is (and-left (fine a) _ p), and-right (fine a) _ p, and-right (fine a && all-fine ks) _ h)
+    let p : (valid a && all-valid ks) ≡ true = and-left (valid a && all-valid ks) _ h in
+    (valid-is (and-left (valid a) _ p), and-right (valid a) _ p, and-right (valid a && all-valid ks) _ h)
 
-parts-all : (a : Marked) (ks fs : Tree) → Fine a → all-fine ks ≡ true → all-fine fs ≡ true → all-fine (node a ks fs) ≡ true
-unfolding all-fine
-parts-all a ks fs h k l = and-of (and-of (is-fine a h) k) l
+parts-all : (a : Marked) (ks fs : Tree) → Valid a → all-valid ks ≡ true → all-valid fs ≡ true → all-valid (node a ks fs) ≡ true
+unfolding all-valid
+parts-all a ks fs h k l = and-of (and-of (is-valid a h) k) l
 
--- a fine tree is a document node with fine nodes below it
+-- a valid tree is a document node with valid nodes below it
 pub record Root (f : Tree) : Type 0 where
   pub it : Marked
   pub below : Tree
   pub whole : f ≡ node it below nil
   pub document : FineDocument it
-  pub fine : all-fine below ≡ true
+  pub valid : all-valid below ≡ true
 
-pub root-of : (f : Tree) → fine-tree f ≡ true → Root f
-unfolding fine-tree
+pub root-of : (f : Tree) → valid-tree f ≡ true → Root f
+unfolding valid-tree
 root-of nil h = absurd (false≢true h)
 root-of (node a ks nil) h =
-    record { it = a; below = ks; whole = refl; document = document-is (and-left (fine-document a) _ h); fine = and-right (fine-document a) _ h }
+    record { it = a; below = ks; whole = refl; document = document-is (and-left (valid-document a) _ h); valid = and-right (valid-document a) _ h }
 root-of (node a ks (node b js fs)) h = absurd (false≢true h)
 
-pub tree-of-root : (a : Marked) (ks : Tree) → FineDocument a → all-fine ks ≡ true → fine-tree (node a ks nil) ≡ true
-unfolding fine-tree
+pub tree-of-root : (a : Marked) (ks : Tree) → FineDocument a → all-valid ks ≡ true → valid-tree (node a ks nil) ≡ true
+unfolding valid-tree
 tree-of-root a ks h k = and-of (is-document a h) k
 
 -- nodes anew in the same places
-all-amend : (g : Row Marked Marked → Marked) → ((r : Row Marked Marked) → Fine (r .it) → Fine (g r)) → (up : List Marked) (f : Tree)
-    → all-fine f ≡ true → all-fine (amend (λ a. a) g up f) ≡ true
+all-amend : (g : Row Marked Marked → Marked) → ((r : Row Marked Marked) → Valid (r .it) → Valid (g r)) → (up : List Marked) (f : Tree)
+    → all-valid f ≡ true → all-valid (amend (λ a. a) g up f) ≡ true
 unfolding amend
 all-amend g k up nil h = h
 all-amend g k up (node a ks fs) h =
@@ -219,40 +219,40 @@ all-amend g k up (node a ks fs) h =
     parts-all (g (row a up)) (amend (λ a. a) g (a ∷ up) ks) (amend (λ a. a) g up fs) (k (row a up) (p .0)) (all-amend g k (a ∷ up) ks (p .1))
     (all-amend g k up fs (p .2))
 
-pub fine-mark : (g : Row Marked Marked → Marked) → ((r : Row Marked Marked) → Fine (r .it) → Fine (g r))
+pub valid-mark : (g : Row Marked Marked → Marked) → ((r : Row Marked Marked) → Valid (r .it) → Valid (g r))
     → ((a : Marked) → FineDocument a → FineDocument (g (row a [])))
-    → (f : Tree) → fine-tree f ≡ true → fine-tree (mark g f) ≡ true
+    → (f : Tree) → valid-tree f ≡ true → valid-tree (mark g f) ≡ true
 unfolding amend
-fine-mark g k d f h =
+valid-mark g k d f h =
     let r = root-of f h in
     rw (r .whole) (tree-of-root (g (row (r .it) [])) (amend (λ a. a) g (r .it ∷ []) (r .below)) (d (r .it) (r .document))
-    (all-amend g k (r .it ∷ []) (r .below) (r .fine)))
+    (all-amend g k (r .it ∷ []) (r .below) (r .valid)))
 
 -- the nodes that are shown
-all-view : (shown : Marked → Bool) (g : Marked → Marked) → ((a : Marked) → Fine a → Fine (g a)) → (f : Tree) → all-fine f ≡ true
-    → all-fine (view shown g f) ≡ true
+all-view : (shown : Marked → Bool) (g : Marked → Marked) → ((a : Marked) → Valid a → Valid (g a)) → (f : Tree) → all-valid f ≡ true
+    → all-valid (view shown g f) ≡ true
 unfolding view
 all-view shown g k nil h = h
 all-view shown g k (node a ks fs) h =
     let p = all-parts a ks fs h in
     go (shown a) (k a (p .0)) (all-view shown g k ks (p .1)) (all-view shown g k fs (p .2))
   where
-    go : (b : Bool) → Fine (g a) → all-fine (view shown g ks) ≡ true → all-fine (view shown g fs) ≡ true
-        → all-fine (cond b (node (g a) (view shown g ks) (view shown g fs)) (view shown g fs)) ≡ true
+    go : (b : Bool) → Valid (g a) → all-valid (view shown g ks) ≡ true → all-valid (view shown g fs) ≡ true
+        → all-valid (cond b (node (g a) (view shown g ks) (view shown g fs)) (view shown g fs)) ≡ true
     go true u v w = parts-all (g a) (view shown g ks) (view shown g fs) u v w
     go false u v w = w
 
-pub fine-view : (shown : Marked → Bool) (g : Marked → Marked) → Keeps g → ((a : Marked) → FineDocument a → shown a ≡ true) → (f : Tree)
-    → fine-tree f ≡ true → fine-tree (view shown g f) ≡ true
+pub valid-view : (shown : Marked → Bool) (g : Marked → Marked) → Keeps g → ((a : Marked) → FineDocument a → shown a ≡ true) → (f : Tree)
+    → valid-tree f ≡ true → valid-tree (view shown g f) ≡ true
 unfolding view
-fine-view shown g k s f h =
+valid-view shown g k s f h =
     let r = root-of f h in
     rw (r .whole, s (r .it) (r .document))
-    (tree-of-root (g (r .it)) (view shown g (r .below)) (k .document (r .it) (r .document)) (all-view shown g (k .node) (r .below) (r .fine)))
+    (tree-of-root (g (r .it)) (view shown g (r .below)) (k .document (r .it) (r .document)) (all-view shown g (k .node) (r .below) (r .valid)))
 
 -- a new node
-all-place : (counts : Marked → Bool) (k : ℕ) (new : Marked) (f : Tree) → Fine new → all-fine f ≡ true → all-fine (place counts k new f) ≡ true
-unfolding place all-fine
+all-place : (counts : Marked → Bool) (k : ℕ) (new : Marked) (f : Tree) → Valid new → all-valid f ≡ true → all-valid (place counts k new f) ≡ true
+unfolding place all-valid
 all-place counts zero new f n h = parts-all new nil f n refl h
 all-place counts (suc zero) new f n h = parts-all new nil f n refl h
 all-place counts (suc (suc k)) new nil n h = parts-all new nil nil n refl refl
@@ -261,17 +261,17 @@ all-place counts (suc (suc k)) new (node a ks fs) n h =
     parts-all a ks (cond (counts a) (place counts (suc k) new fs) (place counts (suc (suc k)) new fs)) (p .0) (p .1)
     (go (counts a) (all-place counts (suc k) new fs n (p .2)) (all-place counts (suc (suc k)) new fs n (p .2)))
   where
-    go : (b : Bool) → all-fine (place counts (suc k) new fs) ≡ true → all-fine (place counts (suc (suc k)) new fs) ≡ true
-        → all-fine (cond b (place counts (suc k) new fs) (place counts (suc (suc k)) new fs)) ≡ true
+    go : (b : Bool) → all-valid (place counts (suc k) new fs) ≡ true → all-valid (place counts (suc (suc k)) new fs) ≡ true
+        → all-valid (cond b (place counts (suc k) new fs) (place counts (suc (suc k)) new fs)) ≡ true
     go true u v = u
     go false u v = v
 
-module _ (parent counts : Marked → Bool) (k : ℕ) (new : Marked) (n : Fine new) where
-  all-children : (b : Bool) (ks : Tree) → all-fine ks ≡ true → all-fine (cond b (place counts k new ks) ks) ≡ true
+module _ (parent counts : Marked → Bool) (k : ℕ) (new : Marked) (n : Valid new) where
+  all-children : (b : Bool) (ks : Tree) → all-valid ks ≡ true → all-valid (cond b (place counts k new ks) ks) ≡ true
   all-children true ks h = all-place counts k new ks n h
   all-children false ks h = h
 
-  all-put : (f : Tree) → all-fine f ≡ true → all-fine (put parent counts k new f) ≡ true
+  all-put : (f : Tree) → all-valid f ≡ true → all-valid (put parent counts k new f) ≡ true
   unfolding put
   all-put nil h = h
   all-put (node a ks fs) h =
@@ -279,10 +279,10 @@ module _ (parent counts : Marked → Bool) (k : ℕ) (new : Marked) (n : Fine ne
       parts-all a (cond (parent a) (place counts k new (put parent counts k new ks)) (put parent counts k new ks)) (put parent counts k new fs) (p .0)
       (all-children (parent a) (put parent counts k new ks) (all-put ks (p .1))) (all-put fs (p .2))
 
-  pub fine-put : (f : Tree) → fine-tree f ≡ true → fine-tree (put parent counts k new f) ≡ true
+  pub valid-put : (f : Tree) → valid-tree f ≡ true → valid-tree (put parent counts k new f) ≡ true
   unfolding put
-  fine-put f h =
+  valid-put f h =
       let r = root-of f h in
       let ks : Tree = put parent counts k new (r .below) in
       rw (r .whole) (tree-of-root (r .it) (cond (parent (r .it)) (place counts k new ks) ks) (r .document)
-      (all-children (parent (r .it)) ks (all-put (r .below) (r .fine))))
+      (all-children (parent (r .it)) ks (all-put (r .below) (r .valid))))
