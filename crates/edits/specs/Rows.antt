@@ -85,7 +85,8 @@ renamed-by t a b x = cond (is-named a (x .now)) (written-by t b x) x
 
 -- UU of t on the node at p
 unfoldable pub renamed-rows : ℕ → List ℕ → List ℕ → ℕ → List Entry → List Entry
-renamed-rows t a b p l = take p l ++ (second (renamed-by t a b) (getD l p no-entry) ∷ changed-below (seen-by t) (renamed-by t a b) (depth l p) 0 (drop (suc p) l))
+renamed-rows t a b p l =
+    take p l ++ (second (renamed-by t a b) (getD l p no-entry) ∷ changed-below (seen-by t) (renamed-by t a b) (depth l p) 0 (drop (suc p) l))
 
 -- a new child -------------------------------------------------------------------------------------
 
@@ -111,7 +112,8 @@ acted t (R n) p l g = g
 acted t (U n b) p l g = modify p (second (written-by t b)) g
 acted t (D n) p l g = modify p (second (deleted-by t)) g
 acted t (I m kind b n k) p l g =
-    insert (new-place t k p l) (suc (depth l p), granted-modes t (need (I m kind b n k) .new) (inserted-by t (record { number = m; kind = kind; content = b }))) g
+    insert (new-place t k p l)
+    (suc (depth l p), granted-modes t (need (I m kind b n k) .new) (inserted-by t (record { number = m; kind = kind; content = b }))) g
 acted t (TT n) p l g = g
 acted t (RR n) p l g = g
 acted t (UU n a b) p l g = renamed-rows t a b p g

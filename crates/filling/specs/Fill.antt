@@ -115,7 +115,8 @@ pub record AtText (stop e : ℕ) (place : ℕ → List ℕ → List Row → Type
 -- s stands behind a < among nodes at depth d
 pub data AtTag (d : ℕ) (s : List ℕ) (l : List Row) : Type 0 where
   begins : AtElement d s l → AtTag d s l
-  ends : {e : ℕ} (n : Name) {u t : List ℕ} → d ≡ suc e → every name-byte n ≡ true → s ≡ slash ∷ (n ++ u) → Blanks u (greater-than ∷ t) → Behind e t l → AtTag d s l
+  ends : {e : ℕ} (n : Name) {u t : List ℕ} → d ≡ suc e → every name-byte n ≡ true → s ≡ slash ∷ (n ++ u) → Blanks u (greater-than ∷ t) → Behind e t l
+      → AtTag d s l
 
 -- filling ------------------------------------------------------------------------------------
 
@@ -172,7 +173,8 @@ pub record QuoteAt (x : List ℕ) (at : ℕ) (c : Cursor) : Type 0 where
 -- c is behind the end tag whose slash is at `at`
 pub record EndsAt (x : List ℕ) (at : ℕ) (c : Cursor) : Type 0 where
   pub forward : at < c .at
-  pub closes : (n : Name) {u t : List ℕ} → every name-byte n ≡ true → drop at x ≡ slash ∷ (n ++ u) → Blanks u (greater-than ∷ t) → (drop (c .at) x ≡ t) × (c .at ≤ length x)
+  pub closes : (n : Name) {u t : List ℕ} → every name-byte n ≡ true → drop at x ≡ slash ∷ (n ++ u) → Blanks u (greater-than ∷ t)
+      → (drop (c .at) x ≡ t) × (c .at ≤ length x)
 
 -- the root element, with the blanks around it, stands at i
 pub record Undeclared (x : List ℕ) (i : ℕ) : Type 0 where

@@ -19,4 +19,5 @@ ordered-behind a n (x ∷ xs) = cond (eqb x attribute-kind) (eqb a n && ordered-
 -- a child of this kind as the k-th: by the children's number, how many are attributes, whether attributes are first, and whether all may be there
 unfoldable pub placed-by : ℕ → ℕ → ℕ → (count attributes : ℕ) (ordered allowed : Bool) → Bool
 placed-by parent kind k n a ordered allowed =
-    leb 1 k && leb k (suc n) && (takes parent kind && allowed && cond (eqb parent element-kind) (ordered && cond (eqb kind attribute-kind) (leb k (suc a)) (ltb a k)) (eqb n 0))
+    leb 1 k && leb k (suc n) && (takes parent kind && allowed && cond (eqb parent element-kind)
+    (ordered && cond (eqb kind attribute-kind) (leb k (suc a)) (ltb a k)) (eqb n 0))

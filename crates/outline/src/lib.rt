@@ -71,7 +71,8 @@ fn open_place(s: &mut [u8], p: usize, d: u16, n: u16)
 // A node inserted by t, at place p and depth d.
 pub fn insert(s: &mut [u8], p: usize, d: u16, n: u16, kind: u8, t: u8, content: &[u8])
     requires { ⌜ (Layout (now s)) × (length (nodes (now s)) < 1024) × (p ≤ length (nodes (now s))) × (length (now content) ≤ 32) ⌝ }
-    ensures { λ r. ⌜ Left (now (s .entry)) (now (s .exit)) (is-open (now (s .entry))) (insert p (d, inserted-by t (record { number = n; kind = kind; content = now (content .entry) })) (nodes (now (s .entry)))) ⌝ }
+    ensures { λ r. ⌜ Left (now (s .entry)) (now (s .exit)) (is-open (now (s .entry)))
+        (insert p (d, inserted-by t (record { number = n; kind = kind; content = now (content .entry) })) (nodes (now (s .entry)))) ⌝ }
 {
     open_place(s, p, d, n);
     table::set_kind(s, p, kind);

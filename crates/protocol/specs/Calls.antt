@@ -10,7 +10,8 @@ use Rattle.tree.specs.Document.{Document, lines, numbers, legal}
 use Rattle.tree.specs.Steps.{Step, Value, done, how-many, misfit, misplaced, inserts, answer}
 use Rattle.locks.specs.Modes.{against}
 use Rattle.locks.specs.Needs.{Lock, needs}
-use Rattle.protocol.specs.State.{is-transaction, transactions, Marked, Tree, State, nodes, numbered, number-held, callers-document, committed-document, act, grant, commit-tree, abort-tree, tree-of}
+use Rattle.protocol.specs.State.{is-transaction, transactions, Marked, Tree, State, nodes, numbered, number-held, callers-document}
+use Rattle.protocol.specs.State.{committed-document, act, grant, commit-tree, abort-tree, tree-of}
 use Rattle.protocol.specs.State.{start-state, with-tree, opened, closed}
 use Rattle.protocol.specs.Lent.{Room, has-room}
 

@@ -41,6 +41,7 @@ pub record Deep (s os : List ℕ) (depth nodes : ℕ) : Type 0 where
 
 -- where a part of the content leads from a configuration: to so many open elements, their names' offsets in os
 pub data ChildRead (s : List ℕ) (from : Config) (at nodes : ℕ) (os : List ℕ) : Child → Type 0 where
-  child-at : {c : Cursor} {d m : ℕ} → Onward s at nodes c m → d + 1 ≤ m → length os ≡ 1024 → Placed s os d → Goes s from nodes at (closed (stack s os 0 d)) m (c .at)
+  child-at : {c : Cursor} {d m : ℕ} → Onward s at nodes c m → d + 1 ≤ m → length os ≡ 1024 → Placed s os d
+      → Goes s from nodes at (closed (stack s os 0 d)) m (c .at)
       → ChildRead s from at nodes os (At c d m)
   child-stopped : {x j : ℕ} → Leads s from nodes at (bad x j) → ChildRead s from at nodes os (Stopped x j)

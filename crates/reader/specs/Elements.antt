@@ -59,9 +59,11 @@ pub record Onward (s : List ℕ) (at nodes : ℕ) (c : Cursor) (m : ℕ) : Type 
 
 -- where a start tag leads from behind its name
 pub data AttributesRead (s : List ℕ) (at nodes : ℕ) : Tag → Type 0 where
-  attributes-opened : {c : Cursor} {m : ℕ} → Onward s at nodes c m → ((n : Name) (ns : List Name) → Goes s (behind-part n ns []) nodes at (content n ns) m (c .at))
+  attributes-opened : {c : Cursor} {m : ℕ} → Onward s at nodes c m
+      → ((n : Name) (ns : List Name) → Goes s (behind-part n ns []) nodes at (content n ns) m (c .at))
       → AttributesRead s at nodes (Opened c m)
-  attributes-emptied : {c : Cursor} {m : ℕ} → Onward s at nodes c m → ((n : Name) (ns : List Name) → Goes s (behind-part n ns []) nodes at (closed ns) m (c .at))
+  attributes-emptied : {c : Cursor} {m : ℕ} → Onward s at nodes c m
+      → ((n : Name) (ns : List Name) → Goes s (behind-part n ns []) nodes at (closed ns) m (c .at))
       → AttributesRead s at nodes (Emptied c m)
   attributes-broken : {x j : ℕ} → ((n : Name) (ns : List Name) → Leads s (behind-part n ns []) nodes at (bad x j)) → AttributesRead s at nodes (Broken x j)
 

@@ -65,7 +65,8 @@ pub record Characters (stop : ℕ) (C : ℕ → Config) (R : Words → Config) (
 -- where the characters from an offset on lead
 pub data CharactersRead (s : List ℕ) (stop at nodes : ℕ) : Read → Type 0 where
   characters-past : {c : Cursor} → at < c .at → c .at ≤ length s → getD s (c .at - 1) 0 ≡ stop
-      → ((C : ℕ → Config) (R : Words → Config) (D : Config) → Characters stop C R D → (v : Verdict) → Leads s D nodes (c .at) v → scan-at s (C 0) nodes 0 at ≡ v)
+      → ((C : ℕ → Config) (R : Words → Config) (D : Config) → Characters stop C R D → (v : Verdict) → Leads s D nodes (c .at) v
+      → scan-at s (C 0) nodes 0 at ≡ v)
       → CharactersRead s stop at nodes (Past c nodes)
   characters-refused : {x j : ℕ} → ((C : ℕ → Config) (R : Words → Config) (D : Config) → Characters stop C R D → scan-at s (C 0) nodes 0 at ≡ bad x j)
       → CharactersRead s stop at nodes (Refused x j)
@@ -95,7 +96,8 @@ pub data EqualsRead (s : List ℕ) (at : ℕ) : Equals → Type 0 where
   quoted : {c : Cursor} (q : Quote) → at < c .at → c .at ≤ length s → node-offset s (c .at) ≡ c .at - 1
       → ((n : Name) (ns seen : List Name) (m : ℕ) → m ≤ node-limit → Goes s (before-equals n ns seen) m at (behind-quote n ns seen q) m (c .at))
       → EqualsRead s at (Quoted (mark q) c)
-  no-quote : {j : ℕ} → ((n : Name) (ns seen : List Name) (m : ℕ) → m ≤ node-limit → Leads s (before-equals n ns seen) m at (bad 4 j)) → EqualsRead s at (NoQuote j)
+  no-quote : {j : ℕ} → ((n : Name) (ns seen : List Name) (m : ℕ) → m ≤ node-limit → Leads s (before-equals n ns seen) m at (bad 4 j))
+      → EqualsRead s at (NoQuote j)
 
 -- from a configuration in a start tag, which may depend on the element, those around it and the attributes so far
 pub data TagRead (s : List ℕ) (F : Name → List Name → List Name → Config) (at : ℕ) : Part → Type 0 where

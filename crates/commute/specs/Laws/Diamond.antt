@@ -15,22 +15,27 @@ use Rattle.locks.specs.Needs.{needs, locks}
 use Rattle.locks.specs.Laws.Compatible.{Compatible, compatible-symmetric, new-locked, off-path}
 use Rattle.commute.specs.Laws.Lines.{Of, Unique, at-line, line-here, in-remove}
 use Rattle.commute.specs.Laws.Views.{itself, within, reach, within-by-number, Same, rewrite-shapes, insert-whole, shapes-some, shapes-above}
-use Rattle.commute.specs.Laws.Classes.{Rewriting, Class, reading, rewriting, removing, inserting, class, touched, written, after-rewriting, touched-within, write, all-off-LW, Absent}
+use Rattle.commute.specs.Laws.Classes.{Rewriting, Class, reading, rewriting, removing, inserting, class, touched, written, after-rewriting}
+use Rattle.commute.specs.Laws.Classes.{touched-within, write, all-off-LW, Absent}
 use Rattle.commute.specs.Laws.Apart.{path, path-of}
 use Rattle.commute.specs.Laws.Edits.{remove-rewrite, remove-remove, rewrite-rewrite, rewrite-insert, remove-insert, insert-insert}
 use Rattle.commute.specs.Laws.Kept.{fits-here, fits-absent, other, new-line-unseen, clear-of-removal, untouched, same-kept}
 
 module _ (d : Document) (u : Unique d) where
-  module _ (s : Step) (hs : here (target s) d ≡ true) {p : Step} (w : Rewriting p) (hp : here (target p) d ≡ true) (c : Compatible (needs s d) (needs p d)) where
-    two-rewrites : (v : Rewriting s) → rewrite (touched v) (written v) (rewrite (touched w) (written w) d) ≡ rewrite (touched w) (written w) (rewrite (touched v) (written v) d)
+  module _ (s : Step) (hs : here (target s) d ≡ true) {p : Step} (w : Rewriting p) (hp : here (target p) d ≡ true)
+      (c : Compatible (needs s d) (needs p d)) where
+    two-rewrites : (v : Rewriting s)
+        → rewrite (touched v) (written v) (rewrite (touched w) (written w) d) ≡ rewrite (touched w) (written w) (rewrite (touched v) (written v) d)
     two-rewrites v = rewrite-rewrite (touched v) (written v) (touched w) (written w) d (λ r m. go r m (within (reach s) (target s) r) refl)
       where
         -- outside a step's reach no line is touched, whatever its content
-        idle : {z : Step} (x : Rewriting z) (r : Line) → within (reach z) (target z) r ≡ false → (a : Node) → a .number ≡ r .it .number → touched x (row a (r .above)) ≡ false
+        idle : {z : Step} (x : Rewriting z) (r : Line) → within (reach z) (target z) r ≡ false → (a : Node) → a .number ≡ r .it .number
+            → touched x (row a (r .above)) ≡ false
         idle {z} x r e a i = touched-within x (row a (r .above)) (within-by-number (reach z) (target z) (row a (r .above)) r i refl ∙ e)
 
         go : (r : Line) → Of r d → (t : Bool) → within (reach s) (target s) r ≡ t
-            → ((a : Node) → a .number ≡ r .it .number → touched v (row a (r .above)) ≡ false) ⊎ ((a : Node) → a .number ≡ r .it .number → touched w (row a (r .above)) ≡ false)
+            → ((a : Node) → a .number ≡ r .it .number → touched v (row a (r .above)) ≡ false)
+            ⊎ ((a : Node) → a .number ≡ r .it .number → touched w (row a (r .above)) ≡ false)
         go r m true e = inr (idle w r (untouched d u s hs w hp c (write v) r m e))
         go r m false e = inl (idle v r e)
 
@@ -46,11 +51,13 @@ module _ (d : Document) (u : Unique d) where
     rewrite-and-insert {s} v hs c = rewrite-insert (touched v) (written v) (record { number = m; kind = kind; content = b }) n k d
         (λ r o e. touched-within v _ (rw (path-of d u n hn r o e) (new-line-unseen d u s hs m kind b n k hn hm c)))
 
-    remove-and-insert : (x : ℕ) → here x d ≡ true → Compatible (needs (D x) d) (needs (I m kind b n k) d) → remove x (after (I m kind b n k) d) ≡ after (I m kind b n k) (remove x d)
+    remove-and-insert : (x : ℕ) → here x d ≡ true → Compatible (needs (D x) d) (needs (I m kind b n k) d)
+        → remove x (after (I m kind b n k) d) ≡ after (I m kind b n k) (remove x d)
     remove-and-insert x hx c = remove-insert x (record { number = m; kind = kind; content = b }) n k d (other d u (D x) hx m kind b n k hn hm c)
         (λ r o e. rw (path-of d u x hx r o e) (clear-of-removal d u (I m kind b n k) hn x hx (compatible-symmetric _ _ c) .1))
 
-    two-inserts : (m' kind' : ℕ) (b' : List ℕ) (n' k' : ℕ) → fits (I m' kind' b' n' k') d ≡ true → Compatible (needs (I m' kind' b' n' k') d) (needs (I m kind b n k) d)
+    two-inserts : (m' kind' : ℕ) (b' : List ℕ) (n' k' : ℕ) → fits (I m' kind' b' n' k') d ≡ true
+        → Compatible (needs (I m' kind' b' n' k') d) (needs (I m kind b n k) d)
         → after (I m' kind' b' n' k') (after (I m kind b n k) d) ≡ after (I m kind b n k) (after (I m' kind' b' n' k') d)
     two-inserts m' kind' b' n' k' h c =
         let hn' = fits-here (I m' kind' b' n' k') d h in
@@ -68,7 +75,8 @@ module _ (d : Document) (u : Unique d) where
       go {p} {s} (rewriting w) (reading e b) g h c = rw (e d, e (after p d))
       go {p} {s} (rewriting w) (rewriting v) g h c = simp (after-rewriting v, after-rewriting w) (two-rewrites s (fits-here s d h) w (fits-here p d g) c v)
       go {p} {s} (rewriting w) (removing x) g h c = simp (after-rewriting w) (remove-rewrite x (touched w) (written w) d)
-      go {p} {s} (rewriting w) (inserting m kind b n k) g h c = simp (after-rewriting w) (sym (rewrite-and-insert m kind b n k h w (fits-here p d g) (compatible-symmetric _ _ c)))
+      go {p} {s} (rewriting w) (inserting m kind b n k) g h c =
+          simp (after-rewriting w) (sym (rewrite-and-insert m kind b n k h w (fits-here p d g) (compatible-symmetric _ _ c)))
       go {p} {s} (removing x) (reading e b) g h c = rw (e d, e (after p d))
       go {p} {s} (removing x) (rewriting v) g h c = simp (after-rewriting v) (sym (remove-rewrite x (touched v) (written v) d))
       go {p} {s} (removing x) (removing y) g h c = remove-remove y x d
@@ -95,7 +103,9 @@ module _ (d : Document) (u : Unique d) where
           let e = line-here (target s) d (at (target s) (remove x d)) (i .0) (a .1) in
           (e, path-of d u (target s) e (at (target s) (remove x d)) (i .0) (a .1))
       go (inserting m kind b n k) g h c =
-          let o = off-path m (LW ∷ []) (needs (I m kind b n k) d) (new-locked (I m kind b n k) (path n d) m (rw (eq-eqb m m refl))) s _ (compatible-symmetric _ _ c) (all-off-LW s) in
+          let o =
+          off-path m (LW ∷ []) (needs (I m kind b n k) d) (new-locked (I m kind b n k) (path n d) m (rw (eq-eqb m m refl))) s _
+          (compatible-symmetric _ _ c) (all-off-LW s) in
           let i = insert-whole (record { number = m; kind = kind; content = b }) n k (is (target s)) d (λ r o' e. eqb-flip (target s) m (or-left _ _ o)) in
           (sym (ap some? i) ∙ h, ap (λ (l : List Line). first l .above) i)
 

@@ -35,14 +35,16 @@ remove-remove x y d =
 
 -- if no line is touched by both, whatever its content
 pub rewrite-rewrite : (t : Line → Bool) (b : List ℕ) (t' : Line → Bool) (b' : List ℕ) (d : Document)
-    → ((r : Line) → Of r d → ((a : Node) → a .number ≡ r .it .number → t (row a (r .above)) ≡ false) ⊎ ((a : Node) → a .number ≡ r .it .number → t' (row a (r .above)) ≡ false))
+    → ((r : Line) → Of r d → ((a : Node) → a .number ≡ r .it .number → t (row a (r .above)) ≡ false)
+    ⊎ ((a : Node) → a .number ≡ r .it .number → t' (row a (r .above)) ≡ false))
     → rewrite t b (rewrite t' b' d) ≡ rewrite t' b' (rewrite t b d)
 rewrite-rewrite t b t' b' d h =
     amend-amend-same number (rewritten t' b') (rewritten-number t' b') (rewritten t b) [] d
     ∙ amend-agree number _ _ [] d (λ r m. go r (h r m))
     ∙ sym (amend-amend-same number (rewritten t b) (rewritten-number t b) (rewritten t' b') [] d)
   where
-    go : (r : Line) → ((a : Node) → a .number ≡ r .it .number → t (row a (r .above)) ≡ false) ⊎ ((a : Node) → a .number ≡ r .it .number → t' (row a (r .above)) ≡ false)
+    go : (r : Line)
+        → ((a : Node) → a .number ≡ r .it .number → t (row a (r .above)) ≡ false) ⊎ ((a : Node) → a .number ≡ r .it .number → t' (row a (r .above)) ≡ false)
         → rewritten t b (row (rewritten t' b' r) (r .above)) ≡ rewritten t' b' (row (rewritten t b r) (r .above))
     go r (inl i) = rw (i (rewritten t' b' r) (rewritten-number t' b' r), i (r .it) refl)
     go r (inr i) = rw (i (rewritten t b r) (rewritten-number t b r), i (r .it) refl)
@@ -58,10 +60,12 @@ rewrite-insert t b a n k d h =
     stays s e f = rw (e, f)
 
 -- if x is not the new node, nor a child of n
-pub remove-insert : (x : ℕ) (a : Node) (n k : ℕ) (d : Document) → eqb (a .number) x ≡ false → ((r : Line) → Of r d → r .it .number ≡ x → leads n (r .above) ≡ false)
+pub remove-insert : (x : ℕ) (a : Node) (n k : ℕ) (d : Document) → eqb (a .number) x ≡ false
+    → ((r : Line) → Of r d → r .it .number ≡ x → leads n (r .above) ≡ false)
     → remove x (insert a n k d) ≡ insert a n k (remove x d)
 remove-insert x a n k d e h =
-    view-put (λ y. eqb (y .number) n) (λ y. true) k a (λ y. not (eqb (y .number) x)) (λ y. y) number (λ y. eqb (y .number) n) (λ y. true) (rw e) (λ y q. refl) [] d
+    view-put (λ y. eqb (y .number) n) (λ y. true) k a (λ y. not (eqb (y .number) x)) (λ y. y) number (λ y. eqb (y .number) n) (λ y. true) (rw e)
+    (λ y q. refl) [] d
     (λ s r i f j g. counted s r f j g)
   where
     counted : (s r : Line) → eqb (s .it .number) n ≡ true → Of r d → r .above ≡ line number s → true ≡ (not (eqb (r .it .number) x) && true)

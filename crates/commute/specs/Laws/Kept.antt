@@ -15,10 +15,13 @@ use Rattle.locks.specs.Modes.{LW, clash}
 use Rattle.locks.specs.Needs.{need, needs}
 use Rattle.locks.specs.Laws.Compatible.{Compatible, compatible-symmetric, excludes, node-locked, new-locked, off-node, off-parent, off-path, off-new}
 use Rattle.commute.specs.Laws.Lines.{Of, Unique, not-here, insert}
-use Rattle.commute.specs.Laws.Views.{Reach, itself, children, subtree, within, reach, within-by-number, Whole, whole-shapes, Views, Same, views-same, rewrite-shapes}
+use Rattle.commute.specs.Laws.Views.{Reach, itself, children, subtree, within, reach, within-by-number, Whole, whole-shapes, Views, Same}
+use Rattle.commute.specs.Laws.Views.{views-same, rewrite-shapes}
 use Rattle.commute.specs.Laws.Views.{rewrite-whole, remove-whole, insert-whole, shapes-some}
-use Rattle.commute.specs.Laws.Classes.{Rewriting, Class, reading, rewriting, removing, inserting, class, touched, written, after-rewriting, touched-within, Contents, reads-contents}
-use Rattle.commute.specs.Laws.Classes.{all-off-LW, bars-removal, removal-barred, bars-insertion, insertion-barred, bars-writing, writing-barred, Absent, new-need}
+use Rattle.commute.specs.Laws.Classes.{Rewriting, Class, reading, rewriting, removing, inserting, class, touched, written, after-rewriting}
+use Rattle.commute.specs.Laws.Classes.{touched-within, Contents, reads-contents}
+use Rattle.commute.specs.Laws.Classes.{all-off-LW, bars-removal, removal-barred, bars-insertion, insertion-barred, bars-writing, writing-barred}
+use Rattle.commute.specs.Laws.Classes.{Absent, new-need}
 use Rattle.commute.specs.Laws.Apart.{path, path-of, not-under, under-not-under, Clear-of, clear-of}
 
 -- a step that fits ---------------------------------------------------------------------------
@@ -104,7 +107,8 @@ module _ (d : Document) (u : Unique d) where
     -- both bring in different numbers
     new-number : (q : ℕ) → has q (inserts s) ≡ true → eqb m q ≡ false
     unfolding clash
-    new-number q i = or-left _ _ (off-new q (need s .new) (needs s d) (new-locked s (path (target s) d) q i) (I m kind b n k) (path n d) c (rw (new-need s q i)))
+    new-number q i =
+        or-left _ _ (off-new q (need s .new) (needs s d) (new-locked s (path (target s) d) q i) (I m kind b n k) (path n d) c (rw (new-need s q i)))
 
     views-insertion : Views s d (insert new n k d)
     views-insertion = record {
@@ -118,7 +122,8 @@ module _ (d : Document) (u : Unique d) where
         seen = insert-whole new n k (within (reach s) (target s)) d (λ r o e. rw (path-of d u n hn r o e) new-line-unseen)
 
   -- s against new contents
-  module _ (s : Step) (hs : here (target s) d ≡ true) {p : Step} (w : Rewriting p) (hp : here (target p) d ≡ true) (c : Compatible (needs s d) (needs p d)) where
+  module _ (s : Step) (hs : here (target s) d ≡ true) {p : Step} (w : Rewriting p) (hp : here (target p) d ≡ true)
+      (c : Compatible (needs s d) (needs p d)) where
     off-s : excludes (need p .node) (need s) ≡ true → has (target p) (target s ∷ path (target s) d) ≡ false
     off-s e = off-path (target p) (need p .node) (needs p d) (node-locked p (path (target p) d)) s (path (target s) d) (compatible-symmetric _ _ c) e
 
@@ -131,13 +136,16 @@ module _ (d : Document) (u : Unique d) where
       where
         go : (q q' : Reach) → bars-writing q q' (need s) (need p) ≡ true → within q (target s) r ≡ true → within q' (target p) r ≡ false
         go itself itself e i =
-            rw (eqb-true _ (target s) i) (eqb-flip (target p) (target s) (off-node (target s) (need s .node) (needs s d) (node-locked s (path (target s) d)) p (path (target p) d) c e))
+            rw (eqb-true _ (target s) i)
+            (eqb-flip (target p) (target s)
+            (off-node (target s) (need s .node) (needs s d) (node-locked s (path (target s) d)) p (path (target p) d) c e))
         go itself children e i = absurd (false≢true e)
         go itself subtree e i = not-under d u (target s) (target p) hs (off-s e) r m i
         go children q e i = absurd (false≢true e)
         go subtree itself e i = refuted _ (λ j. true≢false (sym i ∙ not-under d u (target p) (target s) hp (off-p e) r m j))
         go subtree children e i = absurd (false≢true e)
-        go subtree subtree e i = under-not-under d u (target s) (target p) hs hp (off-s (and-right (excludes (need s .node) (need p)) _ e)) (off-p (and-left _ _ e)) r m i
+        go subtree subtree e i =
+            under-not-under d u (target s) (target p) hs hp (off-s (and-right (excludes (need s .node) (need p)) _ e)) (off-p (and-left _ _ e)) r m i
 
     views-rewriting : Views s d (rewrite (touched w) (written w) d)
     views-rewriting = record {

@@ -13,7 +13,8 @@ use Rattle.tree.specs.Steps.{Step, U, D, I, UU, fits, after, placed, is-documen
 use Rattle.tree.specs.Laws.Tests.{and-left, and-right, refuted}
 use Rattle.tree.specs.Laws.Rows.{self}
 use Rattle.commute.specs.Laws.Lines.{number, Unique, at-only, rewritten-number, rewritten-kind, insert}
-use Rattle.commute.specs.Laws.Classes.{Rewriting, update, rename, Class, reading, rewriting, removing, inserting, class, touched, written, after-rewriting}
+use Rattle.commute.specs.Laws.Classes.{Rewriting, update, rename, Class, reading, rewriting, removing, inserting, class, touched, written}
+use Rattle.commute.specs.Laws.Classes.{after-rewriting}
 use Rattle.commute.specs.Laws.Kept.{fits-here, fits-misfit, fits-placed}
 use Rattle.commute.specs.Laws.Uniqueness.{unique-after}
 use Rattle.commute.specs.Laws.Runs.{Entry, Run}

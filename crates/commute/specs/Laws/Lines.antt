@@ -43,7 +43,8 @@ at-line n d h = go (keep (is n) (lines d)) refl h
   where
     go : (l : List Line) → keep (is n) (lines d) ≡ l → some? l ≡ true → Of (first l) d × (first l .it .number ≡ n)
     go [] e f = absurd (false≢true f)
-    go (r ∷ l) e f = let i = in-keep (is n) (lines d) {a = r} (rw e (List·Memᴰ·head {x = r} {xs = l} refl)) in (of-lines d r (i .0), eqb-true (r .it .number) n (i .1))
+    go (r ∷ l) e f =
+        let i = in-keep (is n) (lines d) {a = r} (rw e (List·Memᴰ·head {x = r} {xs = l} refl)) in (of-lines d r (i .0), eqb-true (r .it .number) n (i .1))
 
 pub line-here : (n : ℕ) (d : Document) (r : Line) → Of r d → r .it .number ≡ n → here n d ≡ true
 unfolding select

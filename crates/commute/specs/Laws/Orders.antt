@@ -53,7 +53,8 @@ permuted-distinct (behind t {a} {b} p) h = distinct-cons t b (permuted-has p t �
 permuted-distinct (exchanged t u {a}) h =
     let o : (eqb u t || has t a) ≡ false = distinct-head t (u ∷ a) h in
     let i : Distinct (u ∷ a) = distinct-tail t (u ∷ a) h in
-    distinct-cons u (t ∷ a) (rw (eqb-flip u t (or-left (eqb u t) (has t a) o)) (distinct-head u a i)) (distinct-cons t a (or-right (eqb u t) (has t a) o) (distinct-tail u a i))
+    distinct-cons u (t ∷ a) (rw (eqb-flip u t (or-left (eqb u t) (has t a) o)) (distinct-head u a i))
+    (distinct-cons t a (or-right (eqb u t) (has t a) o) (distinct-tail u a i))
 permuted-distinct (then p q) h = permuted-distinct q (permuted-distinct p h)
 
 pub permutation-self : (a : List ℕ) → Permutation a a
@@ -111,7 +112,8 @@ module _ (log : ℕ → List Entry) where
   differ t u a p q e = true≢false (sym q ∙ ap (λ (z : ℕ). has z a) e ∙ p)
 
   -- nor is it after the first of them has run
-  pub rest-not-there : (t : ℕ) (a : List ℕ) (d e h : Document) → Apart → has t a ≡ false → Run d (log t) e → Run e (logs a) h → None-there (t ∷ a) d → None-there a e
+  pub rest-not-there : (t : ℕ) (a : List ℕ) (d e h : Document) → Apart → has t a ≡ false → Run d (log t) e → Run e (logs a) h → None-there (t ∷ a) d
+      → None-there a e
   rest-not-there t a d e h f n r s w u i y m =
       let o = run-valid e (logs a) h s y (in-logs u a i m) in
       absent-run d (log t) e y (o .0) r (o .1) (λ x j. f .clear u t (differ t u a n i) y x m j) (w u (rw (i, or-true (eqb t u))) y m)
@@ -121,7 +123,8 @@ module _ (log : ℕ → List Entry) where
   any-order (behind t {a} {b} p) d h f u n w r =
       let g = run-split d (log t) (logs a) h r in
       run-append d (log t) (logs b) (g .0) h (g .1)
-      (any-order p (g .0) h f (unique-run d (log t) (g .0) u (g .1)) (distinct-tail t a n) (rest-not-there t a d (g .0) h f (distinct-head t a n) (g .1) (g .2) w) (g .2))
+      (any-order p (g .0) h f (unique-run d (log t) (g .0) u (g .1)) (distinct-tail t a n)
+      (rest-not-there t a d (g .0) h f (distinct-head t a n) (g .1) (g .2) w) (g .2))
   any-order (exchanged t v {a}) d h f u n w r =
       let g = run-split d (log t) (log v ++ logs a) h r in
       let k = run-split (g .0) (log v) (logs a) h (g .2) in

@@ -56,7 +56,8 @@ module _ (t : Line → Bool) (b : List ℕ) where
       (ruled-amend (a .number ∷ p) ks (q .1) (λ r m. g r (inner m))) (ruled-amend p fs (q .2) (λ r m. g r (later m)))
     where
       go : (c : Bool) → t (row a p) ≡ c → Ruled-node a ks
-          → allowed (cond c (record { number = a .number; kind = a .kind; content = b }) a .kind) (cond c (record { number = a .number; kind = a .kind; content = b }) a .content) ≡ true
+          → allowed (cond c (record { number = a .number; kind = a .kind; content = b }) a .kind)
+          (cond c (record { number = a .number; kind = a .kind; content = b }) a .content) ≡ true
       go true e i = g (row a p) (self refl) e
       go false e i = i .0
 
@@ -83,7 +84,8 @@ unfolding attributes-first
 no-attributes [] h = refl
 no-attributes (x ∷ l) h = go (eqb x attribute-kind) h
   where
-    go : (c : Bool) → (not c && every (λ y. not (eqb y attribute-kind)) l) ≡ true → cond c (attributes-first l) (every (λ y. not (eqb y attribute-kind)) l) ≡ true
+    go : (c : Bool) → (not c && every (λ y. not (eqb y attribute-kind)) l) ≡ true
+        → cond c (attributes-first l) (every (λ y. not (eqb y attribute-kind)) l) ≡ true
     go true e = absurd (false≢true e)
     go false e = e
 
@@ -98,7 +100,8 @@ sublist-attributes (kept x {l} {k} s) h = go (eqb x attribute-kind) h (sublist-a
     go false e f = sublist-every (λ y. not (eqb y attribute-kind)) s e
 sublist-attributes (dropped x {l} {k} s) h = go (eqb x attribute-kind) h (sublist-attributes s)
   where
-    go : (c : Bool) → cond c (attributes-first k) (every (λ y. not (eqb y attribute-kind)) k) ≡ true → (attributes-first k ≡ true → attributes-first l ≡ true) → attributes-first l ≡ true
+    go : (c : Bool) → cond c (attributes-first k) (every (λ y. not (eqb y attribute-kind)) k) ≡ true
+        → (attributes-first k ≡ true → attributes-first l ≡ true) → attributes-first l ≡ true
     go true e f = f e
     go false e f = f (no-attributes k e)
 
@@ -184,9 +187,11 @@ module _ (parent : Node → Bool) (k : ℕ) (new : Node) where
       go (parent a) refl (q .0) (ruled-put ks (q .1) n (λ b js m. g b js (below m))) (ruled-put fs (q .2) n (λ b js m. g b js (beside m)))
     where
       go : (c : Bool) → parent a ≡ c → Ruled-node a ks → ruled (put parent (λ x. true) k new ks) ≡ true → ruled (put parent (λ x. true) k new fs) ≡ true
-          → ruled (node a (cond c (place (λ x. true) k new (put parent (λ x. true) k new ks)) (put parent (λ x. true) k new ks)) (put parent (λ x. true) k new fs)) ≡ true
+          → ruled (node a (cond c (place (λ x. true) k new (put parent (λ x. true) k new ks)) (put parent (λ x. true) k new ks))
+          (put parent (λ x. true) k new fs)) ≡ true
       go true e i u v = ruled-whole a (place (λ x. true) k new (put parent (λ x. true) k new ks)) (put parent (λ x. true) k new fs)
-          (i .0, rw (kinds-inserted k (put parent (λ x. true) k new ks), kinds-put ks) (g a ks at-top e)) (ruled-place k (put parent (λ x. true) k new ks) u n) v
+          (i .0, rw (kinds-inserted k (put parent (λ x. true) k new ks), kinds-put ks) (g a ks at-top e))
+          (ruled-place k (put parent (λ x. true) k new ks) u n) v
       go false e i u v = ruled-whole a (put parent (λ x. true) k new ks) (put parent (λ x. true) k new fs) (i .0, rw (kinds-put ks) (i .1)) u v
 
 -- the children of a node -----------------------------------------------------------------------
@@ -201,7 +206,8 @@ module _ (n : ℕ) where
       go r (inr s) = rw (s .2) (refuted (eqb (s .0 .it .number) n) (λ e. g (s .0) (s .1) (eqb-true _ n e)))
 
   -- right below n, and without n in the forest, the topmost nodes are its children
-  top-children : (p : List ℕ) (f : Document) → leads n p ≡ true → ((r : Line) → In number r p f → r .it .number ≡ n → ⊥) → kinds (keep (child n) (rows number p f)) ≡ top-kinds f
+  top-children : (p : List ℕ) (f : Document) → leads n p ≡ true → ((r : Line) → In number r p f → r .it .number ≡ n → ⊥)
+      → kinds (keep (child n) (rows number p f)) ≡ top-kinds f
   unfolding rows keep
   top-children p nil h g = refl
   top-children p (node a ks fs) h g = rw (
@@ -224,11 +230,15 @@ module _ (n : ℕ) where
 
     not-below : (r : Line) → In number r (b .number ∷ p) js → r .it .number ≡ b .number → ⊥
     unfolding rows
-    not-below r m e = head-apart line-number (row b p) (rows number (b .number ∷ p) js ++ rows number p fs) u (Memᴰ·append-left (rows number p fs) (to-rows number m)) e
+    not-below r m e =
+        head-apart line-number (row b p) (rows number (b .number ∷ p) js ++ rows number p fs) u
+        (Memᴰ·append-left (rows number p fs) (to-rows number m)) e
 
     not-beside : (r : Line) → In number r p fs → r .it .number ≡ b .number → ⊥
     unfolding rows
-    not-beside r m e = head-apart line-number (row b p) (rows number (b .number ∷ p) js ++ rows number p fs) u (Memᴰ·append-right (rows number (b .number ∷ p) js) (to-rows number m)) e
+    not-beside r m e =
+        head-apart line-number (row b p) (rows number (b .number ∷ p) js ++ rows number p fs) u
+        (Memᴰ·append-right (rows number (b .number ∷ p) js) (to-rows number m)) e
 
     not-both : (r s : Line) → In number r (b .number ∷ p) js → In number s p fs → r .it .number ≡ s .it .number → ⊥
     not-both r s i j e = distinct-apart line-number (rows number (b .number ∷ p) js) (rows number p fs) rest (to-rows number i) (to-rows number j) e
@@ -237,11 +247,19 @@ module _ (n : ℕ) where
   pub children-kinds : {a : Node} {ks : Document} (p : List ℕ) {f : Document} → Has-node a ks f → a .number ≡ n → leads n p ≡ false
       → distinct (numbers (rows number p f)) ≡ true → kinds (keep (child n) (rows number p f)) ≡ top-kinds ks
   children-kinds {a} {ks} p (at-top {fs = fs}) e h u =
-      rw (keep-children a ks fs p h, no-children p fs h (λ r m i. not-beside a ks fs p u r m (i ∙ sym e)), append-nil (keep (child n) (rows number (a .number ∷ p) ks)))
+      rw (
+        keep-children a ks fs p h,
+        no-children p fs h (λ r m i. not-beside a ks fs p u r m (i ∙ sym e)),
+        append-nil (keep (child n) (rows number (a .number ∷ p) ks)),
+      )
       (top-children (a .number ∷ p) ks (eq-eqb (a .number) n e) (λ r m i. not-below a ks fs p u r m (i ∙ sym e)))
   children-kinds {a} {ks} p (below {b = b} {js = js} {fs = fs} m) e h u =
       let i = node-line (b .number ∷ p) m in
-      rw (keep-children b js fs p h, no-children p fs h (λ r o q. not-both b js fs p u (row a (i .0)) r (i .1) o (e ∙ sym q)), append-nil (keep (child n) (rows number (b .number ∷ p) js)))
+      rw (
+        keep-children b js fs p h,
+        no-children p fs h (λ r o q. not-both b js fs p u (row a (i .0)) r (i .1) o (e ∙ sym q)),
+        append-nil (keep (child n) (rows number (b .number ∷ p) js)),
+      )
       (children-kinds (b .number ∷ p) m e (refuted (eqb (b .number) n) (λ q. not-below b js fs p u (row a (i .0)) (i .1) (e ∙ sym (eqb-true _ n q))))
       (distinct-left line-number (rows number (b .number ∷ p) js) (rows number p fs) (rest b js fs p u)))
   children-kinds {a} {ks} p (beside {b = b} {js = js} {fs = fs} m) e h u =

@@ -66,7 +66,9 @@ plain-answer-fit s d h = rw h
 pub run-document : (d : Document) (l : List Entry) (e : Document) → Run d l e → plain-document d (map (λ x. x .step) l) ≡ e
 unfolding plain-document
 run-document d [] e r = r
-run-document d (x ∷ l) e r = ap (λ (c : Document). plain-document c (map (λ y. y .step) l)) (plain-after-fit (x .step) d (r .0 .fit)) ∙ run-document (after (x .step) d) l e (r .1)
+run-document d (x ∷ l) e r =
+    ap (λ (c : Document). plain-document c (map (λ y. y .step) l)) (plain-after-fit (x .step) d (r .0 .fit))
+    ∙ run-document (after (x .step) d) l e (r .1)
 
 pub run-one-end : (d : Document) (l : List Entry) (e e' : Document) → Run d l e → Run d l e' → e ≡ e'
 run-one-end d l e e' r r' = sym (run-document d l e r) ∙ run-document d l e' r'
@@ -115,7 +117,8 @@ absent-run d (x ∷ l) e y c r v f a = absent-run (after (x .step) d) l e y c (r
 -- either order -------------------------------------------------------------------------------
 
 -- an entry that is valid behind a run could go before it
-pub move-first : (d : Document) (l : List Entry) (e : Document) (s : Entry) → Unique d → Run d l e → Valid s e → ((y : Entry) → List·Memᴰ y l → Clear s y) → Absent (s .step) d
+pub move-first : (d : Document) (l : List Entry) (e : Document) (s : Entry) → Unique d → Run d l e → Valid s e
+    → ((y : Entry) → List·Memᴰ y l → Clear s y) → Absent (s .step) d
     → Valid s d × Run (after (s .step) d) l (after (s .step) e)
 move-first d [] e s u r v f a = (rw r v, ap (after (s .step)) r)
 move-first d (y ∷ l) e s u r v f a =
@@ -128,11 +131,13 @@ move-first d (y ∷ l) e s u r v f a =
     )
 
 -- two logs, one behind the other, could change places
-pub exchange : (d : Document) (l : List Entry) (e : Document) (k : List Entry) (h : Document) → Unique d → Run d l e → Run e k h → All-clear k l → Brings-once k → All-absent k d
+pub exchange : (d : Document) (l : List Entry) (e : Document) (k : List Entry) (h : Document) → Unique d → Run d l e → Run e k h → All-clear k l
+    → Brings-once k → All-absent k d
     → (c : Document) × Run d k c × Run c l h
 exchange d l e [] h u r s f o a = (d, refl, rw (← s) r)
 exchange d l e (x ∷ k) h u r s f o a =
     let g = move-first d l e x u r (s .0) (λ y m. f x y (List·Memᴰ·head refl) m) (a x (List·Memᴰ·head refl)) in
-    let b = exchange (after (x .step) d) l (after (x .step) e) k h (unique-after d u (x .step) (g .0 .fit)) (g .1) (s .1) (λ z y i j. f z y (List·Memᴰ·tail i) j) (o .1)
+    let b = exchange (after (x .step) d) l (after (x .step) e) k h (unique-after d u (x .step) (g .0 .fit)) (g .1) (s .1)
+    (λ z y i j. f z y (List·Memᴰ·tail i) j) (o .1)
     (λ y i m j. absent-after m (x .step) d (o .0 y i m j) (a y (List·Memᴰ·tail i) m j)) in
     (b .0, (g .0, b .1), b .2)

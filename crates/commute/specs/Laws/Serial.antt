@@ -2,7 +2,8 @@
 use mathlib.Core.Path.{_≡_, refl, sym, _∙_}
 use Prim.Native.Nat.{ℕ}
 use mathlib.Core.Bool.{Bool, true, false, cond, _||_, true≢false, or-true}
-use mathlib.Core.List.{List, [], _∷_, _++_, append-nil, List·Memᴰ, List·Memᴰ·head, List·Memᴰ·tail, List·Memᴰ·not-nil, List·Memᴰ·append-cases, List·Memᴰ·eq-of-singleton}
+use mathlib.Core.List.{List, [], _∷_, _++_, append-nil, List·Memᴰ, List·Memᴰ·head, List·Memᴰ·tail, List·Memᴰ·not-nil, List·Memᴰ·append-cases}
+use mathlib.Core.List.{List·Memᴰ·eq-of-singleton}
 use mathlib.Core.Logic.{_⊎_, inl, inr}
 use lib.Dec.{eqb}
 use borrow.Author.Tests.{eqb-true, eq-eqb}
@@ -36,7 +37,8 @@ reorder d a b log h p s = record {
 }
 
 -- commit of the first: its log leads to a document from which the others run
-pub commit : (d : Document) (t : ℕ) (a : List ℕ) (log : ℕ → List Entry) (h : Document) → Serial d (t ∷ a) log h → (e : Document) × Run d (log t) e × Serial e a log h
+pub commit : (d : Document) (t : ℕ) (a : List ℕ) (log : ℕ → List Entry) (h : Document) → Serial d (t ∷ a) log h
+    → (e : Document) × Run d (log t) e × Serial e a log h
 commit d t a log h s =
     let g = run-split d (log t) (logs log a) h (s .run) in (
       g .0,
@@ -51,7 +53,8 @@ commit d t a log h s =
     )
 
 -- abort of t: the others lead to a document from which t leads to h
-pub abort : (d : Document) (t : ℕ) (a : List ℕ) (log : ℕ → List Entry) (h : Document) → Serial d (t ∷ a) log h → (e : Document) × Run e (log t) h × Serial d a log e
+pub abort : (d : Document) (t : ℕ) (a : List ℕ) (log : ℕ → List Entry) (h : Document) → Serial d (t ∷ a) log h
+    → (e : Document) × Run e (log t) h × Serial d a log e
 abort d t a log h s =
     let r : Run d (logs log (a ++ (t ∷ []))) h = any-order log (to-back t a) d h (s .apart) (s .unique) (s .distinct) (s .none-there) (s .run) in
     let q : Run d (logs log a ++ log t) h = rw (logs-append log a (t ∷ []), append-nil (log t)) at r in
@@ -94,7 +97,8 @@ logs-emptied : (t : ℕ) (log : ℕ → List Entry) (a : List ℕ) → has t a �
 logs-emptied t log [] h = refl
 logs-emptied t log (v ∷ a) h = go (eqb v t) h (λ i. logs-emptied t log a i)
   where
-    go : (e : Bool) → (e || has t a) ≡ false → (has t a ≡ false → logs (emptied t log) a ≡ logs log a) → cond e [] (log v) ++ logs (emptied t log) a ≡ log v ++ logs log a
+    go : (e : Bool) → (e || has t a) ≡ false → (has t a ≡ false → logs (emptied t log) a ≡ logs log a)
+        → cond e [] (log v) ++ logs (emptied t log) a ≡ log v ++ logs log a
     go true i f = absurd (true≢false i)
     go false i f = rw (f i)
 
@@ -132,7 +136,8 @@ logs-noted : (t : ℕ) (x : Entry) (log : ℕ → List Entry) (a : List ℕ) →
 logs-noted t x log [] h = refl
 logs-noted t x log (v ∷ a) h = go (eqb v t) h (λ i. logs-noted t x log a i)
   where
-    go : (e : Bool) → (e || has t a) ≡ false → (has t a ≡ false → logs (noted t x log) a ≡ logs log a) → cond e (log t ++ (x ∷ [])) (log v) ++ logs (noted t x log) a ≡ log v ++ logs log a
+    go : (e : Bool) → (e || has t a) ≡ false → (has t a ≡ false → logs (noted t x log) a ≡ logs log a)
+        → cond e (log t ++ (x ∷ [])) (log v) ++ logs (noted t x log) a ≡ log v ++ logs log a
     go true i f = absurd (true≢false i)
     go false i f = rw (f i)
 
@@ -179,7 +184,8 @@ apart-noted t log x s g = record { clear = clear; once = once }
         go true = inserts-once-noted (log t) x (s .once t) (g .new)
         go false = s .once v
 
-none-there-noted : (t : ℕ) (log : ℕ → List Entry) (x : Entry) (a : List ℕ) (d : Document) → None-there log a d → Absent (x .step) d → None-there (noted t x log) a d
+none-there-noted : (t : ℕ) (log : ℕ → List Entry) (x : Entry) (a : List ℕ) (d : Document) → None-there log a d → Absent (x .step) d
+    → None-there (noted t x log) a d
 none-there-noted t log x a d w n v i y m = go (in-noted t x log v m)
   where
     go : List·Memᴰ y (log v) ⊎ ((v ≡ t) × (y ≡ x)) → Absent (y .step) d
@@ -201,7 +207,8 @@ grant d t a log h x s v g n = reorder d (a ++ (t ∷ [])) (t ∷ a) (noted t x l
     run =
         let g = abort d t a log h s in
         rw (logs-append (noted t x log) a (t ∷ []), logs-noted t x log a (distinct-head t a (s .distinct)), eq-eqb t t refl, append-nil (log t ++ (x ∷ [])))
-        (run-append d (logs log a) (log t ++ (x ∷ [])) (g .0) (after (x .step) h) (g .2 .run) (run-append (g .0) (log t) (x ∷ []) h (after (x .step) h) (g .1) (v, refl)))
+        (run-append d (logs log a) (log t ++ (x ∷ [])) (g .0) (after (x .step) h) (g .2 .run)
+        (run-append (g .0) (log t) (x ∷ []) h (after (x .step) h) (g .1) (v, refl)))
 
 -- x is granted to t, which is not among them: nothing changes
 pub grant-other : (d : Document) (t : ℕ) (a : List ℕ) (log : ℕ → List Entry) (h : Document) (x : Entry) → has t a ≡ false → Serial d a log h

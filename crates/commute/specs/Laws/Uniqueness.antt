@@ -19,7 +19,8 @@ use Rattle.commute.specs.Laws.Classes.{Class, reading, rewriting, removi
 use Rattle.commute.specs.Laws.Kept.{fits-absent}
 
 pub numbers-rewrite : (t : Line → Bool) (b : List ℕ) (d : Document) → numbers (lines (rewrite t b d)) ≡ numbers (lines d)
-numbers-rewrite t b d = rw (lines-rewrite t b d) (map-map line-number (λ r. row (rewritten t b r) (r .above)) line-number (lines d) (λ r m. rewritten-number t b r))
+numbers-rewrite t b d =
+    rw (lines-rewrite t b d) (map-map line-number (λ r. row (rewritten t b r) (r .above)) line-number (lines d) (λ r m. rewritten-number t b r))
 
 pub unique-rewrite : (t : Line → Bool) (b : List ℕ) (d : Document) → Unique d → Unique (rewrite t b d)
 unique-rewrite t b d u = rw (numbers-rewrite t b d) u
@@ -46,7 +47,8 @@ unique-insert a n k d u h = count-distinct line-number (lines (insert a n k d)) 
         let z : count (is q) (lines d) ≡ 0 = count-absent q d (rw (← eqb-true (a .number) q e) h) in
         rw (i, z) (omega (arith, distinct-count line-number (lines d) u n))
     go q false e =
-        let i : keep (is q) (lines (insert a n k d)) ≡ keep (is q) (lines d) = put-kept (λ x. eqb (x .number) n) (λ x. true) k a number (is q) [] d (λ s m j. e) in
+        let i : keep (is q) (lines (insert a n k d)) ≡ keep (is q) (lines d) =
+        put-kept (λ x. eqb (x .number) n) (λ x. true) k a number (is q) [] d (λ s m j. e) in
         rw i (distinct-count line-number (lines d) u q)
 
 pub unique-after : (d : Document) → Unique d → (p : Step) → fits p d ≡ true → Unique (after p d)
@@ -56,4 +58,5 @@ unique-after d u p g = go (class p) g
     go (reading e b) g = rw (e d) u
     go (rewriting w) g = rw (after-rewriting w d) (unique-rewrite (touched w) (written w) d u)
     go (removing x) g = unique-remove x d u
-    go (inserting m kind b n k) g = unique-insert (record { number = m; kind = kind; content = b }) n k d u (fits-absent (I m kind b n k) d g m (rw (eq-eqb m m refl)))
+    go (inserting m kind b n k) g =
+        unique-insert (record { number = m; kind = kind; content = b }) n k d u (fits-absent (I m kind b n k) d g m (rw (eq-eqb m m refl)))

@@ -8,7 +8,8 @@ use borrow.Author.Tests.{eqb-true}
 use Rattle.tree.specs.Lists.{has, keep}
 use Rattle.tree.specs.Forest.{row}
 use Rattle.tree.specs.Document.{Node, Document, Line, lines, is, child, under, select, first, some?, here}
-use Rattle.tree.specs.Steps.{Step, T, C, R, U, D, I, TT, RR, UU, target, inserts, fits, answer, kth, numbers-are, with-content, rewrite, remove, misfit, misplaced}
+use Rattle.tree.specs.Steps.{Step, T, C, R, U, D, I, TT, RR, UU, target, inserts, fits, answer, kth, numbers-are, with-content, rewrite, remove}
+use Rattle.tree.specs.Steps.{misfit, misplaced}
 use Rattle.tree.specs.Laws.Lists.{any-same, in-has, keep-keep, keep-all, keep-map, in-keep, map-map, map-self}
 use Rattle.tree.specs.Laws.Put.{put-kept}
 use Rattle.locks.specs.Needs.{needs, locks}
@@ -188,6 +189,7 @@ remove-whole x t d h =
     stays r m = let i = in-keep t (lines d) m in rw (h r (of-lines d r (i .0)) (i .1))
 
 -- insertion: nothing changes in lines that pass a test which the new one fails
-pub insert-whole : (a : Node) (n k : ℕ) (t : Line → Bool) (d : Document) → ((s : Line) → Of s d → s .it .number ≡ n → t (row a (n ∷ s .above)) ≡ false) → Whole t d (insert a n k d)
+pub insert-whole : (a : Node) (n k : ℕ) (t : Line → Bool) (d : Document)
+    → ((s : Line) → Of s d → s .it .number ≡ n → t (row a (n ∷ s .above)) ≡ false) → Whole t d (insert a n k d)
 unfolding select lines
 insert-whole a n k t d h = put-kept (λ x. eqb (x .number) n) (λ x. true) k a number t [] d (λ s m e. rw (eqb-true _ n e) (h s m (eqb-true _ n e)))

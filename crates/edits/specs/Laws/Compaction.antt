@@ -38,7 +38,8 @@ module _ {A : Type 0} (shown : A → Bool) (g : A → A) (w : List (ℕ × A)) w
         compacted-gone i = ap (λ (r : List (ℕ × A)). take k l ++ r) (sym (rw (row-at, e, i, add-one (getD l j x .0)))) ∙ v
 
         -- a row that is kept: it stands behind the k that are done
-        pub compacted-kept : shown (getD l j x .1) ≡ true → (l′ : List (ℕ × A)) → take (k + 1) l′ ≡ take k l ++ (second g (getD l j x) ∷ []) → drop (j + 1) l′ ≡ drop (j + 1) l
+        pub compacted-kept : shown (getD l j x .1) ≡ true → (l′ : List (ℕ × A)) → take (k + 1) l′ ≡ take k l ++ (second g (getD l j x) ∷ [])
+            → drop (j + 1) l′ ≡ drop (j + 1) l
             → Compacting l′ (k + 1) (j + 1) 0
         unfolding prune
         compacted-kept i l′ a b = rw (a, b, append-snoc) (ap (λ (r : List (ℕ × A)). take k l ++ r) (sym (rw (row-at, e, i))) ∙ v)

@@ -57,7 +57,12 @@ module _ {A : Type 0} (shown : A → Bool) where
   unfolding flat prune
   prune-skip below d nil t h k = refl
   prune-skip below d (node a ks fs) t h k =
-      rw (left-out-low below d h k, append-assoc (flat (suc d) ks) (flat d fs) t, prune-skip below (suc d) ks (flat d fs ++ t) h (omega arith), prune-skip below d fs t h k)
+      rw (
+        left-out-low below d h k,
+        append-assoc (flat (suc d) ks) (flat d fs) t,
+        prune-skip below (suc d) ks (flat d fs ++ t) h (omega arith),
+        prune-skip below d fs t h k,
+      )
 
   module _ {B : Type 0} (g : A → B) where
     -- a pass over the rows of a forest and those behind it
@@ -69,11 +74,14 @@ module _ {A : Type 0} (shown : A → Bool) where
         rw (h, append-assoc (flat (suc d) ks) (flat d fs) t) (go (shown a) (view-then 0 (suc d) ks (flat d fs ++ t) refl) (λ m q. view-then m d fs t q))
       where
         Then : ℕ → ℕ → Forest A → List (ℕ × A) → List (ℕ × A) → Type 0
-        Then below d f u t = (m : ℕ) × (left-out m d ≡ false) × (map (second g) (prune shown below u) ≡ flat d (view shown g f) ++ map (second g) (prune shown m t))
+        Then below d f u t =
+            (m : ℕ) × (left-out m d ≡ false) × (map (second g) (prune shown below u) ≡ flat d (view shown g f) ++ map (second g) (prune shown m t))
 
         go : (b : Bool) → Then 0 (suc d) ks (flat (suc d) ks ++ (flat d fs ++ t)) (flat d fs ++ t)
             → ((m : ℕ) → left-out m d ≡ false → Then m d fs (flat d fs ++ t) t)
-            → (m : ℕ) × (left-out m d ≡ false) × (map (second g) (cond b ((d, a) ∷ prune shown 0 (flat (suc d) ks ++ (flat d fs ++ t))) (prune shown (suc d) (flat (suc d) ks ++ (flat d fs ++ t))))
+            → (m : ℕ) × (left-out m d ≡ false)
+            × (map (second g)
+            (cond b ((d, a) ∷ prune shown 0 (flat (suc d) ks ++ (flat d fs ++ t))) (prune shown (suc d) (flat (suc d) ks ++ (flat d fs ++ t))))
             ≡ flat d (cond b (node (g a) (view shown g ks) (view shown g fs)) (view shown g fs)) ++ map (second g) (prune shown m t))
         go true u v =
             let w = v (u .0) (left-out-up (u .0) d (u .1)) in

@@ -59,7 +59,8 @@ module _ (t : ℕ) (ls : List Lock) where
       go true = refl
       go false = refl
 
-  renamed-granted : (a b : List ℕ) (p : ℕ) (l : List Entry) → p < length l → all-granted t ls (renamed-rows t a b p l) ≡ renamed-rows t a b p (all-granted t ls l)
+  renamed-granted : (a b : List ℕ) (p : ℕ) (l : List Entry) → p < length l
+      → all-granted t ls (renamed-rows t a b p l) ≡ renamed-rows t a b p (all-granted t ls l)
   unfolding renamed-rows
   renamed-granted a b p l h =
       let g : Marked → Marked = renamed-by t a b in

@@ -122,7 +122,9 @@ module _ (t : ℕ) where
   grant-rows ls f = flat-amend (λ a. a) (granted-to t ls) [] 0 f
 
   rows-append : (ls ks : List Lock) (l : List Entry) → all-granted t (ls ++ ks) l ≡ all-granted t ks (all-granted t ls l)
-  rows-append ls ks l = sym (map-map (second (granted-to t ks)) (second (granted-to t ls)) (second (granted-to t (ls ++ ks))) l (λ x m. ap (λ a. (x .0, a)) (sym (granted-append ls ks (x .1)))))
+  rows-append ls ks l =
+      sym (map-map (second (granted-to t ks)) (second (granted-to t ls)) (second (granted-to t (ls ++ ks))) l
+      (λ x m. ap (λ a. (x .0, a)) (sym (granted-append ls ks (x .1)))))
 
   rows-each : (ms : List Mode) (q : ℕ) (l : List Entry) → all-granted t (each ms q) l ≡ map (by-number (second (granted-modes t ms)) q) l
   rows-each ms q l = map-same _ _ l (λ x m. ap (λ a. (x .0, a)) (granted-each ms q (x .1)) ∙ inside (numbered q (x .1)) x)
@@ -205,7 +207,8 @@ pub granted-word : (t v : ℕ) (ms : List Mode) (a : Marked) → in-word v ≡ a
     → with-modes t (bitOr v (word-of ms)) a ≡ granted-modes t ms a
 granted-word t v ms a e w = same-held a _ _ (λ u m. go u m (eqb u t) refl)
   where
-    go : (u : ℕ) (m : Mode) (b : Bool) → eqb u t ≡ b → cond b (in-word (bitOr v (word-of ms))) (a .held u) m ≡ cond b (union (a .held u) (among ms)) (a .held u) m
+    go : (u : ℕ) (m : Mode) (b : Bool) → eqb u t ≡ b
+        → cond b (in-word (bitOr v (word-of ms))) (a .held u) m ≡ cond b (union (a .held u) (among ms)) (a .held u) m
     go u m true q =
         let h : in-word v m ≡ a .held u m = ap (λ (p : ModeSet). p m) (e ∙ ap (a .held) (sym (eqb-true u t q))) in
         in-union v (word-of ms) m ∙ (λ j. h j || w m j)

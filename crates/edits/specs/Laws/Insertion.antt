@@ -56,7 +56,8 @@ module _ {A : Type 0} (counts : A → Bool) (top : ℕ) where
 
   -- one child is passed by, with its subtree
   new-child : (i : ℕ) (a : A) (ks : Forest A) (t : List (ℕ × A))
-      → before-new counts top (suc i) ((suc top, a) ∷ (flat (suc (suc top)) ks ++ t)) ≡ suc (length (flat (suc (suc top)) ks) + before-new counts top (cond (counts a) i (suc i)) t)
+      → before-new counts top (suc i) ((suc top, a) ∷ (flat (suc (suc top)) ks ++ t))
+      ≡ suc (length (flat (suc (suc top)) ks) + before-new counts top (cond (counts a) i (suc i)) t)
   unfolding before-new
   new-child i a ks t =
       let o : suc i - 1 ≡ i = omega arith in
@@ -75,7 +76,8 @@ module _ {A : Type 0} (counts : A → Bool) (top : ℕ) where
   place-from zero new ks t h = rw (new-first ks t h)
   place-from (suc i) new nil t h = rw (new-stop (suc i) t h)
   place-from (suc i) new (node a ks fs) t h =
-      rw (append-assoc (flat (suc (suc top)) ks) (flat (suc top) fs) t, new-child i a ks (flat (suc top) fs ++ t)) (go (counts a) (place-from i new fs t h) (place-from (suc i) new fs t h))
+      rw (append-assoc (flat (suc (suc top)) ks) (flat (suc top) fs) t, new-child i a ks (flat (suc top) fs ++ t))
+      (go (counts a) (place-from i new fs t h) (place-from (suc i) new fs t h))
     where
       r : List (ℕ × A)
       r = flat (suc top) fs ++ t
@@ -92,7 +94,8 @@ module _ {A : Type 0} (counts : A → Bool) (top : ℕ) where
       go : (b : Bool) → flat (suc top) (place counts (suc i) new fs) ++ t ≡ insert (before-new counts top i r) (suc top, new) r
           → flat (suc top) (place counts (suc (suc i)) new fs) ++ t ≡ insert (before-new counts top (suc i) r) (suc top, new) r
           → (suc top, a) ∷ ((flat (suc (suc top)) ks ++ flat (suc top) (cond b (place counts (suc i) new fs) (place counts (suc (suc i)) new fs))) ++ t)
-          ≡ insert (suc (length (flat (suc (suc top)) ks) + before-new counts top (cond b i (suc i)) r)) (suc top, new) ((suc top, a) ∷ (flat (suc (suc top)) ks ++ r))
+          ≡ insert (suc (length (flat (suc (suc top)) ks) + before-new counts top (cond b i (suc i)) r)) (suc top, new)
+          ((suc top, a) ∷ (flat (suc (suc top)) ks ++ r))
       go true u v = behind-child i u
       go false u v = behind-child (suc i) v
 

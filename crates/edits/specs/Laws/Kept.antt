@@ -11,7 +11,8 @@ use Rattle.tree.specs.Document.{Node, Document, lines, rooted, ruled, legal}
 use Rattle.tree.specs.Steps.{Step, T, C, R, U, D, I, TT, RR, UU, target, inserts}
 use Rattle.tree.specs.Laws.Tests.{or-left, or-right, and-right}
 use Rattle.tree.specs.Laws.Lists.{map-append, map-map, eqb-flip}
-use Rattle.protocol.specs.State.{Marked, Tree, numbered, number-held, seen-by, lasting, undone, unmarked, inserted-by, renamed, written-by, grant, act, commit-tree, abort-tree, tree-of}
+use Rattle.protocol.specs.State.{Marked, Tree, numbered, number-held, seen-by, lasting, undone, unmarked, inserted-by, renamed, written-by, grant}
+use Rattle.protocol.specs.State.{act, commit-tree, abort-tree, tree-of}
 use Rattle.locks.specs.Needs.{Lock}
 use Rattle.layout.specs.Lists.{insert}
 use Rattle.layout.specs.Flat.{flat, second, prune}

@@ -27,7 +27,8 @@ module _ {A : Type 0} where
   insert-append u v i x = rw (take-append-add u v i, drop-append-add u v i) (append-assoc u (take i v) (x ∷ drop i v))
 
 -- a change of all, and one element changed or put in
-pub map-modify : {A B : Type 0} (g : A → B) (f : A → A) (f′ : B → B) (i : ℕ) (l : List A) → ((a : A) → g (f a) ≡ f′ (g a)) → map g (modify i f l) ≡ modify i f′ (map g l)
+pub map-modify : {A B : Type 0} (g : A → B) (f : A → A) (f′ : B → B) (i : ℕ) (l : List A) → ((a : A) → g (f a) ≡ f′ (g a))
+    → map g (modify i f l) ≡ modify i f′ (map g l)
 unfolding modify
 map-modify g f f′ i [] h = refl
 map-modify g f f′ zero (x ∷ l) h = rw (h x)

@@ -43,9 +43,11 @@ module _ {A : Type 0} (shown : A → Bool) (g : A → A) (top : ℕ) (w : List (
       changed-out k = sym (take-append-drop i l) ∙ ap (λ (r : List (ℕ × A)). take i l ++ r) (row-at ∙ sym (rw (row-at, le-ltb top (getD l i x .0) k))) ∙ v
 
       module _ (k : top < getD l i x .0) where
-        stays : (m : ℕ) → changed-below shown g top hidden (getD l i x ∷ drop (i + 1) l) ≡ getD l i x ∷ changed-below shown g top m (drop (i + 1) l) → Changing l (i + 1) m
+        stays : (m : ℕ) → changed-below shown g top hidden (getD l i x ∷ drop (i + 1) l) ≡ getD l i x ∷ changed-below shown g top m (drop (i + 1) l)
+            → Changing l (i + 1) m
         stays m e =
-            rw (add-one i, take-suc l i x h, append-snoc, ← add-one i) (ap (λ (r : List (ℕ × A)). take i l ++ r) (sym e ∙ ap (changed-below shown g top hidden) (sym row-at)) ∙ v)
+            rw (add-one i, take-suc l i x h, append-snoc, ← add-one i)
+            (ap (λ (r : List (ℕ × A)). take i l ++ r) (sym e ∙ ap (changed-below shown g top hidden) (sym row-at)) ∙ v)
 
         -- a row below one that is not shown
         pub changed-hidden : left-out hidden (getD l i x .0) ≡ true → Changing l (i + 1) hidden
@@ -90,7 +92,15 @@ module _ {A : Type 0} (counts : A → Bool) (top : ℕ) (q : ℕ) where
       unfolding before-new
       placed-here k z =
           let e : getD l i x .0 ≡ suc top = omega arith in
-          v ∙ rw (drop-cons l i x h, le-ltb (suc top) (getD l i x .0) (omega arith), z, le-ltb 0 0 (omega arith), and-false (eqb (getD l i x .0) (suc top)), add-zero)
+          v
+          ∙ rw (
+            drop-cons l i x h,
+            le-ltb (suc top) (getD l i x .0) (omega arith),
+            z,
+            le-ltb 0 0 (omega arith),
+            and-false (eqb (getD l i x .0) (suc top)),
+            add-zero,
+          )
 
       -- a row that is no child is passed by, and so is a child, counted or not
       pub placed-deeper : top + 1 < getD l i x .0 → Placing l (i + 1) j
@@ -155,9 +165,12 @@ module _ (t p : ℕ) (l : List Entry) where
     unfolding renamed-rows
     changed-start b h = rw (add-one p, take-modify p (second (renamed-by t a b)) l no-entry h, drop-modify p (second (renamed-by t a b)) l, append-snoc)
 
-    pub counted-start : (g : Entry → Entry) → Counting t a (depth l p) (length (keep (λ x. is-named a (x .now)) (subtree t l p))) (modify p g l) (p + 1) 0 (cond (is-named a (item l p .now)) 1 0)
+    pub counted-start : (g : Entry → Entry)
+        → Counting t a (depth l p) (length (keep (λ x. is-named a (x .now)) (subtree t l p))) (modify p g l) (p + 1) 0 (cond (is-named a (item l p .now)) 1 0)
     unfolding keep
-    counted-start g = rw (add-one p, drop-modify p g l) (go (is-named a (item l p .now)) (keep (λ x. is-named a (x .now)) (seen-from t 0 (depth l p) (drop (suc p) l))))
+    counted-start g =
+        rw (add-one p, drop-modify p g l)
+        (go (is-named a (item l p .now)) (keep (λ x. is-named a (x .now)) (seen-from t 0 (depth l p) (drop (suc p) l))))
       where
         go : (c : Bool) (ks : List Marked) → length (cond c (item l p ∷ ks) ks) ≡ cond c 1 0 + length ks
         go true ks = omega arith

@@ -47,7 +47,8 @@ module _ {A : Type 0} (shown : A → Bool) (g : A → A) where
         )
 
     changed-then : (hidden d : ℕ) (up : List A) (f : Forest A) (t : List (ℕ × A)) → top < d → every shown up ≡ true → left-out hidden d ≡ false
-        → (m : ℕ) × (left-out m d ≡ false) × (changed-below shown g top hidden (flat d f ++ t) ≡ flat d (amend (λ a. a) if-shown up f) ++ changed-below shown g top m t)
+        → (m : ℕ) × (left-out m d ≡ false)
+        × (changed-below shown g top hidden (flat d f ++ t) ≡ flat d (amend (λ a. a) if-shown up f) ++ changed-below shown g top m t)
     unfolding flat changed-below amend
     changed-then hidden d up nil t o s h = (hidden, h, refl)
     changed-then hidden d up (node a ks fs) t o s h =
@@ -56,17 +57,30 @@ module _ {A : Type 0} (shown : A → Bool) (g : A → A) where
         (λ m q. changed-then m d up fs t o s q))
       where
         Then : ℕ → ℕ → List A → Forest A → List (ℕ × A) → List (ℕ × A) → Type 0
-        Then hidden d up f u t = (m : ℕ) × (left-out m d ≡ false) × (changed-below shown g top hidden u ≡ flat d (amend (λ a. a) if-shown up f) ++ changed-below shown g top m t)
+        Then hidden d up f u t =
+            (m : ℕ) × (left-out m d ≡ false) ×
+            (changed-below shown g top hidden u ≡ flat d (amend (λ a. a) if-shown up f) ++ changed-below shown g top m t)
 
         go : (b : Bool) → shown a ≡ b → (shown a ≡ true → Then 0 (suc d) (a ∷ up) ks (flat (suc d) ks ++ (flat d fs ++ t)) (flat d fs ++ t))
             → ((m : ℕ) → left-out m d ≡ false → Then m d up fs (flat d fs ++ t) t)
             → (m : ℕ) × (left-out m d ≡ false)
-            × (cond b ((d, g a) ∷ changed-below shown g top 0 (flat (suc d) ks ++ (flat d fs ++ t))) ((d, a) ∷ changed-below shown g top (suc d) (flat (suc d) ks ++ (flat d fs ++ t)))
-            ≡ (d, cond (b && every shown up) (g a) a) ∷ (flat (suc d) (amend (λ a. a) if-shown (a ∷ up) ks) ++ flat d (amend (λ a. a) if-shown up fs)) ++ changed-below shown g top m t)
+            × (cond b ((d, g a) ∷ changed-below shown g top 0 (flat (suc d) ks ++ (flat d fs ++ t)))
+            ((d, a) ∷ changed-below shown g top (suc d) (flat (suc d) ks ++ (flat d fs ++ t)))
+            ≡ (d, cond (b && every shown up) (g a) a) ∷ (flat (suc d) (amend (λ a. a) if-shown (a ∷ up) ks) ++ flat d (amend (λ a. a) if-shown up fs))
+            ++ changed-below shown g top m t)
         go true e u v =
             let x = u e in
-            let w = v (x .0) (left-out-up (x .0) d (x .1)) in
-            (w .0, w .1, rw (s, x .2, w .2, append-assoc (flat (suc d) (amend (λ a. a) if-shown (a ∷ up) ks)) (flat d (amend (λ a. a) if-shown up fs)) (changed-below shown g top (w .0) t)))
+            let w = v (x .0) (left-out-up (x .0) d (x .1)) in (
+              w .0,
+              w .1,
+              rw (
+                s,
+                x .2,
+                w .2,
+                append-assoc (flat (suc d) (amend (λ a. a) if-shown (a ∷ up) ks)) (flat d (amend (λ a. a) if-shown up fs))
+                    (changed-below shown g top (w .0) t),
+              ),
+            )
         go false e u v =
             let w = v (suc d) (left-out-high (suc d) d (omega arith)) in (
               w .0,
@@ -125,7 +139,8 @@ module _ (t n : ℕ) (a b : List ℕ) where
       let g : Marked → Marked = renamed-by t a b in
       let i : any (numbered n) up ≡ true = rw (eq-eqb (number-at (flat 0 f) p) n e) in
       let low : amend (λ a. a) by-line up (children m) ≡ amend (λ a. a) (if-shown (seen-by t) g) up (children m) =
-      amend-agree (λ a. a) by-line (if-shown (seen-by t) g) up (children m) (λ v o. inside v (rw (any-below (λ a. a) (numbered n) i o) (or-true (numbered n (v .it))))) in
+      amend-agree (λ a. a) by-line (if-shown (seen-by t) g) up (children m)
+      (λ v o. inside v (rw (any-below (λ a. a) (numbered n) i o) (or-true (numbered n (v .it))))) in
       let head : by-line r ≡ g (r .it) = inside r i ∙ rw s in
       let tail : flat (suc (depth-of 0 m)) (amend (λ a. a) by-line up (children m)) ++ behind 0 m
       ≡ changed-below (seen-by t) g (depth (flat 0 f) p) 0 (drop (suc p) (flat 0 f)) =

@@ -51,7 +51,8 @@ module _ {A : Type 0} where
   unfolding flat children depth-of before behind
   split d (self e) = rw e
   split d {r} (inner {a = a} {fs = fs} m) =
-      ap (λ k. (d, a) ∷ k) (ap (λ k. k ++ flat d fs) (split (suc d) m) ∙ within (before (suc d) m) (flat (suc (depth-of (suc d) m)) (children m)) (behind (suc d) m) (flat d fs) _)
+      ap (λ k. (d, a) ∷ k) (ap (λ k. k ++ flat d fs) (split (suc d) m)
+      ∙ within (before (suc d) m) (flat (suc (depth-of (suc d) m)) (children m)) (behind (suc d) m) (flat d fs) _)
   split d (later {a = a} {ks = ks} m) = ap (λ k. (d, a) ∷ k) (ap (λ k. flat (suc d) ks ++ k) (split d m) ∙ sym (append-assoc (flat (suc d) ks) (before d m) _))
 
   deep : (d : ℕ) {r : Row A A} {p : List A} {f : Forest A} (m : RowOf r p f) → d ≤ depth-of d m
@@ -61,7 +62,8 @@ module _ {A : Type 0} where
   deep d (later m) = deep d m
 
   -- no row behind the subtree lies below the row
-  stops-then : (d e : ℕ) {r : Row A A} {p : List A} {f : Forest A} (m : RowOf r p f) (t : List (ℕ × A)) → depth-of d m ≤ e → below e t ≡ [] → below e (behind d m ++ t) ≡ []
+  stops-then : (d e : ℕ) {r : Row A A} {p : List A} {f : Forest A} (m : RowOf r p f) (t : List (ℕ × A)) → depth-of d m ≤ e → below e t ≡ []
+      → below e (behind d m ++ t) ≡ []
   unfolding depth-of behind
   stops-then d e (self {fs = fs} q) t h k = below-none e d fs t h k
   stops-then d e (inner {fs = fs} m) t h k =
@@ -100,14 +102,16 @@ module _ {A : Type 0} where
         )
 
     -- it reaches only into the subtree of r, if q passes none above, before and behind
-    pub amend-within : (d : ℕ) {r : Row A A} {up : List A} {f : Forest A} (m : RowOf r up f) → any q up ≡ false → Nowhere q (before d m) → Nowhere q (behind d m)
+    pub amend-within : (d : ℕ) {r : Row A A} {up : List A} {f : Forest A} (m : RowOf r up f) → any q up ≡ false → Nowhere q (before d m)
+        → Nowhere q (behind d m)
         → flat d (amend (λ a. a) g up f) ≡ around d m (g r) (flat (suc (depth-of d m)) (amend (λ a. a) g (r .it ∷ r .above) (children m)))
     unfolding amend flat children depth-of before behind
     amend-within d {r} {up} (self {fs = fs} e) u b z = rw (e, amend-nowhere d up fs u z)
     amend-within d {r} {up} (inner {a = a} {fs = fs} m) u b z =
         let i : q a ≡ false = or-left (q a) _ b in
         rw (only (row a up) (rw (i, u)), amend-nowhere d up fs u (none-second q (behind (suc d) m) (flat d fs) z))
-        (ap (λ k. (d, a) ∷ k) (ap (λ k. k ++ flat d fs) (amend-within (suc d) m (rw (i, u)) (or-right (q a) _ b) (none-first q (behind (suc d) m) (flat d fs) z))
+        (ap (λ k. (d, a) ∷ k)
+        (ap (λ k. k ++ flat d fs) (amend-within (suc d) m (rw (i, u)) (or-right (q a) _ b) (none-first q (behind (suc d) m) (flat d fs) z))
         ∙ within (before (suc d) m) (flat (suc (depth-of (suc d) m)) (amend (λ a. a) g (r .it ∷ r .above) (children m))) (behind (suc d) m) (flat d fs) _))
     amend-within d {r} {up} (later {a = a} {ks = ks} m) u b z =
         let i : q a ≡ false = or-left (q a) _ b in
@@ -123,9 +127,14 @@ module _ {A : Type 0} where
     put-nowhere d nil h = refl
     put-nowhere d (node a ks fs) h =
         let j : Nowhere q (flat (suc d) ks ++ flat d fs) = or-right (q a) _ h in
-        rw (or-left (q a) _ h, put-nowhere (suc d) ks (none-first q (flat (suc d) ks) (flat d fs) j), put-nowhere d fs (none-second q (flat (suc d) ks) (flat d fs) j))
+        rw (
+          or-left (q a) _ h,
+          put-nowhere (suc d) ks (none-first q (flat (suc d) ks) (flat d fs) j),
+          put-nowhere d fs (none-second q (flat (suc d) ks) (flat d fs) j),
+        )
 
-    pub put-within : (d : ℕ) {r : Row A A} {up : List A} {f : Forest A} (m : RowOf r up f) → q (r .it) ≡ true → Nowhere q (flat (suc (depth-of d m)) (children m))
+    pub put-within : (d : ℕ) {r : Row A A} {up : List A} {f : Forest A} (m : RowOf r up f) → q (r .it) ≡ true
+        → Nowhere q (flat (suc (depth-of d m)) (children m))
         → Nowhere q (before d m) → Nowhere q (behind d m)
         → flat d (put q counts k new f) ≡ around d m (r .it) (flat (suc (depth-of d m)) (place counts k new (children m)))
     unfolding put flat children depth-of before behind

@@ -18,7 +18,8 @@ use Rattle.edits.specs.Rows.{row-number, row-numbers, number-at}
 use Rattle.edits.specs.Laws.Unique.{by-number, by-number-one}
 
 -- a change of each node that looks at the node alone
-pub flat-amend : {A K : Type 0} (key : A → K) (g : A → A) (p : List K) (d : ℕ) (f : Forest A) → flat d (amend key (λ r. g (r .it)) p f) ≡ map (second g) (flat d f)
+pub flat-amend : {A K : Type 0} (key : A → K) (g : A → A) (p : List K) (d : ℕ) (f : Forest A)
+    → flat d (amend key (λ r. g (r .it)) p f) ≡ map (second g) (flat d f)
 unfolding flat amend
 flat-amend key g p d nil = refl
 flat-amend key g p d (node a ks fs) = rw (flat-amend key g (key a ∷ p) (suc d) ks, flat-amend key g p d fs, map-append (second g) (flat (suc d) ks) (flat d fs))
@@ -32,7 +33,8 @@ module _ (g : Marked → Marked) (same : (a : Marked) → g a .now .number ≡ a
   numbers-modify (suc i) (x ∷ l) = ap (λ k. row-number x ∷ k) (numbers-modify i l)
 
 pub number-same : (l k : List Entry) (i : ℕ) → row-numbers l ≡ row-numbers k → number-at l i ≡ number-at k i
-number-same l k i e = sym (List·getD-map row-number l i no-entry) ∙ ap (λ (ns : List ℕ). getD ns i (row-number no-entry)) e ∙ List·getD-map row-number k i no-entry
+number-same l k i e =
+    sym (List·getD-map row-number l i no-entry) ∙ ap (λ (ns : List ℕ). getD ns i (row-number no-entry)) e ∙ List·getD-map row-number k i no-entry
 
 -- a change of the node numbered n: U with what it writes, D with its mark
 pub mark-node-rows : (n : ℕ) (g : Marked → Marked) (f : Tree) (p : ℕ) → unique (flat 0 f) ≡ true → p < length (flat 0 f) → number-at (flat 0 f) p ≡ n

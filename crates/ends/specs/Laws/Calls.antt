@@ -53,17 +53,32 @@ module _ {s s′ : List ℕ} {b : Bool} (k : Started s s′ b) where
   unfolding next answer-of granted-answer
   start-done e =
       let z : state-size ≤ length s = leb-true state-size (length s) (sym (k .answer) ∙ e) in
-      record { short = λ h. absurd (omega (arith, h, z)); answer = λ h M writing. refl; state = λ h M. k .holds h; bytes = k .bytes; long = k .long; behind = k .behind }
+      record {
+        short = λ h. absurd (omega (arith, h, z));
+        answer = λ h M writing. refl;
+        state = λ h M. k .holds h;
+        bytes = k .bytes;
+        long = k .long;
+        behind = k .behind;
+      }
 
   pub start-short : b ≡ false → Restarted s s′ (Refused 13)
   unfolding next
   start-short e =
       let z : length s < state-size = leb-false state-size (length s) (sym (k .answer) ∙ e) in
-      record { short = λ h. (refl, k .short h); answer = λ h. absurd (omega (arith, h, z)); state = λ h M. k .holds h; bytes = k .bytes; long = k .long; behind = k .behind }
+      record {
+        short = λ h. (refl, k .short h);
+        answer = λ h. absurd (omega (arith, h, z));
+        state = λ h M. k .holds h;
+        bytes = k .bytes;
+        long = k .long;
+        behind = k .behind;
+      }
 
 -- begin ---------------------------------------------------------------------------------------------
 
-refusal : {s : List ℕ} {call : Call} (cause : ℕ) → form s ≡ true → ((M : State) → Holds s M → next call M ≡ unchanged (refused cause) M) → Performed s s (Refused cause) call
+refusal : {s : List ℕ} {call : Call} (cause : ℕ) → form s ≡ true → ((M : State) → Holds s M → next call M ≡ unchanged (refused cause) M)
+    → Performed s s (Refused cause) call
 unfolding answer-of
 refusal {s} {call} cause f h = performed-stays (record { formed = f; next = h; quiet = refl }) (Refused cause) (λ writing. refl)
 
@@ -76,7 +91,9 @@ module _ {s : List ℕ} {t : ℕ} (f : form s ≡ true) where
   unfolding next
   begin-high k = refusal 1 f (λ M h. rw (lt-leb t 16 k) (go (leb 1 t) M))
     where
-      go : (b : Bool) (M : State) → cond (not (b && false)) (unchanged (refused 1) M) (cond (M .is-open t) (unchanged (refused 2) M) (becomes done (opened t M))) ≡ unchanged (refused 1) M
+      go : (b : Bool) (M : State)
+          → cond (not (b && false)) (unchanged (refused 1) M) (cond (M .is-open t) (unchanged (refused 2) M) (becomes done (opened t M)))
+          ≡ unchanged (refused 1) M
       go true M = refl
       go false M = refl
 

@@ -27,7 +27,8 @@ own-field (suc (suc (suc zero))) a l = refl
 own-field (suc (suc (suc (suc o)))) a l = absurd (omega arith)
 
 -- a change that does nothing to the node at i
-none-kept : (s : List ℕ) (i : ℕ) (g : Marked → Marked) → g (getD (nodes s) i no-entry .1) ≡ getD (nodes s) i no-entry .1 → Layout s → Kept s s (modify i (second g) (nodes s))
+none-kept : (s : List ℕ) (i : ℕ) (g : Marked → Marked) → g (getD (nodes s) i no-entry .1) ≡ getD (nodes s) i no-entry .1 → Layout s
+    → Kept s s (modify i (second g) (nodes s))
 none-kept s i g q h =
     kept-as (nodes s) _ (sym (modify-none i (second g) (nodes s) no-entry (ap (λ (b : Marked). (getD (nodes s) i no-entry .0, b)) q))) (kept-same s h)
 
@@ -43,7 +44,8 @@ cleared {s} i o t r e p k =
     let q : 0 ≡ without t (field o a) = rw (eq-eqb (field o a) t (sym e ∙ p)) in
     same-kept i (with-field o 0) (without-mark o t) (ap (λ (v : ℕ). with-field o v a) q) k
 
-pub not-cleared : (s : List ℕ) (i o t r : ℕ) → r ≡ field o (getD (nodes s) i no-entry .1) → (r ≡ t → ⊥) → o < 4 → Layout s → Kept s s (modify i (second (without-mark o t)) (nodes s))
+pub not-cleared : (s : List ℕ) (i o t r : ℕ) → r ≡ field o (getD (nodes s) i no-entry .1) → (r ≡ t → ⊥) → o < 4 → Layout s
+    → Kept s s (modify i (second (without-mark o t)) (nodes s))
 not-cleared s i o t r e p l h =
     let a : Marked = getD (nodes s) i no-entry .1 in
     let q : without t (field o a) ≡ field o a = rw (ne-eqb (field o a) t (λ x. p (e ∙ x))) in
@@ -55,7 +57,8 @@ rewritten-own {s} i t r e p k =
     let a : Marked = getD (nodes s) i no-entry .1 in
     same-kept i restored (rewritten t) (rw (eq-eqb (a .writer) t (sym e ∙ p))) k
 
-pub not-rewritten : (s : List ℕ) (i t r : ℕ) → r ≡ getD (nodes s) i no-entry .1 .writer → (r ≡ t → ⊥) → Layout s → Kept s s (modify i (second (rewritten t)) (nodes s))
+pub not-rewritten : (s : List ℕ) (i t r : ℕ) → r ≡ getD (nodes s) i no-entry .1 .writer → (r ≡ t → ⊥) → Layout s
+    → Kept s s (modify i (second (rewritten t)) (nodes s))
 not-rewritten s i t r e p h =
     let a : Marked = getD (nodes s) i no-entry .1 in
     none-kept s i (rewritten t) (rw (ne-eqb (a .writer) t (λ x. p (e ∙ x)))) h
@@ -87,10 +90,12 @@ module _ (g : Entry → Entry) where
   unfolding map-first
   first-none s h = kept-same s h
 
-  pub first-next : {s s′ s″ : List ℕ} (i : ℕ) → Kept s s′ (map-first i g (nodes s)) → Kept s′ s″ (modify i g (nodes s′)) → Kept s s″ (map-first (i + 1) g (nodes s))
+  pub first-next : {s s′ s″ : List ℕ} (i : ℕ) → Kept s s′ (map-first i g (nodes s)) → Kept s′ s″ (modify i g (nodes s′))
+      → Kept s s″ (map-first (i + 1) g (nodes s))
   first-next {s} i a b =
       let e : suc i ≡ i + 1 = omega arith in
-      kept-as _ (map-first (i + 1) g (nodes s)) (first-more g i (nodes s) ∙ ap (λ (n : ℕ). map-first n g (nodes s)) e) (kept-then (map-first i g (nodes s)) (modify i g) a b)
+      kept-as _ (map-first (i + 1) g (nodes s)) (first-more g i (nodes s) ∙ ap (λ (n : ℕ). map-first n g (nodes s)) e)
+      (kept-then (map-first i g (nodes s)) (modify i g) a b)
 
   pub first-done : {s s′ : List ℕ} (i : ℕ) → length (nodes s) ≤ i → Kept s s′ (map-first i g (nodes s)) → Kept s s′ (map g (nodes s))
   first-done {s} i h k = kept-as _ _ (first-all g i (nodes s) h) k

@@ -77,7 +77,8 @@ module _ {s : List ℕ} {t : ℕ} where
 -- the node ---------------------------------------------------------------------------------
 
 -- a step of an open transaction
-step-judged : {s : List ℕ} {t : ℕ} → Opened s t → (M : State) → Holds s M → (st : Step) (room : Room) → next (step t st room) M ≡ judged t st room M (callers-document t (M .tree))
+step-judged : {s : List ℕ} {t : ℕ} → Opened s t → (M : State) → Holds s M → (st : Step) (room : Room)
+    → next (step t st room) M ≡ judged t st room M (callers-document t (M .tree))
 unfolding next
 step-judged o M h st room = open-next o M h (judged _ st room M (callers-document _ (M .tree)))
 
@@ -143,8 +144,10 @@ module _ {s : List ℕ} {t n c : ℕ} (r : Rejected s t n c) (st : Step) (on : t
   lent-rejected lent b = record { unformed = λ x. refl; filled = λ M h. rw (r .formed M h st on room) }
 
 -- a step by the number that it was called with
-pub performed-as : {s s′ : List ℕ} {r : Answer} {t n m : ℕ} (st : ℕ → Step) (room : Room) → n ≡ m → Performed s s′ r (step t (st n) room) → Performed s s′ r (step t (st m) room)
+pub performed-as : {s s′ : List ℕ} {r : Answer} {t n m : ℕ} (st : ℕ → Step) (room : Room) → n ≡ m → Performed s s′ r (step t (st n) room)
+    → Performed s s′ r (step t (st m) room)
 performed-as st room e h = rw (← e) h
 
-pub lent-as : {s b b′ : List ℕ} {t n m : ℕ} (st : ℕ → Step) (room : Room) (lent : Value → List ℕ) → n ≡ m → Lent lent s b b′ (step t (st n) room) → Lent lent s b b′ (step t (st m) room)
+pub lent-as : {s b b′ : List ℕ} {t n m : ℕ} (st : ℕ → Step) (room : Room) (lent : Value → List ℕ) → n ≡ m → Lent lent s b b′ (step t (st n) room)
+    → Lent lent s b b′ (step t (st m) room)
 lent-as st room lent e h = rw (← e) h

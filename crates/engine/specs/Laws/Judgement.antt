@@ -59,7 +59,8 @@ module _ {s : List ℕ} {t p : ℕ} (a : Admitted s t p) (st : Step) (on : numbe
   unfolding judged-at
   stays-misfit c e n = record { formed = a .formed; next = λ M h. admitted-next a M h st on room ∙ rw (← e, ne-eqb c 0 n); quiet = refl }
 
-  pub stays-held : misfit-on st (item (nodes s) p .now) ≡ 0 → any (λ m. ltb (place-of m (nodes s)) (length (nodes s))) (inserts st) ≡ true → Stays s (refused 10) (step t st room)
+  pub stays-held : misfit-on st (item (nodes s) p .now) ≡ 0 → any (λ m. ltb (place-of m (nodes s)) (length (nodes s))) (inserts st) ≡ true
+      → Stays s (refused 10) (step t st room)
   unfolding judged-at
   stays-held f e = record { formed = a .formed; next = λ M h. admitted-next a M h st on room ∙ rw (f, e); quiet = refl }
 
@@ -79,7 +80,8 @@ module _ {s : List ℕ} {t p : ℕ} {st : Step} (f : Fits s t p st) where
     unfolding judged-at
     stays-waits n room = record {
       formed = f .admitted .formed;
-      next = λ M h. let e : set ≡ set-in M = set-is ∙ rw (h .opens) in admitted-next (f .admitted) M h st (f .on) room ∙ rw (f .fits, f .new, ← e, ne-eqb set 0 n);
+      next = λ M h. let e : set ≡ set-in M = set-is ∙ rw (h .opens) in
+          admitted-next (f .admitted) M h st (f .on) room ∙ rw (f .fits, f .new, ← e, ne-eqb set 0 n);
       quiet = refl;
     }
 
@@ -97,12 +99,15 @@ module _ {s : List ℕ} {t p : ℕ} {st : Step} (f : Free s t p st) (room : Room
 
   pub stays-misplaced : misplaced-on st (item (nodes s) p .now .kind) (children t (nodes s) p) ≡ true → Stays s (refused 11) (step t st room)
   unfolding judged-at
-  stays-misplaced e = record { formed = f .fits .admitted .formed; next = λ M h. to-place M h ∙ rw (f .fits .fits, f .fits .new, none-waits M h, e); quiet = refl }
+  stays-misplaced e =
+      record { formed = f .fits .admitted .formed; next = λ M h. to-place M h ∙ rw (f .fits .fits, f .fits .new, none-waits M h, e); quiet = refl }
 
-  pub stays-full : misplaced-on st (item (nodes s) p .now .kind) (children t (nodes s) p) ≡ false → any (λ m. leb node-limit (length (nodes s))) (inserts st) ≡ true
+  pub stays-full : misplaced-on st (item (nodes s) p .now .kind) (children t (nodes s) p) ≡ false
+      → any (λ m. leb node-limit (length (nodes s))) (inserts st) ≡ true
       → Stays s (refused 12) (step t st room)
   unfolding judged-at
-  stays-full e g = record { formed = f .fits .admitted .formed; next = λ M h. to-place M h ∙ rw (f .fits .fits, f .fits .new, none-waits M h, e, g); quiet = refl }
+  stays-full e g =
+      record { formed = f .fits .admitted .formed; next = λ M h. to-place M h ∙ rw (f .fits .fits, f .fits .new, none-waits M h, e, g); quiet = refl }
 
 -- 13 for a lent buffer, or granted ---------------------------------------------------------
 
@@ -122,12 +127,15 @@ module _ {s : List ℕ} {t p : ℕ} {st : Step} (f : Placed s t p st) (room : Ro
   abbrev tree-after : State → Tree
   tree-after M = grant t (locks st (numbers-above (nodes s) p)) (act t st (M .tree))
 
-  step-next : has-room (answer-at st t (nodes s) p) room ≡ true → (M : State) → Holds s M → next (step t st room) M ≡ becomes (answer-at st t (nodes s) p) (with-tree M (tree-after M))
+  step-next : has-room (answer-at st t (nodes s) p) room ≡ true → (M : State) → Holds s M
+      → next (step t st room) M ≡ becomes (answer-at st t (nodes s) p) (with-tree M (tree-after M))
   unfolding judged-at
   step-next e M h = to-room M h ∙ rw (f .free .fits .fits, f .free .fits .new, none-waits (f .free) room M h, f .placed, f .spare, e)
 
   none-held : (M : State) → Holds s M → any (λ m. number-held m (M .tree)) (inserts st) ≡ false
-  none-held M h = any-same (λ m. number-held m (M .tree)) (λ m. ltb (place-of m (nodes s)) (length (nodes s))) (inserts st) (λ m i. held-place m (M .tree) ∙ rw (← h .rows)) ∙ f .free .fits .new
+  none-held M h =
+      any-same (λ m. number-held m (M .tree)) (λ m. ltb (place-of m (nodes s)) (length (nodes s))) (inserts st)
+      (λ m i. held-place m (M .tree) ∙ rw (← h .rows)) ∙ f .free .fits .new
 
   pub grants-step : {s′ : List ℕ} → has-room (answer-at st t (nodes s) p) room ≡ true → Left s s′ (is-open s) (stepped t st p (nodes s))
       → Grants s s′ (answer-at st t (nodes s) p) (step t st room)
@@ -147,12 +155,13 @@ module _ {s : List ℕ} {t p : ℕ} {st : Step} (f : Placed s t p st) (room : Ro
           let o : number-of (item (flat 0 g) p) ≡ target st = rw (h .rows) at (f .free .fits .on) in
           let rows : flat 0 (tree-after M) ≡ stepped t st p (nodes s) =
           rw (h .rows) (step-rows t g p (holds-unique h) i st o (rw (h .rows) at (f .free .fits .admitted .seen)) (none-held M h)) in
+          let valid = valid-act t st g p (f .free .fits .admitted .high) (h .valid) (holds-unique h) i o (rw (h .rows) at (f .free .fits .fits)) in
           record {
             layout = l .layout;
             opens = l .opens ∙ h .opens;
             rows = l .nodes ∙ sym rows;
             unique = rw (l .nodes, ← rows) (unique-grant t (locks st (numbers-above (nodes s) p)) u ∙ unique-act t st g p (holds-unique h) i o (none-held M h));
-            valid = valid-grant t (locks st (numbers-above (nodes s) p)) u (valid-act t st g p (f .free .fits .admitted .high) (h .valid) (holds-unique h) i o (rw (h .rows) at (f .free .fits .fits)));
+            valid = valid-grant t (locks st (numbers-above (nodes s) p)) u valid;
           }
 
 -- what `grant` left, as the rows that the step leaves

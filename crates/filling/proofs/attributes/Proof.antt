@@ -55,7 +55,11 @@ attribute-requires c κs = let e = c .before .before .before .peek .ensures in
     (λ z. c .before .before .if1 .left (e ∙ z)) (λ z. c .before .if2 .left (e ∙ z))
 
 loop-less : tie.Need-loop-less Inv-loop μ-loop
-loop-less c = let e = c .before .before .attribute .ensures in omega (arith, c .before .before .before .before .before .before .before .blanks .ensures .ends, e .2, e .0 .inside)
+loop-less c =
+    let blanks = c .before .before .before .before .before .before .before .blanks in
+    let attribute = c .before .before .attribute in
+    let e = attribute .ensures in
+    omega (arith, blanks .ensures .ends, e .2, e .0 .inside)
 
 loop-again : tie.Need-loop-again Inv-loop μ-loop
 loop-again c = let e = c .before .before .attribute .ensures in

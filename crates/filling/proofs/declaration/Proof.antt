@@ -14,10 +14,18 @@ peek-requires-2 : tie.Need-peek-requires-2
 peek-requires-2 c κs = search needs
 
 returns-2 : tie.Need-returns-2
-returns-2 c = declared-shortly _ (sym (c .before .before .before .peek .ensures) ∙ c .before .before .if1 .left) (sym (c .before .peek2 .ensures) ∙ c .if2 .taken)
+returns-2 c =
+    let peek = c .before .before .before .peek in
+    let if1 = c .before .before .if1 in
+    let peek2 = c .before .peek2 in
+    declared-shortly _ (sym (peek .ensures) ∙ if1 .left) (sym (peek2 .ensures) ∙ c .if2 .taken)
 
 returns-3 : tie.Need-returns-3
-returns-3 c = declared-wholly _ (sym (c .before .before .before .peek .ensures) ∙ c .before .before .if1 .left) (λ e. c .if2 .left (c .before .peek2 .ensures ∙ e))
+returns-3 c =
+    let peek = c .before .before .before .peek in
+    let if1 = c .before .before .if1 in
+    let peek2 = c .before .peek2 in
+    declared-wholly _ (sym (peek .ensures) ∙ if1 .left) (λ e. c .if2 .left (peek2 .ensures ∙ e))
 
 pub declaration-spec : {M : Type 1} → statement M
 declaration-spec = tie.close (tie.spec peek-requires returns peek-requires-2 returns-2 returns-3)

@@ -27,7 +27,9 @@ add-t16 : tie.Need-add-t16 Inv-loop μ-loop
 add-t16 c = search needs
 
 returns : tie.Need-returns Inv-loop μ-loop
-returns c = let l = c .before .before .before .loop in (l .inv .3, decode-stop _ _ _ _ _ _ (l .inv .4) (l .inv .0) (l .inv .2) _ refl (search needs) (c .if1 .taken))
+returns c =
+    let l = c .before .before .before .loop in
+    (l .inv .3, decode-stop _ _ _ _ _ _ (l .inv .4) (l .inv .0) (l .inv .2) _ refl (search needs) (c .if1 .taken))
 
 returns-2 : tie.Need-returns-2 Inv-loop μ-loop
 returns-2 c = let l = c .before .before .before .before .loop in
@@ -46,13 +48,16 @@ loop-less : tie.Need-loop-less Inv-loop μ-loop
 loop-less c = search needs
 
 loop-again : tie.Need-loop-again Inv-loop μ-loop
-loop-again c = let l = c .before .before .before .before .before .loop in (
-  search needs,
-  search needs,
-  search needs,
-  simp length-set (l .inv .3),
-  decode-turn _ _ _ _ _ _ (l .inv .4) (l .inv .0) (l .inv .2) (search needs) (c .before .before .if1 .left) (one-byte {c = record { at = l .i + 1 }} (c .if3 .taken) refl) (search needs),
-)
+loop-again c =
+    let l = c .before .before .before .before .before .loop in
+    let if1 = c .before .before .if1 in (
+      search needs,
+      search needs,
+      search needs,
+      simp length-set (l .inv .3),
+      decode-turn _ _ _ _ _ _ (l .inv .4) (l .inv .0) (l .inv .2) (search needs) (if1 .left)
+          (one-byte {c = record { at = l .i + 1 }} (c .if3 .taken) refl) (search needs),
+    )
 
 add-t12 : tie.Need-add-t12 Inv-loop μ-loop
 add-t12 c = search needs
@@ -66,11 +71,15 @@ enum-known-lost c = search needs
 returns-3 : tie.Need-returns-3 Inv-loop μ-loop
 returns-3 c =
     let c₆ = c .before .before .before .before .before .before in
+    let if3 = c .before .before .before .before .if3 in
+    let reference = c .before .before .before .reference in
+    let lost = c .before .lost in
     let m = c₆ .before .before .before in
     let l = m .loop in
     let x = m .before .before .args .x .now in
-    let r = subst (λ (r : Reference). Refers x (l .i + 1) (entity-at (drop (l .i + 1) x)) r) (c .before .lost .given .1) (c .before .before .before .reference .ensures) in
-    let k = by-reference (c .before .before .before .before .if3 .left) r in
+    let name = entity-at (drop (l .i + 1) x) in
+    let r = subst (λ (r : Reference). Refers x (l .i + 1) name r) (lost .given .1) (reference .ensures) in
+    let k = by-reference (if3 .left) r in
     (l .inv .3, decode-lost _ _ _ _ _ _ (l .inv .4) (l .inv .0) (l .inv .2) (search needs) (c₆ .if1 .left) _ refl k)
 
 enum-known-value : tie.Need-enum-known-value Inv-loop μ-loop
@@ -85,22 +94,30 @@ add-n-2 c = search needs
 loop-less-2 : tie.Need-loop-less-2 Inv-loop μ-loop
 loop-less-2 c =
     let c₆ = c .before .before .before .before .before .before in
+    let if3 = c .before .before .before .before .if3 in
+    let reference = c .before .before .before .reference in
+    let value = c .before .value in
     let m = c₆ .before .before .before in
     let l = m .loop in
     let x = m .before .before .args .x .now in
-    let r = subst (λ (r : Reference). Refers x (l .i + 1) (entity-at (drop (l .i + 1) x)) r) (c .before .value .given .1) (c .before .before .before .reference .ensures) in
-    let k = by-reference (c .before .before .before .before .if3 .left) r in
+    let name = entity-at (drop (l .i + 1) x) in
+    let r = subst (λ (r : Reference). Refers x (l .i + 1) name r) (value .given .1) (reference .ensures) in
+    let k = by-reference (if3 .left) r in
     let y = character-inside (search needs) k in
     omega (arith, y .0, y .1)
 
 loop-again-2 : tie.Need-loop-again-2 Inv-loop μ-loop
 loop-again-2 c =
     let c₆ = c .before .before .before .before .before .before in
+    let if3 = c .before .before .before .before .if3 in
+    let reference = c .before .before .before .reference in
+    let value = c .before .value in
     let m = c₆ .before .before .before in
     let l = m .loop in
     let x = m .before .before .args .x .now in
-    let r = subst (λ (r : Reference). Refers x (l .i + 1) (entity-at (drop (l .i + 1) x)) r) (c .before .value .given .1) (c .before .before .before .reference .ensures) in
-    let k = by-reference (c .before .before .before .before .if3 .left) r in
+    let name = entity-at (drop (l .i + 1) x) in
+    let r = subst (λ (r : Reference). Refers x (l .i + 1) name r) (value .given .1) (reference .ensures) in
+    let k = by-reference (if3 .left) r in
     let y = character-inside (search needs) k in (
       omega (arith, y .0),
       y .1,

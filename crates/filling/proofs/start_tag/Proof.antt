@@ -26,7 +26,10 @@ add-attributes : tie.Need-add-attributes
 add-attributes c = search needs
 
 attributes-requires : tie.Need-attributes-requires
-attributes-requires c κs = let n = c .before .before .before .before .before .before in element-put (n .before .before .before .pre) _ (n .name .ensures) (c .before .before .before .put .ensures)
+attributes-requires c κs =
+    let n = c .before .before .before .before .before .before in
+    let put = c .before .before .before .put in
+    element-put (n .before .before .before .pre) _ (n .name .ensures) (put .ensures)
 
 same-length : tie.Need-same-length
 same-length c = search needs

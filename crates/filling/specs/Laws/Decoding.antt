@@ -68,7 +68,8 @@ at-nothing (byte-then n m r) e = let z : _≡_ {A = ℕ} 0 1 = cc in omega arith
 at-nothing (reference-then n x r) e = let z : _≡_ {A = ℕ} 0 1 = cc in omega arith
 
 -- a byte that stands for itself
-at-byte : {stop b : ℕ} {s t c : List ℕ} → Characters stop (b ∷ s) t c → (b ≡ stop → ⊥) → (b ≡ ampersand → ⊥) → (r : List ℕ) × Characters stop s t r × (c ≡ b ∷ r)
+at-byte : {stop b : ℕ} {s t c : List ℕ} → Characters stop (b ∷ s) t c → (b ≡ stop → ⊥) → (b ≡ ampersand → ⊥)
+    → (r : List ℕ) × Characters stop s t r × (c ≡ b ∷ r)
 at-byte stop-here n m = absurd (n refl)
 at-byte (byte-then {c = c} _ _ r) n m = (c, r, refl)
 at-byte (reference-then _ x r) n m = absurd (m refl)
@@ -92,7 +93,8 @@ module _ (x : List ℕ) (stop i : ℕ) (h : i < length x) (n : getD x i 0 ≡ st
   here = rw (← drop-cons x i 0 h) d
 
   -- the reference that was read is the one that stands there
-  refer : {k : ℕ} {b : ℕ} {next : Cursor} {u : List ℕ} → Entity (drop (suc i) x) u k → (q : Reach) → entity-at (drop (i + 1) x) ≡ q → Refers x (i + 1) q (Byte b next)
+  refer : {k : ℕ} {b : ℕ} {next : Cursor} {u : List ℕ} → Entity (drop (suc i) x) u k → (q : Reach) → entity-at (drop (i + 1) x) ≡ q
+      → Refers x (i + 1) q (Byte b next)
       → (b ≡ k) × (drop (next .at) x ≡ u)
   refer {k} {b} {next} e q p (refers {n = n} o m) =
       let g = entity-got e in
@@ -140,7 +142,8 @@ module _ (x : List ℕ) (stop at i n : ℕ) (b : List ℕ) (g : Decoding x stop 
   }
 
   -- where no value or text stands
-  none : (c : Cursor) → c .at ≡ i → i ≤ length x → ((t r : List ℕ) → Characters stop (drop i x) t r → length (take n b ++ r) ≤ content-limit → ⊥) → Decodes x stop at b n c
+  none : (c : Cursor) → c .at ≡ i → i ≤ length x → ((t r : List ℕ) → Characters stop (drop i x) t r → length (take n b ++ r) ≤ content-limit → ⊥)
+      → Decodes x stop at b n c
   none c e h f = record {
     few = few;
     forward = omega arith;

@@ -24,7 +24,8 @@ use Rattle.reader.specs.Steps.{Run}
 use Rattle.filling.specs.Fill.{Row, listed, texts, Short, stop-here, Behind, behind-root, behind-child, InTag, AtAttribute, AtElement, AtText}
 use Rattle.filling.specs.Fill.{AtTag, begins, ends, Filling, Same, Put, QuoteAt, EndsAt, Filled}
 use Rattle.filling.specs.Laws.Rows.{listed-text, rows-done}
-use Rattle.filling.specs.Laws.Runs.{run-drop, over-name, name-spelled, tag-no-name, equals-no-name, blanks-no-name, TagRest, rest-open, rest-empty, rest-attribute, tag-rest}
+use Rattle.filling.specs.Laws.Runs.{run-drop, over-name, name-spelled, tag-no-name, equals-no-name, blanks-no-name, TagRest, rest-open}
+use Rattle.filling.specs.Laws.Runs.{rest-empty, rest-attribute, tag-rest}
 use Rattle.filling.specs.Laws.Decoding.{value-characters, text-characters}
 use Rattle.filling.specs.Laws.Tokens.{next-byte}
 use Rattle.filling.specs.Laws.Texts.{filled-by, moved}
@@ -32,7 +33,8 @@ use Rattle.filling.specs.Laws.Texts.{filled-by, moved}
 -- names ------------------------------------------------------------------------------------
 
 -- a name read as a run of bytes
-run-name : {n u : List ℕ} (x : List ℕ) (at to : ℕ) → Run name-byte x at to → Named n (drop at x) u → span name-byte u ≡ 0 → (take (to - at) (drop at x) ≡ n) × (drop to x ≡ u)
+run-name : {n u : List ℕ} (x : List ℕ) (at to : ℕ) → Run name-byte x at to → Named n (drop at x) u → span name-byte u ≡ 0
+    → (take (to - at) (drop at x) ≡ n) × (drop to x ≡ u)
 run-name x at to r m h =
     let y = over-name m h in
     let e : to - at ≡ span name-byte (drop at x) = omega (arith, r .ends) in
@@ -65,7 +67,8 @@ module _ {x s : List ℕ} {at d : ℕ} (F : Filling AtElement x s at d) (to : �
   pub element-put : {s′ : List ℕ} → Put s s′ ((d, record { kind = element-kind; content = take (to - at) (drop at x) }) ∷ []) → Filling InTag x s′ to (d + 1)
   element-put p =
       let q = rw (element-name .0) at p in
-      filled-by F ((d, element (E .name)) ∷ []) (E .later) (E .rows) q to (d + 1) (rw (element-name .1, add-one d) (E .after)) (r .inside) (omega (arith, F .deep))
+      filled-by F ((d, element (E .name)) ∷ []) (E .later) (E .rows) q to (d + 1) (rw (element-name .1, add-one d) (E .after)) (r .inside)
+      (omega (arith, F .deep))
 
 -- attributes -----------------------------------------------------------------------------------
 
@@ -82,7 +85,8 @@ module _ {x s : List ℕ} {at d : ℕ} (F : Filling AtAttribute x s at d) (to : 
   pub attribute-short : length (take (to - at) (drop at x)) ≤ content-limit
   attribute-short = rw (attribute-name .0) (short-first (d, attribute (A .name)) (texts (suc d) (A .content) ++ A .later) (F .rows) (A .rows) (F .short))
 
-  module _ {s′ : List ℕ} (p : Put s s′ ((d, record { kind = attribute-kind; content = take (to - at) (drop at x) }) ∷ [])) (c : Cursor) (q : QuoteAt x to c) where
+  module _ {s′ : List ℕ} (p : Put s s′ ((d, record { kind = attribute-kind; content = take (to - at) (drop at x) }) ∷ [])) (c : Cursor)
+      (q : QuoteAt x to c) where
     quote-there : (c .at < length x) × (getD x (c .at) 0 ≡ mark (A .quote)) × (drop (c .at + 1) x ≡ A .behind-quote)
     quote-there = next-byte x (c .at) (mark (A .quote)) (A .behind-quote) (q .quotes (A .quote) (rw (attribute-name .1) (A .equals)) (A .quoted))
 
@@ -156,7 +160,8 @@ module _ {x s : List ℕ} {i d : ℕ} (F : Filling InTag x s i d) (at : ℕ) (r 
         moved F (at + 2) (d - 1) (emptied-rows d (T .rows) (y .2) z (y .1) (T .after)) (omega (arith, y .0)) (omega (arith, F .deep))
 
   module _ (n₁ : getD x at 0 ≡ greater-than → ⊥) (n₂ : getD x at 0 ≡ slash → ⊥) where
-    attribute-part-at : {y t : List ℕ} {f : Shape} → TagRest (T .name) y f t → drop at x ≡ y → Behind (T .outer) t (T .later) → AtAttribute d (drop at x) (listed d f (T .later))
+    attribute-part-at : {y t : List ℕ} {f : Shape} → TagRest (T .name) y f t → drop at x ≡ y → Behind (T .outer) t (T .later)
+        → AtAttribute d (drop at x) (listed d f (T .later))
     unfolding listed
     attribute-part-at (rest-open {s = u} p) k z = absurd (n₁ (next-byte x at greater-than u k .1))
     attribute-part-at (rest-empty {t = t}) k z = absurd (n₂ (next-byte x at slash (greater-than ∷ t) k .1))
@@ -195,7 +200,8 @@ module _ {x s : List ℕ} {i d : ℕ} (F : Filling InTag x s i d) (at : ℕ) (r 
 -- content ------------------------------------------------------------------------------------------
 
 -- the rows of an element and of what follows it
-in-content : {d : ℕ} {n : Name} {s t : List ℕ} {f : Shape} {l : List Row} → every name-byte n ≡ true → Part true (opened n) s f t → Behind d t l → AtTag (suc d) s (listed (suc d) f l)
+in-content : {d : ℕ} {n : Name} {s t : List ℕ} {f : Shape} {l : List Row} → every name-byte n ≡ true → Part true (opened n) s f t → Behind d t l
+    → AtTag (suc d) s (listed (suc d) f l)
 unfolding listed
 in-content {d} {n} {l = l} h (element-part {m = m} {u = u} {v = v} {g = g} {f = f} a p q) z = begins (record {
   name = m;

@@ -63,7 +63,8 @@ flat-listed d i (node a g f) l =
     let x = flat (suc d) (view (λ a. true) unmarked (numbered (suc i) g)) in
     let y = flat d (view (λ a. true) unmarked (numbered (suc i + size g) f)) in
     let z : x ++ y ++ entries (suc i + size g + size f) l ≡ entries (suc i) (listed (suc d) g (listed d f l)) =
-    append-assoc x y (entries (suc i + size g + size f) l) ∙ ap (λ (t : List Entry). x ++ t) (flat-listed d (suc i + size g) f l) ∙ flat-listed (suc d) (suc i) g (listed d f l) in
+    append-assoc x y (entries (suc i + size g + size f) l) ∙ ap (λ (t : List Entry). x ++ t) (flat-listed d (suc i + size g) f l)
+    ∙ flat-listed (suc d) (suc i) g (listed d f l) in
     rw p (ap (λ (t : List Entry). (d, unmarked (record { number = i; kind = a .kind; content = a .content })) ∷ t) z)
 
 -- node 0 alone, and the rows of the root element

@@ -118,7 +118,9 @@ module _ {P : ℕ → List ℕ → List Row → Type 0} {stop e : ℕ} {x s : Li
     this = t .put (F .rest .behind) (F .rest .content) (F .rest .characters) short-content
 
     pub text-put : Filling P x s′ (c .at) d
-    text-put = filled-by F (texts e (F .rest .content)) (F .rest .later) (F .rest .rows) (this .0) (c .at) d (rw (this .1) (F .rest .after)) (t .inside) (omega (arith, F .deep))
+    text-put =
+        filled-by F (texts e (F .rest .content)) (F .rest .later) (F .rest .rows) (this .0) (c .at) d (rw (this .1) (F .rest .after)) (t .inside)
+        (omega (arith, F .deep))
 
     pub text-same : Same s s′
     text-same = put-same (texts e (F .rest .content)) (this .0)

@@ -63,5 +63,6 @@ pub put-last : {s s′ : List ℕ} (p d kind : ℕ) (b : List ℕ) → p ≡ len
     → Put s s′ ((d, record { kind = kind; content = b }) ∷ [])
 unfolding insert entries
 put-last {s} {s′} p d kind b e l =
-    left-as (insert p (d, inserted-by 0 (record { number = p; kind = kind; content = b })) (nodes s)) (with-rows s ((d, record { kind = kind; content = b }) ∷ []))
+    left-as (insert p (d, inserted-by 0 (record { number = p; kind = kind; content = b })) (nodes s))
+    (with-rows s ((d, record { kind = kind; content = b }) ∷ []))
     (rw (e, take-length (nodes s), drop-length (nodes s))) l

@@ -39,7 +39,12 @@ module _ (s : List ℕ) (k : ℕ) where
         && (leb (getD s (cell-at k + 1) 0) 16 && (leb (getD s (cell-at k + 2) 0) most && leb (getD s (cell-at k + 3) 0) most)) && sizes-in-range (cell s k))
     unfolding cell-in-range in-range decode
     cell-of =
-        rw (ap (λ (i : ℕ). getD s i 0) (sym (add-zero (cell-at k))) ∙ cell-byte s k 0 (omega arith), cell-byte s k 1 (omega arith), cell-byte s k 2 (omega arith), cell-byte s k 3 (omega arith))
+        rw (
+          ap (λ (i : ℕ). getD s i 0) (sym (add-zero (cell-at k))) ∙ cell-byte s k 0 (omega arith),
+          cell-byte s k 1 (omega arith),
+          cell-byte s k 2 (omega arith),
+          cell-byte s k 3 (omega arith),
+        )
 
     pub cell-low : getD s (cell-at k) 0 < low → false ≡ cell-in-range low high most (cell s k)
     cell-low h = sym (cell-of ∙ rw (lt-leb low (getD s (cell-at k) 0) h))

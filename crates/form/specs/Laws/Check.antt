@@ -68,12 +68,20 @@ cell-is s i h = getD-tabulate (count s) (λ i. cell s (slot s i)) i [] h
 module _ (s : List ℕ) (before i : ℕ) where
   rows-turn : i < count s
       → valid-from before (drop i (cells s)) (drop i (nodes s))
-      ≡ (between 1 (suc before) (depth s i) && (cell-in-range element-kind text-kind 16 (cell s (slot s i)) && valid-from (depth s i) (drop (i + 1) (cells s)) (drop (i + 1) (nodes s))))
+      ≡ (between 1 (suc before) (depth s i) &&
+      (cell-in-range element-kind text-kind 16 (cell s (slot s i)) && valid-from (depth s i) (drop (i + 1) (cells s)) (drop (i + 1) (nodes s))))
   unfolding entry
   rows-turn h =
       let a : i < length (cells s) = omega (arith, length-cells s) in
       let b : i < length (nodes s) = omega (arith, length-nodes s) in
-      rw (drop-cons (cells s) i [] a, drop-cons (nodes s) i no-entry b, cell-is s i h, node-at s i h, from-cons before (cell s (slot s i)) (drop (suc i) (cells s)) (entry s i) (drop (suc i) (nodes s)), add-one i)
+      rw (
+        drop-cons (cells s) i [] a,
+        drop-cons (nodes s) i no-entry b,
+        cell-is s i h,
+        node-at s i h,
+        from-cons before (cell s (slot s i)) (drop (suc i) (cells s)) (entry s i) (drop (suc i) (nodes s)),
+        add-one i,
+      )
       (rw (node-in-range s i))
 
   module _ (d : ℕ) (v : valid-nodes s ≡ valid-from before (drop i (cells s)) (drop i (nodes s))) (h : i < count s) (q : d ≡ word s (entry-at i + 2)) where
@@ -177,7 +185,8 @@ words-small s o n h =
 form-is : (s : List ℕ) → form s ≡ (valid-header s && (apart node-limit (column s 0 node-limit) && (valid-nodes s && unique (nodes s))))
 unfolding form valid-header valid-nodes
 form-is s =
-    go (leb state-size (length s) && same (part s 0 8) format-mark && between 1 node-limit (count s)) (apart node-limit (slots s)) _ (every sizes-in-range (cells s)) (valid-rows (nodes s)) (unique (nodes s))
+    go (leb state-size (length s) && same (part s 0 8) format-mark && between 1 node-limit (count s)) (apart node-limit (slots s)) _
+    (every sizes-in-range (cells s)) (valid-rows (nodes s)) (unique (nodes s))
     (ap (apart node-limit) (slots-are s))
   where
     go : (h a b z r u : Bool) → a ≡ b → (h && a && z && r && u) ≡ (h && (b && ((z && r) && u)))
@@ -188,8 +197,10 @@ form-is s =
 module _ (s : List ℕ) where
   header-parts : valid-header s ≡ true → (leb state-size (length s) ≡ true) × (between 1 node-limit (count s) ≡ true)
   unfolding valid-header
-  header-parts h =
-      (and-left (leb state-size (length s)) _ (and-left (leb state-size (length s) && same (part s 0 8) format-mark) _ h), and-right (leb state-size (length s) && same (part s 0 8) format-mark) _ h)
+  header-parts h = (
+    and-left (leb state-size (length s)) _ (and-left (leb state-size (length s) && same (part s 0 8) format-mark) _ h),
+    and-right (leb state-size (length s) && same (part s 0 8) format-mark) _ h,
+  )
 
   pub header-size : valid-header s ≡ true → state-size ≤ length s
   header-size h = leb-true state-size (length s) (header-parts h .0)
@@ -199,12 +210,14 @@ module _ (s : List ℕ) where
 
   pub outlined : valid-header s ≡ true → apart node-limit (column s 0 node-limit) ≡ true → Outlined s
   unfolding apart slots
-  outlined h k = record {
-    size = header-size h;
-    some = between-low 1 node-limit (count s) (header-parts h .1);
-    room = header-room h;
-    slots = λ i l. ltb-true (slot s i) node-limit (every-tabulate (λ k. ltb k node-limit) node-limit (slot s) (and-left (every (λ k. ltb k node-limit) (slots s)) _ (ap (apart node-limit) (slots-are s) ∙ k)) i l);
-  }
+  outlined h k =
+      let small = and-left (every (λ k. ltb k node-limit) (slots s)) _ (ap (apart node-limit) (slots-are s) ∙ k) in
+      record {
+        size = header-size h;
+        some = between-low 1 node-limit (count s) (header-parts h .1);
+        room = header-room h;
+        slots = λ i l. ltb-true (slot s i) node-limit (every-tabulate (λ k. ltb k node-limit) node-limit (slot s) small i l);
+      }
 
   -- the header, test by test
   pub header-short : length s < state-size → false ≡ valid-header s

@@ -79,11 +79,24 @@ met-more seen w l h = fun-ext (λ k. go k (eqb (k % 1024) (w % 1024)) refl (eqb 
         let a : k % 1024 ≡ w % 1024 = eqb-true (k % 1024) (w % 1024) p in
         let b : w / 1024 ≡ k / 1024 = eqb-true (w / 1024) (k / 1024) q in
         let e : k ≡ w = omega arith in
-        rw (e, eq-eqb w w refl, getD-set-same seen (w % 1024) (bitXor old (2 ^ (w / 1024))) 0 (omega arith), bit-xor old (w / 1024) (w / 1024), eq-eqb (w / 1024) (w / 1024) refl, h)
+        rw (
+          e,
+          eq-eqb w w refl,
+          getD-set-same seen (w % 1024) (bitXor old (2 ^ (w / 1024))) 0 (omega arith),
+          bit-xor old (w / 1024) (w / 1024),
+          eq-eqb (w / 1024) (w / 1024) refl,
+          h,
+        )
     go k true p false q =
         let a : k % 1024 ≡ w % 1024 = eqb-true (k % 1024) (w % 1024) p in
         let b : w / 1024 ≡ k / 1024 → ⊥ = eqb-false (w / 1024) (k / 1024) q in
-        rw (ne-eqb k w (λ e. b (ap (λ (n : ℕ). n / 1024) (sym e))), a, getD-set-same seen (w % 1024) (bitXor old (2 ^ (w / 1024))) 0 (omega arith), bit-xor old (w / 1024) (k / 1024), q)
+        rw (
+          ne-eqb k w (λ e. b (ap (λ (n : ℕ). n / 1024) (sym e))),
+          a,
+          getD-set-same seen (w % 1024) (bitXor old (2 ^ (w / 1024))) 0 (omega arith),
+          bit-xor old (w / 1024) (k / 1024),
+          q,
+        )
     go k false p y q =
         let a : k % 1024 ≡ w % 1024 → ⊥ = eqb-false (k % 1024) (w % 1024) p in
         rw (ne-eqb k w (λ e. a (ap (λ (n : ℕ). n % 1024) e)), getD-set-other seen (w % 1024) (k % 1024) (bitXor old (2 ^ (w / 1024))) 0 a)
@@ -102,7 +115,8 @@ column-at s o n i h = getD-tabulate n (λ i. word s (entry-at i + o)) i 0 h
 unfoldable pub fresh-from : ℕ → List ℕ → ℕ → ℕ → List ℕ → ℕ → Bool
 fresh-from limit s o n seen i = fresh limit (met seen) (drop i (column s o n))
 
-pub fresh-begin : (limit : ℕ) (s : List ℕ) (o n : ℕ) (seen : List ℕ) → every (λ x. eqb x 0) seen ≡ true → apart limit (column s o n) ≡ fresh-from limit s o n seen 0
+pub fresh-begin : (limit : ℕ) (s : List ℕ) (o n : ℕ) (seen : List ℕ) → every (λ x. eqb x 0) seen ≡ true
+    → apart limit (column s o n) ≡ fresh-from limit s o n seen 0
 unfolding fresh-from
 fresh-begin limit s o n seen z = apart-fresh limit (met seen) (column s o n) (met-none seen (λ i. zeros seen z i))
   where
@@ -114,7 +128,8 @@ fresh-begin limit s o n seen z = apart-fresh limit (met seen) (column s o n) (me
 -- w is the word that was read
 module _ (limit : ℕ) (s : List ℕ) (o n : ℕ) (seen : List ℕ) (i : ℕ) (v : apart limit (column s o n) ≡ fresh-from limit s o n seen i) where
   module _ (w : ℕ) (h : i < n) (e : w ≡ word s (entry-at i + o)) where
-    fresh-turn : apart limit (column s o n) ≡ (ltb w limit && (cond (met seen w) false true && fresh limit (λ k. eqb k w || met seen k) (drop (i + 1) (column s o n))))
+    fresh-turn : apart limit (column s o n)
+        ≡ (ltb w limit && (cond (met seen w) false true && fresh limit (λ k. eqb k w || met seen k) (drop (i + 1) (column s o n))))
     unfolding fresh fresh-from
     fresh-turn =
         let l : i < length (column s o n) = omega (arith, length-column s o n) in

@@ -115,8 +115,15 @@ all-seven a b c d e f g h =
     let h₅ = and-left (a && b && c && d && e) f h₆ in
     let h₄ = and-left (a && b && c && d) e h₅ in
     let h₃ = and-left (a && b && c) d h₄ in
-    let h₂ = and-left (a && b) c h₃ in
-    (and-left a b h₂, and-right a b h₂, and-right (a && b) c h₃, and-right (a && b && c) d h₄, and-right (a && b && c && d) e h₅, and-right (a && b && c && d && e) f h₆, and-right (a && b && c && d && e && f) g h)
+    let h₂ = and-left (a && b) c h₃ in (
+      and-left a b h₂,
+      and-right a b h₂,
+      and-right (a && b) c h₃,
+      and-right (a && b && c) d h₄,
+      and-right (a && b && c && d) e h₅,
+      and-right (a && b && c && d && e) f h₆,
+      and-right (a && b && c && d && e && f) g h,
+    )
 
 pub form-parts : {s : List ℕ} → form s ≡ true → Parts s
 unfolding form
@@ -150,12 +157,14 @@ form-holds s h =
 
 pub holds-form : {s : List ℕ} {M : State} → Holds s M → form s ≡ true
 unfolding slots cells apart
-holds-form {s} {M} h = let l = h .layout in parts-form (record {
-  size = le-leb state-size (length s) (l .size);
-  mark = rw (l .mark) (same-self format-mark);
-  count = between-of 1 node-limit (count s) (l .some) (l .room);
-  slots = and-of (tabulate-every (λ k. ltb k node-limit) node-limit (slot s) (λ i a. lt-ltb (slot s i) node-limit (l .slots i a))) (tabulate-distinct node-limit (slot s) (l .apart));
-  sizes = tabulate-every sizes-in-range (count s) (λ i. cell s (slot s i)) (λ i a. of-sized (cell s (slot s i)) (l .sizes i a));
-  rows = rw (h .rows) (rows-valid (M .tree) (h .valid));
-  unique = h .unique;
-})
+holds-form {s} {M} h = let l = h .layout in
+    let small = tabulate-every (λ k. ltb k node-limit) node-limit (slot s) (λ i a. lt-ltb (slot s i) node-limit (l .slots i a)) in
+    parts-form (record {
+      size = le-leb state-size (length s) (l .size);
+      mark = rw (l .mark) (same-self format-mark);
+      count = between-of 1 node-limit (count s) (l .some) (l .room);
+      slots = and-of small (tabulate-distinct node-limit (slot s) (l .apart));
+      sizes = tabulate-every sizes-in-range (count s) (λ i. cell s (slot s i)) (λ i a. of-sized (cell s (slot s i)) (l .sizes i a));
+      rows = rw (h .rows) (rows-valid (M .tree) (h .valid));
+      unique = h .unique;
+    })

@@ -41,7 +41,8 @@ module _ {A : Type 0} where
       let first : a ≡ b = ap (λ (l : List (ℕ × A)). getD l 0 (d, a) .1) e in
       let others : flat (suc d) ks ++ flat d fs ≡ flat (suc d) js ++ flat d gs = ap rest e in
       let inner : flat (suc d) ks ≡ flat (suc d) js = sym (below-first d ks fs) ∙ ap (below d) others ∙ below-first d js gs in
-      let later : flat d fs ≡ flat d gs = same-behind (flat (suc d) ks) (flat d fs) (flat d gs) (others ∙ ap (λ (l : List (ℕ × A)). l ++ flat d gs) (sym inner)) in
+      let later : flat d fs ≡ flat d gs =
+      same-behind (flat (suc d) ks) (flat d fs) (flat d gs) (others ∙ ap (λ (l : List (ℕ × A)). l ++ flat d gs) (sym inner)) in
       rw (first, flat-one (suc d) ks js inner, flat-one d fs gs later)
 
 pub holds-one : {s : List ℕ} (M N : State) → Holds s M → Holds s N → M ≡ N

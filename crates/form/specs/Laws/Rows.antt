@@ -136,5 +136,8 @@ valid-forest [] h = absurd (false≢true h)
 valid-forest (x ∷ xs) h =
     let p : (eqb (x .0) 0 && valid-document (x .1)) ≡ true = and-left (eqb (x .0) 0 && valid-document (x .1)) _ h in
     let y = below-forest xs (and-right (eqb (x .0) 0 && valid-document (x .1)) _ h) in
-    let z : x .0 ≡ 0 = eqb-true (x .0) 0 (and-left (eqb (x .0) 0) _ p) in
-    (node (x .1) (y .0) nil, ap₂ (λ (n : ℕ) (l : List Entry). (n, x .1) ∷ l) z (y .1 ∙ sym (append-nil (flat 1 (y .0)))), and-of (and-right (eqb (x .0) 0) _ p) (y .2))
+    let z : x .0 ≡ 0 = eqb-true (x .0) 0 (and-left (eqb (x .0) 0) _ p) in (
+      node (x .1) (y .0) nil,
+      ap₂ (λ (n : ℕ) (l : List Entry). (n, x .1) ∷ l) z (y .1 ∙ sym (append-nil (flat 1 (y .0)))),
+      and-of (and-right (eqb (x .0) 0) _ p) (y .2),
+    )

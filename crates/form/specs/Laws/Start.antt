@@ -16,7 +16,8 @@ use Rattle.locks.specs.Words.{bit}
 use Rattle.protocol.specs.State.{is-transaction, Marked, unmarked, tree-of, start-state}
 use Rattle.layout.specs.Lists.{tabulate}
 use Rattle.layout.specs.Flat.{flat}
-use Rattle.layout.specs.Layout.{state-size, format-mark, entry-at, cell-at, lock-at, word, part, count, slot, depth, number, cell, is-open, held, decode, Entry, entry, nodes, Sized, Layout}
+use Rattle.layout.specs.Layout.{state-size, format-mark, entry-at, cell-at, lock-at, word, part, count, slot, depth, number, cell, is-open, held}
+use Rattle.layout.specs.Layout.{decode, Entry, entry, nodes, Sized, Layout}
 use Rattle.layout.specs.Laws.Bytes.{Only, Filled, filled-more, length-part, part-at, drop-high}
 use Rattle.layout.specs.Laws.Nodes.{length-nodes}
 use Rattle.layout.specs.Laws.Fields.{cell-byte}
@@ -87,7 +88,13 @@ module _ (s : List ℕ) (l : state-size ≤ length s) (b : (j : ℕ) → j < sta
 
   open-is : is-open s ≡ (λ t. false)
   unfolding is-open bit
-  open-is = fun-ext (λ t. rw (word-is 8 (omega arith), byte-header 8 (omega arith) (omega arith), byte-header 9 (omega arith) (omega arith), zero-div (2 ^ (t - 1))) (go (is-transaction t)))
+  open-is =
+      fun-ext (λ t. rw (
+        word-is 8 (omega arith),
+        byte-header 8 (omega arith) (omega arith),
+        byte-header 9 (omega arith) (omega arith),
+        zero-div (2 ^ (t - 1)),
+      ) (go (is-transaction t)))
     where
       go : (x : Bool) → cond x false false ≡ false
       go true = refl
@@ -128,7 +135,18 @@ module _ (s : List ℕ) (l : state-size ≤ length s) (b : (j : ℕ) → j < sta
   entry-is : entry s 0 ≡ (0, unmarked document)
   unfolding entry decode
   entry-is =
-      rw (depth-is, number-is, slot-is 0 (omega arith), held-is, cell-is 0 (omega arith), cell-is 1 (omega arith), cell-is 2 (omega arith), cell-is 3 (omega arith), cell-is 4 (omega arith), cell-is 5 (omega arith))
+      rw (
+        depth-is,
+        number-is,
+        slot-is 0 (omega arith),
+        held-is,
+        cell-is 0 (omega arith),
+        cell-is 1 (omega arith),
+        cell-is 2 (omega arith),
+        cell-is 3 (omega arith),
+        cell-is 4 (omega arith),
+        cell-is 5 (omega arith),
+      )
 
   nodes-is : nodes s ≡ (0, unmarked document) ∷ []
   unfolding nodes tabulate

@@ -23,17 +23,20 @@ use Rattle.lookup.specs.Found.{misfit-on}
 use Rattle.lookup.specs.Laws.Find.{unique-head}
 use Rattle.form.specs.Form.{in-range, valid, valid-document, all-valid, valid-tree, Holds}
 use Rattle.form.specs.Laws.Rows.{and-of, between-low, between-high}
-use Rattle.form.specs.Laws.Valid.{Valid, FineDocument, is-valid, is-document, Keeps, keeps-written, keeps-granted, keeps-lasting, keeps-undone, valid-deleted, valid-inserted}
+use Rattle.form.specs.Laws.Valid.{Valid, FineDocument, is-valid, is-document, Keeps, keeps-written, keeps-granted, keeps-lasting, keeps-undone}
+use Rattle.form.specs.Laws.Valid.{valid-deleted, valid-inserted}
 use Rattle.form.specs.Laws.Valid.{Root, root-of, tree-of-root, valid-mark, valid-view, valid-put}
 
 -- bytes that hold a state again ------------------------------------------------------------------
 
 -- after any change
-pub holds-left : {s s′ : List ℕ} (M : State) → Left s s′ (M .is-open) (flat 0 (M .tree)) → unique (flat 0 (M .tree)) ≡ true → valid-tree (M .tree) ≡ true → Holds s′ M
+pub holds-left : {s s′ : List ℕ} (M : State) → Left s s′ (M .is-open) (flat 0 (M .tree)) → unique (flat 0 (M .tree)) ≡ true
+    → valid-tree (M .tree) ≡ true → Holds s′ M
 holds-left M l u f = record { layout = l .layout; opens = l .opens; rows = l .nodes; unique = rw (l .nodes) u; valid = f }
 
 -- after a change of the nodes alone
-pub holds-kept : {s s′ : List ℕ} {M : State} (f : Tree) → Holds s M → Kept s s′ (flat 0 f) → unique (flat 0 f) ≡ true → valid-tree f ≡ true → Holds s′ (with-tree M f)
+pub holds-kept : {s s′ : List ℕ} {M : State} (f : Tree) → Holds s M → Kept s s′ (flat 0 f) → unique (flat 0 f) ≡ true → valid-tree f ≡ true
+    → Holds s′ (with-tree M f)
 holds-kept f h k u g = record { layout = k .layout; opens = k .opens ∙ h .opens; rows = k .nodes; unique = rw (k .nodes) u; valid = g }
 
 -- in terms of the tree
@@ -47,7 +50,8 @@ unfolding grant
 valid-grant t ls f h = valid-mark (λ r. granted-to t ls (r .it)) (λ r k. keeps-granted t ls .node (r .it) k) (λ a k. keeps-granted t ls .document a k) f h
 
 -- a change of the nodes that pass
-valid-some : (test : Row Marked Marked → Bool) (g : Marked → Marked) → ((a : Marked) → Valid a → Valid (g a)) → ((a : Marked) → FineDocument a → test (row a []) ≡ true → FineDocument (g a))
+valid-some : (test : Row Marked Marked → Bool) (g : Marked → Marked) → ((a : Marked) → Valid a → Valid (g a))
+    → ((a : Marked) → FineDocument a → test (row a []) ≡ true → FineDocument (g a))
     → (f : Tree) → valid-tree f ≡ true → valid-tree (mark (λ r. cond (test r) (g (r .it)) (r .it)) f) ≡ true
 valid-some test g k d f h = valid-mark (λ r. cond (test r) (g (r .it)) (r .it)) (λ r m. inner (test r) (r .it) m) (λ a m. top (test (row a [])) a m (d a m)) f h
   where
@@ -70,18 +74,21 @@ first-at : (p : ℕ) (a : Marked) (l : List Entry) → FineDocument a → unique
 first-at zero a l d u k e = d .kind
 first-at (suc p) a l d u k e = absurd (lacks-at (number-of a) l p (unique-head (0, a) l u .0) (omega arith) (e ∙ sym (d .number)))
 
-pub is-root : (f : Tree) (p : ℕ) → valid-tree f ≡ true → unique (flat 0 f) ≡ true → p < length (flat 0 f) → number-of (item (flat 0 f) p) ≡ 0 → item (flat 0 f) p .now .kind ≡ document-kind
+pub is-root : (f : Tree) (p : ℕ) → valid-tree f ≡ true → unique (flat 0 f) ≡ true → p < length (flat 0 f) → number-of (item (flat 0 f) p) ≡ 0
+    → item (flat 0 f) p .now .kind ≡ document-kind
 unfolding flat
 is-root f p h u l e =
     let r = root-of f h in
     let w : flat 0 f ≡ (0, r .it) ∷ (flat 1 (r .below) ++ []) = ap (flat 0) (r .whole) in
-    rw w (first-at p (r .it) (flat 1 (r .below) ++ []) (r .document) (ap unique (sym w) ∙ u) (rw w at l) (ap (λ (z : List Entry). number-of (item z p)) (sym w) ∙ e))
+    rw w (first-at p (r .it) (flat 1 (r .below) ++ []) (r .document) (ap unique (sym w) ∙ u) (rw w at l)
+    (ap (λ (z : List Entry). number-of (item z p)) (sym w) ∙ e))
 
 takes-low : (parent kind : ℕ) → takes parent kind ≡ true → between element-kind text-kind kind ≡ true
 unfolding takes
 takes-low parent kind h = go (eqb parent document-kind) (eqb parent element-kind) (eqb parent attribute-kind) h
   where
-    go : (a b c : Bool) → cond a (eqb kind element-kind) (cond b (between element-kind text-kind kind) (c && eqb kind text-kind)) ≡ true → between element-kind text-kind kind ≡ true
+    go : (a b c : Bool) → cond a (eqb kind element-kind) (cond b (between element-kind text-kind kind) (c && eqb kind text-kind)) ≡ true
+        → between element-kind text-kind kind ≡ true
     go true b c h = rw (eqb-true kind element-kind h)
     go false true c h = h
     go false false c h = rw (eqb-true kind text-kind (and-right c _ h))
@@ -96,18 +103,21 @@ taken true x h = refl
 taken false x h = absurd (omega arith)
 
 -- t is a transaction, and the step finds its node at p, where neither cause 8 nor 9 applies
-pub valid-act : (t : ℕ) (s : Step) (f : Tree) (p : ℕ) → t ≤ 16 → valid-tree f ≡ true → unique (flat 0 f) ≡ true → p < length (flat 0 f) → number-of (item (flat 0 f) p) ≡ target s
+pub valid-act : (t : ℕ) (s : Step) (f : Tree) (p : ℕ) → t ≤ 16 → valid-tree f ≡ true → unique (flat 0 f) ≡ true → p < length (flat 0 f)
+    → number-of (item (flat 0 f) p) ≡ target s
     → misfit-on s (item (flat 0 f) p .now) ≡ 0 → valid-tree (act t s f) ≡ true
 valid-act t (T n) f p l h u k e m = h
 valid-act t (C n i) f p l h u k e m = h
 valid-act t (R n) f p l h u k e m = h
-valid-act t (U n b) f p l h u k e m = valid-some (λ r. numbered n (r .it)) (written-by t b) (keeps-written t b l .node) (λ a d v. keeps-written t b l .document a d) f h
+valid-act t (U n b) f p l h u k e m =
+    valid-some (λ r. numbered n (r .it)) (written-by t b) (keeps-written t b l .node) (λ a d v. keeps-written t b l .document a d) f h
 valid-act t (D n) f p l h u k e m = valid-some (λ r. numbered n (r .it)) (deleted-by t) (valid-deleted t l)
     (λ a d v. absurd (eqb-false _ document-kind (not-eight _ m) (is-root f p h u k (e ∙ sym (eqb-true (a .now .number) n v) ∙ d .number)))) f h
 valid-act t (I x kind b n i) f p l h u k e m =
     let q : between element-kind text-kind kind ≡ true = takes-low (item (flat 0 f) p .now .kind) kind (taken _ (cond (allowed kind b) 0 9) m) in
     let a : Node = record { number = x; kind = kind; content = b } in
-    valid-put (numbered n) (seen-by t) i (inserted-by t a) (valid-inserted t a l (between-low element-kind text-kind kind q) (between-high element-kind text-kind kind q)) f h
+    valid-put (numbered n) (seen-by t) i (inserted-by t a)
+    (valid-inserted t a l (between-low element-kind text-kind kind q) (between-high element-kind text-kind kind q)) f h
 valid-act t (TT n) f p l h u k e m = h
 valid-act t (RR n) f p l h u k e m = h
 valid-act t (UU n a b) f p l h u k e m = valid-some (renamed t n a) (written-by t b) (keeps-written t b l .node) (λ a d v. keeps-written t b l .document a d) f h
@@ -137,14 +147,15 @@ all-loaded : (kind : ℕ) (f : Document) → every (takes kind) (top-kinds f) �
 unfolding view all-valid ruled
 all-loaded kind nil k h = refl
 all-loaded kind (node a ks fs) k h =
-    let p : (allowed (a .kind) (a .content) && children-rule (a .kind) (top-kinds ks) && ruled ks) ≡ true =
-    and-left (allowed (a .kind) (a .content) && children-rule (a .kind) (top-kinds ks) && ruled ks) (ruled fs) h in
-    let q = and-left (allowed (a .kind) (a .content) && children-rule (a .kind) (top-kinds ks)) (ruled ks) p in
+    let rule : Bool = allowed (a .kind) (a .content) && children-rule (a .kind) (top-kinds ks) in
+    let p : (rule && ruled ks) ≡ true = and-left (rule && ruled ks) (ruled fs) h in
+    let q = and-left rule (ruled ks) p in
+    let taken = children-taken (a .kind) (top-kinds ks) (and-right (allowed (a .kind) (a .content)) _ q) in
     and-of
     (and-of
     (valid-unmarked a (takes-low kind (a .kind) (and-left (takes kind (a .kind)) _ k)))
-    (all-loaded (a .kind) ks (children-taken (a .kind) (top-kinds ks) (and-right (allowed (a .kind) (a .content)) _ q)) (and-right (allowed (a .kind) (a .content) && children-rule (a .kind) (top-kinds ks)) _ p)))
-    (all-loaded kind fs (and-right (takes kind (a .kind)) _ k) (and-right (allowed (a .kind) (a .content) && children-rule (a .kind) (top-kinds ks) && ruled ks) _ h))
+    (all-loaded (a .kind) ks taken (and-right rule _ p)))
+    (all-loaded kind fs (and-right (takes kind (a .kind)) _ k) (and-right (rule && ruled ks) _ h))
 
 loaded-root : (a : Node) (ks : Document) → rooted (node a ks nil) ≡ true → ruled (node a ks nil) ≡ true → valid-tree (tree-of (node a ks nil)) ≡ true
 unfolding tree-of view ruled
@@ -160,7 +171,8 @@ loaded-root a ks r h =
       inserter = refl;
       deleter = refl;
     })
-    (all-loaded (a .kind) ks (children-taken (a .kind) (top-kinds ks) (and-right (allowed (a .kind) (a .content)) _ q)) (and-right (allowed (a .kind) (a .content) && children-rule (a .kind) (top-kinds ks)) _ p))
+    (all-loaded (a .kind) ks (children-taken (a .kind) (top-kinds ks) (and-right (allowed (a .kind) (a .content)) _ q))
+    (and-right (allowed (a .kind) (a .content) && children-rule (a .kind) (top-kinds ks)) _ p))
 
 pub valid-load : (d : Document) → legal d ≡ true → valid-tree (tree-of d) ≡ true
 unfolding legal

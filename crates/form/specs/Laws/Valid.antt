@@ -14,7 +14,8 @@ use Rattle.tree.specs.Document.{Document, Node, node-0-alone, top-kinds, ruled,
 use Rattle.tree.specs.Steps.{Step, T, C, R, U, D, I, TT, RR, UU, target}
 use Rattle.tree.specs.Laws.Tests.{and-left, and-right, or-left, or-right, refuted}
 use Rattle.locks.specs.Needs.{Lock}
-use Rattle.protocol.specs.State.{nobody, is-transaction, Marked, Tree, numbered, seen-by, written-by, deleted-by, unmarked, inserted-by, granted-to, without, lasting, undone}
+use Rattle.protocol.specs.State.{nobody, is-transaction, Marked, Tree, numbered, seen-by, written-by, deleted-by, unmarked, inserted-by, granted-to}
+use Rattle.protocol.specs.State.{without, lasting, undone}
 use Rattle.protocol.specs.State.{mark, renamed, act, grant, commit-tree, abort-tree, tree-of}
 use Rattle.layout.specs.Flat.{flat}
 use Rattle.layout.specs.Layout.{Entry, no-entry}
@@ -90,7 +91,13 @@ unfolding valid-document
 is-document a h =
     and-of
     (is-in-range document-kind document-kind nobody a
-    (record { low = omega (arith, h .kind); high = omega (arith, h .kind); writer = h .writer; inserter = omega (arith, h .inserter); deleter = omega (arith, h .deleter) }))
+    (record {
+      low = omega (arith, h .kind);
+      high = omega (arith, h .kind);
+      writer = h .writer;
+      inserter = omega (arith, h .inserter);
+      deleter = omega (arith, h .deleter);
+    }))
     (eq-eqb (a .now .number) 0 (h .number))
 
 -- changes of a node --------------------------------------------------------------------------
@@ -131,14 +138,38 @@ keeps-granted t ls = record {
 
 pub keeps-lasting : (t : ℕ) → Keeps (lasting t)
 keeps-lasting t = record {
-  node = λ a h. record { low = h .low; high = h .high; writer = without-small t (a .writer) (h .writer); inserter = without-small t (a .inserter) (h .inserter); deleter = h .deleter };
-  document = λ a h. record { kind = h .kind; number = h .number; writer = without-small t (a .writer) (h .writer); inserter = without-nobody t (a .inserter) (h .inserter); deleter = h .deleter };
+  node = λ a h. record {
+    low = h .low;
+    high = h .high;
+    writer = without-small t (a .writer) (h .writer);
+    inserter = without-small t (a .inserter) (h .inserter);
+    deleter = h .deleter;
+  };
+  document = λ a h. record {
+    kind = h .kind;
+    number = h .number;
+    writer = without-small t (a .writer) (h .writer);
+    inserter = without-nobody t (a .inserter) (h .inserter);
+    deleter = h .deleter;
+  };
 }
 
 pub keeps-undone : (t : ℕ) → Keeps (undone t)
 keeps-undone t = record {
-  node = λ a h. record { low = h .low; high = h .high; writer = without-small t (a .writer) (h .writer); inserter = h .inserter; deleter = without-small t (a .deleter) (h .deleter) };
-  document = λ a h. record { kind = h .kind; number = h .number; writer = without-small t (a .writer) (h .writer); inserter = h .inserter; deleter = without-nobody t (a .deleter) (h .deleter) };
+  node = λ a h. record {
+    low = h .low;
+    high = h .high;
+    writer = without-small t (a .writer) (h .writer);
+    inserter = h .inserter;
+    deleter = without-small t (a .deleter) (h .deleter);
+  };
+  document = λ a h. record {
+    kind = h .kind;
+    number = h .number;
+    writer = without-small t (a .writer) (h .writer);
+    inserter = h .inserter;
+    deleter = without-nobody t (a .deleter) (h .deleter);
+  };
 }
 
 pub valid-deleted : (t : ℕ) → t ≤ 16 → (a : Marked) → Valid a → Valid (deleted-by t a)
@@ -170,7 +201,8 @@ pub record Root (f : Tree) : Type 0 where
 pub root-of : (f : Tree) → valid-tree f ≡ true → Root f
 unfolding valid-tree
 root-of nil h = absurd (false≢true h)
-root-of (node a ks nil) h = record { it = a; below = ks; whole = refl; document = document-is (and-left (valid-document a) _ h); valid = and-right (valid-document a) _ h }
+root-of (node a ks nil) h =
+    record { it = a; below = ks; whole = refl; document = document-is (and-left (valid-document a) _ h); valid = and-right (valid-document a) _ h }
 root-of (node a ks (node b js fs)) h = absurd (false≢true h)
 
 pub tree-of-root : (a : Marked) (ks : Tree) → FineDocument a → all-valid ks ≡ true → valid-tree (node a ks nil) ≡ true
@@ -178,37 +210,45 @@ unfolding valid-tree
 tree-of-root a ks h k = and-of (is-document a h) k
 
 -- nodes anew in the same places
-all-amend : (g : Row Marked Marked → Marked) → ((r : Row Marked Marked) → Valid (r .it) → Valid (g r)) → (up : List Marked) (f : Tree) → all-valid f ≡ true → all-valid (amend (λ a. a) g up f) ≡ true
+all-amend : (g : Row Marked Marked → Marked) → ((r : Row Marked Marked) → Valid (r .it) → Valid (g r)) → (up : List Marked) (f : Tree)
+    → all-valid f ≡ true → all-valid (amend (λ a. a) g up f) ≡ true
 unfolding amend
 all-amend g k up nil h = h
 all-amend g k up (node a ks fs) h =
     let p = all-parts a ks fs h in
-    parts-all (g (row a up)) (amend (λ a. a) g (a ∷ up) ks) (amend (λ a. a) g up fs) (k (row a up) (p .0)) (all-amend g k (a ∷ up) ks (p .1)) (all-amend g k up fs (p .2))
+    parts-all (g (row a up)) (amend (λ a. a) g (a ∷ up) ks) (amend (λ a. a) g up fs) (k (row a up) (p .0)) (all-amend g k (a ∷ up) ks (p .1))
+    (all-amend g k up fs (p .2))
 
-pub valid-mark : (g : Row Marked Marked → Marked) → ((r : Row Marked Marked) → Valid (r .it) → Valid (g r)) → ((a : Marked) → FineDocument a → FineDocument (g (row a [])))
+pub valid-mark : (g : Row Marked Marked → Marked) → ((r : Row Marked Marked) → Valid (r .it) → Valid (g r))
+    → ((a : Marked) → FineDocument a → FineDocument (g (row a [])))
     → (f : Tree) → valid-tree f ≡ true → valid-tree (mark g f) ≡ true
 unfolding amend
 valid-mark g k d f h =
     let r = root-of f h in
-    rw (r .whole) (tree-of-root (g (row (r .it) [])) (amend (λ a. a) g (r .it ∷ []) (r .below)) (d (r .it) (r .document)) (all-amend g k (r .it ∷ []) (r .below) (r .valid)))
+    rw (r .whole) (tree-of-root (g (row (r .it) [])) (amend (λ a. a) g (r .it ∷ []) (r .below)) (d (r .it) (r .document))
+    (all-amend g k (r .it ∷ []) (r .below) (r .valid)))
 
 -- the nodes that are shown
-all-view : (shown : Marked → Bool) (g : Marked → Marked) → ((a : Marked) → Valid a → Valid (g a)) → (f : Tree) → all-valid f ≡ true → all-valid (view shown g f) ≡ true
+all-view : (shown : Marked → Bool) (g : Marked → Marked) → ((a : Marked) → Valid a → Valid (g a)) → (f : Tree) → all-valid f ≡ true
+    → all-valid (view shown g f) ≡ true
 unfolding view
 all-view shown g k nil h = h
 all-view shown g k (node a ks fs) h =
     let p = all-parts a ks fs h in
     go (shown a) (k a (p .0)) (all-view shown g k ks (p .1)) (all-view shown g k fs (p .2))
   where
-    go : (b : Bool) → Valid (g a) → all-valid (view shown g ks) ≡ true → all-valid (view shown g fs) ≡ true → all-valid (cond b (node (g a) (view shown g ks) (view shown g fs)) (view shown g fs)) ≡ true
+    go : (b : Bool) → Valid (g a) → all-valid (view shown g ks) ≡ true → all-valid (view shown g fs) ≡ true
+        → all-valid (cond b (node (g a) (view shown g ks) (view shown g fs)) (view shown g fs)) ≡ true
     go true u v w = parts-all (g a) (view shown g ks) (view shown g fs) u v w
     go false u v w = w
 
-pub valid-view : (shown : Marked → Bool) (g : Marked → Marked) → Keeps g → ((a : Marked) → FineDocument a → shown a ≡ true) → (f : Tree) → valid-tree f ≡ true → valid-tree (view shown g f) ≡ true
+pub valid-view : (shown : Marked → Bool) (g : Marked → Marked) → Keeps g → ((a : Marked) → FineDocument a → shown a ≡ true) → (f : Tree)
+    → valid-tree f ≡ true → valid-tree (view shown g f) ≡ true
 unfolding view
 valid-view shown g k s f h =
     let r = root-of f h in
-    rw (r .whole, s (r .it) (r .document)) (tree-of-root (g (r .it)) (view shown g (r .below)) (k .document (r .it) (r .document)) (all-view shown g (k .node) (r .below) (r .valid)))
+    rw (r .whole, s (r .it) (r .document))
+    (tree-of-root (g (r .it)) (view shown g (r .below)) (k .document (r .it) (r .document)) (all-view shown g (k .node) (r .below) (r .valid)))
 
 -- a new node
 all-place : (counts : Marked → Bool) (k : ℕ) (new : Marked) (f : Tree) → Valid new → all-valid f ≡ true → all-valid (place counts k new f) ≡ true
@@ -221,7 +261,8 @@ all-place counts (suc (suc k)) new (node a ks fs) n h =
     parts-all a ks (cond (counts a) (place counts (suc k) new fs) (place counts (suc (suc k)) new fs)) (p .0) (p .1)
     (go (counts a) (all-place counts (suc k) new fs n (p .2)) (all-place counts (suc (suc k)) new fs n (p .2)))
   where
-    go : (b : Bool) → all-valid (place counts (suc k) new fs) ≡ true → all-valid (place counts (suc (suc k)) new fs) ≡ true → all-valid (cond b (place counts (suc k) new fs) (place counts (suc (suc k)) new fs)) ≡ true
+    go : (b : Bool) → all-valid (place counts (suc k) new fs) ≡ true → all-valid (place counts (suc (suc k)) new fs) ≡ true
+        → all-valid (cond b (place counts (suc k) new fs) (place counts (suc (suc k)) new fs)) ≡ true
     go true u v = u
     go false u v = v
 
@@ -243,4 +284,5 @@ module _ (parent counts : Marked → Bool) (k : ℕ) (new : Marked) (n : Valid n
   valid-put f h =
       let r = root-of f h in
       let ks : Tree = put parent counts k new (r .below) in
-      rw (r .whole) (tree-of-root (r .it) (cond (parent (r .it)) (place counts k new ks) ks) (r .document) (all-children (parent (r .it)) ks (all-put (r .below) (r .valid))))
+      rw (r .whole) (tree-of-root (r .it) (cond (parent (r .it)) (place counts k new ks) ks) (r .document)
+      (all-children (parent (r .it)) ks (all-put (r .below) (r .valid))))

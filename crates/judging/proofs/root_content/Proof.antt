@@ -21,7 +21,10 @@ loop-holds : tie.Need-loop-holds Inv-loop μ-loop
 loop-holds c = (c .before .pre .0 .inside, content-start _ _ _ _ (c .before .pre .0) (c .before .pre .1))
 
 child-requires : tie.Need-child-requires Inv-loop μ-loop
-child-requires c κs = (c .before .before .loop .inv .1 .begins-here, content-deep _ _ _ _ _ _ _ _ (c .before .before .loop .inv .1) (c .before .loop-test .taken))
+child-requires c κs =
+    let l = c .before .before .loop in
+    let test = c .before .loop-test in
+    (l .inv .1 .begins-here, content-deep _ _ _ _ _ _ _ _ (l .inv .1) (test .taken))
 
 enum-known-x : tie.Need-enum-known-x Inv-loop μ-loop
 enum-known-x c = search needs
@@ -31,8 +34,11 @@ returns c =
     let a = c .before .before .before .before .before .before .before .before .args in
     let l = c .before .before .before .before .before .before .loop in
     let child = c .before .before .before .child in
-    content-stopped _ _ _ _ _ _ _ _ (l .inv .1)
-    (subst (λ (r : Child). ChildRead (a .s .now) (closed (stack (a .s .now) (l .names) 0 (l .depth))) (l .i) (l .n) (child .last .1 .1 .0) r) (c .before .x .given .1) (child .ensures))
+    let x = c .before .x in
+    let open-names = closed (stack (a .s .now) (l .names) 0 (l .depth)) in
+    let whole = child .last .1 .1 .0 in
+    let read = subst (λ (r : Child). ChildRead (a .s .now) open-names (l .i) (l .n) whole r) (x .given .1) (child .ensures) in
+    content-stopped _ _ _ _ _ _ _ _ (l .inv .1) read
 
 enum-known-next : tie.Need-enum-known-next Inv-loop μ-loop
 enum-known-next c = search needs
@@ -42,9 +48,11 @@ loop-less c =
     let a = c .before .before .before .before .before .before .before .before .args in
     let l = c .before .before .before .before .before .before .loop in
     let child = c .before .before .before .child in
-    let z =
-    content-turn _ _ _ _ _ _ _ _ (l .inv .1)
-    (subst (λ (r : Child). ChildRead (a .s .now) (closed (stack (a .s .now) (l .names) 0 (l .depth))) (l .i) (l .n) (child .last .1 .1 .0) r) (c .before .next .given .1) (child .ensures)) in
+    let next = c .before .next in
+    let open-names = closed (stack (a .s .now) (l .names) 0 (l .depth)) in
+    let whole = child .last .1 .1 .0 in
+    let read = subst (λ (r : Child). ChildRead (a .s .now) open-names (l .i) (l .n) whole r) (next .given .1) (child .ensures) in
+    let z = content-turn _ _ _ _ _ _ _ _ (l .inv .1) read in
     omega (arith, z .1, z .2)
 
 loop-again : tie.Need-loop-again Inv-loop μ-loop
@@ -52,9 +60,11 @@ loop-again c =
     let a = c .before .before .before .before .before .before .before .before .args in
     let l = c .before .before .before .before .before .before .loop in
     let child = c .before .before .before .child in
-    let z =
-    content-turn _ _ _ _ _ _ _ _ (l .inv .1)
-    (subst (λ (r : Child). ChildRead (a .s .now) (closed (stack (a .s .now) (l .names) 0 (l .depth))) (l .i) (l .n) (child .last .1 .1 .0) r) (c .before .next .given .1) (child .ensures)) in
+    let next = c .before .next in
+    let open-names = closed (stack (a .s .now) (l .names) 0 (l .depth)) in
+    let whole = child .last .1 .1 .0 in
+    let read = subst (λ (r : Child). ChildRead (a .s .now) open-names (l .i) (l .n) whole r) (next .given .1) (child .ensures) in
+    let z = content-turn _ _ _ _ _ _ _ _ (l .inv .1) read in
     (z .2, z .0)
 
 behind-root-requires : tie.Need-behind-root-requires Inv-loop μ-loop

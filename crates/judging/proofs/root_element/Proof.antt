@@ -52,8 +52,8 @@ returns-3 c =
     let args = c .before .before .before .before .before .before .before .before .args in
     let start-tag = c .before .before .before .before .before .start-tag in
     let next2 = c .before .before .before .next2 in
-    root-open _ _ (start-tag .last .1 .1 .0) _ (start-tag .ensures .2) (subst (λ (r : Tag). ElementRead (args .s .now) (args .c .at) 2 r) (next2 .given .1) (start-tag .ensures .0))
-    (c .root-content .ensures)
+    let read = subst (λ (r : Tag). ElementRead (args .s .now) (args .c .at) 2 r) (next2 .given .1) (start-tag .ensures .0) in
+    root-open _ _ (start-tag .last .1 .1 .0) _ (start-tag .ensures .2) read (c .root-content .ensures)
 
 pub root-element-spec : {M : Type 1} → statement M
 root-element-spec =

@@ -49,13 +49,21 @@ module _ (s os os′ : List ℕ) (at nodes i deep n : ℕ) (t : ContentTo s os o
   pub content-deep : 0 < deep → Deep s os′ deep n
   content-deep h = record { some = omega arith; room = t .room; few = t .few; long = t .long; names = t .names }
 
-  pub content-stopped : {os″ : List ℕ} {x j : ℕ} → ChildRead s (closed (stack s os′ 0 deep)) i n os″ (Stopped x j) → Leads s (closed (stack s os 0 1)) nodes at (bad x j)
+  pub content-stopped : {os″ : List ℕ} {x j : ℕ} → ChildRead s (closed (stack s os′ 0 deep)) i n os″ (Stopped x j)
+      → Leads s (closed (stack s os 0 1)) nodes at (bad x j)
   content-stopped (child-stopped f) = t .comes .back _ f
 
   pub content-turn : {os″ : List ℕ} {c : Cursor} {d m : ℕ} → ChildRead s (closed (stack s os′ 0 deep)) i n os″ (At c d m)
       → ContentTo s os os″ at nodes (c .at) d m × (i < c .at) × (c .at ≤ length s)
   content-turn (child-at o p q r w) = (
-    record { comes = goes-then (t .comes) w; begins-here = record { inside = o .inside; begins-here = o .begins-here }; room = p; few = o .few; long = q; names = r },
+    record {
+      comes = goes-then (t .comes) w;
+      begins-here = record { inside = o .inside; begins-here = o .begins-here };
+      room = p;
+      few = o .few;
+      long = q;
+      names = r;
+    },
     o .further,
     o .inside,
   )
@@ -69,10 +77,12 @@ module _ (s : List ℕ) (at : ℕ) where
   pub root-broken : {x j : ℕ} → ElementRead s at 2 (Broken x j) → scan-at s (tag-name [] (getD s at 0 ∷ [])) 2 1 (at + 1) ≡ bad x j
   root-broken (element-broken f) = f []
 
-  pub root-empty : {c : Cursor} {m : ℕ} (v : Verdict) → ElementRead s at 2 (Emptied c m) → Leads s epilog m (c .at) v → scan-at s (tag-name [] (getD s at 0 ∷ [])) 2 1 (at + 1) ≡ v
+  pub root-empty : {c : Cursor} {m : ℕ} (v : Verdict) → ElementRead s at 2 (Emptied c m) → Leads s epilog m (c .at) v
+      → scan-at s (tag-name [] (getD s at 0 ∷ [])) 2 1 (at + 1) ≡ v
   root-empty v (element-emptied o f) y = f [] v y
 
-  pub root-open : {c : Cursor} {m : ℕ} (os : List ℕ) (v : Verdict) → getD os 0 0 ≡ at → ElementRead s at 2 (Opened c m) → Leads s (closed (stack s os 0 1)) m (c .at) v
+  pub root-open : {c : Cursor} {m : ℕ} (os : List ℕ) (v : Verdict) → getD os 0 0 ≡ at → ElementRead s at 2 (Opened c m)
+      → Leads s (closed (stack s os 0 1)) m (c .at) v
       → scan-at s (tag-name [] (getD s at 0 ∷ [])) 2 1 (at + 1) ≡ v
   unfolding stack
   root-open os v e (element-opened o f) y = f [] v (rw e at y)
@@ -84,5 +94,11 @@ pub opened-inside : {s : List ℕ} {at m : ℕ} {c : Cursor} (os : List ℕ) →
     → Beginning s (c .at) × Deep s os 1 m
 opened-inside {s} os l e h (element-opened o f) = (
   record { inside = o .inside; begins-here = o .begins-here },
-  record { some = omega arith; room = omega (arith, o .more); few = o .few; long = l; names = record { placed = λ i k. let z : i ≡ 0 = omega arith in rw (z, e) h } },
+  record {
+    some = omega arith;
+    room = omega (arith, o .more);
+    few = o .few;
+    long = l;
+    names = record { placed = λ i k. let z : i ≡ 0 = omega arith in rw (z, e) h };
+  },
 )

@@ -28,7 +28,10 @@ loop-less : tie.Need-loop-less Inv-loop μ-loop
 loop-less c = search needs
 
 loop-again : tie.Need-loop-again Inv-loop μ-loop
-loop-again c = (search needs, search needs, ask-turn _ _ (c .before .before .before .loop .inv .2) (search needs) (sym (c .before .is-open .ensures) ∙ c .if1 .left))
+loop-again c =
+    let l = c .before .before .before .loop in
+    let is-open = c .before .is-open in
+    (search needs, search needs, ask-turn _ _ (l .inv .2) (search needs) (sym (is-open .ensures) ∙ c .if1 .left))
 
 returns-2 : tie.Need-returns-2 Inv-loop μ-loop
 returns-2 c = ask-none _ _ (c .before .loop .inv .2) (search needs)

@@ -41,12 +41,21 @@ enum-known-count : tie.Need-enum-known-count
 enum-known-count c = search needs
 
 replace-requires : tie.Need-replace-requires
-replace-requires c κs = let o = c .before .before .before .before .before in
-    let f = o .before .before .before in
-    (sym (f .before .formed .ensures) ∙ not-false _ (f .if1 .left), sym (o .before .any-open .ensures) ∙ o .if2 .left, (_, stands _ _ _ (c .before .before .count .given .1) (c .before .before .before .before .judge .ensures)))
+replace-requires c κs =
+    let o = c .before .before .before .before .before in
+    let judge = c .before .before .before .before .judge in
+    let count = c .before .before .count in
+    let f = o .before .before .before in (
+      sym (f .before .formed .ensures) ∙ not-false _ (f .if1 .left),
+      sym (o .before .any-open .ensures) ∙ o .if2 .left,
+      (_, stands _ _ _ (count .given .1) (judge .ensures)),
+    )
 
 cast-t19 : tie.Need-cast-t19
-cast-t19 c = omega (arith, stands _ _ _ (c .before .before .before .before .before .count .given .1) (c .before .before .before .before .before .before .before .judge .ensures) .most)
+cast-t19 c =
+    let judge = c .before .before .before .before .before .before .before .judge in
+    let count = c .before .before .before .before .before .count in
+    omega (arith, stands _ _ _ (count .given .1) (judge .ensures) .most)
 
 same-length-3 : tie.Need-same-length-3
 same-length-3 c = search needs
@@ -61,10 +70,15 @@ same-length-4 : tie.Need-same-length-4
 same-length-4 c = search needs
 
 returns-4 : tie.Need-returns-4
-returns-4 c = let o = c .before .before .before .before .before .before .before .before in
+returns-4 c =
+    let o = c .before .before .before .before .before .before .before .before in
+    let judge = c .before .before .before .before .before .before .before .judge in
+    let count = c .before .before .before .before .before .count in
+    let replace = c .before .before .replace in
     let f = o .before .before .before in
-    λ i r. load-granted (sym (f .before .formed .ensures) ∙ not-false _ (f .if1 .left)) (sym (o .before .any-open .ensures) ∙ o .if2 .left) _
-    (stands _ _ _ (c .before .before .before .before .before .count .given .1) (c .before .before .before .before .before .before .before .judge .ensures)) (c .before .before .replace .ensures) i r
+    let good = sym (f .before .formed .ensures) ∙ not-false _ (f .if1 .left) in
+    let none-open = sym (o .before .any-open .ensures) ∙ o .if2 .left in
+    λ i r. load-granted good none-open _ (stands _ _ _ (count .given .1) (judge .ensures)) (replace .ensures) i r
 
 pub load-spec : {M : Type 1} → statement M
 load-spec =

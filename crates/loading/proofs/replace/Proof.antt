@@ -13,7 +13,10 @@ same-length : tie.Need-same-length
 same-length c = search needs
 
 returns : tie.Need-returns
-returns c = let b = c .before .before .before .before .before .before in replaced (b .before .before .before .before .pre .1) (b .empty .ensures) (c .before .before .fill .ensures)
+returns c =
+    let b = c .before .before .before .before .before .before in
+    let fill = c .before .before .fill in
+    replaced (b .before .before .before .before .pre .1) (b .empty .ensures) (fill .ensures)
 
 pub replace-spec : {M : Type 1} → statement M
 replace-spec = tie.close (tie.spec empty-requires fill-requires same-length returns)

@@ -18,7 +18,8 @@ use Rattle.form.specs.Laws.Valid.{root-of}
 
 -- by the form, the first node is the document, which nobody inserted or deleted
 alone : (s : List ℕ) → form s ≡ true →
-    modify 0 (second unlocked) (modify 0 (second saved) (modify 0 (second (with-now [])) (modify 0 (second (with-writer 0)) (take 1 (nodes s))))) ≡ flat 0 (tree-of node-0-alone)
+    modify 0 (second unlocked) (modify 0 (second saved) (modify 0 (second (with-now [])) (modify 0 (second (with-writer 0)) (take 1 (nodes s))))) ≡
+    flat 0 (tree-of node-0-alone)
 unfolding flat modify tree-of node-0-alone view
 alone s h =
     let p = form-holds s h in
@@ -31,4 +32,6 @@ pub emptied : {s s₁ s₂ s₃ s₄ s₅ : List ℕ} → form s ≡ true → Le
     Kept s₃ s₄ (modify 0 (second saved) (nodes s₃)) → Kept s₄ s₅ (modify 0 (second unlocked) (nodes s₄)) → Left s s₅ (is-open s) (flat 0 (tree-of node-0-alone))
 emptied {s} h a b c d e =
     left-as _ _ (alone s h)
-    (left-then _ (modify 0 (second unlocked)) (left-then _ (modify 0 (second saved)) (left-then _ (modify 0 (second (with-now []))) (left-then _ (modify 0 (second (with-writer 0))) a b) c) d) e)
+    (left-then _ (modify 0 (second unlocked))
+    (left-then _ (modify 0 (second saved))
+    (left-then _ (modify 0 (second (with-now []))) (left-then _ (modify 0 (second (with-writer 0))) a b) c) d) e)

@@ -55,7 +55,10 @@ fault-inside {s} (many-nodes {i = i} h) = omega (arith, h .inside, node-offset-m
 pub fails : (x : List ℕ) (c o : ℕ) (r : Judged) → r ≡ Rejected c o → judgement x ≡ verdict r → Fails x c o
 fails x c o r p e =
     let m = subst (Means x) (rw p at e) (judgement-means x) in
-    record { most = go (m .0) (λ h. m .1 4 input-limit (too-long h) .offsets) (leb (length x) input-limit) refl; only = λ i r. one-reading r (refused (m .0) (m .1)) }
+    record {
+      most = go (m .0) (λ h. m .1 4 input-limit (too-long h) .offsets) (leb (length x) input-limit) refl;
+      only = λ i r. one-reading r (refused (m .0) (m .1));
+    }
   where
     go : Fault x c o → (input-limit < length x → o ≤ input-limit) → (b : Bool) → leb (length x) input-limit ≡ b → o ≤ input-limit
     go f h true p = omega (arith, leb-true (length x) input-limit p, fault-inside f)

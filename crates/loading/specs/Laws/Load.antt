@@ -31,7 +31,8 @@ use Rattle.loading.specs.Laws.Opens.{none-open}
 pub begun : {x s s′ : List ℕ} {n : ℕ} {q : ℕ → Bool} → Stands x n → Left s s′ q (flat 0 (tree-of node-0-alone)) → Begun x s′
 begun d k = record { shape = d .shape; spelled = d .spelled; few = d .few; short = d .short; layout = k .layout; alone = k .nodes }
 
-pub replaced : {x s s′ s″ : List ℕ} → any (is-open s) transactions ≡ false → Left s s′ (is-open s) (flat 0 (tree-of node-0-alone)) → Filled x s′ s″ → Replaced x s s″
+pub replaced : {x s s′ s″ : List ℕ} → any (is-open s) transactions ≡ false → Left s s′ (is-open s) (flat 0 (tree-of node-0-alone)) → Filled x s′ s″
+    → Replaced x s s″
 replaced {s = s} e k f = record {
   layout = f .layout;
   long = f .same .long ∙ k .long;
@@ -53,13 +54,16 @@ asked h e = ap (λ (q : ℕ → Bool). any q transactions) (sym (h .opens)) ∙ 
 module _ {s : List ℕ} (f : form s ≡ true) where
   pub load-open : any (is-open s) transactions ≡ true → (i : Input) → Performed s s (Refused 15) (load i)
   unfolding next answer-of
-  load-open e i = performed-stays {o = refused 15} {call = load i} (record { formed = f; next = λ M h. rw (asked h e); quiet = refl }) (Refused 15) (λ writing. refl)
+  load-open e i =
+      performed-stays {o = refused 15} {call = load i} (record { formed = f; next = λ M h. rw (asked h e); quiet = refl }) (Refused 15)
+      (λ writing. refl)
 
   module _ (e : any (is-open s) transactions ≡ false) where
     pub load-failed : {x : List ℕ} (c o : ℕ) → Fails x c o → (i : Input) → ReadsAs x i → Performed s s (RefusedAt c o) (load i)
     unfolding next answer-of
     load-failed c o d i r =
-        rw (d .only i r) (performed-stays {o = refused-at c o} {call = load (unreadable c o)} (record { formed = f; next = λ M h. rw (asked h e); quiet = refl }) (RefusedAt c o) (λ writing. refl))
+        rw (d .only i r) (performed-stays {o = refused-at c o} {call = load (unreadable c o)}
+        (record { formed = f; next = λ M h. rw (asked h e); quiet = refl }) (RefusedAt c o) (λ writing. refl))
 
     module _ {x s′ : List ℕ} (n : ℕ) (d : Stands x n) (k : Replaced x s s′) where
       abbrev D : Document

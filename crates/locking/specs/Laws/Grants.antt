@@ -42,7 +42,8 @@ more-modes t v w a e = ap (with-held a) (fun-ext (λ u. go u (eqb u t) refl))
 pub add-kept : {s s′ : List ℕ} (t i v w x : ℕ) → in-word v ≡ item (nodes s) i .held t → x ≡ bitOr v w → Kept s s′ (modify i (second (with-modes t x)) (nodes s))
     → Kept s s′ (modify i (second (with-more t w)) (nodes s))
 add-kept {s} t i v w x e f k =
-    kept-as _ _ (modify-same i (second (with-modes t x)) (second (with-more t w)) (nodes s) no-entry (ap (λ a. (getD (nodes s) i no-entry .0, a)) (rw f (more-modes t v w (item (nodes s) i) e)))) k
+    kept-as _ _ (modify-same i (second (with-modes t x)) (second (with-more t w)) (nodes s) no-entry
+    (ap (λ a. (getD (nodes s) i no-entry .0, a)) (rw f (more-modes t v w (item (nodes s) i) e)))) k
 
 -- along the way --------------------------------------------------------------------------
 
@@ -89,7 +90,8 @@ module _ {s s′ : List ℕ} {t : ℕ} {m : NeedWords} {w : Way} {j : ℕ} (h : 
   pub granting-inside : j < w .count → getD (w .places) j 0 < length (nodes s′)
   granting-inside k = omega (arith, h .inside j k, c .kept .many)
 
-  pub granting-turn : {s″ : List ℕ} (v : ℕ) → j < w .count → v ≡ word-at m j → Kept s′ s″ (modify (getD (w .places) j 0) (second (with-more t v)) (nodes s′)) → Granting s s″ t m w (j + 1)
+  pub granting-turn : {s″ : List ℕ} (v : ℕ) → j < w .count → v ≡ word-at m j
+      → Kept s′ s″ (modify (getD (w .places) j 0) (second (with-more t v)) (nodes s′)) → Granting s s″ t m w (j + 1)
   unfolding granted-from
   granting-turn {s″} v k e a =
       let i = getD (w .places) j 0 in

@@ -62,7 +62,8 @@ and-or false b c = refl
 -- one mode of a list more
 against-more : (x : Mode) (ms : List Mode) (m : Mode) → against (among (x ∷ ms)) m ≡ (clash m x || against (among ms) m)
 against-more x ms m =
-    any-same (λ b. (same-mode b x || among ms b) && clash m b) (λ b. (same-mode b x && clash m b) || (among ms b && clash m b)) modes (λ b i. or-and (same-mode b x) (among ms b) (clash m b))
+    any-same (λ b. (same-mode b x || among ms b) && clash m b) (λ b. (same-mode b x && clash m b) || (among ms b && clash m b)) modes
+    (λ b i. or-and (same-mode b x) (among ms b) (clash m b))
     ∙ any-or (λ b. same-mode b x && clash m b) (λ b. among ms b && clash m b) modes
     ∙ ap (λ z. z || against (among ms) m) (any-mode (clash m) x)
 
@@ -76,11 +77,13 @@ met h (x ∷ ms) =
     ∙ ap (λ z. against h x || z) (met h ms)
 
 -- on one node
-pub touches-mask : (ms : List Mode) → ((m : Mode) → in-word (word-of ms) m ≡ among ms m) → (u : ℕ) (a : Marked) → touches (mask-of (word-of ms)) u a ≡ blocks-node ms u a
+pub touches-mask : (ms : List Mode) → ((m : Mode) → in-word (word-of ms) m ≡ among ms m) → (u : ℕ) (a : Marked)
+    → touches (mask-of (word-of ms)) u a ≡ blocks-node ms u a
 unfolding touches
 touches-mask ms e u a =
     let f : in-word (word-of ms) ≡ among ms = fun-ext e in
-    any-same (λ m. a .held u m && in-word (mask-of (word-of ms)) m) (λ m. a .held u m && against (among ms) m) modes (λ m i. ap (λ z. a .held u m && z) (in-mask (word-of ms) m ∙ ap (λ p. against p m) f))
+    any-same (λ m. a .held u m && in-word (mask-of (word-of ms)) m) (λ m. a .held u m && against (among ms) m) modes
+    (λ m i. ap (λ z. a .held u m && z) (in-mask (word-of ms) m ∙ ap (λ p. against p m) f))
     ∙ met (a .held u) ms
 
 -- along the way
@@ -100,6 +103,7 @@ module _ (w : Need) (e : SameSets w) (u : ℕ) where
   way-mask [] = refl
   way-mask (a ∷ way) = rw (touches-mask (w .node) (e .node) u a, parent-mask way)
 
-pub blocks-mask : (w : Need) → SameSets w → (t : ℕ) (is-open : ℕ → Bool) (way : List Marked) (u : ℕ) → blocks-by t (masks-of (words w)) is-open way u ≡ blocks-at t w is-open way u
+pub blocks-mask : (w : Need) → SameSets w → (t : ℕ) (is-open : ℕ → Bool) (way : List Marked) (u : ℕ)
+    → blocks-by t (masks-of (words w)) is-open way u ≡ blocks-at t w is-open way u
 unfolding blocks-by
 blocks-mask w e t is-open way u = rw (way-mask w e u way)

@@ -51,14 +51,17 @@ module _ {l : List Entry} {w : Way} (h : Inside l w) where
 
   -- the j-th node is looked at, those before touched nothing
   module _ (m : NeedWords) (u j : ℕ) (v : touches-from m 0 u (way-nodes l w) ≡ touches-from m j u (drop j (way-nodes l w))) where
-    turn : j < w .count → touches-from m 0 u (way-nodes l w) ≡ (touches (word-at m j) u (item l (getD (w .places) j 0)) || touches-from m (j + 1) u (drop (j + 1) (way-nodes l w)))
+    turn : j < w .count
+        → touches-from m 0 u (way-nodes l w)
+        ≡ (touches (word-at m j) u (item l (getD (w .places) j 0)) || touches-from m (j + 1) u (drop (j + 1) (way-nodes l w)))
     unfolding touches-from
     turn k = v ∙ rw (way-cons j k, add-one j)
 
     pub touch-found : j < w .count → touches (word-at m j) u (item l (getD (w .places) j 0)) ≡ true → true ≡ touches-from m 0 u (way-nodes l w)
     touch-found k e = sym (turn k ∙ rw e)
 
-    pub touch-passed : j < w .count → touches (word-at m j) u (item l (getD (w .places) j 0)) ≡ false → touches-from m 0 u (way-nodes l w) ≡ touches-from m (j + 1) u (drop (j + 1) (way-nodes l w))
+    pub touch-passed : j < w .count → touches (word-at m j) u (item l (getD (w .places) j 0)) ≡ false
+        → touches-from m 0 u (way-nodes l w) ≡ touches-from m (j + 1) u (drop (j + 1) (way-nodes l w))
     touch-passed k e = turn k ∙ rw e
 
     pub touch-none : w .count ≤ j → false ≡ touches-from m 0 u (way-nodes l w)
@@ -66,7 +69,8 @@ module _ {l : List Entry} {w : Way} (h : Inside l w) where
     touch-none k = sym (v ∙ rw (way-end j k))
 
 -- the test of one node, by the word of its slot
-pub touches-word : {s : List ℕ} {u : ℕ} {ws : List ℕ} → Loaded s u ws → (i k m v : ℕ) (r : Bool) → i < length (nodes s) → k ≡ slot s i → v ≡ m → r ≡ in-common (getD ws k 0) v
+pub touches-word : {s : List ℕ} {u : ℕ} {ws : List ℕ} → Loaded s u ws → (i k m v : ℕ) (r : Bool) → i < length (nodes s) → k ≡ slot s i → v ≡ m
+    → r ≡ in-common (getD ws k 0) v
     → touches m u (item (nodes s) i) ≡ r
 unfolding in-common touches
 touches-word h i k m v r b e f g = sym (g ∙ rw (e, f) (any-same _ _ modes (λ a x. ap (λ z. z a && in-word m a) (h .held i b))))
@@ -119,5 +123,6 @@ module _ (t : ℕ) (m : NeedWords) (is-open : ℕ → Bool) (way : List Marked) 
   pub set-whole : (w : Need) → SameSets w → m ≡ masks-of (words w) → (u set : ℕ) → u ≡ 0 → set ≡ set-of t m is-open way u → set ≡ wait-word t w is-open way
   unfolding wait-word
   set-whole w same v u set z e =
-      let q : _≡_ {A = ℕ → Bool} (λ i. blocks-by t m is-open way (suc i)) (λ i. blocks-at t w is-open way (suc i)) = fun-ext (λ i. rw v (blocks-mask w same t is-open way (suc i))) in
+      let q : _≡_ {A = ℕ → Bool} (λ i. blocks-by t m is-open way (suc i)) (λ i. blocks-at t w is-open way (suc i)) =
+      fun-ext (λ i. rw v (blocks-mask w same t is-open way (suc i))) in
       e ∙ rw z (ap (λ (q : ℕ → Bool). word q 16 0) q)

@@ -51,19 +51,22 @@ module _ {l : List Entry} {p : ℕ} (h : p < length l) where
     pub climbing-found : length l ≤ 1024 → d < e → Climbing l p d (k - 1) (count + 1) (set places count (k - 1))
     climbing-found m q =
         let n : count < length places = omega (arith, c .long, c .room) in
+        let here = ap (λ (z : List ℕ). take count places ++ z) (climb-found l e k some (omega (arith, v))) in
+        let joined = append-assoc (take count places) ((k - 1) ∷ []) (climb l (depth l (k - 1)) (k - 1)) in
         record {
           long = length-set places count (k - 1) ∙ c .long;
           room = omega (arith, c .room);
           low = omega (arith, c .low);
           inside = λ j g. at j g n (eqb j count) refl;
-          found = c .found ∙ rw (add-one, take-suc-set places count (k - 1) n, v) (ap (λ z. take count places ++ z) (climb-found l e k some (omega (arith, v))) ∙ sym (append-assoc (take count places) ((k - 1) ∷ []) (climb l (depth l (k - 1)) (k - 1))));
+          found = c .found ∙ rw (add-one, take-suc-set places count (k - 1) n, v) (here ∙ sym joined);
         }
       where
         at : (j : ℕ) → j < count + 1 → count < length places → (b : Bool) → eqb j count ≡ b → getD (set places count (k - 1)) j 0 < length l
         at j g n true i = rw (eqb-true j count i, getD-set-same places count (k - 1) 0 n) (omega (arith, c .low))
         at j g n false i = let z = eqb-false j count i in rw (getD-set-other places count j (k - 1) 0 z) (c .inside j (omega arith))
 
-  pub climbing-done : {e k count : ℕ} {places : List ℕ} → Climbing l p e k count places → length l ≤ 1024 → k ≡ 0 → Climbed l p (record { places = places; count = count })
+  pub climbing-done : {e k count : ℕ} {places : List ℕ} → Climbing l p e k count places → length l ≤ 1024 → k ≡ 0
+      → Climbed l p (record { places = places; count = count })
   unfolding way-places
   climbing-done {e} {k} {count} {places} c m z = record {
     inside = record { long = c .long; room = omega (arith, c .room); inside = c .inside };
@@ -97,6 +100,7 @@ module _ {l : List Entry} {p : ℕ} {w : Way} (c : Climbed l p w) where
   unfolding ups way-places way-up
   climbed-parent k = go (above-places l p) climbed-count (c .places)
     where
-      go : (is : List ℕ) → w .count ≡ suc (length is) → take (w .count) (w .places) ≡ p ∷ is → parent (map number-of (map (item l) is)) ≡ number-of (item l (getD (w .places) 1 0))
+      go : (is : List ℕ) → w .count ≡ suc (length is) → take (w .count) (w .places) ≡ p ∷ is
+          → parent (map number-of (map (item l) is)) ≡ number-of (item l (getD (w .places) 1 0))
       go [] e f = absurd (omega arith)
       go (i ∷ is) e f = ap (λ (z : ℕ). number-of (item l z)) (ap (λ (z : List ℕ). getD z 1 0) (sym f) ∙ getD-take (w .count) (w .places) 1 0 k)

@@ -28,7 +28,8 @@ use Rattle.lookup.specs.Laws.Subtree.{below-turn, below-left, below-end,
 
 -- a loop goes up through the places behind a node at depth e: those before i were looked at
 module _ (t : ℕ) (l : List Entry) (e i : ℕ) where
-  pub child-found : i < length l → depth l i ≡ suc e → seen-by t (item l i) ≡ true → children-from t e (drop i l) ≡ item l i ∷ children-from t e (drop (i + 1) l)
+  pub child-found : i < length l → depth l i ≡ suc e → seen-by t (item l i) ≡ true
+      → children-from t e (drop i l) ≡ item l i ∷ children-from t e (drop (i + 1) l)
   unfolding children-from keep
   child-found h k s = rw (below-turn l e i h (omega arith), eq-eqb (depth l i) (suc e) k, s)
 
@@ -74,7 +75,8 @@ abbrev is-child : ℕ → Row Marked Marked → Bool
 is-child n r = child n (plain r)
 
 -- what n stands not right above, and where n is not
-none-child : (n d : ℕ) (up : List Marked) (f : Tree) → leads n (map number-of up) ≡ false → any (numbered n) (nodes-of (flat d f)) ≡ false → keep (is-child n) (lines-of up f) ≡ []
+none-child : (n d : ℕ) (up : List Marked) (f : Tree) → leads n (map number-of up) ≡ false → any (numbered n) (nodes-of (flat d f)) ≡ false
+    → keep (is-child n) (lines-of up f) ≡ []
 unfolding rows keep flat
 none-child n d up nil u h = refl
 none-child n d up (node a ks fs) u h =
@@ -90,10 +92,17 @@ none-child n d up (node a ks fs) u h =
 none-top : (t e d : ℕ) (f : Tree) → suc e < d → keep (child-seen t e) (flat d f) ≡ []
 unfolding keep flat
 none-top t e d nil h = refl
-none-top t e d (node a ks fs) h = rw (ne-eqb d (suc e) (λ z. omega arith), keep-append (child-seen t e) (flat (suc d) ks) (flat d fs), none-top t e (suc d) ks (omega arith), none-top t e d fs h)
+none-top t e d (node a ks fs) h =
+    rw (
+      ne-eqb d (suc e) (λ z. omega arith),
+      keep-append (child-seen t e) (flat (suc d) ks) (flat d fs),
+      none-top t e (suc d) ks (omega arith),
+      none-top t e d fs h,
+    )
 
 -- the topmost nodes of a forest right below n
-top-children : (t n e : ℕ) (up : List Marked) (f : Tree) → leads n (map number-of up) ≡ true → every (seen-by t) up ≡ true → any (numbered n) (nodes-of (flat (suc e) f)) ≡ false
+top-children : (t n e : ℕ) (up : List Marked) (f : Tree) → leads n (map number-of up) ≡ true → every (seen-by t) up ≡ true
+    → any (numbered n) (nodes-of (flat (suc e) f)) ≡ false
     → map (λ r. r .it) (keep (seen-line t) (keep (is-child n) (lines-of up f))) ≡ items (keep (child-seen t e) (flat (suc e) f))
 unfolding rows keep flat
 top-children t n e up nil u v h = refl
@@ -136,11 +145,14 @@ module _ {f : Tree} {n p : ℕ} (o : Holder f n p) where
       ∙ rw (append-nil (c .above), not-leading (c .above) (c .earlier (numbered n) (o .before)))
 
   -- the children that t sees, in order
-  pub child-lines : (t : ℕ) → seen-at t (flat 0 f) p ≡ true → map (λ r. r .it) (select (child n) (callers-document t f)) ≡ map (λ a. a .now) (children t (flat 0 f) p)
+  pub child-lines : (t : ℕ) → seen-at t (flat 0 f) p ≡ true
+      → map (λ r. r .it) (select (child n) (callers-document t f)) ≡ map (λ a. a .now) (children t (flat 0 f) p)
   unfolding children-from
   child-lines t s =
       let c = o .place in
       let v : every (seen-by t) (c .it ∷ c .above) ≡ true = rw (item-at c, ups-at c) at s in
-      let e : map (λ x. x .it) (keep (seen-line t) (keep (is-child n) (lines-of (c .it ∷ c .above) (c .children)))) ≡ items (keep (child-seen t (c .depth)) (flat (suc (c .depth)) (c .children))) =
+      let e : map (λ x. x .it) (keep (seen-line t) (keep (is-child n) (lines-of (c .it ∷ c .above) (c .children)))) ≡ items
+      (keep (child-seen t (c .depth)) (flat (suc (c .depth)) (c .children))) =
       top-children t n (c .depth) (c .it ∷ c .above) (c .children) (o .number) v (o .children) in
-      rw (select-seen (child n) t f, rows-child, rows-below c, depth-at c, ← e) (plain-nodes (keep (seen-line t) (keep (is-child n) (lines-of (c .it ∷ c .above) (c .children)))))
+      rw (select-seen (child n) t f, rows-child, rows-below c, depth-at c, ← e)
+      (plain-nodes (keep (seen-line t) (keep (is-child n) (lines-of (c .it ∷ c .above) (c .children)))))

@@ -50,7 +50,9 @@ pub count-held : (f : Tree) → length (nodes f) ≡ length (flat 0 f)
 count-held f = ap length (nodes-held f) ∙ length-map (flat 0 f) (λ x. x .1)
 
 pub unique-held : (f : Tree) → unique (flat 0 f) ≡ distinct (map number-of (nodes f))
-unique-held f = ap distinct (sym (map-map number-of (λ (x : Entry). x .1) (λ x. number-of (x .1)) (flat 0 f) (λ x m. refl)) ∙ ap (map number-of) (sym (nodes-held f)))
+unique-held f =
+    ap distinct
+    (sym (map-map number-of (λ (x : Entry). x .1) (λ x. number-of (x .1)) (flat 0 f) (λ x m. refl)) ∙ ap (map number-of) (sym (nodes-held f)))
 
 -- some passes exactly if the first place is inside
 pub any-first : {A : Type 0} (t : A → Bool) (l : List A) → any t l ≡ ltb (first t l) (length l)
@@ -77,7 +79,8 @@ has-items n l = any-map (λ q. eqb q n) (λ (x : Entry). number-of (x .1)) l ∙
 pub unique-head : (x : Entry) (l : List Entry) → unique (x ∷ l) ≡ true → (any (numbered (number-of (x .1))) (items l) ≡ false) × (unique l ≡ true)
 unique-head x l h = go (has (number-of (x .1)) (map (λ x. number-of (x .1)) l)) (has-items (number-of (x .1)) l) h
   where
-    go : (b : Bool) → b ≡ any (numbered (number-of (x .1))) (items l) → cond b false (unique l) ≡ true → (any (numbered (number-of (x .1))) (items l) ≡ false) × (unique l ≡ true)
+    go : (b : Bool) → b ≡ any (numbered (number-of (x .1))) (items l) → cond b false (unique l) ≡ true
+        → (any (numbered (number-of (x .1))) (items l) ≡ false) × (unique l ≡ true)
     go true e k = absurd (false≢true k)
     go false e k = (sym e, k)
 

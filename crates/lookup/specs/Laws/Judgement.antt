@@ -33,7 +33,8 @@ Same ls cs = map (λ r. r .it) ls ≡ map (λ c. c .now) cs
 
 by-nodes : {X : Type 0} (g : Node → X) (ls : List Line) (cs : List Marked) → Same ls cs → map (λ r. g (r .it)) ls ≡ map (λ c. g (c .now)) cs
 by-nodes g ls cs e =
-    sym (map-map g (λ (r : Line). r .it) (λ r. g (r .it)) ls (λ r m. refl)) ∙ ap (map g) e ∙ map-map g (λ (c : Marked). c .now) (λ c. g (c .now)) cs (λ c m. refl)
+    sym (map-map g (λ (r : Line). r .it) (λ r. g (r .it)) ls (λ r m. refl)) ∙ ap (map g) e
+    ∙ map-map g (λ (c : Marked). c .now) (λ c. g (c .now)) cs (λ c m. refl)
 
 kth-same : (k : ℕ) (ls : List Line) (cs : List Marked) → Same ls cs → kth k ls ≡ kth-child k cs
 unfolding kth-child

@@ -45,7 +45,8 @@ any-among : (q : Mode → Bool) (ms : List Mode) → any q ms ≡ any (λ b. amo
 any-among q [] = refl
 any-among q (a ∷ ms) =
     rw (← one-mode q a, any-among q ms)
-    (sym (any-or (λ b. same-mode b a && q b) (λ b. among ms b && q b) modes) ∙ any-same _ (λ b. among (a ∷ ms) b && q b) modes (λ b m. go (same-mode b a) (among ms b) (q b)))
+    (sym (any-or (λ b. same-mode b a && q b) (λ b. among ms b && q b) modes)
+    ∙ any-same _ (λ b. among (a ∷ ms) b && q b) modes (λ b m. go (same-mode b a) (among ms b) (q b)))
   where
     go : (x y z : Bool) → ((x && z) || (y && z)) ≡ ((x || y) && z)
     go true true true = refl
@@ -86,7 +87,8 @@ unfolding bit
 no-bit zero x h k = omega arith
 no-bit (suc n) x h k =
     let e : x / 2 ^ 0 % 2 ≡ 1 → ⊥ = eqb-false (x / 2 ^ 0 % 2) 1 (k 0 (omega arith)) in
-    let z : x / 2 ≡ 0 = no-bit n (x / 2) (omega (arith, pow-succ' 2 n)) (λ i l. rw (div-div-eq-div-mul x 2 (2 ^ i), ← pow-succ' 2 i) (k (suc i) (omega arith))) in
+    let z : x / 2 ≡ 0 =
+    no-bit n (x / 2) (omega (arith, pow-succ' 2 n)) (λ i l. rw (div-div-eq-div-mul x 2 (2 ^ i), ← pow-succ' 2 i) (k (suc i) (omega arith))) in
     odd e z
   where
     odd : (x / 2 ^ 0 % 2 ≡ 1 → ⊥) → x / 2 ≡ 0 → x ≡ 0

@@ -101,7 +101,8 @@ module _ {A : Type 0} where
   none-second q l k h = or-right (any q (nodes-of l)) _ (sym (ap (any q) (map-append (λ x. x .1) l k) ∙ any-append q (nodes-of l) (nodes-of k)) ∙ h)
 
   -- no such node in the forest nor above it: none is kept
-  pub keep-nowhere : (q : A → Bool) (k : Row A A → Bool) → Only q k → (d : ℕ) (up : List A) (f : Forest A) → any q up ≡ false → any q (nodes-of (flat d f)) ≡ false
+  pub keep-nowhere : (q : A → Bool) (k : Row A A → Bool) → Only q k → (d : ℕ) (up : List A) (f : Forest A) → any q up ≡ false
+      → any q (nodes-of (flat d f)) ≡ false
       → keep k (lines-of up f) ≡ []
   unfolding rows keep flat
   keep-nowhere q k o d up nil u h = refl
@@ -141,7 +142,8 @@ module _ {A : Type 0} where
     -- the ancestors stand before
     pub earlier : (q : A → Bool) → any q (nodes-of before) ≡ false → any q above ≡ false
     -- of a test that only rows on the node's line or below it pass, what is kept is in the subtree
-    pub keeps : (q : A → Bool) (k : Row A A → Bool) → Only q k → (up : List A) → any q up ≡ false → any q (nodes-of before) ≡ false → any q (nodes-of behind) ≡ false
+    pub keeps : (q : A → Bool) (k : Row A A → Bool) → Only q k → (up : List A) → any q up ≡ false → any q (nodes-of before) ≡ false
+        → any q (nodes-of behind) ≡ false
         → keep k (lines-of up f) ≡ keep k (row it (above ++ up) ∷ lines-of (it ∷ (above ++ up)) children)
 
   below-shallow : (e d : ℕ) (f : Forest A) → d ≤ e → below e (flat d f) ≡ []
@@ -163,7 +165,8 @@ module _ {A : Type 0} where
     stops = below-shallow d d fs (omega arith);
     ancestors = λ t. refl;
     earlier = λ q e. refl;
-    keeps = λ q k o up u b c. ap (λ l. cond (k (row a up)) (row a up ∷ l) l) (keep-append k (lines-of (a ∷ up) ks) (lines-of up fs) ∙ rw (keep-nowhere q k o d up fs u c) (append-nil _));
+    keeps = λ q k o up u b c. ap (λ l. cond (k (row a up)) (row a up ∷ l) l)
+        (keep-append k (lines-of (a ∷ up) ks) (lines-of up fs) ∙ rw (keep-nowhere q k o d up fs u c) (append-nil _));
   }
 
   at-inner : (d : ℕ) (a : A) (ks fs : Forest A) (i : ℕ) → NodeAt (suc d) ks i → NodeAt d (node a ks fs) (suc i)

@@ -96,7 +96,8 @@ unfolding attributes keep
 none-attribute [] = refl
 none-attribute (x ∷ l) = go (eqb x attribute-kind) (none-attribute l)
   where
-    go : (b : Bool) → no-attribute l ≡ eqb (attributes l) 0 → (not b && no-attribute l) ≡ eqb (length (cond b (x ∷ keep (λ x. eqb x attribute-kind) l) (keep (λ x. eqb x attribute-kind) l))) 0
+    go : (b : Bool) → no-attribute l ≡ eqb (attributes l) 0
+        → (not b && no-attribute l) ≡ eqb (length (cond b (x ∷ keep (λ x. eqb x attribute-kind) l) (keep (λ x. eqb x attribute-kind) l))) 0
     go true e = sym (eqb·suc-zero (length (keep (λ x. eqb x attribute-kind) l)))
     go false e = e
 
@@ -122,10 +123,12 @@ and-true false = refl
 
 -- the new one before all
 insert-before : (x : ℕ) (l : List ℕ)
-    → cond (eqb x attribute-kind) (attributes-first l) (no-attribute l) ≡ (attributes-first l && cond (eqb x attribute-kind) (leb 0 (attributes l)) (leb (attributes l) 0))
+    → cond (eqb x attribute-kind) (attributes-first l) (no-attribute l)
+    ≡ (attributes-first l && cond (eqb x attribute-kind) (leb 0 (attributes l)) (leb (attributes l) 0))
 insert-before x l = go (eqb x attribute-kind) (no-attribute l) refl
   where
-    go : (b c : Bool) → no-attribute l ≡ c → cond b (attributes-first l) (no-attribute l) ≡ (attributes-first l && cond b (leb 0 (attributes l)) (leb (attributes l) 0))
+    go : (b c : Bool) → no-attribute l ≡ c
+        → cond b (attributes-first l) (no-attribute l) ≡ (attributes-first l && cond b (leb 0 (attributes l)) (leb (attributes l) 0))
     go true c e = rw (leb·zero (attributes l)) (sym (and-true (attributes-first l)))
     go false true e = rw (e, first-none l e, count-none l e)
     go false false e = rw (e, lt-leb (attributes l) 0 (count-some l e)) (sym (and-false (attributes-first l)))
@@ -149,7 +152,9 @@ first-insert x zero l h = insert-before x l
 first-insert x (suc j) [] h = absurd (omega arith)
 first-insert x (suc j) (y ∷ l) h = go (eqb y attribute-kind) (first-insert x j l (omega arith))
   where
-    go : (b : Bool) → attributes-first (take j l ++ (x ∷ drop j l)) ≡ (attributes-first l && cond (eqb x attribute-kind) (leb j (attributes l)) (leb (attributes l) j))
+    go : (b : Bool)
+        → attributes-first (take j l ++ (x ∷ drop j l))
+        ≡ (attributes-first l && cond (eqb x attribute-kind) (leb j (attributes l)) (leb (attributes l) j))
         → cond b (attributes-first (take j l ++ (x ∷ drop j l))) (no-attribute (take j l ++ (x ∷ drop j l)))
         ≡ (cond b (attributes-first l) (no-attribute l)
         && cond (eqb x attribute-kind) (leb (suc j) (length (cond b (y ∷ keep (λ z. eqb z attribute-kind) l) (keep (λ z. eqb z attribute-kind) l))))
@@ -158,7 +163,8 @@ first-insert x (suc j) (y ∷ l) h = go (eqb y attribute-kind) (first-insert x j
     go false e = every-insert (λ z. not (eqb z attribute-kind)) j x l ∙ insert-behind x j l
 
 pub length-insert : {A : Type 0} (j : ℕ) (x : A) (l : List A) → length (take j l ++ (x ∷ drop j l)) ≡ suc (length l)
-length-insert j x l = length-append (take j l) (x ∷ drop j l) ∙ let e = length-append (take j l) (drop j l) in let f = ap length (take-append-drop j l) in omega arith
+length-insert j x l =
+    length-append (take j l) (x ∷ drop j l) ∙ let e = length-append (take j l) (drop j l) in let f = ap length (take-append-drop j l) in omega arith
 
 one-only : (n : ℕ) → leb (suc n) 1 ≡ eqb n 0
 one-only zero = refl
@@ -173,7 +179,9 @@ placed-pass parent kind (suc j) others = go (leb (suc j) (suc (length others))) 
   where
     rest : Bool
     rest = takes parent kind && every (takes parent) others
-        && cond (eqb parent element-kind) (attributes-first others && cond (eqb kind attribute-kind) (leb (suc j) (suc (attributes others))) (ltb (attributes others) (suc j))) (eqb (length others) 0)
+        && cond (eqb parent element-kind)
+        (attributes-first others && cond (eqb kind attribute-kind) (leb (suc j) (suc (attributes others))) (ltb (attributes others) (suc j)))
+        (eqb (length others) 0)
 
     rule : suc j ≤ suc (length others) → children-rule parent (insert-at (suc j) kind others) ≡ rest
     rule h =
@@ -188,6 +196,9 @@ placed-pass parent kind (suc j) others = go (leb (suc j) (suc (length others))) 
           leb·suc-suc (attributes others) j,
         )
 
-    go : (b : Bool) → leb (suc j) (suc (length others)) ≡ b → (leb 1 (suc j) && b && children-rule parent (insert-at (suc j) kind others)) ≡ (leb 1 (suc j) && b && rest)
+    go : (b : Bool) → leb (suc j) (suc (length others)) ≡ b
+        → (leb 1 (suc j) && b && children-rule parent (insert-at (suc j) kind others)) ≡ (leb 1 (suc j) && b && rest)
     go true e = ap (λ z. leb 1 (suc j) && true && z) (rule (leb-true (suc j) (suc (length others)) e))
-    go false e = ap (λ z. z && children-rule parent (insert-at (suc j) kind others)) (and-false (leb 1 (suc j))) ∙ sym (ap (λ z. z && rest) (and-false (leb 1 (suc j))))
+    go false e =
+        ap (λ z. z && children-rule parent (insert-at (suc j) kind others)) (and-false (leb 1 (suc j)))
+        ∙ sym (ap (λ z. z && rest) (and-false (leb 1 (suc j))))

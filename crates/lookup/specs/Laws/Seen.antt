@@ -24,7 +24,8 @@ pub lines-seen : (t : ℕ) (f : Tree) → lines (callers-document t f) ≡ map p
 unfolding lines callers-document
 lines-seen t f = rows-view (λ a. a) (seen-by t) (seen-by t) (λ a. refl) (λ a. a .now) (λ a. a .number) number-of (λ a. refl) [] f refl
 
-pub select-seen : (T : Line → Bool) (t : ℕ) (f : Tree) → select T (callers-document t f) ≡ map plain (keep (seen-line t) (keep (λ r. T (plain r)) (lines-of [] f)))
+pub select-seen : (T : Line → Bool) (t : ℕ) (f : Tree)
+    → select T (callers-document t f) ≡ map plain (keep (seen-line t) (keep (λ r. T (plain r)) (lines-of [] f)))
 unfolding select
 select-seen T t f =
     ap (keep T) (lines-seen t f)

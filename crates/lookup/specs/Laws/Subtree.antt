@@ -110,7 +110,8 @@ module _ {A : Type 0} (shown : A → Bool) where
   unfolding prune flat
   prune-skip h d nil r z k = refl
   prune-skip h d (node a ks fs) r z k =
-      rw (lt-ltb 0 h z, le-leb h d k, append-assoc (flat (suc d) ks) (flat d fs) r, prune-skip h (suc d) ks (flat d fs ++ r) z (omega arith)) (prune-skip h d fs r z k)
+      rw (lt-ltb 0 h z, le-leb h d k, append-assoc (flat (suc d) ks) (flat d fs) r, prune-skip h (suc d) ks (flat d fs ++ r) z (omega arith))
+      (prune-skip h d fs r z k)
 
   -- behind the subtree that was left out
   prune-resume : (d : ℕ) (f : Forest A) (r : List (ℕ × A)) → below d r ≡ [] → prune shown (suc d) (flat d f ++ r) ≡ prune shown 0 (flat d f ++ r)
@@ -123,7 +124,9 @@ module _ {A : Type 0} (shown : A → Bool) where
       → map (λ x. x .it) (keep visible (lines-of up f)) ++ nodes-of (prune shown 0 r) ≡ nodes-of (prune shown 0 (flat d f ++ r))
   unfolding rows keep flat prune
   shown-rows up d nil r u h = refl
-  shown-rows up d (node a ks fs) r u h = go (shown a) refl (λ e. shown-rows (a ∷ up) (suc d) ks (flat d fs ++ r) (rw (e, u)) (below-none (suc d) d fs r (omega arith) (below-suc d r h))) (shown-rows up d fs r u h)
+  shown-rows up d (node a ks fs) r u h =
+      go (shown a) refl (λ e. shown-rows (a ∷ up) (suc d) ks (flat d fs ++ r) (rw (e, u)) (below-none (suc d) d fs r (omega arith) (below-suc d r h)))
+      (shown-rows up d fs r u h)
     where
       both : List (Row A A)
       both = lines-of (a ∷ up) ks ++ lines-of up fs
@@ -139,7 +142,8 @@ module _ {A : Type 0} (shown : A → Bool) where
       gone e x m = rw (every-below (λ a. a) shown (rw e) (of-rows (λ a. a) x (a ∷ up) ks m)) (and-false (shown (x .it)))
 
       go : (b : Bool) → shown a ≡ b
-          → (shown a ≡ true → map (λ x. x .it) (keep visible (lines-of (a ∷ up) ks)) ++ nodes-of (prune shown 0 (flat d fs ++ r)) ≡ nodes-of (prune shown 0 (flat (suc d) ks ++ (flat d fs ++ r))))
+          → (shown a ≡ true → map (λ x. x .it) (keep visible (lines-of (a ∷ up) ks)) ++ nodes-of (prune shown 0 (flat d fs ++ r))
+          ≡ nodes-of (prune shown 0 (flat (suc d) ks ++ (flat d fs ++ r))))
           → map (λ x. x .it) (keep visible (lines-of up fs)) ++ nodes-of (prune shown 0 r) ≡ nodes-of (prune shown 0 (flat d fs ++ r))
           → map (λ x. x .it) (cond (b && every shown up) (row a up ∷ keep visible both) (keep visible both)) ++ nodes-of (prune shown 0 r)
           ≡ nodes-of (cond b ((d, a) ∷ prune shown 0 (flat (suc d) ks ++ flat d fs ++ r)) (prune shown (suc d) (flat (suc d) ks ++ flat d fs ++ r)))
@@ -179,7 +183,8 @@ module _ {f : Tree} {p : ℕ} (c : NodeAt 0 f p) where
   end-at = ap (λ l. suc p + length l) rows-below
 
 module _ {f : Tree} {n p : ℕ} (o : Holder f n p) where
-  rows-under : keep (λ r. under n (plain r)) (lines-of [] f) ≡ row (o .place .it) (o .place .above) ∷ lines-of (o .place .it ∷ o .place .above) (o .place .children)
+  rows-under : keep (λ r. under n (plain r)) (lines-of [] f)
+      ≡ row (o .place .it) (o .place .above) ∷ lines-of (o .place .it ∷ o .place .above) (o .place .children)
   unfolding keep
   rows-under =
       let c = o .place in
@@ -189,14 +194,18 @@ module _ {f : Tree} {n p : ℕ} (o : Holder f n p) where
       inner-rows : (r : Row Marked Marked) → List·Memᴰ r (lines-of (o .place .it ∷ o .place .above) (o .place .children)) → under n (plain r) ≡ true
       inner-rows r m =
           under-line n r
-          ∙ rw (any-below (λ a. a) (numbered n) (rw (o .number)) (of-rows (λ a. a) r (o .place .it ∷ o .place .above) (o .place .children) m)) (or-true (numbered n (r .it)))
+          ∙ rw (any-below (λ a. a) (numbered n) (rw (o .number)) (of-rows (λ a. a) r (o .place .it ∷ o .place .above) (o .place .children) m))
+          (or-true (numbered n (r .it)))
 
   -- n and all below it that t sees, in document order
-  pub subtree-lines : (t : ℕ) → seen-at t (flat 0 f) p ≡ true → map (λ r. r .it) (select (under n) (callers-document t f)) ≡ map (λ a. a .now) (subtree t (flat 0 f) p)
+  pub subtree-lines : (t : ℕ) → seen-at t (flat 0 f) p ≡ true
+      → map (λ r. r .it) (select (under n) (callers-document t f)) ≡ map (λ a. a .now) (subtree t (flat 0 f) p)
   unfolding keep seen-from
   subtree-lines t s =
       let c = o .place in
       let v : every (seen-by t) (c .it ∷ c .above) ≡ true = rw (item-at c, ups-at c) at s in
-      let e : map (λ x. x .it) (keep (seen-line t) (lines-of (c .it ∷ c .above) (c .children))) ≡ items (prune (seen-by t) 0 (flat (suc (c .depth)) (c .children))) =
+      let e : map (λ x. x .it) (keep (seen-line t) (lines-of (c .it ∷ c .above) (c .children))) ≡ items
+      (prune (seen-by t) 0 (flat (suc (c .depth)) (c .children))) =
       shown-forest (seen-by t) (c .it ∷ c .above) (suc (c .depth)) (c .children) v in
-      rw (select-seen (under n) t f, rows-under, v, item-at c, rows-below c, ← e) (ap (λ l. c .it .now ∷ l) (plain-nodes (keep (seen-line t) (lines-of (c .it ∷ c .above) (c .children)))))
+      rw (select-seen (under n) t f, rows-under, v, item-at c, rows-below c, ← e)
+      (ap (λ l. c .it .now ∷ l) (plain-nodes (keep (seen-line t) (lines-of (c .it ∷ c .above) (c .children)))))

@@ -99,10 +99,13 @@ reverse-take (x ∷ l) t (suc k) h = reverse-take l (x ∷ t) k (omega arith)
 climb-back : (l : List Entry) (e i : ℕ) → i ≤ length l → map (item l) (climb l e i) ≡ back e (reverseAux (take i l) [])
 unfolding climb back
 climb-back l e zero h = refl
-climb-back l e (suc i) h = rw (reverse-take l [] i (omega arith)) (go (ltb (depth l i) e) (climb-back l (depth l i) i (omega arith)) (climb-back l e i (omega arith)))
+climb-back l e (suc i) h =
+    rw (reverse-take l [] i (omega arith)) (go (ltb (depth l i) e) (climb-back l (depth l i) i (omega arith)) (climb-back l e i (omega arith)))
   where
-    go : (b : Bool) → map (item l) (climb l (depth l i) i) ≡ back (depth l i) (reverseAux (take i l) []) → map (item l) (climb l e i) ≡ back e (reverseAux (take i l) [])
-        → map (item l) (cond b (i ∷ climb l (depth l i) i) (climb l e i)) ≡ cond b (item l i ∷ back (depth l i) (reverseAux (take i l) [])) (back e (reverseAux (take i l) []))
+    go : (b : Bool) → map (item l) (climb l (depth l i) i) ≡ back (depth l i) (reverseAux (take i l) [])
+        → map (item l) (climb l e i) ≡ back e (reverseAux (take i l) [])
+        → map (item l) (cond b (i ∷ climb l (depth l i) i) (climb l e i))
+        ≡ cond b (item l i ∷ back (depth l i) (reverseAux (take i l) [])) (back e (reverseAux (take i l) []))
     go true p q = rw p
     go false p q = q
 
@@ -130,4 +133,5 @@ module _ {f : Tree} {p : ℕ} (c : NodeAt 0 f p) where
   pub rows-behind : drop (suc p) (flat 0 f) ≡ flat (suc (c .depth)) (c .children) ++ c .behind
   rows-behind =
       let e : suc p ≡ length (c .before) + 1 = omega (arith, c .count) in
-      ap (drop (suc p)) (c .split) ∙ ap (λ n. drop n (c .before ++ ((c .depth, c .it) ∷ (flat (suc (c .depth)) (c .children) ++ c .behind)))) e ∙ drop-append-add (c .before) _ 1
+      ap (drop (suc p)) (c .split) ∙ ap (λ n. drop n (c .before ++ ((c .depth, c .it) ∷ (flat (suc (c .depth)) (c .children) ++ c .behind)))) e
+      ∙ drop-append-add (c .before) _ 1

@@ -82,9 +82,11 @@ later-other n i [] h k = absurd (omega arith)
 later-other n zero (x ∷ l) h k = or-left (numbered n (x .1)) _ h
 later-other n (suc i) (x ∷ l) h k = later-other n i l (or-right (numbered n (x .1)) _ h) (omega arith)
 
-one-node : (q : Marked → Bool) (l : List Entry) (i : ℕ) → unique l ≡ true → i < length l → any (λ a. numbered (number-of (item l i)) a && q a) (items l) ≡ q (item l i)
+one-node : (q : Marked → Bool) (l : List Entry) (i : ℕ) → unique l ≡ true → i < length l
+    → any (λ a. numbered (number-of (item l i)) a && q a) (items l) ≡ q (item l i)
 one-node q [] i u h = absurd (omega arith)
-one-node q (x ∷ l) zero u h = rw (eq-eqb (number-of (x .1)) (number-of (x .1)) refl, none-with (number-of (x .1)) q (items l) (unique-head x l u .0)) (or-false (q (x .1)))
+one-node q (x ∷ l) zero u h =
+    rw (eq-eqb (number-of (x .1)) (number-of (x .1)) refl, none-with (number-of (x .1)) q (items l) (unique-head x l u .0)) (or-false (q (x .1)))
 one-node q (x ∷ l) (suc i) u h =
     let g = unique-head x l u in
     let k : i < length l = omega arith in
@@ -121,7 +123,8 @@ module _ (l : List Entry) (t : ℕ) where
         meets-append (each ms n) (every-one ms ns),
         meets-new ms ns (or-right (any (numbered n) (items l)) _ h),
         meets-each ms n,
-        any-same (λ m. any (λ a. numbered n a && against (a .held t) m) (items l)) (λ m. false) ms (λ m x. none-with n (λ a. against (a .held t) m) (items l) (or-left _ _ h)),
+        any-same (λ m. any (λ a. numbered n a && against (a .held t) m) (items l)) (λ m. false) ms
+            (λ m x. none-with n (λ a. against (a .held t) m) (items l) (or-left _ _ h)),
         any-never ms,
       )
 
@@ -129,7 +132,8 @@ module _ (l : List Entry) (t : ℕ) where
     meets-node : (ms : List Mode) (i : ℕ) → i < length l → meets l t (each ms (number-of (item l i))) ≡ blocks-node ms t (item l i)
     meets-node ms i h =
         meets-each ms (number-of (item l i))
-        ∙ any-same (λ m. any (λ a. numbered (number-of (item l i)) a && against (a .held t) m) (items l)) (against (item l i .held t)) ms (λ m x. one-node (λ a. against (a .held t) m) l i u h)
+        ∙ any-same (λ m. any (λ a. numbered (number-of (item l i)) a && against (a .held t) m) (items l)) (against (item l i .held t)) ms
+        (λ m x. one-node (λ a. against (a .held t) m) l i u h)
 
     meets-all : (ms : List Mode) (ps : List ℕ) → ((i : ℕ) → List·Memᴰ i ps → i < length l)
         → meets l t (every-one ms (map number-of (map (item l) ps))) ≡ blocks-way ms ms ms t (map (item l) ps)
@@ -196,7 +200,8 @@ bits-transactions q = bits-word q 16 0 ∙ once (word (λ i. q (suc i)) 16 0)
     once w = omega arith
 
 -- the wait set of a step's locks on the way up from p
-pub wait-set-at : (t : ℕ) (s : Step) (M : State) (l : List Entry) (p : ℕ) → flat 0 (M .tree) ≡ l → unique l ≡ true → p < length l → number-of (item l p) ≡ target s
+pub wait-set-at : (t : ℕ) (s : Step) (M : State) (l : List Entry) (p : ℕ) → flat 0 (M .tree) ≡ l → unique l ≡ true → p < length l
+    → number-of (item l p) ≡ target s
     → any (λ m. number-held m (M .tree)) (inserts s) ≡ false
     → wait-set t (locks s (numbers-above l p)) M ≡ wait-word t (need s) (M .is-open) (item l p ∷ ups l p)
 unfolding wait-set wait-word
@@ -205,4 +210,5 @@ wait-set-at t s M l p e u h n b =
     let k : any (λ m. any (numbered m) (items l)) (inserts s) ≡ false = sym (ap (λ z. any (λ m. any (numbered m) z) (inserts s)) g) ∙ b in
     bits-transactions (blocks t (locks s (numbers-above l p)) M)
     ∙ ap (λ (q : ℕ → Bool). word q 16 0)
-    (fun-ext (λ i. ap (λ c. M .is-open (suc i) && not (eqb (suc i) t) && c) (ap (any (clashes (locks s (numbers-above l p)) (suc i))) g ∙ way-blocks l (suc i) u s p h n k)))
+    (fun-ext (λ i. ap (λ c. M .is-open (suc i) && not (eqb (suc i) t) && c)
+    (ap (any (clashes (locks s (numbers-above l p)) (suc i))) g ∙ way-blocks l (suc i) u s p h n k)))

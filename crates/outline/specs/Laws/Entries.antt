@@ -8,7 +8,8 @@ use lib.ListN.{length, getD, take, drop}
 use lib.Dec.{eqb, ltb}
 use borrow.Author.Tests.{ltb-true, ltb-false, eqb-true, eqb-false}
 use Rattle.layout.specs.Lists.{tabulate, modify, insert}
-use Rattle.layout.specs.Layout.{state-size, entry-at, cell-at, lock-at, word, part, count, slot, depth, number, cell, is-open, held, decode, Entry, entry, nodes, no-entry, Sized, Layout, Left, Kept}
+use Rattle.layout.specs.Layout.{state-size, entry-at, cell-at, lock-at, word, part, count, slot, depth, number, cell, is-open, held, decode, Entry}
+use Rattle.layout.specs.Layout.{entry, nodes, no-entry, Sized, Layout, Left, Kept}
 use Rattle.layout.specs.Laws.Bytes.{Only, only-wider, only-then, only-word, put-word, word-put, word-low, word-high, part-low, part-high, drop-high}
 use Rattle.layout.specs.Laws.Nodes.{length-nodes}
 use Rattle.outline.specs.Outline.{Placed, Copy, Entered, Shifted}
@@ -21,7 +22,11 @@ other-place {s} {s′} {i} {k} {d} {n} j e ne = go (ltb j i) refl
     go : (t : Bool) → ltb j i ≡ t → Copy s j s′ j
     go true p =
         let l : j < i = ltb-true j i p in
-        record { slot = word-low (e .only) (entry-at j) (omega arith); depth = word-low (e .only) (entry-at j + 2) (omega arith); number = word-low (e .only) (entry-at j + 4) (omega arith) }
+        record {
+          slot = word-low (e .only) (entry-at j) (omega arith);
+          depth = word-low (e .only) (entry-at j + 2) (omega arith);
+          number = word-low (e .only) (entry-at j + 4) (omega arith);
+        }
     go false p =
         let l : i ≤ j = ltb-false j i p in
         record {
@@ -47,8 +52,12 @@ entered-of s s₁ s₂ s₃ i k d n p q r a b c x y z h =
     let w₁ : word s₁ p ≡ k = rw a (word-put s p k (omega arith)) in
     let w₂ : word s₂ q ≡ d = rw b (word-put s₁ q d (omega (arith, o₁ .long))) in
     let w₃ : word s₃ r ≡ n = rw c (word-put s₂ r n (omega (arith, o₁ .long, o₂ .long))) in
+    -- each word lies in the entry
+    let e₁ = only-wider (entry-at i) 6 o₁ (omega arith) (omega arith) in
+    let e₂ = only-wider (entry-at i) 6 o₂ (omega arith) (omega arith) in
+    let e₃ = only-wider (entry-at i) 6 o₃ (omega arith) (omega arith) in
     record {
-      only = only-then (only-wider (entry-at i) 6 o₁ (omega arith) (omega arith)) (only-then (only-wider (entry-at i) 6 o₂ (omega arith) (omega arith)) (only-wider (entry-at i) 6 o₃ (omega arith) (omega arith)));
+      only = only-then e₁ (only-then e₂ e₃);
       is = record {
         slot = rw (← x) (word-low o₃ p (omega arith) ∙ word-low o₂ p (omega arith) ∙ w₁);
         depth = rw (← y) (word-low o₃ q (omega arith) ∙ w₂);

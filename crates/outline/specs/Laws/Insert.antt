@@ -13,7 +13,8 @@ use Rattle.protocol.specs.State.{Marked, inserted-by, deleted-by}
 use Rattle.layout.specs.Lists.{tabulate, modify, insert}
 use Rattle.layout.specs.Flat.{second}
 use Rattle.layout.specs.Fields.{with-kind, with-writer, with-inserter, with-now, unlocked}
-use Rattle.layout.specs.Layout.{state-size, count-at, entry-at, cell-at, word, count, slot, depth, number, cell, is-open, held, decode, Entry, entry, nodes, no-entry, Sized, Layout, Left, Kept}
+use Rattle.layout.specs.Layout.{state-size, count-at, entry-at, cell-at, word, count, slot, depth, number, cell, is-open, held, decode, Entry, entry}
+use Rattle.layout.specs.Layout.{nodes, no-entry, Sized, Layout, Left, Kept}
 use Rattle.layout.specs.Laws.Bytes.{Only, only-wider, only-then, only-word, put-word, word-put, word-high, Filled, part-at}
 use Rattle.layout.specs.Laws.Nodes.{length-nodes, other-cell, cell-held, kept-none, same-slot, same-count}
 use Rattle.layout.specs.Laws.Fields.{cell-byte}
@@ -32,7 +33,8 @@ shift-start s n = record {
   high = λ i h l. record { slot = refl; depth = refl; number = refl };
 }
 
-pub shift-turn : {s s′ s″ : List ℕ} (k j n : ℕ) → Shifted s s′ k n → Entered s′ s″ (j + 1) (slot s′ j) (depth s′ j) (number s′ j) → k ≡ j + 1 → k ≤ n → n < 1024 → Shifted s s″ j n
+pub shift-turn : {s s′ s″ : List ℕ} (k j n : ℕ) → Shifted s s′ k n → Entered s′ s″ (j + 1) (slot s′ j) (depth s′ j) (number s′ j) → k ≡ j + 1 → k ≤ n
+    → n < 1024 → Shifted s s″ j n
 shift-turn {s} {s′} {s″} k j n f e z a b = record {
   only = only-then (f .only) (only-wider (entry-at 0) 6144 (e .only) (omega arith) (omega arith));
   low = λ i h. copy-then (f .low i (omega arith)) (other-place i e (λ q. omega arith));
@@ -90,7 +92,11 @@ module _ (s s₁ s₂ s₃ s₄ : List ℕ) (n p k d m : ℕ) (h : Layout s) (c 
 
   last : (i : ℕ) → Copy s₃ i s₄ i
   unfolding slot depth number
-  last i = record { slot = word-high four (entry-at i) (omega arith); depth = word-high four (entry-at i + 2) (omega arith); number = word-high four (entry-at i + 4) (omega arith) }
+  last i = record {
+    slot = word-high four (entry-at i) (omega arith);
+    depth = word-high four (entry-at i + 2) (omega arith);
+    number = word-high four (entry-at i + 4) (omega arith);
+  }
 
   here : Placed s₄ p k d m
   here = record { slot = last p .slot ∙ x .is .slot; depth = last p .depth ∙ x .is .depth; number = last p .number ∙ x .is .number }
@@ -110,7 +116,12 @@ module _ (s s₁ s₂ s₃ s₄ : List ℕ) (n p k d m : ℕ) (h : Layout s) (c 
     where
       go : (t : Bool) → ltb i p ≡ t → (u : Bool) → eqb i p ≡ u → (v : Bool) → ltb n i ≡ v → (j : ℕ) × (j < 1024) × (slot s₄ i ≡ slot s₁ j) × (back p n j ≡ i)
       go true q u r v w = (i, b, low i (ltb-true i p q) .slot, rw q)
-      go false q true r v w = (n, room, rw (eqb-true i p r) (here .slot ∙ e ∙ sym (same-slot one (omega arith) n room)), rw (le-ltb n p l, le-ltb n n (omega arith), eq-eqb n n refl) (sym (eqb-true i p r)))
+      go false q true r v w = (
+        n,
+        room,
+        rw (eqb-true i p r) (here .slot ∙ e ∙ sym (same-slot one (omega arith) n room)),
+        rw (le-ltb n p l, le-ltb n n (omega arith), eq-eqb n n refl) (sym (eqb-true i p r)),
+      )
       go false q false r true w =
           let a : n < i = ltb-true n i w in
           (i, b, high i a b .slot, rw (q, le-ltb i n (omega arith), ne-eqb i n (λ z. omega arith)))
@@ -159,11 +170,19 @@ module _ (s s₁ s₂ s₃ s₄ : List ℕ) (n p k d m : ℕ) (h : Layout s) (c 
 
 -- the fields of the new node
 pub inserted : {s s₁ s₂ s₃ s₄ s₅ s₆ s₇ : List ℕ} (p d n kind t : ℕ) (b : List ℕ) → Opened s s₁ p d n →
-    Kept s₁ s₂ (modify p (second (with-kind kind)) (nodes s₁)) → Kept s₂ s₃ (modify p (second (with-writer 0)) (nodes s₂)) → Kept s₃ s₄ (modify p (second (with-inserter t)) (nodes s₃)) →
-    Kept s₄ s₅ (modify p (second (deleted-by 0)) (nodes s₄)) → Kept s₅ s₆ (modify p (second (with-now b)) (nodes s₅)) → Kept s₆ s₇ (modify p (second unlocked) (nodes s₆)) →
+    Kept s₁ s₂ (modify p (second (with-kind kind)) (nodes s₁)) → Kept s₂ s₃ (modify p (second (with-writer 0)) (nodes s₂))
+    → Kept s₃ s₄ (modify p (second (with-inserter t)) (nodes s₃)) →
+    Kept s₄ s₅ (modify p (second (deleted-by 0)) (nodes s₄)) → Kept s₅ s₆ (modify p (second (with-now b)) (nodes s₅))
+    → Kept s₆ s₇ (modify p (second unlocked) (nodes s₆)) →
     p ≤ length (nodes s) → Left s s₇ (is-open s) (insert p (d, inserted-by t (record { number = n; kind = kind; content = b })) (nodes s))
 inserted {s} {s₁} {s₂} {s₃} {s₄} {s₅} {s₆} {s₇} p d n kind t b o a₁ a₂ a₃ a₄ a₅ a₆ h =
-    let step : (s′ s″ : List ℕ) (x : Entry) (f : Marked → Marked) → Left s s′ (is-open s) (insert p x (nodes s)) → Kept s′ s″ (modify p (second f) (nodes s′)) → Left s s″ (is-open s) (insert p (second f x) (nodes s)) =
+    let step : (s′ s″ : List ℕ) (x : Entry) (f : Marked → Marked) → Left s s′ (is-open s) (insert p x (nodes s))
+    → Kept s′ s″ (modify p (second f) (nodes s′)) → Left s s″ (is-open s) (insert p (second f x) (nodes s)) =
     λ s′ s″ x f l k. left-as _ _ (modify-insert p (second f) x (nodes s) h) (left-then (insert p x (nodes s)) (modify p (second f)) l k) in
-    let l = step s₆ s₇ _ unlocked (step s₅ s₆ _ (with-now b) (step s₄ s₅ _ (deleted-by 0) (step s₃ s₄ _ (with-inserter t) (step s₂ s₃ _ (with-writer 0) (step s₁ s₂ (d, o .node) (with-kind kind) (o .left) a₁) a₂) a₃) a₄) a₅) a₆ in
+    let l =
+    step s₆ s₇ _ unlocked (step s₅ s₆ _ (with-now b)
+    (step s₄ s₅ _ (deleted-by 0)
+    (step s₃ s₄ _ (with-inserter t)
+    (step s₂ s₃ _ (with-writer 0) (step s₁ s₂ (d, o .node) (with-kind kind) (o .left) a₁) a₂) a₃) a₄) a₅) a₆
+    in
     left-as _ _ (rw (o .number, o .before)) l

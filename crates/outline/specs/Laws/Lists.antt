@@ -10,7 +10,8 @@ use Rattle.layout.specs.Lists.{tabulate, modify, insert}
 use Rattle.layout.specs.Laws.Lists.{tabulate-same}
 
 module _ {A : Type 0} where
-  pub insert-tabulate : (n p : ℕ) (f f′ : ℕ → A) (x : A) → p ≤ n → ((i : ℕ) → i < p → f′ i ≡ f i) → f′ p ≡ x → ((i : ℕ) → p ≤ i → i < n → f′ (i + 1) ≡ f i) → tabulate (suc n) f′ ≡ insert p x (tabulate n f)
+  pub insert-tabulate : (n p : ℕ) (f f′ : ℕ → A) (x : A) → p ≤ n → ((i : ℕ) → i < p → f′ i ≡ f i) → f′ p ≡ x
+      → ((i : ℕ) → p ≤ i → i < n → f′ (i + 1) ≡ f i) → tabulate (suc n) f′ ≡ insert p x (tabulate n f)
   unfolding tabulate insert
   insert-tabulate n zero f f′ x h low e high = rw (e, tabulate-same n (λ i. f′ (suc i)) f (λ i l. ap f′ (sym (add-one i)) ∙ high i (omega arith) l))
   insert-tabulate zero (suc p) f f′ x h low e high = absurd (omega arith)

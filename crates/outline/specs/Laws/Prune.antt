@@ -12,7 +12,8 @@ use borrow.Author.Tests.{ltb-true, ltb-false, lt-ltb, le-ltb, eqb-true, eqb-fals
 use Rattle.protocol.specs.State.{Marked}
 use Rattle.layout.specs.Lists.{tabulate, modify}
 use Rattle.layout.specs.Flat.{prune}
-use Rattle.layout.specs.Layout.{state-size, count-at, entry-at, cell-at, word, count, slot, depth, number, cell, is-open, Entry, entry, nodes, no-entry, Sized, Layout, Left, Kept}
+use Rattle.layout.specs.Layout.{state-size, count-at, entry-at, cell-at, word, count, slot, depth, number, cell, is-open, Entry, entry, nodes}
+use Rattle.layout.specs.Layout.{no-entry, Sized, Layout, Left, Kept}
 use Rattle.layout.specs.Laws.Lists.{modify-none, length-modify, getD-modify, getD-modify-other, list-of, length-tabulate, getD-tabulate, tabulate-same}
 use Rattle.layout.specs.Laws.Bytes.{Only, only-wider, only-then, only-word, put-word, word-put, word-high, word-low}
 use Rattle.layout.specs.Laws.Nodes.{length-nodes, node-at}
@@ -33,10 +34,14 @@ module _ (s s′ s″ : List ℕ) (i j : ℕ) (h : Layout s) (l : i < j) (m : j 
   below = omega (arith, length-nodes s)
 
   only : Only 10 6150 s s″
-  only = let r = h .room in only-then (only-wider 10 6150 (a .only) (omega arith) (omega (arith, below))) (only-wider 10 6150 (b .only) (omega arith) (omega (arith, below)))
+  only =
+      let r = h .room in
+      only-then (only-wider 10 6150 (a .only) (omega arith) (omega (arith, below)))
+      (only-wider 10 6150 (b .only) (omega arith) (omega (arith, below)))
 
   at-i : Copy s j s″ i
-  at-i = let c = other-place i b (λ q. omega arith) in record { slot = c .slot ∙ a .is .slot; depth = c .depth ∙ a .is .depth; number = c .number ∙ a .is .number }
+  at-i =
+      let c = other-place i b (λ q. omega arith) in record { slot = c .slot ∙ a .is .slot; depth = c .depth ∙ a .is .depth; number = c .number ∙ a .is .number }
 
   at-j : Copy s i s″ j
   at-j = record { slot = b .is .slot; depth = b .is .depth; number = b .is .number }
@@ -70,7 +75,9 @@ module _ (s s′ s″ : List ℕ) (i j : ℕ) (h : Layout s) (l : i < j) (m : j 
 
   entries : tabulate (count s) (entry s″) ≡ exchange i j (nodes s)
   unfolding exchange
-  entries = sym (list-of (count s) (entry s″) _ no-entry (length-modify i _ _ ∙ length-modify j _ (nodes s) ∙ length-nodes s) (λ k z. go k z (eqb k i) refl (eqb k j) refl))
+  entries =
+      sym (list-of (count s) (entry s″) _ no-entry (length-modify i _ _ ∙ length-modify j _ (nodes s) ∙ length-nodes s)
+      (λ k z. go k z (eqb k i) refl (eqb k j) refl))
     where
       n : length (nodes s) ≡ count s
       n = length-nodes s
@@ -79,7 +86,8 @@ module _ (s s′ s″ : List ℕ) (i j : ℕ) (h : Layout s) (l : i < j) (m : j 
           getD (modify i (λ x. getD (nodes s) j no-entry) (modify j (λ x. getD (nodes s) i no-entry) (nodes s))) k no-entry ≡ entry s″ k
       go k z true p u q =
           let e : k ≡ i = eqb-true k i p in
-          rw e (getD-modify i (λ x. getD (nodes s) j no-entry) (modify j (λ x. getD (nodes s) i no-entry) (nodes s)) no-entry (rw length-modify (omega (arith, n, below)))
+          rw e (getD-modify i (λ x. getD (nodes s) j no-entry) (modify j (λ x. getD (nodes s) i no-entry) (nodes s)) no-entry
+          (rw length-modify (omega (arith, n, below)))
           ∙ node-at s j below ∙ sym (copied-entry only i j at-i))
       go k z false p true q =
           let e : k ≡ j = eqb-true k j q in
@@ -93,18 +101,28 @@ module _ (s s′ s″ : List ℕ) (i j : ℕ) (h : Layout s) (l : i < j) (m : j 
   pub exchanged : Kept s s″ (exchange i j (nodes s))
   exchanged =
       let f = outline-left only h (count s) same-count (h .some) (h .room) (swap i j) from sizes (exchange i j (nodes s)) entries in
-      record { layout = f .layout; long = f .long; behind = f .behind; opens = f .opens; many = length-nodes s″ ∙ same-count ∙ sym (length-nodes s); nodes = f .nodes }
+      record {
+        layout = f .layout;
+        long = f .long;
+        behind = f .behind;
+        opens = f .opens;
+        many = length-nodes s″ ∙ same-count ∙ sym (length-nodes s);
+        nodes = f .nodes;
+      }
 
 pub exchanged-none : (s : List ℕ) (i : ℕ) → Layout s → Kept s s (exchange i i (nodes s))
 unfolding exchange
 exchanged-none s i h =
-    kept-as _ _ (sym (modify-none i _ (modify i (λ x. getD (nodes s) i no-entry) (nodes s)) no-entry (rw (modify-none i (λ x. getD (nodes s) i no-entry) (nodes s) no-entry refl))
+    kept-as _ _ (sym (modify-none i _ (modify i (λ x. getD (nodes s) i no-entry) (nodes s)) no-entry
+    (rw (modify-none i (λ x. getD (nodes s) i no-entry) (nodes s) no-entry refl))
     ∙ modify-none i (λ x. getD (nodes s) i no-entry) (nodes s) no-entry refl)) (kept-same s h)
 
 -- the loop ----------------------------------------------------------------------------------------
 
 module _ (shown : Marked → Bool) (l : List Entry) (below j : ℕ) (h : j < length l) where
-  turn : prune shown below (drop j l) ≡ cond (eqb (next-below shown below (getD l j no-entry)) 0) (getD l j no-entry ∷ prune shown 0 (drop (suc j) l)) (prune shown (next-below shown below (getD l j no-entry)) (drop (suc j) l))
+  turn : prune shown below (drop j l)
+      ≡ cond (eqb (next-below shown below (getD l j no-entry)) 0) (getD l j no-entry ∷ prune shown 0 (drop (suc j) l))
+      (prune shown (next-below shown below (getD l j no-entry)) (drop (suc j) l))
   unfolding prune next-below
   turn = rw (drop-cons l j no-entry h) (go (ltb 0 below) refl (leb below (getD l j no-entry .0)) (shown (getD l j no-entry .1)))
     where
@@ -126,13 +144,15 @@ module _ (shown : Marked → Bool) (l : List Entry) (below j : ℕ) (h : j < len
       go false p false false = rw (ne-eqb (suc (x .0)) 0 (λ z. omega arith))
 
   -- element j is left out
-  pub prune-skip : (m : List Entry) (k b : ℕ) → take k l ++ prune shown below (drop j l) ≡ m → b ≡ next-below shown below (getD l j no-entry) → 0 < b → take k l ++ prune shown b (drop (j + 1) l) ≡ m
+  pub prune-skip : (m : List Entry) (k b : ℕ) → take k l ++ prune shown below (drop j l) ≡ m → b ≡ next-below shown below (getD l j no-entry) → 0 < b
+      → take k l ++ prune shown b (drop (j + 1) l) ≡ m
   prune-skip m k b v e z =
       let ne : eqb (next-below shown below (getD l j no-entry)) 0 ≡ false = ne-eqb (next-below shown below (getD l j no-entry)) 0 (λ q. omega arith) in
       rw (e, add-one j) (ap (λ (r : List Entry). take k l ++ r) (sym (turn ∙ rw ne)) ∙ v)
 
   -- element j is kept, at place k
-  pub prune-keep : (m l′ : List Entry) (k b : ℕ) → take k l ++ prune shown below (drop j l) ≡ m → b ≡ next-below shown below (getD l j no-entry) → b ≤ 0 → k ≤ j → l′ ≡ exchange k j l →
+  pub prune-keep : (m l′ : List Entry) (k b : ℕ) → take k l ++ prune shown below (drop j l) ≡ m → b ≡ next-below shown below (getD l j no-entry)
+      → b ≤ 0 → k ≤ j → l′ ≡ exchange k j l →
       take (k + 1) l′ ++ prune shown b (drop (j + 1) l′) ≡ m
   unfolding exchange
   prune-keep m l′ k b v e z q w =
@@ -158,7 +178,8 @@ module _ (shown : Marked → Bool) (l : List Entry) (below j : ℕ) (h : j < len
       (ap (λ (r : List Entry). take k l ++ r) (sym (turn ∙ rw y)) ∙ v)
 
 -- the first is kept
-pub prune-start : (shown : Marked → Bool) (l : List Entry) → 0 < length l → shown (getD l 0 no-entry .1) ≡ true → take 1 l ++ prune shown 0 (drop 1 l) ≡ prune shown 0 l
+pub prune-start : (shown : Marked → Bool) (l : List Entry) → 0 < length l → shown (getD l 0 no-entry .1) ≡ true
+    → take 1 l ++ prune shown 0 (drop 1 l) ≡ prune shown 0 l
 unfolding prune
 prune-start shown [] h e = absurd (omega arith)
 prune-start shown (x ∷ l) h e = rw e
@@ -180,7 +201,11 @@ cut-left s s′ k e h a b =
     (tabulate-same k (entry s′) (entry s) (λ i z. copied-entry w i i (copies o i)) ∙ take-tabulate (count s) k (entry s) n)
   where
     copies : Only count-at 2 s s′ → (i : ℕ) → Copy s i s′ i
-    copies o i = record { slot = word-high o (entry-at i) (omega arith); depth = word-high o (entry-at i + 2) (omega arith); number = word-high o (entry-at i + 4) (omega arith) }
+    copies o i = record {
+      slot = word-high o (entry-at i) (omega arith);
+      depth = word-high o (entry-at i + 2) (omega arith);
+      number = word-high o (entry-at i + 4) (omega arith);
+    }
 
 -- the tests of the loop
 module _ (shown : Marked → Bool) (below : ℕ) (x : Entry) where
@@ -200,10 +225,18 @@ module _ (shown : Marked → Bool) (below : ℕ) (x : Entry) where
   unfolding next-below
   below-past a = rw (lt-ltb 0 below (omega arith), lt-leb below (x .0) a)
 
-pub pruned-left : {s s′ s″ : List ℕ} (shown : Marked → Bool) (k below j : ℕ) → Kept s s′ (nodes s′) → take k (nodes s′) ++ prune shown below (drop j (nodes s′)) ≡ prune shown 0 (nodes s) →
+pub pruned-left : {s s′ s″ : List ℕ} (shown : Marked → Bool) (k below j : ℕ) → Kept s s′ (nodes s′)
+    → take k (nodes s′) ++ prune shown below (drop j (nodes s′)) ≡ prune shown 0 (nodes s) →
     length (nodes s′) ≤ j → Left s′ s″ (is-open s′) (take k (nodes s′)) → Left s s″ (is-open s) (prune shown 0 (nodes s))
 pruned-left {s} {s′} shown k below j a v h b =
     left-as _ _ (prune-done shown (prune shown 0 (nodes s)) (nodes s′) k below j v h) (then-left (nodes s′) (take k) (left-kept a) b)
 
 pub kept-on : {s s′ s″ : List ℕ} {ns : List Entry} → Kept s s′ (nodes s′) → Kept s′ s″ ns → Kept s s″ (nodes s″)
-kept-on a b = record { layout = b .layout; long = b .long ∙ a .long; behind = b .behind ∙ a .behind; opens = b .opens ∙ a .opens; many = b .many ∙ a .many; nodes = refl }
+kept-on a b = record {
+  layout = b .layout;
+  long = b .long ∙ a .long;
+  behind = b .behind ∙ a .behind;
+  opens = b .opens ∙ a .opens;
+  many = b .many ∙ a .many;
+  nodes = refl;
+}

@@ -33,7 +33,8 @@ returns-2 c =
     let at-place2 = at-child-at .before .before .before in
     let at-admit = at-place2 .before .before in
     let start = at-admit .before .before .before in
-    performed-as (λ n. C n (start .args .k)) no-room (admission-at _ _ _ _ _ (at-place2 .place2 .given .1) (at-admit .admit .ensures) .1) (at-child-at .child-at .ensures)
+    performed-as (λ n. C n (start .args .k)) no-room
+    (admission-at _ _ _ _ _ (at-place2 .place2 .given .1) (at-admit .admit .ensures) .1) (at-child-at .child-at .ensures)
 
 pub child-spec : {M : Type 1} → statement M
 child-spec =

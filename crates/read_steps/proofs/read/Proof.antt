@@ -42,8 +42,10 @@ returns-2 c =
     let at-place2 = at-read-at .before .before .before .before in
     let at-admit = at-place2 .before .before in
     let start = at-admit .before .before .before .before in
-    let e = admission-at _ _ _ _ _ (at-place2 .place2 .given .1) (at-admit .admit .ensures) .1 in
-    (performed-as R (room-of (start .args .out .now)) e (at-read-at .read-at .ensures .0), lent-as R (room-of (start .args .out .now)) first-lent e (at-read-at .read-at .ensures .1))
+    let e = admission-at _ _ _ _ _ (at-place2 .place2 .given .1) (at-admit .admit .ensures) .1 in (
+      performed-as R (room-of (start .args .out .now)) e (at-read-at .read-at .ensures .0),
+      lent-as R (room-of (start .args .out .now)) first-lent e (at-read-at .read-at .ensures .1),
+    )
 
 pub read-spec : {M : Type 1} → statement M
 read-spec =

@@ -17,15 +17,25 @@ enum-known-place-2 : tie.Need-enum-known-place-2
 enum-known-place-2 c = search needs
 
 read-tree-at-requires : tie.Need-read-tree-at-requires
-read-tree-at-requires c κs = admission-at _ _ _ _ _ (c .before .before .before .before .place2 .given .1) (c .before .before .before .before .before .before .admit .ensures) .0
+read-tree-at-requires c κs =
+    let admit = c .before .before .before .before .before .before .admit in
+    let place2 = c .before .before .before .before .place2 in
+    admission-at _ _ _ _ _ (place2 .given .1) (admit .ensures) .0
 
 same-length : tie.Need-same-length
 same-length c = search needs
 
 returns : tie.Need-returns
-returns c = let j = admission-refused _ _ _ _ _ (c .before .place .given .1) (c .before .before .before .admit .ensures) in
-    let room = rooms-of (c .before .before .before .before .before .before .before .before .args .out .now) (c .before .before .before .before .before .before .before .before .args .cells .now) in
-    (performed-rejected j (RR _) refl room, lent-rejected j (RR _) refl room first-lent _, lent-rejected j (RR _) refl room second-lent _)
+returns c =
+    let args = c .before .before .before .before .before .before .before .before .args in
+    let admit = c .before .before .before .admit in
+    let place = c .before .place in
+    let j = admission-refused _ _ _ _ _ (place .given .1) (admit .ensures) in
+    let room = rooms-of (args .out .now) (args .cells .now) in (
+      performed-rejected j (RR _) refl room,
+      lent-rejected j (RR _) refl room first-lent _,
+      lent-rejected j (RR _) refl room second-lent _,
+    )
 
 same-length-2 : tie.Need-same-length-2
 same-length-2 c = search needs

@@ -33,7 +33,8 @@ cells-of l (i ∷ places) (suc n) h f =
 content-small : {s : List ℕ} → Layout s → (i : ℕ) → i < length (nodes s) → length (item (nodes s) i .now .content) ≤ 32
 content-small {s} h i l = size-small s i 0 (slot s i) refl h l (omega arith)
 
-pub length-cells : {s : List ℕ} (w : Subtree) → Layout s → Inside (nodes s) w → length (cells (map (λ a. (number-of a, a .now .content)) (nodes-of (nodes s) w))) ≡ 33 * (w .count)
+pub length-cells : {s : List ℕ} (w : Subtree) → Layout s → Inside (nodes s) w
+    → length (cells (map (λ a. (number-of a, a .now .content)) (nodes-of (nodes s) w))) ≡ 33 * (w .count)
 unfolding nodes-of
 length-cells {s} w h c =
     cells-of (nodes s) (w .places) (w .count) (omega (arith, c .long, c .room)) (λ j g. content-small h (getD (w .places) j 0) (c .inside j g))

@@ -33,7 +33,8 @@ pub record Reads (s : List ℕ) (t p : ℕ) (st : Step) : Type 0 where
   pub spare : any (λ m. leb node-limit (length (nodes s))) (inserts st) ≡ false
   pub rows : stepped t st p (nodes s) ≡ granted-up t (need st) p (nodes s)
 
-module _ {s : List ℕ} {t p : ℕ} {st : Step} (f : Reads s t p st) (k : StepName) (same : need (step-named k) ≡ need st) (w : Way) (c : Climbed (nodes s) p w) (set : ℕ)
+module _ {s : List ℕ} {t p : ℕ} {st : Step} (f : Reads s t p st) (k : StepName) (same : need (step-named k) ≡ need st) (w : Way)
+    (c : Climbed (nodes s) p w) (set : ℕ)
     (v : set ≡ wait-word t (need (step-named k)) (is-open s) (way-nodes (nodes s) w)) (room : Room) where
   pub reads-waits : (set ≡ 0 → ⊥) → Stays s (waits set) (step t st room)
   reads-waits n = stays-waits (f .fits) w c k same set v n room
@@ -44,7 +45,8 @@ module _ {s : List ℕ} {t p : ℕ} {st : Step} (f : Reads s t p st) (k : StepNa
   pub reads-short : set ≡ 0 → has-room (answer-at st t (nodes s) p) room ≡ false → Stays s (refused 13) (step t st room)
   reads-short z e = stays-short (place z) room e
 
-  pub reads-granted : {s′ : List ℕ} → set ≡ 0 → has-room (answer-at st t (nodes s) p) room ≡ true → Kept s s′ (granted-on t (need (step-named k)) (way-places w) (nodes s))
+  pub reads-granted : {s′ : List ℕ} → set ≡ 0 → has-room (answer-at st t (nodes s) p) room ≡ true
+      → Kept s s′ (granted-on t (need (step-named k)) (way-places w) (nodes s))
       → Grants s s′ (answer-at st t (nodes s) p) (step t st room)
   reads-granted z e g = grants-step (place z) room e (left-kept (kept-as _ _ (sym (f .rows)) (way-granted t st w c k same g)))
 
@@ -59,10 +61,12 @@ module _ {s : List ℕ} {t : ℕ} {st : Step} {room : Room} where
   performed-refused {cause} c = performed-stays c (Refused cause) (λ writing. refl)
 
   -- with one lent buffer
-  pub one-waits : {set : ℕ} → Stays s (waits set) (step t st room) → (b : List ℕ) → Performed s s (Waits set) (step t st room) × Lent first-lent s b b (step t st room)
+  pub one-waits : {set : ℕ} → Stays s (waits set) (step t st room) → (b : List ℕ)
+      → Performed s s (Waits set) (step t st room) × Lent first-lent s b b (step t st room)
   one-waits c b = (performed-waits c, lent-stays c first-lent b)
 
-  pub one-refused : {cause : ℕ} → Stays s (refused cause) (step t st room) → (b : List ℕ) → Performed s s (Refused cause) (step t st room) × Lent first-lent s b b (step t st room)
+  pub one-refused : {cause : ℕ} → Stays s (refused cause) (step t st room) → (b : List ℕ)
+      → Performed s s (Refused cause) (step t st room) × Lent first-lent s b b (step t st room)
   one-refused c b = (performed-refused c, lent-stays c first-lent b)
 
   -- with two

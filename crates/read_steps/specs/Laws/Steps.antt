@@ -136,7 +136,10 @@ module _ (s : List ℕ) {t p : ℕ} {w : Subtree} (c : Selected (nodes s) t p w)
   module _ {s′ : List ℕ} {call : Call} {o o′ : List ℕ} (e : o′ ≡ filled (list-bytes (map number-of (nodes-of (nodes s) w))) o) where
     pub numbers-granted : Grants s s′ (numbers-are (map number-of (seen s t p))) call → Performed s s′ (Count (w .count)) call × Lent first-lent s o o′ call
     unfolding granted-answer first-lent
-    numbers-granted g = (performed-grants g (Count (w .count)) (ap Count (c .many ∙ sym (length-map (seen s t p) number-of))), lent-grants g first-lent o o′ (numbers-filled o o′ e))
+    numbers-granted g = (
+      performed-grants g (Count (w .count)) (ap Count (c .many ∙ sym (length-map (seen s t p) number-of))),
+      lent-grants g first-lent o o′ (numbers-filled o o′ e),
+    )
 
     pub cells-granted : {q q′ : List ℕ} → q′ ≡ filled (cells (map numbered (nodes-of (nodes s) w))) q → Grants s s′ (cells-are (map numbered (seen s t p))) call
         → Performed s s′ (Count (w .count)) call × Lent first-lent s o o′ call × Lent second-lent s q q′ call

@@ -42,7 +42,10 @@ loop-less : tie.Need-loop-less Inv-loop μ-loop
 loop-less c = search needs
 
 loop-again : tie.Need-loop-again Inv-loop μ-loop
-loop-again c = (search needs, compare-turn _ _ _ _ _ _ (c .before .before .before .before .loop .inv .1) (search needs) (sym (c .before .same-name .ensures) ∙ c .if1 .left))
+loop-again c =
+    let l = c .before .before .before .before .loop in
+    let same-name = c .before .same-name in
+    (search needs, compare-turn _ _ _ _ _ _ (l .inv .1) (search needs) (sym (same-name .ensures) ∙ c .if1 .left))
 
 returns-2 : tie.Need-returns-2 Inv-loop μ-loop
 returns-2 c = compare-none _ _ _ _ _ _ (c .before .loop .inv .1) (omega arith)

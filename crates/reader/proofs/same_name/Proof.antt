@@ -37,9 +37,14 @@ is-name-byte-requires : tie.Need-is-name-byte-requires
 is-name-byte-requires c κs = search needs
 
 returns-2 : tie.Need-returns-2
-returns-2 c = let a = c .before .before .before .before .before .before .args in
-    ap not (c .is-name-byte .ensures ∙ ap name-byte (c .before .peek .ensures))
-    ∙ names-agree (a .s .now) (a .from) (a .to) (a .other) _ (c .before .before .before .before .before .before .pre .2) (c .before .before .before .agreement .ensures) (c .before .before .if1 .left)
+returns-2 c =
+    let a = c .before .before .before .before .before .before .args in
+    let pre = c .before .before .before .before .before .before .pre in
+    let agreement = c .before .before .before .agreement in
+    let if1 = c .before .before .if1 in
+    let peek = c .before .peek in
+    ap not (c .is-name-byte .ensures ∙ ap name-byte (peek .ensures)) ∙ names-agree (a .s .now) (a .from) (a .to) (a .other) _
+    (pre .2) (agreement .ensures) (if1 .left)
 
 pub same-name-spec : {M : Type 1} → statement M
 same-name-spec =

@@ -65,7 +65,8 @@ unfolding span
 run-names [] = refl
 run-names (b ∷ l) = go (name-byte b) refl (run-names l)
   where
-    go : (t : Bool) → name-byte b ≡ t → every name-byte (take (span name-byte l) l) ≡ true → every name-byte (take (cond t (suc (span name-byte l)) 0) (b ∷ l)) ≡ true
+    go : (t : Bool) → name-byte b ≡ t → every name-byte (take (span name-byte l) l) ≡ true
+        → every name-byte (take (cond t (suc (span name-byte l)) 0) (b ∷ l)) ≡ true
     go true e h = rw (e, h)
     go false e h = refl
 
@@ -104,7 +105,8 @@ pub compare-start : (s os : List ℕ) (lo count : ℕ) (w : Name) → Comparing 
 unfolding Comparing
 compare-start s os lo count w = refl
 
-compare-step : (s os : List ℕ) (lo : ℕ) (w : Name) (i : ℕ) → 0 < i → used (stack s os lo i) w ≡ (same (name-at s (getD os (lo + (i - 1)) 0)) w || used (stack s os lo (i - 1)) w)
+compare-step : (s os : List ℕ) (lo : ℕ) (w : Name) (i : ℕ) → 0 < i
+    → used (stack s os lo i) w ≡ (same (name-at s (getD os (lo + (i - 1)) 0)) w || used (stack s os lo (i - 1)) w)
 unfolding stack used
 compare-step s os lo w zero h = absurd (omega arith)
 compare-step s os lo w (suc i) h = let p : suc i - 1 ≡ i = omega arith in rw p
@@ -137,7 +139,8 @@ module _ (s : List ℕ) (at nodes : ℕ) (x : Attributed s at nodes) where
   abbrev b : ℕ
   b = getD s at 0
 
-  born-step : (n : Name) (ns seen : List Name) → step true (in-tag n ns seen) b ≡ move (attribute-name n ns seen (b ∷ [])) (born (depth (n ∷ ns)) attribute-kind ∷ byte b ∷ [])
+  born-step : (n : Name) (ns seen : List Name)
+      → step true (in-tag n ns seen) b ≡ move (attribute-name n ns seen (b ∷ [])) (born (depth (n ∷ ns)) attribute-kind ∷ byte b ∷ [])
   unfolding step
   born-step n ns seen = rw (x .starts)
 
@@ -151,20 +154,24 @@ module _ (s : List ℕ) (at nodes : ℕ) (x : Attributed s at nodes) where
   pub attribute-many : (seen : List Name) → nodes ≡ node-limit → AttributeRead s seen at nodes (Refused 6 at)
   unfolding births tail peak
   attribute-many seen l = attribute-refused {x = 6} {j = at} (λ n ns.
-      stops-many s (in-tag n ns seen) nodes at (x .inside) (attribute-name n ns seen (b ∷ [])) (depth (n ∷ ns)) attribute-kind (byte b ∷ []) (born-step n ns seen) refl l
+      stops-many s (in-tag n ns seen) nodes at (x .inside) (attribute-name n ns seen (b ∷ [])) (depth (n ∷ ns)) attribute-kind (byte b ∷ [])
+      (born-step n ns seen) refl l
       (omega arith) no-opener-before)
 
   module _ (room : nodes < node-limit) (to : ℕ) (r : Run name-byte s at to) where
     -- behind the first byte
-    named : (n : Name) (ns seen : List Name) (k : ℕ) → k ≤ content-limit → scan-at s (in-tag n ns seen) nodes k at ≡ scan-at s (attribute-name n ns seen (b ∷ [])) (nodes + 1) 1 (at + 1)
+    named : (n : Name) (ns seen : List Name) (k : ℕ) → k ≤ content-limit
+        → scan-at s (in-tag n ns seen) nodes k at ≡ scan-at s (attribute-name n ns seen (b ∷ [])) (nodes + 1) 1 (at + 1)
     unfolding births tail peak
     named n ns seen k h =
-        scan-born s (in-tag n ns seen) nodes at (x .inside) (attribute-name n ns seen (b ∷ [])) (depth (n ∷ ns)) attribute-kind (byte b ∷ []) (born-step n ns seen) refl room k h (omega arith)
+        scan-born s (in-tag n ns seen) nodes at (x .inside) (attribute-name n ns seen (b ∷ [])) (depth (n ∷ ns)) attribute-kind (byte b ∷ [])
+        (born-step n ns seen) refl room k h (omega arith)
 
     pub attribute-long : (seen : List Name) → content-limit < to - at → AttributeRead s seen at nodes (Refused 5 (at + 32))
     attribute-long seen h = attribute-refused {x = 5} {j = at + 32} (λ n ns. record {
       leads = λ k m. named n ns seen k m
-          ∙ name-long s (attribute-name n ns seen) (nodes + 1) (naming n ns seen) (omega arith) at (x .inside) (start-name b (x .starts)) (omega (arith, r .ends));
+          ∙ name-long s (attribute-name n ns seen) (nodes + 1) (naming n ns seen) (omega arith) at (x .inside) (start-name b (x .starts))
+          (omega (arith, r .ends));
     })
 
     module _ (short : to - at ≤ content-limit) where
@@ -175,7 +182,8 @@ module _ (s : List ℕ) (at nodes : ℕ) (x : Attributed s at nodes) where
           let p : span name-byte (drop at s) ≡ to - at = omega (arith, r .ends) in
           let q : at + (to - at) ≡ to = omega (arith, r .ends) in
           named n ns seen k m
-          ∙ (rw (p, q) at (name-short s (attribute-name n ns seen) (nodes + 1) (naming n ns seen) (omega arith) at (x .inside) (start-name b (x .starts)) (omega arith)))
+          ∙ (rw (p, q) at (name-short s (attribute-name n ns seen) (nodes + 1) (naming n ns seen)
+          (omega arith) at (x .inside) (start-name b (x .starts)) (omega arith)))
 
       ended : to < length s → name-byte (getD s to 0) ≡ false
       ended h = rw (r .ends) (span-behind name-byte s at (omega (arith, r .ends)))
@@ -184,7 +192,8 @@ module _ (s : List ℕ) (at nodes : ℕ) (x : Attributed s at nodes) where
       unfolding step
       attribute-repeated seen e = attribute-refused {x = 4} {j = to} (λ n ns. record { leads = λ k m. whole n ns seen k m ∙ go n ns (leb (length s) to) refl })
         where
-          go : (n : Name) (ns : List Name) (t : Bool) → leb (length s) to ≡ t → scan-at s (attribute-name n ns seen (name-at s at)) (nodes + 1) (to - at) to ≡ bad 4 to
+          go : (n : Name) (ns : List Name) (t : Bool) → leb (length s) to ≡ t
+              → scan-at s (attribute-name n ns seen (name-at s at)) (nodes + 1) (to - at) to ≡ bad 4 to
           go n ns true l = scan-end s (attribute-name n ns seen (name-at s at)) (nodes + 1) (to - at) to (leb-true (length s) to l)
           go n ns false l =
               let h = leb-false (length s) to l in
@@ -196,21 +205,26 @@ module _ (s : List ℕ) (at nodes : ℕ) (x : Attributed s at nodes) where
         to-sign n ns = record {
           back = λ v y. record {
             leads = λ k m. whole n ns seen k m
-                ∙ scan-alike s (attribute-name n ns seen (name-at s at)) (before-equals n ns (name-at s at ∷ seen)) (nodes + 1) (to - at) to (λ h. rw (ended h, e)) refl
+                ∙ scan-alike s (attribute-name n ns seen (name-at s at)) (before-equals n ns (name-at s at ∷ seen)) (nodes + 1) (to - at) to
+                (λ h. rw (ended h, e)) refl
                 ∙ y .leads (to - at) short;
           };
         }
 
         pub attribute-unquoted : {j : ℕ} → EqualsRead s to (NoQuote j) → AttributeRead s seen at nodes (Refused 4 j)
-        attribute-unquoted {j} (no-quote f) = attribute-refused {x = 4} {j = j} (λ n ns. to-sign n ns .back _ (f n ns (name-at s at ∷ seen) (nodes + 1) (omega arith)))
+        attribute-unquoted {j} (no-quote f) =
+            attribute-refused {x = 4} {j = j} (λ n ns. to-sign n ns .back _ (f n ns (name-at s at ∷ seen) (nodes + 1) (omega arith)))
 
-        pub attribute-valued : {q : ℕ} {c : Cursor} {y : Read} → EqualsRead s to (Quoted q c) → ContentRead s q (c .at) (nodes + 1) y → AttributeRead s seen at nodes y
+        pub attribute-valued : {q : ℕ} {c : Cursor} {y : Read} → EqualsRead s to (Quoted q c) → ContentRead s q (c .at) (nodes + 1) y
+            → AttributeRead s seen at nodes y
         attribute-valued (quoted q a b d f) (content-past {c = c} {m = m} g h i j k u) =
             attribute-past {c = c} {m = m} (omega (arith, r .ends)) h (omega arith) k
-            (λ n ns. goes-then (to-sign n ns) (goes-then (f n ns (name-at s at ∷ seen) (nodes + 1) (omega arith)) (u _ _ _ _ (value-contents n ns (name-at s at ∷ seen) q))))
+            (λ n ns. goes-then (to-sign n ns)
+            (goes-then (f n ns (name-at s at ∷ seen) (nodes + 1) (omega arith)) (u _ _ _ _ (value-contents n ns (name-at s at ∷ seen) q))))
         attribute-valued (quoted q a b d f) (content-refused {x = x} {j = j} u) =
             attribute-refused {x = x} {j = j}
-            (λ n ns. to-sign n ns .back _ (f n ns (name-at s at ∷ seen) (nodes + 1) (omega arith) .back _ (u _ _ _ _ (value-contents n ns (name-at s at ∷ seen) q))))
+            (λ n ns. to-sign n ns .back _
+            (f n ns (name-at s at ∷ seen) (nodes + 1) (omega arith) .back _ (u _ _ _ _ (value-contents n ns (name-at s at ∷ seen) q))))
 
 pub quoted-inside : {s : List ℕ} {at q : ℕ} {c : Cursor} → EqualsRead s at (Quoted q c) → (1 ≤ c .at) × (c .at ≤ length s) × (c .at - 1 ≡ node-offset s (c .at))
 quoted-inside (quoted q a b d f) = (omega arith, b, sym d)

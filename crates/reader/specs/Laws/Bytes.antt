@@ -47,7 +47,14 @@ module _ (b : ℕ) where
   pub name-digit : 48 ≤ b → b < 65 → leb b 57 ≡ name-byte b
   unfolding name-byte name-start
   name-digit h k =
-      rw (lt-leb 65 b k, lt-leb 97 b (omega arith), ne-eqb b 95 (λ e. omega arith), le-leb 48 b h, ne-eqb b 45 (λ e. omega arith), ne-eqb b 46 (λ e. omega arith))
+      rw (
+        lt-leb 65 b k,
+        lt-leb 97 b (omega arith),
+        ne-eqb b 95 (λ e. omega arith),
+        le-leb 48 b h,
+        ne-eqb b 45 (λ e. omega arith),
+        ne-eqb b 46 (λ e. omega arith),
+      )
       (go (leb b 57))
     where
       go : (x : Bool) → x ≡ (x || false || false)

@@ -28,7 +28,8 @@ use Rattle.reader.specs.declared.Read.{Read}
 use Rattle.reader.specs.declared.Read.the-variants.{Past, Refused}
 use Rattle.reader.specs.Classes.{plain, literal, begins}
 use Rattle.reader.specs.Laws.Bytes.{plain-above}
-use Rattle.reader.specs.Steps.{Refers, refers, no-entity, Character, one-byte, by-reference, Characters, CharactersRead, characters-past, characters-refused}
+use Rattle.reader.specs.Steps.{Refers, refers, no-entity, Character, one-byte, by-reference, Characters, CharactersRead, characters-past}
+use Rattle.reader.specs.Steps.{characters-refused}
 
 -- the loop has come to i, with k bytes ] just before and a content of so many bytes
 pub record CharactersTo (s : List ℕ) (stop nodes at k count i : ℕ) : Type 0 where
@@ -65,7 +66,8 @@ module _ (s : List ℕ) (stop nodes at k count i : ℕ) (l : nodes ≤ node-limi
       unfolding begins
       begun x e n = x .plainly k (getD s i 0) other (rw (ne-eqb (getD s i 0) ampersand n) at e)
 
-      referring : {C : ℕ → Config} {R : Words → Config} {D : Config} → Characters stop C R D → getD s i 0 ≡ ampersand → step true (C k) (getD s i 0) ≡ to (R entities)
+      referring : {C : ℕ → Config} {R : Words → Config} {D : Config} → Characters stop C R D → getD s i 0 ≡ ampersand
+          → step true (C k) (getD s i 0) ≡ to (R entities)
       referring {C} x e = ap (step true (C k)) e ∙ x .refers-to k
 
       module _ (e : begins stop k (getD s i 0) ≡ true) where
@@ -73,7 +75,8 @@ module _ (s : List ℕ) (stop nodes at k count i : ℕ) (l : nodes ≤ node-limi
         unfolding births tail peak
         characters-full q = characters-refused {x = 5} {j = i} (λ C R D x. t .comes C R D x ∙ go x (eqb (getD s i 0) ampersand) refl)
           where
-            go : {C : ℕ → Config} {R : Words → Config} {D : Config} → Characters stop C R D → (y : Bool) → eqb (getD s i 0) ampersand ≡ y → scan-at s (C k) nodes count i ≡ bad 5 i
+            go : {C : ℕ → Config} {R : Words → Config} {D : Config} → Characters stop C R D → (y : Bool) → eqb (getD s i 0) ampersand ≡ y
+                → scan-at s (C k) nodes count i ≡ bad 5 i
             go {C} {R} x true p =
                 scan-full s (C k) nodes i h (R entities) [] (referring x (eqb-true (getD s i 0) ampersand p)) refl l count (omega (arith, x .due entities))
             go {C} {R} x false p =
@@ -92,7 +95,8 @@ module _ (s : List ℕ) (stop nodes at k count i : ℕ) (l : nodes ≤ node-limi
               ∙ ap (Landed s (C 0) (λ b. byte b ∷ []) nodes count (i + 1)) (entities-at (drop (i + 1) s))
 
           pub characters-lost : {j : ℕ} → Character s i (NoEntity j) → CharactersRead s stop at nodes (Refused 4 j)
-          characters-lost {j} (by-reference a r) = characters-refused {x = 4} {j = j} (λ C R D x. t .comes C R D x ∙ go C R D x (entity-at (drop (i + 1) s)) refl r)
+          characters-lost {j} (by-reference a r) =
+              characters-refused {x = 4} {j = j} (λ C R D x. t .comes C R D x ∙ go C R D x (entity-at (drop (i + 1) s)) refl r)
             where
               go : (C : ℕ → Config) (R : Words → Config) (D : Config) → Characters stop C R D → (q : Reach) → entity-at (drop (i + 1) s) ≡ q
                   → Refers s (i + 1) q (NoEntity j) → scan-at s (C k) nodes count i ≡ bad 4 j

@@ -30,7 +30,8 @@ use Rattle.reader.specs.declared.Read.the-variants.{Past, Refused}
 use Rattle.reader.specs.declared.Tag.{Tag}
 use Rattle.reader.specs.declared.Tag.the-variants.{Opened, Emptied, Broken}
 use Rattle.reader.specs.Steps.{ContentRead, content-past, content-refused}
-use Rattle.reader.specs.Elements.{stack, Placed, Kept, Onward, Named, ElementRead, element-opened, element-emptied, element-broken, EndRead, end-behind, end-mismatch}
+use Rattle.reader.specs.Elements.{stack, Placed, Kept, Onward, Named, ElementRead, element-opened, element-emptied, element-broken, EndRead}
+use Rattle.reader.specs.Elements.{end-behind, end-mismatch}
 use Rattle.reader.specs.Children.{opened, Behind, Beginning, Deep, ChildRead, child-at, child-stopped}
 use Rattle.reader.specs.Laws.Contents.{text-contents}
 use Rattle.reader.specs.Laws.StartTags.{stack-same, placed-kept}
@@ -88,7 +89,8 @@ module _ (s os : List ℕ) (deep nodes at : ℕ) (x : Deep s os deep nodes) wher
 
       pub end-right : {c : Cursor} → EndRead s n (at + 1) (end-variants.Behind c) → ChildRead s from at nodes os (At c (deep - 1) nodes)
       end-right {c} (end-behind a b d f) =
-          child-at {c = c} {d = deep - 1} {m = nodes} (record { further = omega arith; inside = b; begins-here = d; more = omega arith; few = x .few }) (omega (arith, x .room)) (x .long)
+          child-at {c = c} {d = deep - 1} {m = nodes}
+          (record { further = omega arith; inside = b; begins-here = d; more = omega arith; few = x .few }) (omega (arith, x .room)) (x .long)
           (record { placed = λ i m. x .names .placed i (omega arith) }) (rw from-is (goes-then to-end (f ns nodes (x .few))))
 
     -- a start tag
@@ -103,7 +105,8 @@ module _ (s os : List ℕ) (deep nodes at : ℕ) (x : Deep s os deep nodes) wher
       pub start-many : Behind s at → nodes ≡ node-limit → ChildRead s from at nodes os (Stopped 6 (at - 1))
       unfolding births
       start-many y l = stopped os 6 (at - 1)
-          (stops-many-before s (behind-open n ns) nodes at h (tag-name (n ∷ ns) (b ∷ [])) (depth (n ∷ ns)) element-kind (byte b ∷ []) starts refl l (before at (y .some) (y .opens)))
+          (stops-many-before s (behind-open n ns) nodes at h (tag-name (n ∷ ns) (b ∷ [])) (depth (n ∷ ns)) element-kind (byte b ∷ []) starts refl l
+          (before at (y .some) (y .opens)))
         where
           before : (at : ℕ) → 1 ≤ at → getD s (at - 1) 0 ≡ less-than → opener (byte-before s at) ≡ true
           before zero h o = absurd (omega arith)
@@ -114,7 +117,8 @@ module _ (s os : List ℕ) (deep nodes at : ℕ) (x : Deep s os deep nodes) wher
         unfolding births tail peak
         born-to p = record {
           leads = λ j m.
-              scan-born s (behind-open n ns) nodes at h (tag-name (n ∷ ns) (b ∷ [])) (depth (n ∷ ns)) element-kind (byte b ∷ []) starts refl room j m (omega arith) ∙ p;
+              scan-born s (behind-open n ns) nodes at h (tag-name (n ∷ ns) (b ∷ [])) (depth (n ∷ ns)) element-kind (byte b ∷ []) starts refl room j m
+              (omega arith) ∙ p;
         }
 
         -- the names around are those that were there
@@ -131,7 +135,8 @@ module _ (s os : List ℕ) (deep nodes at : ℕ) (x : Deep s os deep nodes) wher
             (omega (arith, x .room, o .more)) (k .as-long ∙ x .long) (placed-kept s os os′ deep (x .names) k)
             (rw (from-is, ← around) (record { back = λ v y. born-to (f (n ∷ ns) v y) }))
 
-        pub start-opened : {c : Cursor} {m : ℕ} → getD os′ deep 0 ≡ at → ElementRead s at (nodes + 1) (Opened c m) → ChildRead s from at nodes os′ (At c (deep + 1) m)
+        pub start-opened : {c : Cursor} {m : ℕ} → getD os′ deep 0 ≡ at → ElementRead s at (nodes + 1) (Opened c m)
+            → ChildRead s from at nodes os′ (At c (deep + 1) m)
         start-opened {c} {m} q (element-opened o f) =
             child-at {c = c} {d = deep + 1} {m = m}
             (record { further = o .further; inside = o .inside; begins-here = o .begins-here; more = omega (arith, o .more); few = o .few })
@@ -142,7 +147,8 @@ module _ (s os : List ℕ) (deep nodes at : ℕ) (x : Deep s os deep nodes) wher
   within-is : closed (stack s os 0 deep) ≡ content n ns
   within-is = ap closed (innermost s os deep (x .some))
 
-  pub text-refused : {y j : ℕ} → ContentRead s less-than at nodes (Refused y j) → (os′ : List ℕ) → ChildRead s (closed (stack s os 0 deep)) at nodes os′ (Stopped y j)
+  pub text-refused : {y j : ℕ} → ContentRead s less-than at nodes (Refused y j) → (os′ : List ℕ)
+      → ChildRead s (closed (stack s os 0 deep)) at nodes os′ (Stopped y j)
   text-refused {y} {j} (content-refused f) os′ = child-stopped {x = y} {j = j} (rw within-is (f _ _ _ _ (text-contents n ns)))
 
   pub text-past : {c : Cursor} {m : ℕ} {r : Child} (os′ : List ℕ) → ContentRead s less-than at nodes (Past c m) → ChildRead s from (c .at) m os′ r
@@ -154,6 +160,7 @@ module _ (s os : List ℕ) (deep nodes at : ℕ) (x : Deep s os deep nodes) wher
   text-past {c} os′ (content-past a b d e g f) (child-stopped {x = y} {j = j} w) =
       child-stopped {x = y} {j = j} (rw within-is (f _ _ _ _ (text-contents n ns) .back _ (rw from-is at w)))
 
-pub behind-text : {s os : List ℕ} {deep at nodes m : ℕ} {c : Cursor} → Deep s os deep nodes → ContentRead s less-than at nodes (Past c m) → Behind s (c .at) × Deep s os deep m
+pub behind-text : {s os : List ℕ} {deep at nodes m : ℕ} {c : Cursor} → Deep s os deep nodes → ContentRead s less-than at nodes (Past c m)
+    → Behind s (c .at) × Deep s os deep m
 behind-text x (content-past a b d e g f) =
     (record { inside = b; some = omega arith; opens = d }, record { some = x .some; room = omega (arith, x .room); few = g; long = x .long; names = x .names })

@@ -56,13 +56,15 @@ module _ (s : List ℕ) (stop at nodes : ℕ) (l : nodes ≤ node-limit) where
 
         pub content-many : nodes ≡ node-limit → (begin : ℕ) → begin ≡ node-offset s at → ContentRead s stop at nodes (Refused 6 begin)
         unfolding births tail peak
-        content-many q begin p = content-refused {x = 6} {j = begin} (λ S C R D x. go S C R D x (eqb (getD s at 0) ampersand) refl (opener (byte-before s at)) refl)
+        content-many q begin p =
+            content-refused {x = 6} {j = begin} (λ S C R D x. go S C R D x (eqb (getD s at 0) ampersand) refl (opener (byte-before s at)) refl)
           where
             go : (S : Config) (C : ℕ → Config) (R : Words → Config) (D : Config) → Contents stop S C R D → (y : Bool) → eqb (getD s at 0) ampersand ≡ y
                 → (z : Bool) → opener (byte-before s at) ≡ z → Leads s S nodes at (bad 6 begin)
             go S C R D x true a true o =
                 rw (p, offset-before s at o .0)
-                (stops-many-before s S nodes at h (R entities) (x .depth) (x .kind) [] (ap (step true S) (eqb-true (getD s at 0) ampersand a) ∙ x .first-refers) refl q o)
+                (stops-many-before s S nodes at h (R entities) (x .depth) (x .kind) []
+                (ap (step true S) (eqb-true (getD s at 0) ampersand a) ∙ x .first-refers) refl q o)
             go S C R D x true a false o =
                 rw (p, offset-at s at o)
                 (stops-many s S nodes at h (R entities) (x .depth) (x .kind) [] (ap (step true S) (eqb-true (getD s at 0) ampersand a) ∙ x .first-refers) refl q
@@ -70,7 +72,8 @@ module _ (s : List ℕ) (stop at nodes : ℕ) (l : nodes ≤ node-limit) where
             go S C R D x false a true o =
                 let b = getD s at 0 in
                 rw (p, offset-before s at o .0)
-                (stops-many-before s S nodes at h (C (brackets 0 b)) (x .depth) (x .kind) (byte b ∷ []) (x .first b other (itself (eqb-false b ampersand a))) refl q o)
+                (stops-many-before s S nodes at h (C (brackets 0 b)) (x .depth) (x .kind) (byte b ∷ [])
+                (x .first b other (itself (eqb-false b ampersand a))) refl q o)
             go S C R D x false a false o =
                 let b = getD s at 0 in
                 rw (p, offset-at s at o)
@@ -87,13 +90,17 @@ module _ (s : List ℕ) (stop at nodes : ℕ) (l : nodes ≤ node-limit) where
               go : (y : Bool) → eqb (getD s at 0) ampersand ≡ y → scan-at s S nodes k at ≡ scan-at s (C 0) (nodes + 1) 0 at
               go true a =
                   let u = eqb-true (getD s at 0) ampersand a in
-                  scan-born s S nodes at h (R entities) (x .depth) (x .kind) [] (ap (step true S) u ∙ x .first-refers) refl room k m (omega (arith, x .inner .due entities))
-                  ∙ sym (scan-quiet s (C 0) (nodes + 1) at h (R entities) (ap (step true (C 0)) u ∙ x .inner .refers-to 0) (omega arith) 0 (omega (arith, x .inner .due entities)))
+                  scan-born s S nodes at h (R entities) (x .depth) (x .kind) [] (ap (step true S) u ∙ x .first-refers) refl room k m
+                  (omega (arith, x .inner .due entities))
+                  ∙ sym (scan-quiet s (C 0) (nodes + 1) at h (R entities) (ap (step true (C 0)) u ∙ x .inner .refers-to 0) (omega arith) 0
+                  (omega (arith, x .inner .due entities)))
               go false a =
                   let b = getD s at 0 in
                   let i = itself (eqb-false b ampersand a) in
-                  scan-born s S nodes at h (C (brackets 0 b)) (x .depth) (x .kind) (byte b ∷ []) (x .first b other i) refl room k m (omega (arith, x .inner .calm (brackets 0 b)))
-                  ∙ sym (scan-byte s (C 0) (nodes + 1) at h (C (brackets 0 b)) b (x .inner .plainly 0 b other i) (x .inner .calm (brackets 0 b)) (omega arith) 0 (omega arith))
+                  scan-born s S nodes at h (C (brackets 0 b)) (x .depth) (x .kind) (byte b ∷ []) (x .first b other i) refl room k m
+                  (omega (arith, x .inner .calm (brackets 0 b)))
+                  ∙ sym (scan-byte s (C 0) (nodes + 1) at h (C (brackets 0 b)) b (x .inner .plainly 0 b other i) (x .inner .calm (brackets 0 b))
+                  (omega arith) 0 (omega arith))
 
           pub content-rest : {r : Read} → CharactersRead s stop at (nodes + 1) r → ContentRead s stop at nodes r
           content-rest (characters-past {c = c} a b d f) =
@@ -161,7 +168,8 @@ module _ (n : Name) (ns seen : List Name) where
       stops-on double = refl
       stops-on single = refl
 
-  pub value-contents : (q : Quote) → Contents (mark q) (behind-quote n ns seen q) (λ k. in-value n ns seen q) (value-reference n ns seen q) (behind-part n ns seen)
+  pub value-contents : (q : Quote)
+      → Contents (mark q) (behind-quote n ns seen q) (λ k. in-value n ns seen q) (value-reference n ns seen q) (behind-part n ns seen)
   unfolding step value-literal text-byte
   value-contents q = record {
     inner = value-characters q;
@@ -174,7 +182,8 @@ module _ (n : Name) (ns seen : List Name) where
     starting = refl;
   }
     where
-      refers-on : (q : Quote) → step true (behind-quote n ns seen q) ampersand ≡ move (value-reference n ns seen q entities) (born (suc (depth (n ∷ ns))) text-kind ∷ [])
+      refers-on : (q : Quote)
+          → step true (behind-quote n ns seen q) ampersand ≡ move (value-reference n ns seen q entities) (born (suc (depth (n ∷ ns))) text-kind ∷ [])
       refers-on double = refl
       refers-on single = refl
 

@@ -42,7 +42,8 @@ module _ (s : List ℕ) (n : Name) (ns : List Name) (m : ℕ) (l : m ≤ node-li
   whole-name [] at e = goes-same s (end-name n ns []) m at (at + 0) (omega arith)
   whole-name (x ∷ w) at e = go (leb (length s) at) refl (whole-name w (suc at))
     where
-      go : (t : Bool) → leb (length s) at ≡ t → (agree w (drop (suc at) s) ≡ length w → Goes s (end-name n ns w) m (suc at) (end-name n ns []) m (suc at + length w))
+      go : (t : Bool) → leb (length s) at ≡ t
+          → (agree w (drop (suc at) s) ≡ length w → Goes s (end-name n ns w) m (suc at) (end-name n ns []) m (suc at + length w))
           → Goes s (end-name n ns (x ∷ w)) m at (end-name n ns []) m (at + suc (length w))
       go true q f = absurd (omega (arith, agree-over x w at (leb-true (length s) at q)))
       go false q f = next (leb-false (length s) at q) (eqb (getD s at 0) x) refl
@@ -60,7 +61,8 @@ module _ (s : List ℕ) (n : Name) (ns : List Name) (m : ℕ) (l : m ≤ node-li
   part-name [] at e = absurd (e refl)
   part-name (x ∷ w) at e = go (leb (length s) at) refl (part-name w (suc at))
     where
-      go : (t : Bool) → leb (length s) at ≡ t → ((agree w (drop (suc at) s) ≡ length w → ⊥) → Leads s (end-name n ns w) m (suc at) (bad 4 (suc at + agree w (drop (suc at) s))))
+      go : (t : Bool) → leb (length s) at ≡ t
+          → ((agree w (drop (suc at) s) ≡ length w → ⊥) → Leads s (end-name n ns w) m (suc at) (bad 4 (suc at + agree w (drop (suc at) s))))
           → Leads s (end-name n ns (x ∷ w)) m at (bad 4 (at + agree (x ∷ w) (drop at s)))
       go true q f =
           let h = leb-true (length s) at q in
@@ -72,7 +74,8 @@ module _ (s : List ℕ) (n : Name) (ns : List Name) (m : ℕ) (l : m ≤ node-li
           next h true y =
               let a : agree (x ∷ w) (drop at s) ≡ suc (agree w (drop (suc at) s)) = agree-here x w at h ∙ rw y in
               let p : at + agree (x ∷ w) (drop at s) ≡ suc at + agree w (drop (suc at) s) = omega arith in
-              rw p (goes-then (goes-step s (end-name n ns (x ∷ w)) m at h (end-name n ns w) (rw y) refl l) (goes-same s (end-name n ns w) m (at + 1) (suc at) (add-one at))
+              rw p (goes-then (goes-step s (end-name n ns (x ∷ w)) m at h (end-name n ns w) (rw y) refl l)
+              (goes-same s (end-name n ns w) m (at + 1) (suc at) (add-one at))
               .back _ (f (λ z. e (omega arith))))
           next h false y =
               let a : agree (x ∷ w) (drop at s) ≡ 0 = agree-here x w at h ∙ rw y in
@@ -85,7 +88,9 @@ module _ (s : List ℕ) (at from to : ℕ) (r : Run name-byte s from to) (k : �
   agreed = a .agrees ∙ ap (λ (w : List ℕ). agree w (drop at s)) (name-of s from to r)
 
   pub end-differs : (k ≡ to - from → ⊥) → EndRead s (name-at s from) at (Mismatch (at + k))
-  end-differs h = end-mismatch {j = at + k} (λ ns m l. rw agreed (part-name s (name-at s from) ns m l (name-at s from) at (λ e. h (agreed ∙ e ∙ length-name s from to r))))
+  end-differs h =
+      end-mismatch {j = at + k}
+      (λ ns m l. rw agreed (part-name s (name-at s from) ns m l (name-at s from) at (λ e. h (agreed ∙ e ∙ length-name s from to r))))
 
   module _ (h : k ≡ to - from) (i : ℕ) (b : Run blank s (at + k) i) where
     to-close : (ns : List Name) (m : ℕ) → m ≤ node-limit → Goes s (end-name (name-at s from) ns (name-at s from)) m at (end-name (name-at s from) ns []) m i

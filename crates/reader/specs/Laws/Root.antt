@@ -48,5 +48,6 @@ module _ (s : List ℕ) (at i : ℕ) (r : Run blank s at i) where
         unfolding step births tail peak
         name-right c f p = root-at {c = c} (record { inside = rw p k; starts = rw p f }) (λ v y. to-name .back v (record {
           leads = λ j m.
-              scan-born s behind-root 1 (i + 1) k (tag-name [] (getD s (i + 1) 0 ∷ [])) 1 element-kind (byte (getD s (i + 1) 0) ∷ []) (rw f) refl (omega arith) j m (omega arith) ∙ (rw p at y);
+              scan-born s behind-root 1 (i + 1) k (tag-name [] (getD s (i + 1) 0 ∷ [])) 1 element-kind (byte (getD s (i + 1) 0) ∷ []) (rw f) refl
+              (omega arith) j m (omega arith) ∙ (rw p at y);
         }))

@@ -44,7 +44,8 @@ stack-push s os lo n v h = rw (add-one n, getD-set-same os (lo + n) v 0 h, stack
 pub stack-same : (s os os′ : List ℕ) (n : ℕ) → Kept n os os′ → stack s os′ 0 n ≡ stack s os 0 n
 unfolding stack
 stack-same s os os′ zero k = refl
-stack-same s os os′ (suc n) k = rw (k .kept (0 + n) (omega arith), stack-same s os os′ n (record { as-long = k .as-long; kept = λ i h. k .kept i (omega arith) }))
+stack-same s os os′ (suc n) k =
+    rw (k .kept (0 + n) (omega arith), stack-same s os os′ n (record { as-long = k .as-long; kept = λ i h. k .kept i (omega arith) }))
 
 pub placed-push : (s os : List ℕ) (n v : ℕ) → Placed s os n → v ≤ length s → n < length os → Placed s (set os n v) (n + 1)
 placed-push s os n v p h l = record { placed = λ i m. go i m (eqb i n) refl }
@@ -88,11 +89,13 @@ module _ (s os : List ℕ) (lo count at nodes i n : ℕ) (t : AttributesTo s os 
       attributes-emptied {c = c} {m = n} (record { further = omega arith; inside = e; begins-here = g; more = b; few = l })
       (λ m ns. goes-then (t .comes m ns) (f m ns (stack s os lo count) n l))
 
-  pub attributes-bad : {c : Cursor} {x j : ℕ} → TagRead s behind-part i (Attribute c) → AttributeRead s (stack s os lo count) (c .at) n (Refused x j) → AttributesRead s at nodes (Broken x j)
+  pub attributes-bad : {c : Cursor} {x j : ℕ} → TagRead s behind-part i (Attribute c) → AttributeRead s (stack s os lo count) (c .at) n (Refused x j)
+      → AttributesRead s at nodes (Broken x j)
   attributes-bad {c} {x} {j} (tag-attribute d e g h f) (attribute-refused u) =
       attributes-broken {x = x} {j = j} (λ m ns. t .comes m ns .back _ (f m ns (stack s os lo count) n l .back _ (u m ns)))
 
-  pub attributes-turn : {c d : Cursor} {m : ℕ} → TagRead s behind-part i (Attribute c) → AttributeRead s (stack s os lo count) (c .at) n (Past d m) → lo + count < length os
+  pub attributes-turn : {c d : Cursor} {m : ℕ} → TagRead s behind-part i (Attribute c) → AttributeRead s (stack s os lo count) (c .at) n (Past d m)
+      → lo + count < length os
       → AttributesTo s (set os (lo + count) (c .at)) lo (count + 1) at nodes (d .at) m
   attributes-turn {c} {d} {m} (tag-attribute p e g h f) (attribute-past q r w x u) z = record {
     comes = λ nm ns.
@@ -102,7 +105,8 @@ module _ (s os : List ℕ) (lo count at nodes i n : ℕ) (t : AttributesTo s os 
 pub attribute-here : {s : List ℕ} {i : ℕ} {c : Cursor} (n : ℕ) → n ≤ node-limit → TagRead s behind-part i (Attribute c) → Attributed s (c .at) n × (i ≤ c .at)
 attribute-here n l (tag-attribute d e g h f) = (record { inside = e; starts = h; begins-here = g; few = l }, d)
 
-pub attribute-behind : {s : List ℕ} {seen : List Name} {at n m : ℕ} {d : Cursor} → AttributeRead s seen at n (Past d m) → (at < d .at) × (d .at ≤ length s) × (n < m) × (m ≤ node-limit)
+pub attribute-behind : {s : List ℕ} {seen : List Name} {at n m : ℕ} {d : Cursor} → AttributeRead s seen at n (Past d m)
+    → (at < d .at) × (d .at ≤ length s) × (n < m) × (m ≤ node-limit)
 attribute-behind (attribute-past a b e f u) = (a, b, e, f)
 
 -- from the first byte of the name ------------------------------------------------------------------
@@ -129,10 +133,12 @@ module _ (s : List ℕ) (at nodes to : ℕ) (x : Named s at) (l : nodes ≤ node
 
     pub element-rest : {y : Tag} → AttributesRead s to nodes y → ElementRead s at nodes y
     element-rest (attributes-opened {c = c} {m = m} o f) =
-        element-opened {c = c} {m = m} (record { further = omega (arith, o .further, r .ends); inside = o .inside; begins-here = o .begins-here; more = o .more; few = o .few })
+        element-opened {c = c} {m = m}
+        (record { further = omega (arith, o .further, r .ends); inside = o .inside; begins-here = o .begins-here; more = o .more; few = o .few })
         (λ ns v y. to-part ns ∙ f (name-at s at) ns .back v y .leads (to - at) short)
     element-rest (attributes-emptied {c = c} {m = m} o f) =
-        element-emptied {c = c} {m = m} (record { further = omega (arith, o .further, r .ends); inside = o .inside; begins-here = o .begins-here; more = o .more; few = o .few })
+        element-emptied {c = c} {m = m}
+        (record { further = omega (arith, o .further, r .ends); inside = o .inside; begins-here = o .begins-here; more = o .more; few = o .few })
         (λ ns v y. to-part ns ∙ f (name-at s at) ns .back v y .leads (to - at) short)
     element-rest (attributes-broken {x = x} {j = j} f) = element-broken {x = x} {j = j} (λ ns. to-part ns ∙ f (name-at s at) ns .leads (to - at) short)
 

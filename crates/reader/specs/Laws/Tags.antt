@@ -80,7 +80,8 @@ module _ (s : List ℕ) (i : ℕ) (F : Name → List Name → List Name → Conf
           (λ n ns seen m l. goes-then (place-slash n ns seen m l e) (rw p (goes-step s (behind-slash ns) m (i + 1) k (closed ns) (rw o) (calm-closed ns) l)))
 
     -- no such byte
-    pub place-wrong : blank (getD s i 0) ≡ false → (getD s i 0 ≡ slash → ⊥) → (getD s i 0 ≡ greater-than → ⊥) → name-start (getD s i 0) ≡ false → TagRead s F i (Wrong i)
+    pub place-wrong : blank (getD s i 0) ≡ false → (getD s i 0 ≡ slash → ⊥) → (getD s i 0 ≡ greater-than → ⊥) → name-start (getD s i 0) ≡ false
+        → TagRead s F i (Wrong i)
     unfolding tag-step
     place-wrong a b d e = tag-wrong {j = i} (λ n ns seen m l. stops-stuck s (F n ns seen) m i h
         (place .alike n ns seen (getD s i 0) e ∙ rw (a, ne-eqb (getD s i 0) slash b, ne-eqb (getD s i 0) greater-than d)))
@@ -139,7 +140,8 @@ module _ (s : List ℕ) (at i : ℕ) (r : Run blank s at i) where
         behind-spaces (omega (arith, r .ends))
         (tag-attribute {c = c} (omega arith) (omega arith) (rw q w) (rw q e) (λ n ns seen m l. goes-same s (in-tag n ns seen) m i (c .at) (sym q)))
 
-    pub part-wrong : (i ≡ at → ⊥) → (getD s i 0 ≡ slash → ⊥) → (getD s i 0 ≡ greater-than → ⊥) → name-start (getD s i 0) ≡ false → TagRead s behind-part at (Wrong i)
+    pub part-wrong : (i ≡ at → ⊥) → (getD s i 0 ≡ slash → ⊥) → (getD s i 0 ≡ greater-than → ⊥) → name-start (getD s i 0) ≡ false
+        → TagRead s behind-part at (Wrong i)
     part-wrong p b d e = behind-spaces (omega (arith, r .ends)) (place-wrong s i in-tag in-place h no-blank-here b d e)
 
 -- from behind an attribute's name to its value -------------------------------------------------
@@ -183,7 +185,8 @@ module _ (s : List ℕ) (at i : ℕ) (r : Run blank s at i) where
             let u : j + 1 - 1 ≡ j = omega arith in
             quoted {c = c} x (omega (arith, r .ends, q .ends)) (omega arith) (rw (p, u) (before x o))
             (λ n ns seen m l. goes-then (to-quote n ns seen m l)
-            (rw p (goes-step s (behind-equals n ns seen) m j k (behind-quote n ns seen x) (ap (step true (behind-equals n ns seen)) o ∙ opens x n ns seen) refl l)))
+            (rw p (goes-step s (behind-equals n ns seen) m j k (behind-quote n ns seen x)
+            (ap (step true (behind-equals n ns seen)) o ∙ opens x n ns seen) refl l)))
           where
             opens : (x : Quote) (n : Name) (ns seen : List Name) → step true (behind-equals n ns seen) (mark x) ≡ to (behind-quote n ns seen x)
             opens double n ns seen = refl

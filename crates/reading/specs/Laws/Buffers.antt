@@ -61,7 +61,13 @@ module _ {f : Marked → List ℕ} {w : ℕ} {l : List Entry} {places : List ℕ
   written-more {out′} i v h n q =
       let a : List ℕ = pieces f (map (item l) (take j places)) in
       let e : pieces f (map (item l) (take (j + 1) places)) ≡ a ++ f (item l i) =
-      rw (add-one, take-suc places j 0 h, map-append (item l) (take j places) (getD places j 0 ∷ []), pieces-append f (map (item l) (take j places)) (item l (getD places j 0) ∷ []), v)
+      rw (
+        add-one,
+        take-suc places j 0 h,
+        map-append (item l) (take j places) (getD places j 0 ∷ []),
+        pieces-append f (map (item l) (take j places)) (item l (getD places j 0) ∷ []),
+        v,
+      )
       (ap (λ z. a ++ z) (append-nil (f (item l (getD places j 0))))) in
       record {
         long = ap length q ∙ length-sets out (w * j) (f (item l i)) ∙ c .long;
@@ -77,15 +83,18 @@ module _ {f : Marked → List ℕ} {w : ℕ} {l : List Entry} {places : List ℕ
       c .bytes ∙ sets-front o (pieces f (map (item l) (take j places))) b ∙ rw (e, p)
 
 -- numbers take two bytes each
-pub written-number : {l : List Entry} {places : List ℕ} {j : ℕ} {o out out′ : List ℕ} → Written number-piece 2 l places j o out → (i v : ℕ) → i ≡ getD places j 0 → j < length places
+pub written-number : {l : List Entry} {places : List ℕ} {j : ℕ} {o out out′ : List ℕ} → Written number-piece 2 l places j o out → (i v : ℕ)
+    → i ≡ getD places j 0 → j < length places
     → v ≡ number-of (item l i) → out′ ≡ put-word out (2 * j) v → Written number-piece 2 l places (j + 1) o out′
 written-number {l} {places} {j} {o} {out} c i v e h n q = written-more c i e h refl (q ∙ word-sets out (2 * j) v ∙ rw n)
 
-pub numbers-done : {l : List Entry} {j : ℕ} {o out : List ℕ} (t : Subtree) → Written number-piece 2 l (t .places) j o out → j ≡ t .count → 2 * (t .count) ≤ length o
+pub numbers-done : {l : List Entry} {j : ℕ} {o out : List ℕ} (t : Subtree) → Written number-piece 2 l (t .places) j o out → j ≡ t .count
+    → 2 * (t .count) ≤ length o
     → out ≡ filled (list-bytes (map number-of (nodes-of l t))) o
 numbers-done {l} {j} {o} t c e m = written-done c t refl e m ∙ ap (λ b. filled b o) (pieces-numbers (nodes-of l t))
 
 -- cells take 33
-pub cells-done : {l : List Entry} {j : ℕ} {o out : List ℕ} (t : Subtree) → Written cell-piece 33 l (t .places) j o out → j ≡ t .count → 33 * (t .count) ≤ length o
+pub cells-done : {l : List Entry} {j : ℕ} {o out : List ℕ} (t : Subtree) → Written cell-piece 33 l (t .places) j o out → j ≡ t .count
+    → 33 * (t .count) ≤ length o
     → out ≡ filled (cells (map (λ a. (number-of a, a .now .content)) (nodes-of l t))) o
 cells-done {l} {j} {o} t c e m = written-done c t refl e m ∙ ap (λ b. filled b o) (pieces-cells (nodes-of l t))

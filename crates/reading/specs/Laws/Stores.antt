@@ -44,7 +44,8 @@ sets-at o k (x ∷ b) (suc j) h n =
     rw e (sets-at (set o k x) (suc k) b j (omega arith) (rw length-set (omega arith)))
 
 -- what a loop over bytes leaves
-pub filled-sets : {k n : ℕ} {v : ℕ → ℕ} {o o′ : List ℕ} (b : List ℕ) → Filled k n v o o′ → length b ≡ n → ((j : ℕ) → j < n → getD b j 0 ≡ v j) → k + n ≤ length o → o′ ≡ sets o k b
+pub filled-sets : {k n : ℕ} {v : ℕ → ℕ} {o o′ : List ℕ} (b : List ℕ) → Filled k n v o o′ → length b ≡ n → ((j : ℕ) → j < n → getD b j 0 ≡ v j)
+    → k + n ≤ length o → o′ ≡ sets o k b
 filled-sets {k} {n} {v} {o} {o′} b f e h m = ext-getD 0 o′ (sets o k b) (f .only .long ∙ sym (length-sets o k b)) (λ i l. go i (ltb i k) refl)
   where
     middle : (i : ℕ) → k ≤ i → (t : Bool) → leb (k + n) i ≡ t → getD o′ i 0 ≡ getD (sets o k b) i 0
@@ -71,13 +72,15 @@ cell-sets o k b = rw (add-one k) (sym (sets-append (set o k (length b)) (suc k) 
 length-cell : {n : ℕ} (b : List ℕ) → n ≡ length b → n ≤ 32 → length (cell b) ≡ 33
 length-cell b e h = simp (length-append, length-replicate) (omega arith)
 
-pub cell-stored : {k n : ℕ} {b o o′ o″ : List ℕ} → n ≡ length b → n ≤ 32 → Stored (k + 1) b (set o k n) o′ → Filled (k + 1 + n) (32 - n) (λ j. 0) o′ o″ → k + 33 ≤ length o
+pub cell-stored : {k n : ℕ} {b o o′ o″ : List ℕ} → n ≡ length b → n ≤ 32 → Stored (k + 1) b (set o k n) o′
+    → Filled (k + 1 + n) (32 - n) (λ j. 0) o′ o″ → k + 33 ≤ length o
     → Stored k (cell b) o o″ × (length (cell b) ≡ 33)
 cell-stored {k} {n} {b} {o} {o′} {o″} e h c f m =
     let l : length o′ ≡ length o = c .long ∙ length-set o k n in (
       record {
         long = f .only .long ∙ l;
-        bytes = filled-sets (replicate (32 - n) 0) f (length-replicate (32 - n) 0) (λ j q. getD-replicate (32 - n) j 0 0 q) (omega arith) ∙ rw (c .bytes, e) (cell-sets o k b);
+        bytes = filled-sets (replicate (32 - n) 0) f (length-replicate (32 - n) 0) (λ j q. getD-replicate (32 - n) j 0 0 q) (omega arith)
+            ∙ rw (c .bytes, e) (cell-sets o k b);
       },
       length-cell b e h,
     )

@@ -34,7 +34,8 @@ inside-set n count v places m q h j g = go (eqb j count) refl
     go true i = rw (eqb-true j count i, getD-set-same places count v 0 m) q
     go false i = let z = eqb-false j count i in rw (getD-set-other places count j v 0 z) (h j (omega (arith, z)))
 
-pub selecting-start : {l : List Entry} {p e : ℕ} (t : ℕ) (places : List ℕ) → p < length l → e ≡ depth l p → length places ≡ 1024 → Selecting l t p e 0 (p + 1) 1 (set places 0 p)
+pub selecting-start : {l : List Entry} {p e : ℕ} (t : ℕ) (places : List ℕ) → p < length l → e ≡ depth l p → length places ≡ 1024
+    → Selecting l t p e 0 (p + 1) 1 (set places 0 p)
 selecting-start {l} {p} {e} t places h v n = record {
   long = length-set places 0 p ∙ n;
   behind = omega arith;
@@ -44,7 +45,8 @@ selecting-start {l} {p} {e} t places h v n = record {
 }
 
 module _ {l : List Entry} {t p e hidden i count : ℕ} {places : List ℕ} (c : Selecting l t p e hidden i count places) where
-  selecting-on : (hidden′ : ℕ) → i < length l → seen-from t hidden e (drop i l) ≡ seen-from t hidden′ e (drop (i + 1) l) → Selecting l t p e hidden′ (i + 1) count places
+  selecting-on : (hidden′ : ℕ) → i < length l → seen-from t hidden e (drop i l) ≡ seen-from t hidden′ e (drop (i + 1) l)
+      → Selecting l t p e hidden′ (i + 1) count places
   selecting-on hidden′ h z = record {
     long = c .long;
     behind = omega arith;
@@ -94,7 +96,8 @@ module _ {l : List Entry} {t p e hidden i count : ℕ} {places : List ℕ} (c : 
 
       pub selecting-deleted : x ≡ t → Selecting l t p e (d + 1) (i + 1) count places
       selecting-deleted q =
-          rw (v, add-one) (selecting-on (suc (depth l i)) h (seen-deleted l e i t hidden h (omega (arith, v)) apart (ap not (eq-eqb (item l i .deleter) t (sym w ∙ q)))))
+          rw (v, add-one) (selecting-on (suc (depth l i)) h
+          (seen-deleted l e i t hidden h (omega (arith, v)) apart (ap not (eq-eqb (item l i .deleter) t (sym w ∙ q)))))
 
       pub selecting-found : length l ≤ 1024 → (x ≡ t → ⊥) → Selecting l t p e 0 (i + 1) (count + 1) (set places count i)
       selecting-found m q =

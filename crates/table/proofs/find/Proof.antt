@@ -12,7 +12,8 @@ use Rattle.table.proofs.find.Statement.{statement}
 use Rattle.table.proofs.find.Tie as tie
 
 abbrev Inv-loop : tie.InvT-loop
-Inv-loop s n m i₀ i = (i ≤ length (nodes s)) × (first (λ x. eqb (x .1 .now .number) n) (nodes s) ≡ i + first (λ x. eqb (x .1 .now .number) n) (drop i (nodes s)))
+Inv-loop s n m i₀ i = (i ≤ length (nodes s))
+    × (first (λ x. eqb (x .1 .now .number) n) (nodes s) ≡ i + first (λ x. eqb (x .1 .now .number) n) (drop i (nodes s)))
 
 abbrev μ-loop : tie.MeasureT-loop
 μ-loop s n m i₀ i = length (nodes s) - i
@@ -36,7 +37,13 @@ loop-less : tie.Need-loop-less Inv-loop μ-loop
 loop-less c = search needs
 
 loop-again : tie.Need-loop-again Inv-loop μ-loop
-loop-again c = (search needs, first-passed (λ x. eqb (x .1 .now .number) _) _ _ no-entry (c .before .before .before .loop .inv .1) (search needs) (ne-eqb _ _ (λ e. c .if1 .left (c .before .number .ensures ∙ e))))
+loop-again c =
+    let l = c .before .before .before .loop in
+    let number = c .before .number in (
+      search needs,
+      first-passed (λ x. eqb (x .1 .now .number) _) _ _ no-entry (l .inv .1) (search needs)
+          (ne-eqb _ _ (λ e. c .if1 .left (number .ensures ∙ e))),
+    )
 
 returns-2 : tie.Need-returns-2 Inv-loop μ-loop
 returns-2 c = first-none _ _ _ no-entry (c .before .loop .inv .1) (search needs)

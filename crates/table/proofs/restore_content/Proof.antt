@@ -41,7 +41,11 @@ same-length : tie.Need-same-length
 same-length c = c .before .before .copy-32 .ensures .only .long ∙ simp length-set
 
 returns : tie.Need-returns
-returns c = copied-kept _ _ _ 1 0 _ _ _ _ _ (c .before .before .before .before .before .slot .ensures .0) (c .before .before .copy-32 .ensures) (omega arith) (omega arith) (omega arith) (omega arith) (search needs) (search needs) (search needs) (search needs)
+returns c =
+    let slot = c .before .before .before .before .before .slot in
+    let copy-32 = c .before .before .copy-32 in
+    copied-kept _ _ _ 1 0 _ _ _ _ _ (slot .ensures .0) (copy-32 .ensures) (omega arith) (omega arith) (omega arith)
+    (omega arith) (search needs) (search needs) (search needs) (search needs)
 
 pub restore-content-spec : {M : Type 1} → statement M
 restore-content-spec =

@@ -41,7 +41,11 @@ same-length : tie.Need-same-length
 same-length c = c .before .before .store .ensures .only .long ∙ simp length-set
 
 returns : tie.Need-returns
-returns c = stored-kept _ _ _ 0 _ _ _ _ _ _ _ (c .before .before .before .before .slot .ensures .0) (c .before .before .store .ensures) (omega arith) (omega arith) (search needs) (search needs) (search needs) refl (search needs) (search needs) (λ j h. refl)
+returns c =
+    let slot = c .before .before .before .before .slot in
+    let store = c .before .before .store in
+    stored-kept _ _ _ 0 _ _ _ _ _ _ _ (slot .ensures .0) (store .ensures) (omega arith) (omega arith) (search needs)
+    (search needs) (search needs) refl (search needs) (search needs) (λ j h. refl)
 
 pub set-content-spec : {M : Type 1} → statement M
 set-content-spec =

@@ -29,7 +29,11 @@ cast-result : tie.Need-cast-result
 cast-result c = omega (arith, c .shared-slice-known2 .given (6160 + 70 * c .before .slot .result + 4 + c .before .before .before .args .o))
 
 returns : tie.Need-returns
-returns c = let a = c .before .before .before in let e = size-at _ (a .args .i) (a .args .o) _ (c .before .slot .ensures .0) (a .pre .0) (a .pre .1) (a .pre .2) in (e, rw e (size-small _ (a .args .i) (a .args .o) _ (c .before .slot .ensures .0) (a .pre .0) (a .pre .1) (a .pre .2)))
+returns c =
+    let a = c .before .before .before in
+    let slot = c .before .slot in
+    let e = size-at _ (a .args .i) (a .args .o) _ (slot .ensures .0) (a .pre .0) (a .pre .1) (a .pre .2) in
+    (e, rw e (size-small _ (a .args .i) (a .args .o) _ (slot .ensures .0) (a .pre .0) (a .pre .1) (a .pre .2)))
 
 pub size-spec : {M : Type 1} → statement M
 size-spec =

@@ -49,11 +49,14 @@ loop-less : tie.Need-loop-less Inv-loop μ-loop
 loop-less c = search needs
 
 loop-again : tie.Need-loop-again Inv-loop μ-loop
-loop-again c = let b = c .before .before .loop in (
-  search needs,
-  simp length-set (b .inv .1),
-  loaded-more (λ i. word (c .before .before .before .before .args .s .now) (lock-at (c .before .before .before .before .args .t) i)) (b .modes) (b .k) _ (omega (arith, b .inv .1)) (b .inv .2) (c .word .ensures),
-)
+loop-again c =
+    let args = c .before .before .before .before .args in
+    let b = c .before .before .loop in (
+      search needs,
+      simp length-set (b .inv .1),
+      loaded-more (λ i. word (args .s .now) (lock-at (args .t) i)) (b .modes) (b .k) _ (omega (arith, b .inv .1)) (b .inv .2)
+          (c .word .ensures),
+    )
 
 returns : tie.Need-returns Inv-loop μ-loop
 returns c = loaded-of _ _ _ (search needs) (search needs) (search needs) (λ i h. c .before .loop .inv .2 i (omega arith))

@@ -20,7 +20,12 @@ same-length : tie.Need-same-length
 same-length c = search needs
 
 returns : tie.Need-returns
-returns c = opened-left _ _ _ _ _ (c .before .before .set-word .ensures) (c .before .before .before .before .before .word .ensures) (c .before .before .before .power .ensures) (search needs) (search needs) (search needs) (search needs)
+returns c =
+    let word = c .before .before .before .before .before .word in
+    let power = c .before .before .before .power in
+    let set-word = c .before .before .set-word in
+    opened-left _ _ _ _ _ (set-word .ensures) (word .ensures) (power .ensures) (search needs) (search needs) (search needs)
+    (search needs)
 
 pub open-spec : {M : Type 1} → statement M
 open-spec =

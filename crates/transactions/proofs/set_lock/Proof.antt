@@ -32,7 +32,10 @@ same-length : tie.Need-same-length
 same-length c = search needs
 
 returns : tie.Need-returns
-returns c = lock-kept _ _ _ _ _ _ (c .before .before .set-word .ensures) (c .before .before .before .before .slot .ensures .0) (search needs) (search needs) (search needs) (search needs)
+returns c =
+    let slot = c .before .before .before .before .slot in
+    let set-word = c .before .before .set-word in
+    lock-kept _ _ _ _ _ _ (set-word .ensures) (slot .ensures .0) (search needs) (search needs) (search needs) (search needs)
 
 pub set-lock-spec : {M : Type 1} → statement M
 set-lock-spec =

@@ -29,7 +29,10 @@ loop-less : tie.Need-loop-less Inv-loop μ-loop
 loop-less c = search needs
 
 loop-again : tie.Need-loop-again Inv-loop μ-loop
-loop-again c = (search needs, search needs, search needs, clear-turn _ _ (c .before .before .before .before .before .loop .inv .3) (c .before .before .set-lock .ensures))
+loop-again c =
+    let l = c .before .before .before .before .before .loop in
+    let set-lock = c .before .before .set-lock in
+    (search needs, search needs, search needs, clear-turn _ _ (l .inv .3) (set-lock .ensures))
 
 same-length : tie.Need-same-length Inv-loop μ-loop
 same-length c = search needs

@@ -35,8 +35,15 @@ cast-set-deleter : tie.Need-cast-set-deleter
 cast-set-deleter c = search needs
 
 set-deleter-requires : tie.Need-set-deleter-requires
-set-deleter-requires c κs = let g = c .before .before .before in
-    (g .grant .ensures .layout, omega (arith, g .grant .ensures .many, g .before .before .before .before .before .before .before .before .before .before .before .pre .inside))
+set-deleter-requires c κs =
+    let g = c .before .before .before in (
+      g .grant .ensures .layout,
+      omega (
+        arith,
+        g .grant .ensures .many,
+        g .before .before .before .before .before .before .before .before .before .before .before .pre .inside,
+      ),
+    )
 
 same-length-3 : tie.Need-same-length-3
 same-length-3 c = search needs

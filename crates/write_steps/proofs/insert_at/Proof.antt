@@ -31,10 +31,13 @@ returns-2 c =
 insert-free-requires : tie.Need-insert-free-requires
 insert-free-requires c κs =
     let u = c .before .before .before .before .before .before .before in
-    let w = c .before .before .before .before .way-up .ensures in (
+    let if1 = c .before .before .before .before .before .before .if1 in
+    let way-up = c .before .before .before .before .way-up in
+    let waits = c .before .before .waits in
+    let if2 = c .before .if2 in
+    let w = way-up .ensures in (
       insert-free _ _ _ _ (u .before .before .before .before .pre)
-          (insertable _ _ _ _ _ _ (c .before .before .before .before .before .before .if1 .left) (u .insert-cause .ensures)) _ w _ (c .before .before .waits .ensures)
-          (c .before .if2 .left),
+          (insertable _ _ _ _ _ _ (if1 .left) (u .insert-cause .ensures)) _ w _ (waits .ensures) (if2 .left),
       w,
     )
 

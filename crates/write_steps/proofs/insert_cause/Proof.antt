@@ -22,8 +22,12 @@ allowed-requires c κs = search needs
 
 returns-2 : tie.Need-returns-2
 returns-2 c =
-    insert-bytes _ _ _ _ _ (rw (← c .before .before .before .before .kind .ensures) (sym (c .before .before .before .takes .ensures) ∙ not-false _ (c .before .before .if1 .left)))
-    (sym (c .before .allowed .ensures) ∙ not-true _ (c .if2 .taken))
+    let kind = c .before .before .before .before .kind in
+    let takes = c .before .before .before .takes in
+    let if1 = c .before .before .if1 in
+    let allowed = c .before .allowed in
+    insert-bytes _ _ _ _ _ (rw (← kind .ensures) (sym (takes .ensures) ∙ not-false _ (if1 .left)))
+    (sym (allowed .ensures) ∙ not-true _ (c .if2 .taken))
 
 find-requires : tie.Need-find-requires
 find-requires c κs = search needs
@@ -34,14 +38,28 @@ count-requires c κs = search needs
 returns-3 : tie.Need-returns-3
 returns-3 c =
     let a = c .before .before .before .before in
-    insert-held _ _ _ _ _ (rw (← a .before .before .before .kind .ensures) (sym (a .before .before .takes .ensures) ∙ not-false _ (a .before .if1 .left)))
-    (sym (a .allowed .ensures) ∙ not-false _ (c .before .before .before .if2 .left)) (rw (← c .before .before .find .ensures, ← c .before .count .ensures) (c .if3 .taken))
+    let kind = a .before .before .before .kind in
+    let takes = a .before .before .takes in
+    let if1 = a .before .if1 in
+    let if2 = c .before .before .before .if2 in
+    let find = c .before .before .find in
+    let count = c .before .count in
+    let takes-it = sym (takes .ensures) ∙ not-false _ (if1 .left) in
+    let allowed = sym (a .allowed .ensures) ∙ not-false _ (if2 .left) in
+    insert-held _ _ _ _ _ (rw (← kind .ensures) takes-it) allowed (rw (← find .ensures, ← count .ensures) (c .if3 .taken))
 
 returns-4 : tie.Need-returns-4
 returns-4 c =
     let a = c .before .before .before .before in
-    insert-new _ _ _ _ _ (rw (← a .before .before .before .kind .ensures) (sym (a .before .before .takes .ensures) ∙ not-false _ (a .before .if1 .left)))
-    (sym (a .allowed .ensures) ∙ not-false _ (c .before .before .before .if2 .left)) (rw (← c .before .before .find .ensures, ← c .before .count .ensures) (c .if3 .left))
+    let kind = a .before .before .before .kind in
+    let takes = a .before .before .takes in
+    let if1 = a .before .if1 in
+    let if2 = c .before .before .before .if2 in
+    let find = c .before .before .find in
+    let count = c .before .count in
+    let takes-it = sym (takes .ensures) ∙ not-false _ (if1 .left) in
+    let allowed = sym (a .allowed .ensures) ∙ not-false _ (if2 .left) in
+    insert-new _ _ _ _ _ (rw (← kind .ensures) takes-it) allowed (rw (← find .ensures, ← count .ensures) (c .if3 .left))
 
 pub insert-cause-spec : {M : Type 1} → statement M
 insert-cause-spec =

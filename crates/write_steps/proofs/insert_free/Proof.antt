@@ -26,7 +26,10 @@ same-length-2 c = search needs
 returns-2 : tie.Need-returns-2
 returns-2 c =
     let f = c .before .before .before .before in
-    insert-full _ _ _ _ (f .before .before .before .before .pre .0) _ (f .fits2 .ensures) (not-false _ (c .before .before .before .if1 .left)) (rw (← c .before .count .ensures) (c .if2 .taken))
+    let if1 = c .before .before .before .if1 in
+    let count = c .before .count in
+    insert-full _ _ _ _ (f .before .before .before .before .pre .0) _ (f .fits2 .ensures) (not-false _ (if1 .left))
+    (rw (← count .ensures) (c .if2 .taken))
 
 cast-new-place : tie.Need-cast-new-place
 cast-new-place c = search needs
@@ -34,8 +37,12 @@ cast-new-place c = search needs
 new-place-requires : tie.Need-new-place-requires
 new-place-requires c κs =
     let f = c .before .before .before .before .before in
-    let p = f .before .before .before .before .pre .0 in
-    (p .fits .admitted .layout, p .fits .admitted .inside, insert-counted _ _ _ _ p _ (f .fits2 .ensures) (not-false _ (c .before .before .before .before .if1 .left)))
+    let if1 = c .before .before .before .before .if1 in
+    let p = f .before .before .before .before .pre .0 in (
+      p .fits .admitted .layout,
+      p .fits .admitted .inside,
+      insert-counted _ _ _ _ p _ (f .fits2 .ensures) (not-false _ (if1 .left)),
+    )
 
 depth-requires : tie.Need-depth-requires
 depth-requires c κs = search needs
@@ -46,7 +53,8 @@ grant-requires c κs = search needs
 add-put : tie.Need-add-put
 add-put c =
     let d = c .before .before .before .before .before in
-    omega (arith, d .depth .ensures, admitted-depth (d .before .before .before .before .before .before .before .before .before .before .before .before .pre .0 .fits .admitted))
+    let pre = d .before .before .before .before .before .before .before .before .before .before .before .before .pre in
+    omega (arith, d .depth .ensures, admitted-depth (pre .0 .fits .admitted))
 
 cast-put : tie.Need-cast-put
 cast-put c = let d = c .before .before .before .before .before in
@@ -74,11 +82,16 @@ same-length-3 c = search needs
 returns-3 : tie.Need-returns-3
 returns-3 c =
     let g = c .before .before .before .before .before .before in
+    let put = c .before .before .put in
     let q = g .before .before .before .before in
     let f = q .before .before .before .before .before .before in
-    insert-granted _ _ _ _ (f .before .before .before .before .pre .0) _ (f .fits2 .ensures) (not-false _ (q .before .before .before .before .before .if1 .left)) _
-    (f .before .before .before .before .pre .1) (rw (← q .before .before .before .count .ensures) (q .before .before .if2 .left)) _ _
-    (q .new-place .ensures .0) (g .before .before .depth .ensures) (g .grant .ensures) (c .before .before .put .ensures)
+    let pre = f .before .before .before .before .pre in
+    let if1 = q .before .before .before .before .before .if1 in
+    let count = q .before .before .before .count in
+    let if2 = q .before .before .if2 in
+    let depth = g .before .before .depth in
+    insert-granted _ _ _ _ (pre .0) _ (f .fits2 .ensures) (not-false _ (if1 .left)) _ (pre .1) (rw (← count .ensures) (if2 .left)) _ _
+    (q .new-place .ensures .0) (depth .ensures) (g .grant .ensures) (put .ensures)
 
 pub insert-free-spec : {M : Type 1} → statement M
 insert-free-spec =

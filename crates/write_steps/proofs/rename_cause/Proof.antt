@@ -16,10 +16,18 @@ is-name-requires-2 : tie.Need-is-name-requires-2
 is-name-requires-2 c κs = search needs
 
 returns-2 : tie.Need-returns-2
-returns-2 c = rename-second _ _ true (sym (c .before .before .before .is-name .ensures) ∙ not-false _ (c .before .before .if1 .left)) (sym (c .before .is-name2 .ensures) ∙ c .if2 .taken)
+returns-2 c =
+    let is-name = c .before .before .before .is-name in
+    let if1 = c .before .before .if1 in
+    let is-name2 = c .before .is-name2 in
+    rename-second _ _ true (sym (is-name .ensures) ∙ not-false _ (if1 .left)) (sym (is-name2 .ensures) ∙ c .if2 .taken)
 
 returns-3 : tie.Need-returns-3
-returns-3 c = rename-second _ _ false (sym (c .before .before .before .is-name .ensures) ∙ not-false _ (c .before .before .if1 .left)) (sym (c .before .is-name2 .ensures) ∙ c .if2 .left)
+returns-3 c =
+    let is-name = c .before .before .before .is-name in
+    let if1 = c .before .before .if1 in
+    let is-name2 = c .before .is-name2 in
+    rename-second _ _ false (sym (is-name .ensures) ∙ not-false _ (if1 .left)) (sym (is-name2 .ensures) ∙ c .if2 .left)
 
 pub rename-cause-spec : {M : Type 1} → statement M
 rename-cause-spec =

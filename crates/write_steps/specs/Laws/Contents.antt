@@ -89,7 +89,8 @@ module _ {s : List ℕ} {t p : ℕ} (a : Admitted s t p) (b : List ℕ) where
     unfolding update-cause
     update-refused n = refused-misfit update-step a refl c e n
 
-    module _ (z : c ≡ 0) (w : Way) (u : Climbed (nodes s) p w) (set : ℕ) (v : set ≡ wait-word t (need (step-named name.U)) (is-open s) (way-nodes (nodes s) w)) where
+    module _ (z : c ≡ 0) (w : Way) (u : Climbed (nodes s) p w) (set : ℕ)
+        (v : set ≡ wait-word t (need (step-named name.U)) (is-open s) (way-nodes (nodes s) w)) where
       update-fits : Fits s t p update-step
       unfolding update-cause
       update-fits = record { admitted = a; on = refl; fits = sym e ∙ z; new = refl }
@@ -102,10 +103,12 @@ module _ {s : List ℕ} {t p : ℕ} (a : Admitted s t p) (b : List ℕ) where
       unfolding granted-answer first-lent second-lent stepped
       update-granted n k l =
           let f : Placed s t p update-step = record { free = free-of update-fits w u name.U refl set v n; placed = refl; spare = refl } in
-          granted-to-caller update-step f refl (left-kept (kept-then _ (modify p (second (written-by t b))) (way-granted t update-step w u name.U refl k) l)) Done refl
+          granted-to-caller update-step f refl
+          (left-kept (kept-then _ (modify p (second (written-by t b))) (way-granted t update-step w u name.U refl k) l)) Done refl
 
 -- by the number that it was called with
-pub update-on : {s s′ : List ℕ} {r : Answer} {t n n′ : ℕ} {b : List ℕ} → n ≡ n′ → Performed s s′ r (step t (U n b) no-room) → Performed s s′ r (step t (U n′ b) no-room)
+pub update-on : {s s′ : List ℕ} {r : Answer} {t n n′ : ℕ} {b : List ℕ} → n ≡ n′ → Performed s s′ r (step t (U n b) no-room)
+    → Performed s s′ r (step t (U n′ b) no-room)
 update-on {b = b} e h = performed-as (λ n. U n b) no-room e h
 
 -- D ----------------------------------------------------------------------------------------
@@ -131,4 +134,5 @@ module _ {s : List ℕ} {t p : ℕ} (a : Admitted s t p) where
       unfolding granted-answer first-lent second-lent stepped
       delete-granted n k l =
           let f : Placed s t p delete-step = record { free = free-of delete-fits w u name.D refl set v n; placed = refl; spare = refl } in
-          granted-to-caller delete-step f refl (left-kept (kept-then _ (modify p (second (deleted-by t))) (way-granted t delete-step w u name.D refl k) l)) Done refl
+          granted-to-caller delete-step f refl
+          (left-kept (kept-then _ (modify p (second (deleted-by t))) (way-granted t delete-step w u name.D refl k) l)) Done refl

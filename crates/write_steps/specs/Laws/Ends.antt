@@ -35,6 +35,7 @@ module _ {s : List ℕ} {t p : ℕ} (st : Step) where
   unfolding answer-of
   waits-for f w c k same set v n = performed-stays (stays-waits f w c k same set v n no-room) (Waits set) (λ writing. refl)
 
-  pub granted-to-caller : Placed s t p st → has-room (answer-at st t (nodes s) p) no-room ≡ true → {s′ : List ℕ} → Left s s′ (is-open s) (stepped t st p (nodes s))
+  pub granted-to-caller : Placed s t p st → has-room (answer-at st t (nodes s) p) no-room ≡ true → {s′ : List ℕ}
+      → Left s s′ (is-open s) (stepped t st p (nodes s))
       → (r : Answer) → r ≡ granted-answer (answer-at st t (nodes s) p) → Performed s s′ r (step t st no-room)
   granted-to-caller f h l r e = performed-grants (grants-step f no-room h l) r e

@@ -46,7 +46,8 @@ use Rattle.write_steps.specs.Laws.Contents.{allowed-short}
 depth-below : (before : ℕ) (l : List Entry) (i : ℕ) → valid-below before l ≡ true → i < length l → depth l i ≤ before + suc i
 unfolding valid-below
 depth-below before [] i h k = absurd (omega arith)
-depth-below before (x ∷ l) zero h k = omega (arith, between-high 1 (suc before) (x .0) (and-left _ _ (and-left (between 1 (suc before) (x .0) && valid (x .1)) _ h)))
+depth-below before (x ∷ l) zero h k =
+    omega (arith, between-high 1 (suc before) (x .0) (and-left _ _ (and-left (between 1 (suc before) (x .0) && valid (x .1)) _ h)))
 depth-below before (x ∷ l) (suc i) h k =
     let d = between-high 1 (suc before) (x .0) (and-left _ _ (and-left (between 1 (suc before) (x .0) && valid (x .1)) _ h)) in
     omega (arith, d, depth-below (x .0) l i (and-right (between 1 (suc before) (x .0) && valid (x .1)) _ h) (omega arith))
@@ -112,13 +113,16 @@ abbrev insert-step : List ℕ → ℕ → ℕ → ℕ → List ℕ → ℕ → S
 insert-step s p m kind b k = I m kind b (number-of (item (nodes s) p)) k
 
 module _ {s : List ℕ} {t p : ℕ} (m kind : ℕ) (b : List ℕ) (k : ℕ) where
-  pub insert-refused : Admitted s t p → (c : ℕ) → (c ≡ 0 → ⊥) → c ≡ insert-cause (nodes s) p m kind b → Performed s s (Refused c) (step t (insert-step s p m kind b k) no-room)
+  pub insert-refused : Admitted s t p → (c : ℕ) → (c ≡ 0 → ⊥) → c ≡ insert-cause (nodes s) p m kind b
+      → Performed s s (Refused c) (step t (insert-step s p m kind b k) no-room)
   unfolding answer-of insert-cause
   insert-refused a c n h = go (takes (item (nodes s) p .now .kind) kind) refl (allowed kind b) refl (ltb (place-of m (nodes s)) (length (nodes s))) refl h
     where
-      go : (x : Bool) → takes (item (nodes s) p .now .kind) kind ≡ x → (y : Bool) → allowed kind b ≡ y → (w : Bool) → ltb (place-of m (nodes s)) (length (nodes s)) ≡ w
+      go : (x : Bool) → takes (item (nodes s) p .now .kind) kind ≡ x → (y : Bool) → allowed kind b ≡ y → (w : Bool)
+          → ltb (place-of m (nodes s)) (length (nodes s)) ≡ w
           → c ≡ cond x (cond y (cond w 10 0) 9) 8 → Performed s s (Refused c) (step t (insert-step s p m kind b k) no-room)
-      go true e true f true g h = rw h (performed-stays (stays-held a (insert-step s p m kind b k) refl no-room (rw (e, f)) (rw g)) (Refused 10) (λ writing. refl))
+      go true e true f true g h =
+          rw h (performed-stays (stays-held a (insert-step s p m kind b k) refl no-room (rw (e, f)) (rw g)) (Refused 10) (λ writing. refl))
       go true e true f false g h = absurd (n h)
       go true e false f w g h = refused-misfit (insert-step s p m kind b k) a refl c (h ∙ rw (e, f)) n
       go false e y f w g h = refused-misfit (insert-step s p m kind b k) a refl c (h ∙ rw e) n
@@ -135,7 +139,8 @@ module _ {s : List ℕ} {t p : ℕ} (m kind : ℕ) (b : List ℕ) (k : ℕ) wher
     insert-free z = free-of insert-fits w u name.I refl set v z
 
   -- causes 11 and 12, then granted
-  module _ (f : Free s t p (insert-step s p m kind b k)) (r : Bool) (e : r ≡ placed (item (nodes s) p .now .kind) kind k (map (λ c. c .now .kind) (children t (nodes s) p))) where
+  module _ (f : Free s t p (insert-step s p m kind b k)) (r : Bool)
+      (e : r ≡ placed (item (nodes s) p .now .kind) kind k (map (λ c. c .now .kind) (children t (nodes s) p))) where
     pub insert-misplaced : r ≡ false → Performed s s (Refused 11) (step t (insert-step s p m kind b k) no-room)
     unfolding answer-of
     insert-misplaced z = performed-stays (stays-misplaced f no-room (rw (← e, z))) (Refused 11) (λ writing. refl)
@@ -149,21 +154,25 @@ module _ {s : List ℕ} {t p : ℕ} (m kind : ℕ) (b : List ℕ) (k : ℕ) wher
       unfolding placed
       insert-counted = leb-true 1 k (and-left _ _ (and-left _ _ (sym e ∙ z)))
 
-      pub insert-granted : {s₁ s₂ : List ℕ} (w : Way) → Climbed (nodes s) p w → length (nodes s) < 1024 → (q d : ℕ) → q ≡ new-place t k p (nodes s) → d ≡ depth (nodes s) p
+      pub insert-granted : {s₁ s₂ : List ℕ} (w : Way) → Climbed (nodes s) p w → length (nodes s) < 1024 → (q d : ℕ) → q ≡ new-place t k p (nodes s)
+          → d ≡ depth (nodes s) p
           → Kept s s₁ (granted-on t (need (step-named name.I)) (way-places w) (nodes s))
-          → Left s₁ s₂ (is-open s₁) (insert q (d + 1, granted-modes t (need (step-named name.I) .new) (inserted-by t (record { number = m; kind = kind; content = b }))) (nodes s₁))
+          → Left s₁ s₂ (is-open s₁)
+          (insert q (d + 1, granted-modes t (need (step-named name.I) .new) (inserted-by t (record { number = m; kind = kind; content = b }))) (nodes s₁))
           → Performed s s₂ Done (step t (insert-step s p m kind b k) no-room)
       unfolding granted-answer first-lent second-lent stepped
       insert-granted w u h q d x y g l =
           let c : Placed s t p (insert-step s p m kind b k) = record { free = f; placed = rw (← e, z); spare = rw (lt-leb 1024 (length (nodes s)) h) } in
           let new : Entry = (d + 1, granted-modes t (need (step-named name.I) .new) (inserted-by t (record { number = m; kind = kind; content = b }))) in
           let locked = left-kept (way-granted t (insert-step s p m kind b k) w u name.I refl g) in
-          granted-to-caller (insert-step s p m kind b k) c refl (left-as _ _ (rw (x, y, add-one (depth (nodes s) p))) (then-left _ (insert q new) locked l)) Done refl
+          granted-to-caller (insert-step s p m kind b k) c refl
+          (left-as _ _ (rw (x, y, add-one (depth (nodes s) p))) (then-left _ (insert q new) locked l)) Done refl
 
   pub free-short : Free s t p (insert-step s p m kind b k) → (length b ≤ 32) × (kind ≤ 4)
   free-short f = go (takes (item (nodes s) p .now .kind) kind) refl (allowed kind b) refl (f .fits .fits)
     where
-      go : (x : Bool) → takes (item (nodes s) p .now .kind) kind ≡ x → (y : Bool) → allowed kind b ≡ y → _≡_ {A = ℕ} (cond x (cond y 0 9) 8) 0 → (length b ≤ 32) × (kind ≤ 4)
+      go : (x : Bool) → takes (item (nodes s) p .now .kind) kind ≡ x → (y : Bool) → allowed kind b ≡ y → _≡_ {A = ℕ} (cond x (cond y 0 9) 8) 0
+          → (length b ≤ 32) × (kind ≤ 4)
       go true e true f h = (allowed-short kind b f, kind-small kind b f)
       go true e false f h = absurd (omega arith)
       go false e y f h = absurd (omega arith)

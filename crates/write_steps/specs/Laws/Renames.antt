@@ -64,7 +64,8 @@ module _ {A : Type 0} (g : A → A) where
   below-map e [] = refl
   below-map e (x ∷ l) = go (ltb e (x .0)) (below-map e l)
     where
-      go : (b : Bool) → below e (map (second g) l) ≡ map (second g) (below e l) → cond b (second g x ∷ below e (map (second g) l)) [] ≡ map (second g) (cond b (x ∷ below e l) [])
+      go : (b : Bool) → below e (map (second g) l) ≡ map (second g) (below e l)
+          → cond b (second g x ∷ below e (map (second g) l)) [] ≡ map (second g) (cond b (x ∷ below e l) [])
       go true h = rw h
       go false h = refl
 
@@ -96,7 +97,8 @@ named-bare t p a l =
 
 named-granted : (t : ℕ) (st : Step) (p : ℕ) (a : List ℕ) (l : List Entry) → named-in t a p (granted-up t (need st) p l) ≡ named-in t a p l
 named-granted t st p a l =
-    sym (named-bare t p a (granted-up t (need st) p l)) ∙ ap (named-in t a p) (bare-granted t (need st .node) (need st .parent) (need st .above) _ l) ∙ named-bare t p a l
+    sym (named-bare t p a (granted-up t (need st) p l)) ∙ ap (named-in t a p) (bare-granted t (need st .node) (need st .parent) (need st .above) _ l)
+    ∙ named-bare t p a l
 
 -- UU ---------------------------------------------------------------------------------------
 

@@ -22,13 +22,15 @@ module _ {s : List ℕ} (p : ℕ) where
       let e : kept-back (item (nodes s) p) ≡ item (nodes s) p = rw (ne-eqb (item (nodes s) p .writer) nobody n) in
       kept-as _ _ (sym (modify-none p (second kept-back) (nodes s) no-entry (ap (λ (a : Marked). (getD (nodes s) p no-entry .0, a)) e))) (kept-same s h)
 
-  pub saved-now : {s′ : List ℕ} → item (nodes s) p .writer ≡ nobody → Kept s s′ (modify p (second saved) (nodes s)) → Kept s s′ (modify p (second kept-back) (nodes s))
+  pub saved-now : {s′ : List ℕ} → item (nodes s) p .writer ≡ nobody → Kept s s′ (modify p (second saved) (nodes s))
+      → Kept s s′ (modify p (second kept-back) (nodes s))
   saved-now n k =
       let e : kept-back (item (nodes s) p) ≡ saved (item (nodes s) p) = rw (eq-eqb (item (nodes s) p .writer) nobody n) in
       kept-as _ _ (sym (modify-same p (second kept-back) (second saved) (nodes s) no-entry (ap (λ (a : Marked). (getD (nodes s) p no-entry .0, a)) e))) k
 
 -- the three changes one after the other
-pub written : {s s₁ s₂ s₃ : List ℕ} (p t : ℕ) (b : List ℕ) → Kept s s₁ (modify p (second kept-back) (nodes s)) → Kept s₁ s₂ (modify p (second (with-now b)) (nodes s₁))
+pub written : {s s₁ s₂ s₃ : List ℕ} (p t : ℕ) (b : List ℕ) → Kept s s₁ (modify p (second kept-back) (nodes s))
+    → Kept s₁ s₂ (modify p (second (with-now b)) (nodes s₁))
     → Kept s₂ s₃ (modify p (second (with-writer t)) (nodes s₂)) → Kept s s₃ (modify p (second (written-by t b)) (nodes s))
 written {s} p t b x y z =
     let l = nodes s in

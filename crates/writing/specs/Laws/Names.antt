@@ -12,7 +12,7 @@ use Rattle.tree.specs.Steps.{is-named}
 use Rattle.protocol.specs.State.{Marked, written-by}
 use Rattle.layout.specs.Lists.{modify}
 use Rattle.layout.specs.Flat.{second}
-use Rattle.layout.specs.Layout.{nodes, no-entry, Layout, Kept}
+use Rattle.layout.specs.Layout.{Entry, nodes, no-entry, Layout, Kept}
 use Rattle.layout.specs.Laws.Lists.{modify-same, modify-none}
 use Rattle.layout.specs.Laws.Kept.{kept-same, kept-as}
 use Rattle.lookup.specs.Places.{item}
@@ -31,13 +31,20 @@ module _ {s : List ℕ} (p t : ℕ) (a b : List ℕ) where
   pub renamed-none : Layout s → is-named a (item (nodes s) p .now) ≡ false → Renamed s s 0 p t a b
   renamed-none h n =
       let e : renamed-by t a b (item (nodes s) p) ≡ item (nodes s) p = rw n in
-      record { kept = kept-as _ _ (sym (modify-none p (second (renamed-by t a b)) (nodes s) no-entry (ap (λ (z : Marked). (getD (nodes s) p no-entry .0, z)) e))) (kept-same s h); hit = rw n; few = omega arith }
+      let row = ap {B = Entry} (λ (z : Marked). (getD (nodes s) p no-entry .0, z)) e in
+      record {
+        kept = kept-as _ _ (sym (modify-none p (second (renamed-by t a b)) (nodes s) no-entry row)) (kept-same s h);
+        hit = rw n;
+        few = omega arith;
+      }
 
-  pub renamed-one : {s′ : List ℕ} → is-named a (item (nodes s) p .now) ≡ true → Kept s s′ (modify p (second (written-by t b)) (nodes s)) → Renamed s s′ 1 p t a b
+  pub renamed-one : {s′ : List ℕ} → is-named a (item (nodes s) p .now) ≡ true → Kept s s′ (modify p (second (written-by t b)) (nodes s))
+      → Renamed s s′ 1 p t a b
   renamed-one n k =
       let e : renamed-by t a b (item (nodes s) p) ≡ written-by t b (item (nodes s) p) = rw n in
+      let row = ap {B = Entry} (λ (z : Marked). (getD (nodes s) p no-entry .0, z)) e in
       record {
-        kept = kept-as _ _ (sym (modify-same p (second (renamed-by t a b)) (second (written-by t b)) (nodes s) no-entry (ap (λ (z : Marked). (getD (nodes s) p no-entry .0, z)) e))) k;
+        kept = kept-as _ _ (sym (modify-same p (second (renamed-by t a b)) (second (written-by t b)) (nodes s) no-entry row)) k;
         hit = rw n;
         few = omega arith;
       }

@@ -20,14 +20,16 @@ use Rattle.outline.specs.Laws.Lists.{modify-insert}
 use Rattle.edits.specs.Rows.{with-held, granted-modes}
 
 -- nobody held anything there
-new-modes : (t : ℕ) (ms : List Mode) (x : Node) → ((m : Mode) → in-word (word-of ms) m ≡ among ms m) → with-modes t (word-of ms) (inserted-by t x) ≡ granted-modes t ms (inserted-by t x)
+new-modes : (t : ℕ) (ms : List Mode) (x : Node) → ((m : Mode) → in-word (word-of ms) m ≡ among ms m)
+    → with-modes t (word-of ms) (inserted-by t x) ≡ granted-modes t ms (inserted-by t x)
 new-modes t ms x h = let e : in-word (word-of ms) ≡ among ms = fun-ext h in ap (with-held (inserted-by t x)) (fun-ext (λ u. go e (eqb u t)))
   where
     go : in-word (word-of ms) ≡ among ms → (b : Bool) → cond b (in-word (word-of ms)) no-mode ≡ cond b (union no-mode (among ms)) no-mode
     go e true = e
     go e false = refl
 
-pub put-left : {s s₁ s₂ : List ℕ} (q d t : ℕ) (x : Node) (ms : List Mode) → ((m : Mode) → in-word (word-of ms) m ≡ among ms m) → (w : ℕ) → w ≡ word-of ms → q ≤ length (nodes s)
+pub put-left : {s s₁ s₂ : List ℕ} (q d t : ℕ) (x : Node) (ms : List Mode) → ((m : Mode) → in-word (word-of ms) m ≡ among ms m) → (w : ℕ)
+    → w ≡ word-of ms → q ≤ length (nodes s)
     → Left s s₁ (is-open s) (insert q (d, inserted-by t x) (nodes s)) → Kept s₁ s₂ (modify q (second (with-modes t w)) (nodes s₁))
     → Left s s₂ (is-open s) (insert q (d, granted-modes t ms (inserted-by t x)) (nodes s))
 put-left {s} q d t x ms h w e l a b =

@@ -86,7 +86,8 @@ module _ {s₀ s : List ℕ} {p t : ℕ} {a b : List ℕ} {i hidden hits : ℕ} 
             → Counting t a top total (modify i (second g) (nodes s)) (i + 1) 0 (hits + cond c 1 0)
         counted-more n true c = counted-hit t a top total (nodes s) i hidden hits (v .counting) h k e (second g) n c
         counted-more n false c =
-            rw (add-zero hits, add-one i, drop-modify i (second g) (nodes s), ← add-one i) (counted-other t a top total (nodes s) i hidden hits (v .counting) h k e n c)
+            rw (add-zero hits, add-one i, drop-modify i (second g) (nodes s), ← add-one i)
+            (counted-other t a top total (nodes s) i hidden hits (v .counting) h k e n c)
 
         pub renaming-seen : {s′ : List ℕ} {r : ℕ} → (item (nodes s) i .deleter ≡ t → ⊥) → Renamed s s′ r i t a b → Renaming s₀ s′ p t a b (i + 1) 0 (hits + r)
         renaming-seen {s′} {r} d m =
@@ -99,7 +100,8 @@ module _ {s₀ s : List ℕ} {p t : ℕ} {a b : List ℕ} {i hidden hits : ℕ} 
             }
 
 -- the node itself, then those below it
-pub renamed-whole : {s s₁ s₂ : List ℕ} {q r p t : ℕ} {a b : List ℕ} → p < length (nodes s) → Renamed s s₁ q p t a b → RenamedRest s₁ s₂ r p t a b → RenamedBelow s s₂ (q + r) p t a b
+pub renamed-whole : {s s₁ s₂ : List ℕ} {q r p t : ℕ} {a b : List ℕ} → p < length (nodes s) → Renamed s s₁ q p t a b → RenamedRest s₁ s₂ r p t a b
+    → RenamedBelow s s₂ (q + r) p t a b
 unfolding rest-renamed rest-named
 renamed-whole {s} {s₁} {s₂} {q} {r} {p} {t} {a} {b} h m n =
     let g : Entry → Entry = second (renamed-by t a b) in

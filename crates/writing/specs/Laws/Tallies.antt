@@ -41,7 +41,8 @@ tallying-done {parent} {kinds} {c} v = record {
   few = v .few;
 }
 
-pub tallying-turn : {parent : ℕ} {kinds : List ℕ} {c : Tally} (x : ℕ) (rest : List ℕ) → Tallying parent kinds (x ∷ rest) c → Tallying parent kinds rest (counted parent x c)
+pub tallying-turn : {parent : ℕ} {kinds : List ℕ} {c : Tally} (x : ℕ) (rest : List ℕ) → Tallying parent kinds (x ∷ rest) c
+    → Tallying parent kinds rest (counted parent x c)
 unfolding counted ordered-behind
 tallying-turn {parent} {kinds} {c} x rest v = record {
   few = few (eqb x attribute-kind);
@@ -59,9 +60,14 @@ tallying-turn {parent} {kinds} {c} x rest v = record {
     more true e = rw (attributes-one x rest (eqb-true x attribute-kind e)) (omega arith)
     more false e = rw (attributes-other x rest (eqb-false x attribute-kind e))
 
-    first : (b : Bool) → (c .ordered && cond b (eqb (c .attributes) (c .count) && ordered-behind (suc (c .attributes)) (suc (c .count)) rest) (ordered-behind (c .attributes) (suc (c .count)) rest))
-        ≡ (cond b (c .ordered && eqb (c .attributes) (c .count)) (c .ordered) && ordered-behind (cond b (c .attributes + 1) (c .attributes)) (c .count + 1) rest)
-    first true = rw (add-one (c .attributes), add-one (c .count)) (sym (and-assoc (c .ordered) (eqb (c .attributes) (c .count)) (ordered-behind (suc (c .attributes)) (suc (c .count)) rest)))
+    first : (b : Bool)
+        → (c .ordered && cond b (eqb (c .attributes) (c .count) && ordered-behind (suc (c .attributes)) (suc (c .count)) rest)
+        (ordered-behind (c .attributes) (suc (c .count)) rest))
+        ≡ (cond b (c .ordered && eqb (c .attributes) (c .count)) (c .ordered)
+        && ordered-behind (cond b (c .attributes + 1) (c .attributes)) (c .count + 1) rest)
+    first true =
+        rw (add-one (c .attributes), add-one (c .count))
+        (sym (and-assoc (c .ordered) (eqb (c .attributes) (c .count)) (ordered-behind (suc (c .attributes)) (suc (c .count)) rest)))
     first false = rw (add-one (c .count))
 
 -- the loop: the rows before i were looked at ----------------------------------------------------
@@ -96,9 +102,9 @@ module _ (t : ℕ) (l : List Entry) (p parent : ℕ) where
         passing-deleted d = record { tallying = as-rest _ (child-deleted t l (depth l p) i h (omega arith) (rw (eq-eqb (item l i .deleter) t d))) }
 
         pub passing-child : (item l i .deleter ≡ t → ⊥) → (x : ℕ) → x ≡ item l i .now .kind → Passing t l p parent (i + 1) (counted parent x c)
-        passing-child d x e = record {
-          tallying = rw e (tallying-turn (item l i .now .kind) _ (as-rest _ (child-found t l (depth l p) i h (omega arith) (rw (ne-eqb (item l i .deleter) t d)))));
-        }
+        passing-child d x e =
+            let found = child-found t l (depth l p) i h (omega arith) (rw (ne-eqb (item l i .deleter) t d)) in
+            record { tallying = rw e (tallying-turn (item l i .now .kind) _ (as-rest _ found)) }
 
 -- the place, from what was counted
 pub placed-counted : {parent : ℕ} {kinds : List ℕ} {c : Tally} (kind k : ℕ) → Counted parent kinds c
@@ -141,7 +147,8 @@ module _ (parent kind k n a : ℕ) (ordered allowed : Bool) where
 
 -- one more child, by its kind
 module _ (parent kind : ℕ) (c : Tally) (taken : Bool) (e : taken ≡ (c .allowed && takes parent kind)) where
-  pub counted-kind : (kind ≡ attribute-kind → ⊥) → record { count = c .count + 1; attributes = c .attributes; ordered = c .ordered; allowed = taken } ≡ counted parent kind c
+  pub counted-kind : (kind ≡ attribute-kind → ⊥)
+      → record { count = c .count + 1; attributes = c .attributes; ordered = c .ordered; allowed = taken } ≡ counted parent kind c
   unfolding counted
   counted-kind n = rw (e, ne-eqb kind attribute-kind n)
 

@@ -111,7 +111,8 @@ module _ (i : ℕ) (c : List ℕ) (ks fs : Document) (seen : List Name) where
       let nei = neither (neighbouring-texts (shape ks)) _ (x .1) in
       let inner = f (left-of _ _ b) (rep .0, nei .0) .first (right-of (every (takes element-kind) (top-kinds ks)) _ b) in
       let outer = g seen (rep .1, nei .1) .behind in
-      let this : every not-attribute (top-kinds fs) ≡ true → Formed behind-text (shape (child-of 2)) = λ h. formed-element (right-of (leb (length c) content-limit) _ a) inner (outer h) in
+      let this : every not-attribute (top-kinds fs) ≡ true → Formed behind-text (shape (child-of 2)) =
+      λ h. formed-element (right-of (leb (length c) content-limit) _ a) inner (outer h) in
       record { first = λ h. no-attribute (no-text (this h)); behind = λ h. no-text (this h); after-text = λ h _. this h }
   child child-attribute a b r x f g =
       let rep = neither (used seen c) _ (x .0) in
@@ -152,7 +153,8 @@ abbrev pub Writable : Document → Type 0
 Writable d = (no-root (below (shape d)) ≡ false) × (repeats [] (below (shape d)) ≡ false) × (neighbouring-texts (below (shape d)) ≡ false)
 
 element-root : (c : List ℕ) (js : Document) → (allowed 2 c && children-rule 2 (top-kinds js) && ruled js && true) ≡ true
-    → repeats [] (node (element c) (shape js) nil) ≡ false → neighbouring-texts (node (element c) (shape js) nil) ≡ false → FormedRoot (node (element c) (shape js) nil)
+    → repeats [] (node (element c) (shape js) nil) ≡ false → neighbouring-texts (node (element c) (shape js) nil) ≡ false
+    → FormedRoot (node (element c) (shape js) nil)
 unfolding repeats neighbouring-texts allowed is-name children-rule
 element-root c js r p q =
     let x = left-of (allowed 2 c && children-rule 2 (top-kinds js) && ruled js) _ r in
@@ -196,8 +198,12 @@ split a ks h r = go (a .kind) (eqb-true (a .kind) 1 (right-of (eqb (a .number) 0
     go k e r =
         let x = rw e at r in
         let y = left-of (allowed 1 (a .content) && children-rule 1 (top-kinds ks) && ruled ks) _ x in
-        let z = left-of (allowed 1 (a .content) && children-rule 1 (top-kinds ks)) _ y in
-        (e, no-bytes (a .content) (left-of (allowed 1 (a .content)) _ z), right-of (allowed 1 (a .content)) _ z, right-of (allowed 1 (a .content) && children-rule 1 (top-kinds ks)) _ y)
+        let z = left-of (allowed 1 (a .content) && children-rule 1 (top-kinds ks)) _ y in (
+          e,
+          no-bytes (a .content) (left-of (allowed 1 (a .content)) _ z),
+          right-of (allowed 1 (a .content)) _ z,
+          right-of (allowed 1 (a .content) && children-rule 1 (top-kinds ks)) _ y,
+        )
 
 legal-ruled : (d : Document) → legal d ≡ true → (rooted d ≡ true) × (ruled d ≡ true)
 unfolding legal
@@ -289,7 +295,8 @@ expressible-parts d h =
         not-true _ (right-of (not (no-root (below (shape d)))) _ y),
         not-true _ (right-of (not (no-root (below (shape d))) && not (repeats [] (below (shape d)))) _ x),
       ),
-      leb-true (length (write d)) input-limit (right-of (not (no-root (below (shape d))) && not (repeats [] (below (shape d))) && not (neighbouring-texts (below (shape d)))) _ h),
+      leb-true (length (write d)) input-limit
+          (right-of (not (no-root (below (shape d))) && not (repeats [] (below (shape d))) && not (neighbouring-texts (below (shape d)))) _ h),
     )
 
 pub read-back : (d : Document) → legal d ≡ true → expressible d ≡ true → length (lines d) ≤ node-limit → ReadBack d
@@ -309,5 +316,6 @@ read-back (node a ks nil) h e l =
           shape-numbered 0 (node (record { kind = 1; content = [] }) (shape ks) nil)
           ∙ ap₂ (λ (k : ℕ) (c : List ℕ). node (record { kind = k; content = c }) (shape ks) nil) (sym (q .0)) (sym (q .1));
       is-loadable = k;
-      reads = accepted-iff (write (node a ks nil)) (renumbered (node a ks nil)) k .1 (record { shape = shape ks; spelled = x; stands = refl; short-input = p .1; few-nodes = few; short-contents = short });
+      reads = accepted-iff (write (node a ks nil)) (renumbered (node a ks nil)) k .1
+          (record { shape = shape ks; spelled = x; stands = refl; short-input = p .1; few-nodes = few; short-contents = short });
     }

@@ -71,7 +71,9 @@ common [] b x y [] = go (eqb 0 b)
     go false = refl
 common [] b x y (c ∷ l) = go (eqb c b)
   where
-    go : (t : Bool) → reached (cond t (begun x) (follow y c)) (λ z. reach z l) ≡ cond t (reached (cond t (begun x) no-word) (λ z. reach z l)) (reached (follow y c) (λ z. reach z l))
+    go : (t : Bool)
+        → reached (cond t (begun x) (follow y c)) (λ z. reach z l)
+        ≡ cond t (reached (cond t (begun x) no-word) (λ z. reach z l)) (reached (follow y c) (λ z. reach z l))
     go true = refl
     go false = refl
 common (a ∷ w) b x y [] = go (eqb 0 b)
@@ -113,7 +115,8 @@ entities-at l =
     let a = common (97 ∷ []) 109 m p l ∙ choose (eqb (getD l 1 0) 109) (one-word (bytes "amp") 59 ampersand l) (one-word (bytes "apos") 59 apostrophe l) in
     let q = common [] 108 (chain (bytes "t") (last 59 less-than)) (chain (bytes "quot") (last 59 quotation-mark)) l
     ∙ choose (eqb (getD l 0 0) 108) (one-word (bytes "lt") 59 less-than l) (one-word (bytes "quot") 59 quotation-mark l) in
-    let g = common [] 103 (chain (bytes "t") (last 59 greater-than)) (fork 108 (chain (bytes "t") (last 59 less-than)) (chain (bytes "quot") (last 59 quotation-mark))) l
+    let g = common [] 103 (chain (bytes "t") (last 59 greater-than))
+    (fork 108 (chain (bytes "t") (last 59 less-than)) (chain (bytes "quot") (last 59 quotation-mark))) l
     ∙ choose (eqb (getD l 0 0) 103) (one-word (bytes "gt") 59 greater-than l) q in
     common [] 97 (fork 109 m p) more-entities l ∙ choose (eqb (getD l 0 0) 97) a g
 
@@ -132,7 +135,9 @@ declarations-at l =
     whole-of : (w : List ℕ) → one-more (one-more (word-at w 0 l)) ≡ word-at (less-than ∷ 63 ∷ w) 0 (less-than ∷ 63 ∷ l)
     whole-of w = ap one-more (sym (word-more 63 w 0 63 l refl)) ∙ sym (word-more less-than (63 ∷ w) 0 less-than (63 ∷ l) refl)
 
-    go : (t : Bool) → one-more (one-more (cond t (reach (chain version (then 63 (last greater-than 0))) l) (reach (chain version (chain encoding (last greater-than 0))) l)))
+    go : (t : Bool)
+        → one-more (one-more (cond t (reach (chain version (then 63 (last greater-than 0))) l)
+        (reach (chain version (chain encoding (last greater-than 0))) l)))
         ≡ cond t (word-at short-declaration 0 (less-than ∷ 63 ∷ l)) (word-at long-declaration 0 (less-than ∷ 63 ∷ l))
     go true = ap (λ r. one-more (one-more r)) (one-word (version ++ (63 ∷ [])) greater-than 0 l) ∙ whole-of (version ++ (63 ∷ greater-than ∷ []))
     go false = ap (λ r. one-more (one-more r)) (one-word (version ++ encoding) greater-than 0 l) ∙ whole-of (version ++ (encoding ++ (greater-than ∷ [])))

@@ -40,8 +40,11 @@ module _ {p : List ℕ} {c : Config} {v : List Event} (r : Reads true at-start p
   told : (t : List ℕ) (f : Shape) → Parses false (p ++ t) f → (e : List Event) × (tell 1 f [] ≡ v ++ e) × Accepts false c t e
   told t f x =
       let y = cut p t (complete x) in
-      let z = one-run (loose r) (y .first-part) in
-      (y .after, y .events ∙ ap (λ (l : List Event). l ++ y .after) (sym (z .0)), subst (λ (d : Config). Accepts false d t (y .after)) (sym (z .1)) (y .second-part))
+      let z = one-run (loose r) (y .first-part) in (
+        y .after,
+        y .events ∙ ap (λ (l : List Event). l ++ y .after) (sym (z .0)),
+        subst (λ (d : Config). Accepts false d t (y .after)) (sym (z .1)) (y .second-part),
+      )
 
   pub many-forced : node-limit < suc (births v) → Forces ManyNodes p
   many-forced h t f x = let y = told t f x in omega (arith, size-told f, ap births (y .1), births-append v (y .0))

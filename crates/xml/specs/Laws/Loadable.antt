@@ -29,7 +29,9 @@ from i (suc n) = i ∷ from (suc i) n
 from-append : (i m n : ℕ) → from i (m + n) ≡ from i m ++ from (i + m) n
 unfolding from
 from-append i zero n = let p : 0 + n ≡ n = omega arith in let q : i + 0 ≡ i = omega arith in rw (p, q)
-from-append i (suc m) n = let p : suc m + n ≡ suc (m + n) = omega arith in let q : i + suc m ≡ suc i + m = omega arith in rw (p, q) (ap (λ (l : List ℕ). i ∷ l) (from-append (suc i) m n))
+from-append i (suc m) n =
+    let p : suc m + n ≡ suc (m + n) = omega arith in
+    let q : i + suc m ≡ suc i + m = omega arith in rw (p, q) (ap (λ (l : List ℕ). i ∷ l) (from-append (suc i) m n))
 
 map-append : {A B : Type 0} (g : A → B) (s t : List A) → map g (s ++ t) ≡ map g s ++ map g t
 map-append g [] t = refl

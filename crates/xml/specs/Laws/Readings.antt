@@ -58,7 +58,8 @@ module _ (s : List ℕ) where
 
 -- and as nothing else
 same-input : {d e : Document} (h : loadable d ≡ true) (k : loadable e ≡ true) → d ≡ e → stands-for d h ≡ stands-for e k
-same-input {d} {e} h k p = pathJ (λ e p. (k : loadable e ≡ true) → stands-for d h ≡ stands-for e k) (λ k. ap (stands-for d) (Bool-set (loadable d) true h k)) p k
+same-input {d} {e} h k p =
+    pathJ (λ e p. (k : loadable e ≡ true) → stands-for d h ≡ stands-for e k) (λ k. ap (stands-for d) (Bool-set (loadable d) true h k)) p k
 
 pub one-reading : {s : List ℕ} {x y : Input} → ReadsAs s x → ReadsAs s y → x ≡ y
 one-reading (accepted {f = f} a b h) (accepted {f = g} c d k) = same-input h k (ap document (one-tree a c))

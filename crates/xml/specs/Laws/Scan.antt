@@ -48,7 +48,8 @@ limited-below long c i h = rw (lt-leb input-limit i h)
 limited-at : (long : Bool) (c i : ℕ) → input-limit ≤ i → limited long (bad c i) ≡ bad 4 input-limit
 limited-at long c i h = rw (le-leb input-limit i h)
 
-limited-end : (c : Config) (n i : ℕ) → i ≤ input-limit → cond (is-over (phase c)) (fine n) (bad 4 i) ≡ limited false (cond (is-over (phase c)) (fine n) (bad 4 i))
+limited-end : (c : Config) (n i : ℕ) → i ≤ input-limit
+    → cond (is-over (phase c)) (fine n) (bad 4 i) ≡ limited false (cond (is-over (phase c)) (fine n) (bad 4 i))
 limited-end c n i h = go (is-over (phase c))
   where
     go : (t : Bool) → cond t (fine n) (bad 4 i) ≡ limited false (cond t (fine n) (bad 4 i))
@@ -60,7 +61,8 @@ limited-past true n i h = refl
 limited-past false n i h = limited-at true 4 i h
 
 -- one byte
-limited-counted : (long : Bool) (b i n k : ℕ) (u v : Verdict) → i ≤ input-limit → (i < input-limit → u ≡ limited long v) → (i ≡ input-limit → limited long v ≡ bad 4 input-limit)
+limited-counted : (long : Bool) (b i n k : ℕ) (u v : Verdict) → i ≤ input-limit → (i < input-limit → u ≡ limited long v)
+    → (i ≡ input-limit → limited long v ≡ bad 4 input-limit)
     → weighed b i n k u ≡ limited long (counted b i n k v)
 limited-counted long b i n k u v h f g = go (ltb node-limit n) (opener b) (leb input-limit i) refl (ltb content-limit k)
   where
@@ -92,7 +94,8 @@ judge-scan c n k b i (a ∷ l) (suc m) e h =
         rw (z, lt-ltb input-limit (suc i + length l) (omega arith)) (limited-past (is-over (phase d)) n′ (suc i) (omega arith))
 
     go : (x : Move)
-        → ((d : Config) (n′ k′ : ℕ) → suc i ≤ input-limit → judge d n′ k′ a (suc i) l ≡ limited (ltb input-limit (suc i + length l)) (scan d n′ k′ a (suc i) (take m l)))
+        → ((d : Config) (n′ k′ : ℕ) → suc i ≤ input-limit → judge d n′ k′ a (suc i) l
+        ≡ limited (ltb input-limit (suc i + length l)) (scan d n′ k′ a (suc i) (take m l)))
         → judge-move x n k b i (λ d n′ k′. judge d n′ k′ a (suc i) l)
         ≡ limited (ltb input-limit (suc i + length l)) (scan-move x n k b i (λ d n′ k′. scan d n′ k′ a (suc i) (take m l)))
     go stuck f = sym (limited-four (ltb input-limit (suc i + length l)) i h)

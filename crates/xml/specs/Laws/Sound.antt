@@ -29,7 +29,8 @@ use Rattle.xml.specs.Laws.Transitions.{s-end-blank, s-end-close, s-epilo
 pub data Rest (u : Bool) : Config → List ℕ → List Event → Type 0 where
   r-start : {s : List ℕ} {f : Shape} → Parses u s f → Rest u at-start s (tell 1 f [])
   r-prolog : {s t : List ℕ} {e : List Event} → Blanks s (less-than ∷ t) → Rest u behind-root t e → Rest u prolog s e
-  r-root : {n : Name} {s t : List ℕ} {e : List Event} → Named n s t → Rest u (behind-part n [] []) t e → Rest u behind-root s (born 1 element-kind ∷ tell-bytes n e)
+  r-root : {n : Name} {s t : List ℕ} {e : List Event} → Named n s t → Rest u (behind-part n [] []) t e
+      → Rest u behind-root s (born 1 element-kind ∷ tell-bytes n e)
   r-first : {s : List ℕ} {e : List Event} → Rest u behind-root s e → Rest u behind-first s e
   r-declarations : {s : List ℕ} {e : List Event} → Rest u (declaration declarations) s e → Rest u behind-first (63 ∷ s) e
   r-declaration : {x : Words} {s t : List ℕ} {k : ℕ} {e : List Event} → Word x s t k → Rest u prolog t e → Rest u (declaration x) s e
@@ -39,7 +40,8 @@ pub data Rest (u : Bool) : Config → List ℕ → List Event → Type 0 where
       → Rest u (behind-part n ns seen) s (tell (suc (depth ns)) f e)
   r-in-tag : {n : Name} {ns seen : List Name} {s t : List ℕ} {f : Shape} {e : List Event} → Part u (spaced n seen) s f t → Rest u (closed ns) t e
       → Rest u (in-tag n ns seen) s (tell (suc (depth ns)) f e)
-  r-attribute : {n p : Name} {ns seen : List Name} {r s t : List ℕ} {e : List Event} → NameBytes r s t → (u && used seen (p ++ r)) ≡ false → Rest u (before-equals n ns ((p ++ r) ∷ seen)) t e
+  r-attribute : {n p : Name} {ns seen : List Name} {r s t : List ℕ} {e : List Event} → NameBytes r s t → (u && used seen (p ++ r)) ≡ false
+      → Rest u (before-equals n ns ((p ++ r) ∷ seen)) t e
       → Rest u (attribute-name n ns seen p) s (tell-bytes r e)
   r-before : {n : Name} {ns seen : List Name} {s t : List ℕ} {e : List Event} → Blanks s (equals-sign ∷ t) → Rest u (behind-equals n ns seen) t e
       → Rest u (before-equals n ns seen) s e
@@ -49,7 +51,8 @@ pub data Rest (u : Bool) : Config → List ℕ → List Event → Type 0 where
       → Rest u (behind-quote n ns seen q) s (tell (suc (suc (depth ns))) (text-node c) e)
   r-value : {n : Name} {ns seen : List Name} {q : Quote} {s t c : List ℕ} {e : List Event} → Value q s t c → Rest u (behind-part n ns seen) t e
       → Rest u (in-value n ns seen q) s (tell-bytes c e)
-  r-value-word : {n : Name} {ns seen : List Name} {q : Quote} {k : ℕ} {x : Words} {s t : List ℕ} {e : List Event} → Word x s t k → Rest u (in-value n ns seen q) t e
+  r-value-word : {n : Name} {ns seen : List Name} {q : Quote} {k : ℕ} {x : Words} {s t : List ℕ} {e : List Event} → Word x s t k
+      → Rest u (in-value n ns seen q) t e
       → Rest u (value-reference n ns seen q x) s (byte k ∷ e)
   r-slash : {ns : List Name} {s : List ℕ} {e : List Event} → Rest u (closed ns) s e → Rest u (behind-slash ns) (greater-than ∷ s) e
   r-content : {n : Name} {ns : List Name} {s t : List ℕ} {f : Shape} {e : List Event} → Part u (inside n) s f t → Rest u (closed ns) t e
@@ -60,13 +63,15 @@ pub data Rest (u : Bool) : Config → List ℕ → List Event → Type 0 where
       → Rest u (in-text n ns k) s (tell-bytes c e)
   r-text-word : {n : Name} {ns : List Name} {k : ℕ} {x : Words} {s t : List ℕ} {e : List Event} → Word x s t k → Rest u (in-text n ns 0) t e
       → Rest u (text-reference n ns x) s (byte k ∷ e)
-  r-end : {n : Name} {ns : List Name} {w s t : List ℕ} {e : List Event} → Blanks s (greater-than ∷ t) → Rest u (closed ns) t e → Rest u (end-name n ns w) (w ++ s) e
+  r-end : {n : Name} {ns : List Name} {w s t : List ℕ} {e : List Event} → Blanks s (greater-than ∷ t) → Rest u (closed ns) t e
+      → Rest u (end-name n ns w) (w ++ s) e
   r-epilog : {s : List ℕ} → Blanks s [] → Rest u epilog s []
 
 -- a transition back --------------------------------------------------------------------
 
 module _ {u : Bool} where
-  back-tag : {n : Name} {ns seen : List Name} {b : ℕ} {d : Config} {s : List ℕ} {e : List Event} → TagStep n ns seen b d → Rest u d s e → Rest u (behind-part n ns seen) (b ∷ s) e
+  back-tag : {n : Name} {ns seen : List Name} {b : ℕ} {d : Config} {s : List ℕ} {e : List Event} → TagStep n ns seen b d → Rest u d s e
+      → Rest u (behind-part n ns seen) (b ∷ s) e
   unfolding tell
   back-tag (tag-blank h) (r-in-tag p r) = r-behind (spacing h p) r
   back-tag tag-slash (r-slash r) = r-behind empty r
@@ -78,7 +83,8 @@ module _ {u : Bool} where
   at-end : {s : List ℕ} {e : List Event} → Rest u epilog s e → Blanks s [] × (e ≡ [])
   at-end (r-epilog x) = (x, refl)
 
-  root-part : {n : Name} {s : List ℕ} {e : List Event} → Rest u (behind-part n [] []) s e → (f : Shape) × (t : List ℕ) × Part u (behind n []) s f t × Blanks t [] × (e ≡ tell 2 f [])
+  root-part : {n : Name} {s : List ℕ} {e : List Event} → Rest u (behind-part n [] []) s e
+      → (f : Shape) × (t : List ℕ) × Part u (behind n []) s f t × Blanks t [] × (e ≡ tell 2 f [])
   unfolding depth
   root-part (r-behind p r) = let x = at-end r in (_, _, p, x .0, rw (x .1))
 
@@ -104,7 +110,8 @@ module _ {u : Bool} where
   unfolding tell-bytes
   end-tag-name {ns} {p} {s} {e} r = r-tag-name {p = p} {e = e} no-name-byte (subst (λ (x : Name). Rest u (behind-part x ns []) s e) (sym (append-nil p)) r)
 
-  end-attribute : {n p : Name} {ns seen : List Name} {s : List ℕ} {e : List Event} → (u && used seen p) ≡ false → Rest u (before-equals n ns (p ∷ seen)) s e → Rest u (attribute-name n ns seen p) s e
+  end-attribute : {n p : Name} {ns seen : List Name} {s : List ℕ} {e : List Event} → (u && used seen p) ≡ false
+      → Rest u (before-equals n ns (p ∷ seen)) s e → Rest u (attribute-name n ns seen p) s e
   unfolding tell-bytes
   end-attribute {n} {p} {ns} {seen} {s} {e} k r =
       r-attribute {p = p} {e = e} no-name-byte (subst (λ (x : Name). (u && used seen x) ≡ false) (sym (append-nil p)) k)

@@ -122,7 +122,8 @@ module _ (s : List ℕ) (C : Name → Config) (n : ℕ) (f : Naming C) (l : n �
       let more = name-run m (suc i) (suc k) (p ++ (b ∷ [])) (x .2) (omega arith) in
       let u : k + suc m ≡ suc k + m = omega arith in
       let v : i + suc m ≡ suc i + m = omega arith in
-      rw (u, v, drop-cons s i 0 (x .0), ← append-assoc p (b ∷ []) (take m (drop (suc i) s))) (one ∙ ap₂ (λ (k i : ℕ). scan-at s (C (p ++ (b ∷ []))) n k i) (add-one k) (add-one i) ∙ more)
+      rw (u, v, drop-cons s i 0 (x .0), ← append-assoc p (b ∷ []) (take m (drop (suc i) s)))
+      (one ∙ ap₂ (λ (k i : ℕ). scan-at s (C (p ++ (b ∷ []))) n k i) (add-one k) (add-one i) ∙ more)
 
   -- behind the first byte of the name at a
   module _ (a : ℕ) (inside : a < length s) (first : name-byte (getD s a 0) ≡ true) where

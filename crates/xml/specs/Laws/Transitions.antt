@@ -91,11 +91,13 @@ module _ {u : Bool} {c d : Config} {v : List Event} {m : Move} (b : ℕ) where
   on-test : (t : Bool) → (t ≡ true → Step u c b d v) → (t ≡ false → View u c b m) → View u c b (cond t (move d v) m)
   on-test t f g = fork-on (View u c b) t (λ h. moved (f h)) g
 
-on-tag : {u : Bool} {c : Config} (n : Name) (ns seen : List Name) (b : ℕ) → ((d : Config) → TagStep n ns seen b d → Step u c b d []) → View u c b (tag-step n ns seen b)
+on-tag : {u : Bool} {c : Config} (n : Name) (ns seen : List Name) (b : ℕ) → ((d : Config) → TagStep n ns seen b d → Step u c b d [])
+    → View u c b (tag-step n ns seen b)
 unfolding tag-step
 on-tag {u} {c} n ns seen b f = on-test b (blank b) (λ h. f _ (tag-blank h))
     (λ _. fork-on (View u c b) (eqb b slash) (λ h. moved (f _ (subst (λ (a : ℕ). TagStep n ns seen a (behind-slash ns)) (sym (eqb-true b slash h)) tag-slash)))
-    (λ _. fork-on (View u c b) (eqb b greater-than) (λ h. moved (f _ (subst (λ (a : ℕ). TagStep n ns seen a (content n ns)) (sym (eqb-true b greater-than h)) tag-close)))
+    (λ _. fork-on (View u c b) (eqb b greater-than)
+    (λ h. moved (f _ (subst (λ (a : ℕ). TagStep n ns seen a (content n ns)) (sym (eqb-true b greater-than h)) tag-close)))
     (λ _. nowhere)))
 
 on-word : {u : Bool} {c : Config} (b : ℕ) (r : Found) {f : ℕ → Move} {g : Words → Move}
@@ -120,11 +122,14 @@ view u (attribute-name n ns seen p) b = on-test b (name-byte b) s-attribute
 view u (before-equals n ns seen) b = on-test b (blank b) s-before-blank (λ _. on-byte b equals-sign s-before-equals nowhere)
 view u (behind-equals n ns seen) b = on-test b (blank b) s-equals-blank
     (λ _. on-byte b quotation-mark (s-equals-quote double) (on-byte b apostrophe (s-equals-quote single) nowhere))
-view u (behind-quote n ns seen q) b = on-test b (value-literal q b) s-quote-byte (λ _. on-byte b ampersand s-quote-reference (on-byte b (mark q) s-quote-end nowhere))
-view u (in-value n ns seen q) b = on-test b (value-literal q b) s-value-byte (λ _. on-byte b ampersand s-value-reference (on-byte b (mark q) s-value-end nowhere))
+view u (behind-quote n ns seen q) b =
+    on-test b (value-literal q b) s-quote-byte (λ _. on-byte b ampersand s-quote-reference (on-byte b (mark q) s-quote-end nowhere))
+view u (in-value n ns seen q) b =
+    on-test b (value-literal q b) s-value-byte (λ _. on-byte b ampersand s-value-reference (on-byte b (mark q) s-value-end nowhere))
 view u (value-reference n ns seen q x) b = on-word b (follow x b) (λ k h. moved (s-value-word-end h)) (λ y h. moved (s-value-word-on h))
 view u (behind-slash ns) b = on-byte b greater-than s-slash nowhere
-view u (content n ns) b = on-test b (text-literal 0 b) s-content-byte (λ _. on-byte b ampersand s-content-reference (on-byte b less-than s-content-open nowhere))
+view u (content n ns) b =
+    on-test b (text-literal 0 b) s-content-byte (λ _. on-byte b ampersand s-content-reference (on-byte b less-than s-content-open nowhere))
 view u (in-text n ns k) b = on-test b (text-literal k b) s-text-byte (λ _. on-byte b ampersand s-text-reference (on-byte b less-than s-text-open nowhere))
 view u (text-reference n ns x) b = on-word b (follow x b) (λ k h. moved (s-text-word-end h)) (λ y h. moved (s-text-word-on h))
 view u (behind-open n ns) b = on-test b (name-start b) s-open-name (λ _. on-byte b slash s-open-slash nowhere)

@@ -322,7 +322,8 @@ judged s (b ∷ l) i p a m clean c v w =
     rw e (go inside (step true c (getD s i 0)) refl (λ d v′ w′ m′. judged s l (suc i) r (omega arith) m′ (clean-next s i d v′ clean w′) d v′ w′))
   where
     go : i < length s → (x : Move) → step true c (getD s i 0) ≡ x
-        → ((d : Config) (v′ : List Event) → Within s (suc i) d v′ → suc i ≤ input-limit → Means s (judge d (suc (births v′)) (tail 0 v′) (getD s i 0) (suc i) l))
+        → ((d : Config) (v′ : List Event) → Within s (suc i) d v′ → suc i ≤ input-limit
+        → Means s (judge d (suc (births v′)) (tail 0 v′) (getD s i 0) (suc i) l))
         → Means s (judge-move x (suc (births v)) (tail 0 v) (byte-before s i) i (λ d n j. judge d n j (getD s i 0) (suc i) l))
     go inside stuck h f = no-step s i a m clean c v w inside h
     go inside (move d e) h f =

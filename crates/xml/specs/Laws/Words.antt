@@ -159,7 +159,8 @@ end-of : {a b : ℕ} {u t : List ℕ} {k : ℕ} → Word (last a b) u t k → u 
 end-of word-last = refl
 
 -- what holds of both declarations with t behind them holds of each word's <? and s
-pub word-declaration : {s t : List ℕ} {k : ℕ} (P : List ℕ → Type 0) → Word declarations s t k → P (short-declaration ++ t) → P (long-declaration ++ t) → P (less-than ∷ 63 ∷ s)
+pub word-declaration : {s t : List ℕ} {k : ℕ} (P : List ℕ → Type 0) → Word declarations s t k → P (short-declaration ++ t) → P (long-declaration ++ t)
+    → P (less-than ∷ 63 ∷ s)
 word-declaration {s} {t} {k} P w short long = chain-back version w (λ s. P (less-than ∷ 63 ∷ s)) go
   where
     go : (u : List ℕ) → Word (fork 63 (last greater-than 0) (chain encoding (last greater-than 0))) u t k → P (less-than ∷ 63 ∷ (version ++ u))

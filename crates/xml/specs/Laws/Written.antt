@@ -52,7 +52,8 @@ value-written (b ∷ c) t h =
   where
     go : text-byte b ≡ true → Value double (escaped c ++ (quotation-mark ∷ t)) t c → Value double (escape b ++ (escaped c ++ (quotation-mark ∷ t))) t (b ∷ c)
     go k v = escape-cases (λ l. Value double (l ++ (escaped c ++ (quotation-mark ∷ t))) t (b ∷ c)) b
-        (λ e. rw e (value-entity entity-amp v)) (λ e. rw e (value-entity entity-lt v)) (λ e. rw e (value-entity entity-gt v)) (λ e. rw e (value-entity entity-quot v))
+        (λ e. rw e (value-entity entity-amp v)) (λ e. rw e (value-entity entity-lt v)) (λ e. rw e (value-entity entity-gt v))
+        (λ e. rw e (value-entity entity-quot v))
         (λ e e₁ e₂ e₃. value-byte {b = b} (rw (k, e, e₁, e₃)) v)
 
 text-written : (k : ℕ) (c t : List ℕ) → every text-byte c ≡ true → Chars k (escaped c ++ (less-than ∷ t)) t c
@@ -64,7 +65,8 @@ text-written k (b ∷ c) t h =
   where
     go : text-byte b ≡ true → ((j : ℕ) → Chars j (escaped c ++ (less-than ∷ t)) t c) → Chars k (escape b ++ (escaped c ++ (less-than ∷ t))) t (b ∷ c)
     go i v = escape-cases (λ l. Chars k (l ++ (escaped c ++ (less-than ∷ t))) t (b ∷ c)) b
-        (λ e. rw e (chars-entity entity-amp (v 0))) (λ e. rw e (chars-entity entity-lt (v 0))) (λ e. rw e (chars-entity entity-gt (v 0))) (λ e. rw e (chars-entity entity-quot (v 0)))
+        (λ e. rw e (chars-entity entity-amp (v 0))) (λ e. rw e (chars-entity entity-lt (v 0))) (λ e. rw e (chars-entity entity-gt (v 0)))
+        (λ e. rw e (chars-entity entity-quot (v 0)))
         (λ e e₁ e₂ e₃. chars-byte {k = k} {b = b} (rw (i, e, e₁, e₂)) (v (brackets k b)))
 
 -- the end of an element, of its start tag or of the empty tag

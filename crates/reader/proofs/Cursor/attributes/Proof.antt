@@ -9,7 +9,8 @@ use Rattle.reader.specs.declared.Part.{Part}
 use Rattle.reader.specs.declared.Read.{Read}
 use Rattle.reader.specs.Steps.{TagRead}
 use Rattle.reader.specs.Elements.{stack, Placed, Kept, AttributeRead}
-use Rattle.reader.specs.Laws.StartTags.{AttributesTo, attributes-start, attributes-wrong, attributes-open, attributes-empty, attributes-bad, attributes-turn}
+use Rattle.reader.specs.Laws.StartTags.{AttributesTo, attributes-start, attributes-wrong, attributes-open, attributes-empty}
+use Rattle.reader.specs.Laws.StartTags.{attributes-bad, attributes-turn}
 use Rattle.reader.specs.Laws.StartTags.{attribute-here, attribute-behind, kept-same, kept-set, placed-push}
 use Rattle.reader.proofs.Cursor.attributes.Statement.{statement}
 use Rattle.reader.proofs.Cursor.attributes.Tie as tie
@@ -23,7 +24,18 @@ abbrev μ-loop : tie.MeasureT-loop
 μ-loop s names₀ lo nodes i₀ count₀ n₀ names i count n = length s - i
 
 loop-holds : tie.Need-loop-holds Inv-loop μ-loop
-loop-holds c = (search needs, search needs, search needs, search needs, search needs, placed-at _ _ _ _ (omega arith) (c .before .pre .3), kept-same _ _, attributes-start _ _ _ _ _, c .before .pre .4)
+loop-holds c =
+    let pre = c .before .pre in (
+      search needs,
+      search needs,
+      search needs,
+      search needs,
+      search needs,
+      placed-at _ _ _ _ (omega arith) (pre .3),
+      kept-same _ _,
+      attributes-start _ _ _ _ _,
+      pre .4,
+    )
 
 part-requires : tie.Need-part-requires Inv-loop μ-loop
 part-requires c κs = search needs
@@ -76,22 +88,29 @@ attribute-requires c κs =
     let loop = c .before .before .before .before .before .loop in
     let part = c .before .before .before .before .part in
     let c3 = c .before .before .c3 in
-    (attribute-here _ (loop .inv .3) (subst (λ (r : Part). TagRead (args .s .now) behind-part (loop .i) r) (c3 .given .1) (part .ensures)) .0, search needs, loop .inv .5)
+    let found = subst (λ (r : Part). TagRead (args .s .now) behind-part (loop .i) r) (c3 .given .1) (part .ensures) in (
+      attribute-here _ (loop .inv .3) found .0,
+      search needs,
+      loop .inv .5,
+    )
 
 enum-known-x : tie.Need-enum-known-x Inv-loop μ-loop
 enum-known-x c = search needs
 
 returns-4 : tie.Need-returns-4 Inv-loop μ-loop
 returns-4 c =
-    let args = c .before .before .before .before .before .before .before .before .before .before .before .args in
-    let loop = c .before .before .before .before .before .before .before .before .before .loop in
-    let part = c .before .before .before .before .before .before .before .before .part in
+    let c8 = c .before .before .before .before .before .before .before .before in
+    let args = c8 .before .before .before .args in
+    let loop = c8 .before .loop in
+    let part = c8 .part in
     let c3 = c .before .before .before .before .before .before .c3 in
-    let attribute = c .before .before .before .attribute in (
-      attributes-bad _ _ _ _ _ _ _ _ (loop .inv .7) (loop .inv .0) (loop .inv .2) (loop .inv .3)
-          (subst (λ (r : Part). TagRead (args .s .now) behind-part (loop .i) r) (c3 .given .1) (part .ensures))
-          (subst (λ (r : Read). AttributeRead (args .s .now) (stack (args .s .now) (loop .names) (args .lo) (loop .count)) (c3 .given .0 .0 .at) (loop .n) r) (c .before .x .given .1)
-          (attribute .ensures)),
+    let attribute = c .before .before .before .attribute in
+    let x = c .before .x in
+    let found = subst (λ (r : Part). TagRead (args .s .now) behind-part (loop .i) r) (c3 .given .1) (part .ensures) in
+    let open-names = stack (args .s .now) (loop .names) (args .lo) (loop .count) in
+    let from = c3 .given .0 .0 .at in
+    let read = subst (λ (r : Read). AttributeRead (args .s .now) open-names from (loop .n) r) (x .given .1) (attribute .ensures) in (
+      attributes-bad _ _ _ _ _ _ _ _ (loop .inv .7) (loop .inv .0) (loop .inv .2) (loop .inv .3) found read,
       loop .inv .6,
     )
 
@@ -112,30 +131,34 @@ add-count c = search needs
 
 loop-less : tie.Need-loop-less Inv-loop μ-loop
 loop-less c =
-    let args = c .before .before .before .before .before .before .before .before .before .before .before .args in
-    let loop = c .before .before .before .before .before .before .before .before .before .loop in
-    let part = c .before .before .before .before .before .before .before .before .part in
+    let c8 = c .before .before .before .before .before .before .before .before in
+    let args = c8 .before .before .before .args in
+    let loop = c8 .before .loop in
+    let part = c8 .part in
     let c3 = c .before .before .before .before .before .before .c3 in
     let attribute = c .before .before .before .attribute in
-    let p = attribute-here _ (loop .inv .3) (subst (λ (r : Part). TagRead (args .s .now) behind-part (loop .i) r) (c3 .given .1) (part .ensures)) in
-    let a =
-    attribute-behind
-    (subst (λ (r : Read). AttributeRead (args .s .now) (stack (args .s .now) (loop .names) (args .lo) (loop .count)) (c3 .given .0 .0 .at) (loop .n) r) (c .before .next .given .1)
-    (attribute .ensures)) in
+    let next = c .before .next in
+    let found = subst (λ (r : Part). TagRead (args .s .now) behind-part (loop .i) r) (c3 .given .1) (part .ensures) in
+    let open-names = stack (args .s .now) (loop .names) (args .lo) (loop .count) in
+    let from = c3 .given .0 .0 .at in
+    let read = subst (λ (r : Read). AttributeRead (args .s .now) open-names from (loop .n) r) (next .given .1) (attribute .ensures) in
+    let p = attribute-here _ (loop .inv .3) found in
+    let a = attribute-behind read in
     omega (arith, p .1, a .0, a .1)
 
 loop-again : tie.Need-loop-again Inv-loop μ-loop
 loop-again c =
-    let args = c .before .before .before .before .before .before .before .before .before .before .before .args in
-    let loop = c .before .before .before .before .before .before .before .before .before .loop in
-    let part = c .before .before .before .before .before .before .before .before .part in
+    let c8 = c .before .before .before .before .before .before .before .before in
+    let args = c8 .before .before .before .args in
+    let loop = c8 .before .loop in
+    let part = c8 .part in
     let c3 = c .before .before .before .before .before .before .c3 in
     let attribute = c .before .before .before .attribute in
+    let next = c .before .next in
     let x = subst (λ (r : Part). TagRead (args .s .now) behind-part (loop .i) r) (c3 .given .1) (part .ensures) in
     let p = attribute-here _ (loop .inv .3) x in
-    let z =
-    subst (λ (r : Read). AttributeRead (args .s .now) (stack (args .s .now) (loop .names) (args .lo) (loop .count)) (c3 .given .0 .0 .at) (loop .n) r) (c .before .next .given .1)
-    (attribute .ensures) in
+    let z = subst (λ (r : Read). AttributeRead (args .s .now) (stack (args .s .now) (loop .names) (args .lo) (loop .count))
+    (c3 .given .0 .0 .at) (loop .n) r) (next .given .1) (attribute .ensures) in
     let a = attribute-behind z in (
       omega (arith, p .1, a .0),
       a .1,

@@ -46,7 +46,9 @@ returns-3 c =
     let loop = c .before .before .before .before .before .before .loop in
     let if1 = c .before .before .before .if1 in
     let may-stand = c .before .before .may-stand in
-    characters-full _ _ _ _ _ _ _ (search needs) (loop .inv .3) (search needs) (if1 .left) (sym (may-stand .ensures) ∙ not-false _ (c .before .if2 .left)) (c .if3 .taken)
+    let if2 = c .before .if2 in
+    characters-full _ _ _ _ _ _ _ (search needs) (loop .inv .3) (search needs) (if1 .left)
+    (sym (may-stand .ensures) ∙ not-false _ (if2 .left)) (c .if3 .taken)
 
 add-i : tie.Need-add-i Inv-loop μ-loop
 add-i c = search needs
@@ -85,11 +87,17 @@ enum-known-j c = search needs
 returns-4 : tie.Need-returns-4 Inv-loop μ-loop
 returns-4 c =
     let c₇ = c .before .before .before .before .before .before .before in
+    let if2 = c .before .before .before .before .before .before .if2 in
+    let if4 = c .before .before .before .before .if4 in
+    let reference = c .before .before .before .reference in
+    let j = c .before .j in
     let loop = c₇ .before .before .before .before .loop in
-    let stands = sym (c₇ .may-stand .ensures) ∙ not-false _ (c .before .before .before .before .before .before .if2 .left) in
+    let stands = sym (c₇ .may-stand .ensures) ∙ not-false _ (if2 .left) in
     let args = c₇ .before .before .before .before .before .before .args in
-    let r = subst (λ (r : Reference). Refers (args .s .now) (loop .i + 1) (entity-at (drop (loop .i + 1) (args .s .now))) r) (c .before .j .given .1) (c .before .before .before .reference .ensures) in
-    characters-lost _ _ _ _ _ _ _ (search needs) (loop .inv .3) (search needs) (c₇ .before .if1 .left) stands (search needs) (by-reference (c .before .before .before .before .if4 .left) r)
+    let name = entity-at (drop (loop .i + 1) (args .s .now)) in
+    let r = subst (λ (r : Reference). Refers (args .s .now) (loop .i + 1) name r) (j .given .1) (reference .ensures) in
+    characters-lost _ _ _ _ _ _ _ (search needs) (loop .inv .3) (search needs) (c₇ .before .if1 .left) stands (search needs)
+    (by-reference (if4 .left) r)
 
 enum-known-behind : tie.Need-enum-known-behind Inv-loop μ-loop
 enum-known-behind c = search needs
@@ -100,26 +108,37 @@ add-count-2 c = search needs
 loop-less-2 : tie.Need-loop-less-2 Inv-loop μ-loop
 loop-less-2 c =
     let c₇ = c .before .before .before .before .before .before .before in
+    let if2 = c .before .before .before .before .before .before .if2 in
+    let if4 = c .before .before .before .before .if4 in
+    let reference = c .before .before .before .reference in
+    let behind = c .before .behind in
     let loop = c₇ .before .before .before .before .loop in
-    let stands = sym (c₇ .may-stand .ensures) ∙ not-false _ (c .before .before .before .before .before .before .if2 .left) in
+    let stands = sym (c₇ .may-stand .ensures) ∙ not-false _ (if2 .left) in
     let args = c₇ .before .before .before .before .before .before .args in
-    let r = subst (λ (r : Reference). Refers (args .s .now) (loop .i + 1) (entity-at (drop (loop .i + 1) (args .s .now))) r) (c .before .behind .given .1) (c .before .before .before .reference .ensures) in
-    let y = character-inside (search needs) (by-reference (c .before .before .before .before .if4 .left) r) in
+    let name = entity-at (drop (loop .i + 1) (args .s .now)) in
+    let r = subst (λ (r : Reference). Refers (args .s .now) (loop .i + 1) name r) (behind .given .1) (reference .ensures) in
+    let y = character-inside (search needs) (by-reference (if4 .left) r) in
     omega (arith, y .0, y .1)
 
 loop-again-2 : tie.Need-loop-again-2 Inv-loop μ-loop
 loop-again-2 c =
     let c₇ = c .before .before .before .before .before .before .before in
+    let if2 = c .before .before .before .before .before .before .if2 in
+    let if4 = c .before .before .before .before .if4 in
+    let reference = c .before .before .before .reference in
+    let behind = c .before .behind in
     let loop = c₇ .before .before .before .before .loop in
-    let stands = sym (c₇ .may-stand .ensures) ∙ not-false _ (c .before .before .before .before .before .before .if2 .left) in
+    let stands = sym (c₇ .may-stand .ensures) ∙ not-false _ (if2 .left) in
     let args = c₇ .before .before .before .before .before .before .args in
-    let r = subst (λ (r : Reference). Refers (args .s .now) (loop .i + 1) (entity-at (drop (loop .i + 1) (args .s .now))) r) (c .before .behind .given .1) (c .before .before .before .reference .ensures) in
-    let a = c .before .before .before .before .if4 .left in
+    let name = entity-at (drop (loop .i + 1) (args .s .now)) in
+    let r = subst (λ (r : Reference). Refers (args .s .now) (loop .i + 1) name r) (behind .given .1) (reference .ensures) in
+    let a = if4 .left in
     let y = character-inside (search needs) (by-reference a r) in (
       omega (arith, y .0),
       y .1,
       search needs,
-      characters-reference _ _ _ _ _ _ _ (search needs) (loop .inv .3) (search needs) (c₇ .before .if1 .left) stands (search needs) a r,
+      characters-reference _ _ _ _ _ _ _ (search needs) (loop .inv .3) (search needs) (c₇ .before .if1 .left) stands
+          (search needs) a r,
     )
 
 returns-5 : tie.Need-returns-5 Inv-loop μ-loop

@@ -21,13 +21,18 @@ may-stand-requires : tie.Need-may-stand-requires
 may-stand-requires c κs = search needs
 
 returns-3 : tie.Need-returns-3
-returns-3 c = content-wrong _ _ _ _ (search needs) (search needs) (c .before .before .if2 .left) (sym (c .before .may-stand .ensures) ∙ not-true _ (c .if3 .taken))
+returns-3 c =
+    let if2 = c .before .before .if2 in
+    let may-stand = c .before .may-stand in
+    content-wrong _ _ _ _ (search needs) (search needs) (if2 .left) (sym (may-stand .ensures) ∙ not-true _ (c .if3 .taken))
 
 returns-4 : tie.Need-returns-4
 returns-4 c =
     let if2 = c .before .before .before .if2 in
     let may-stand = c .before .before .may-stand in
-    content-many _ _ _ _ (search needs) (search needs) (if2 .left) (sym (may-stand .ensures) ∙ not-false _ (c .before .if3 .left)) (c .if4 .taken) _ (search needs)
+    let if3 = c .before .if3 in
+    content-many _ _ _ _ (search needs) (search needs) (if2 .left) (sym (may-stand .ensures) ∙ not-false _ (if3 .left))
+    (c .if4 .taken) _ (search needs)
 
 add-characters : tie.Need-add-characters
 add-characters c = search needs

@@ -23,7 +23,10 @@ add-t10 : tie.Need-add-t10
 add-t10 c = search needs
 
 end-tag-requires : tie.Need-end-tag-requires
-end-tag-requires c κs = (search needs, c .before .before .before .pre .2 .names .placed (c .before .before .before .args .depth - 1) (omega (arith, c .before .before .before .pre .2 .some)))
+end-tag-requires c κs =
+    let pre = c .before .before .before .pre in
+    let args = c .before .before .before .args in
+    (search needs, pre .2 .names .placed (args .depth - 1) (omega (arith, pre .2 .some)))
 
 enum-known-j : tie.Need-enum-known-j
 enum-known-j c = search needs
@@ -39,16 +42,20 @@ returns c =
     let a = c .before .before .before .before .before .before .before .args in
     let pre = c .before .before .before .before .before .before .before .pre in
     let end-tag = c .before .before .before .end-tag in
-    end-wrong (a .s .now) (a .names .now) (a .depth) (a .nodes) (a .self .at) (pre .2) (pre .0) (pre .1)
-    (subst (λ (r : End). EndRead (a .s .now) (name-at (a .s .now) (getD (a .names .now) (a .depth - 1) 0)) (a .self .at + 1) r) (c .before .j .given .1) (end-tag .ensures))
+    let j = c .before .j in
+    let open-name = name-at (a .s .now) (getD (a .names .now) (a .depth - 1) 0) in
+    let read = subst (λ (r : End). EndRead (a .s .now) open-name (a .self .at + 1) r) (j .given .1) (end-tag .ensures) in
+    end-wrong (a .s .now) (a .names .now) (a .depth) (a .nodes) (a .self .at) (pre .2) (pre .0) (pre .1) read
 
 returns-2 : tie.Need-returns-2
 returns-2 c =
     let a = c .before .before .before .before .before .before .before .args in
     let pre = c .before .before .before .before .before .before .before .pre in
     let end-tag = c .before .before .before .end-tag in
-    end-right (a .s .now) (a .names .now) (a .depth) (a .nodes) (a .self .at) (pre .2) (pre .0) (pre .1)
-    (subst (λ (r : End). EndRead (a .s .now) (name-at (a .s .now) (getD (a .names .now) (a .depth - 1) 0)) (a .self .at + 1) r) (c .before .c .given .1) (end-tag .ensures))
+    let c-here = c .before .c in
+    let open-name = name-at (a .s .now) (getD (a .names .now) (a .depth - 1) 0) in
+    let read = subst (λ (r : End). EndRead (a .s .now) open-name (a .self .at + 1) r) (c-here .given .1) (end-tag .ensures) in
+    end-right (a .s .now) (a .names .now) (a .depth) (a .nodes) (a .self .at) (pre .2) (pre .0) (pre .1) read
 
 pub end-spec : {M : Type 1} → statement M
 end-spec =

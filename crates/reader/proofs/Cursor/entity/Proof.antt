@@ -11,13 +11,19 @@ add-t9 : tie.Need-add-t9
 add-t9 c = search needs
 
 returns : tie.Need-returns
-returns c = let a = c .before .before .before .before .args in entity-whole (a .word .now) (a .s .now) (a .value) (a .self .at) _ (c .before .agreement .ensures) _ (c .if1 .taken) refl
+returns c =
+    let a = c .before .before .before .before .args in
+    let agreement = c .before .agreement in
+    entity-whole (a .word .now) (a .s .now) (a .value) (a .self .at) _ (agreement .ensures) _ (c .if1 .taken) refl
 
 add-t7 : tie.Need-add-t7
 add-t7 c = search needs
 
 returns-2 : tie.Need-returns-2
-returns-2 c = let a = c .before .before .before .before .args in entity-part (a .word .now) (a .s .now) (a .value) (a .self .at) _ (c .before .agreement .ensures) (c .if1 .left)
+returns-2 c =
+    let a = c .before .before .before .before .args in
+    let agreement = c .before .agreement in
+    entity-part (a .word .now) (a .s .now) (a .value) (a .self .at) _ (agreement .ensures) (c .if1 .left)
 
 pub entity-spec : {M : Type 1} → statement M
 entity-spec = tie.close (tie.spec agreement-requires add-t9 returns add-t7 returns-2)

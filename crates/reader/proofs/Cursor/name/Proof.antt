@@ -30,13 +30,19 @@ loop-less : tie.Need-loop-less Inv-loop μ-loop
 loop-less c = search needs
 
 loop-again : tie.Need-loop-again Inv-loop μ-loop
-loop-again c = (search needs, run-turn _ _ _ _ (c .before .before .before .before .loop .inv .1) (search needs) (sym (c .before .is-name-byte .ensures) ∙ not-false _ (c .if1 .left)))
+loop-again c =
+    let l = c .before .before .before .before .loop in
+    let is-name-byte = c .before .is-name-byte in
+    (search needs, run-turn _ _ _ _ (l .inv .1) (search needs) (sym (is-name-byte .ensures) ∙ not-false _ (c .if1 .left)))
 
 returns : tie.Need-returns Inv-loop μ-loop
 returns c = run-end _ _ _ _ (c .before .loop .inv .1) (search needs) (search needs)
 
 returns-2 : tie.Need-returns-2 Inv-loop μ-loop
-returns-2 c = run-stop _ _ _ _ (c .before .before .before .before .loop .inv .1) (search needs) (sym (c .before .is-name-byte .ensures) ∙ not-true _ (c .if1 .taken))
+returns-2 c =
+    let l = c .before .before .before .before .loop in
+    let is-name-byte = c .before .is-name-byte in
+    run-stop _ _ _ _ (l .inv .1) (search needs) (sym (is-name-byte .ensures) ∙ not-true _ (c .if1 .taken))
 
 pub name-spec : {M : Type 1} → statement M
 name-spec =

@@ -17,7 +17,10 @@ add-t11 : tie.Need-add-t11
 add-t11 c = search needs
 
 returns-2 : tie.Need-returns-2
-returns-2 c = part-any _ _ _ (c .before .before .before .blanks .ensures) (record { reads = λ F p. place-close _ _ F p (c .before .before .if1 .left) _ (c .if2 .taken) refl })
+returns-2 c =
+    let blanks = c .before .before .before .blanks in
+    let if1 = c .before .before .if1 in
+    part-any _ _ _ (blanks .ensures) (record { reads = λ F p. place-close _ _ F p (if1 .left) _ (c .if2 .taken) refl })
 
 slash-requires : tie.Need-slash-requires
 slash-requires c κs = search needs

@@ -22,11 +22,14 @@ add-t12 : tie.Need-add-t12
 add-t12 c = search needs
 
 returns : tie.Need-returns
-returns c = let a = c .before .before .before .before .args in (
-  element-long _ _ _ _ (c .before .before .before .before .pre .0) (c .before .before .before .before .pre .2) (c .before .before .name .ensures) (c .if1 .taken),
-  kept-set _ _ _ _ _ (kept-same _ _) (search needs),
-  getD-set-same (a .names .now) (a .depth) (a .self .at) 0 (omega (arith, c .before .before .before .before .pre .4)),
-)
+returns c =
+    let a = c .before .before .before .before .args in
+    let pre = c .before .before .before .before .pre in
+    let name = c .before .before .name in (
+      element-long _ _ _ _ (pre .0) (pre .2) (name .ensures) (c .if1 .taken),
+      kept-set _ _ _ _ _ (kept-same _ _) (search needs),
+      getD-set-same (a .names .now) (a .depth) (a .self .at) 0 (omega (arith, pre .4)),
+    )
 
 add-attributes : tie.Need-add-attributes
 add-attributes c = search needs

@@ -10,7 +10,10 @@ use Rattle.reader.proofs.Cursor.tag.Statement.{statement}
 use Rattle.reader.proofs.Cursor.tag.Tie as tie
 
 returns : tie.Need-returns
-returns c = let a = c .before .before .args in tag-end (a .s .now) (a .names .now) (a .depth) (a .nodes) (a .self .at) (c .before .before .pre .1) (c .if1 .taken)
+returns c =
+    let a = c .before .before .args in
+    let pre = c .before .before .pre in
+    tag-end (a .s .now) (a .names .now) (a .depth) (a .nodes) (a .self .at) (pre .1) (c .if1 .taken)
 
 shared-slice-read-b : tie.Need-shared-slice-read-b
 shared-slice-read-b c = search needs
@@ -30,7 +33,9 @@ returns-3 c =
     let pre = c .before .before .before .before .before .before .pre in
     let if1 = c .before .before .before .before .if1 in
     let if2 = c .before .before .if2 in
-    tag-wrong (a .s .now) (a .names .now) (a .depth) (a .nodes) (a .self .at) (pre .1) (if1 .left) (if2 .left) (sym (c .before .is-name-start .ensures) ∙ not-true _ (c .if3 .taken))
+    let is-name-start = c .before .is-name-start in
+    tag-wrong (a .s .now) (a .names .now) (a .depth) (a .nodes) (a .self .at) (pre .1) (if1 .left) (if2 .left)
+    (sym (is-name-start .ensures) ∙ not-true _ (c .if3 .taken))
 
 sub-t20 : tie.Need-sub-t20
 sub-t20 c = search needs
@@ -41,20 +46,27 @@ returns-4 c =
     let pre = c .before .before .before .before .before .before .before .pre in
     let if1 = c .before .before .before .before .before .if1 in
     let is-name-start = c .before .before .is-name-start in
-    start-many (a .s .now) (a .names .now) (a .depth) (a .nodes) (a .self .at) (pre .1) (if1 .left) (sym (is-name-start .ensures) ∙ not-false _ (c .before .if3 .left)) (pre .0)
-    (c .if4 .taken)
+    let if3 = c .before .if3 in
+    start-many (a .s .now) (a .names .now) (a .depth) (a .nodes) (a .self .at) (pre .1) (if1 .left)
+    (sym (is-name-start .ensures) ∙ not-false _ (if3 .left)) (pre .0) (c .if4 .taken)
 
 add-start-tag : tie.Need-add-start-tag
 add-start-tag c = search needs
 
 start-tag-requires : tie.Need-start-tag-requires
-start-tag-requires c κs = let d = c .before .before .before .before .before .before .before .before .pre .1 in (
-  record { inside = c .before .before .before .before .before .before .if1 .left; starts = sym (c .before .before .before .is-name-start .ensures) ∙ not-false _ (c .before .before .if3 .left) },
-  omega (arith, d .room),
-  omega (arith, d .few, c .before .if4 .left),
-  d .names,
-  d .long,
-)
+start-tag-requires c κs =
+    let pre = c .before .before .before .before .before .before .before .before .pre in
+    let if1 = c .before .before .before .before .before .before .if1 in
+    let is-name-start = c .before .before .before .is-name-start in
+    let if3 = c .before .before .if3 in
+    let if4 = c .before .if4 in
+    let d = pre .1 in (
+      record { inside = if1 .left; starts = sym (is-name-start .ensures) ∙ not-false _ (if3 .left) },
+      omega (arith, d .room),
+      omega (arith, d .few, if4 .left),
+      d .names,
+      d .long,
+    )
 
 enum-known-c : tie.Need-enum-known-c
 enum-known-c c = search needs
