@@ -1,4 +1,3 @@
-pub mod Next
 pub mod Pieces
 pub mod Rows
 pub mod Calls

@@ -1,5 +1,5 @@
 use Rattle.writer.specs.Laws.Pieces.{begin-attribute, next-opening, begin-room}
-use Rattle.writer.specs.Laws.Next.{both}
+use Rattle.markup.specs.Laws.Next.{both}
 use Rattle.writer.specs.Texts.{of-kind}
 use Rattle.markup.specs.Lending.{wrote-as}
 use Rattle.committed.specs.Lines.{label-at}

@@ -2,7 +2,7 @@ use Rattle.writer.specs.Laws.Rows.{from, from-start, next-row, last-ends
 use Rattle.measuring.specs.Laws.Walk.{walk-start, walk-below, walk-steps, walk-deep, walk-on}
 use Rattle.measuring.specs.Walk.{Walk}
 use Rattle.markup.specs.Rows.{body}
-use Rattle.writer.specs.Laws.Next.{both}
+use Rattle.markup.specs.Laws.Next.{both}
 use Rattle.markup.specs.Lending.{Partly, partly-start, partly-as}
 use Rattle.committed.specs.Laws.Contents.{kind-at}
 use Rattle.committed.specs.Lines.{lines}

@@ -1,5 +1,5 @@
 use Rattle.markup.specs.Rows.{prolog, body, written-rows}
-use Rattle.writer.specs.Laws.Next.{second, both}
+use Rattle.markup.specs.Laws.Next.{second, both}
 use Rattle.committed.specs.Lines.{lines}
 use Rattle.layout.specs.Layout.{nodes}
 use lib.ListN.{length-append}

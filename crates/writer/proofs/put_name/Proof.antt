@@ -1,4 +1,4 @@
-use Rattle.writer.specs.Laws.Next.{second, both}
+use Rattle.markup.specs.Laws.Next.{second, both}
 use Rattle.committed.specs.Lines.{label-at}
 use Rattle.layout.specs.Layout.{nodes}
 use lib.ListN.{length-append}

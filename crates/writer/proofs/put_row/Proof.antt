@@ -1,5 +1,5 @@
 use Rattle.writer.specs.Laws.Rows.{row-room, next-begin}
-use Rattle.writer.specs.Laws.Next.{both}
+use Rattle.markup.specs.Laws.Next.{both}
 use Rattle.measuring.specs.Laws.Walk.{previous-is}
 use Rattle.layout.specs.Layout.{nodes}
 use mathlib.Core.Path.{_∙_}

@@ -13,7 +13,7 @@ use Rattle.xml.specs.Writing.{escaped}
 use Rattle.markup.specs.Rows.{in-start-tag, tag-end, begin, end}
 use Rattle.markup.specs.Lending.{Wrote}
 use Rattle.writer.specs.Texts.{of-kind, opening}
-use Rattle.writer.specs.Laws.Next.{Next, second}
+use Rattle.markup.specs.Laws.Next.{Next, second}
 
 module _ (parent : Label) (previous : ℕ) where
   pub tag-end-other : (parent .kind ≡ 2 → ⊥) → tag-end parent previous ≡ []

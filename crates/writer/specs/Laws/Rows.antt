@@ -16,7 +16,7 @@ use Rattle.measuring.specs.Walk.{open-labels, Walk}
 use Rattle.measuring.specs.Laws.Walk.{length-open, parent-is, opened-is, walk-below, walk-steps, walk-deep}
 use Rattle.markup.specs.Lending.{Wrote, Partly, partly-as, partly-end}
 use Rattle.writer.specs.Texts.{of-kind, row-text}
-use Rattle.writer.specs.Laws.Next.{Next, next, second}
+use Rattle.markup.specs.Laws.Next.{Next, next, second}
 use Rattle.writer.specs.Laws.Pieces.{begin-kind}
 
 -- one open node more ends
