@@ -44,9 +44,11 @@ returns-2 c =
     let at-waits = at-if1 .before in
     let at-way-up = at-waits .before .before in
     let start = at-way-up .before .before .before in
-    performed-grants (reads-granted (reads-child (start .pre) _) name.C refl _ (at-way-up .way-up .ensures) _
-    (at-waits .waits .ensures) no-room (at-if1 .if1 .left) (child-fits _ _) (at-grant .grant .ensures)) _
-    (at-kth-child .kth-child .ensures)
+    let read = reads-child (start .pre) (start .args .k) in
+    let granted =
+    reads-granted read name.C refl _ (at-way-up .way-up .ensures) _ (at-waits .waits .ensures) no-room (at-if1 .if1 .left) (child-fits _ _)
+    (at-grant .grant .ensures) in
+    performed-grants granted _ (at-kth-child .kth-child .ensures)
 
 pub child-at-spec : {M : Type 1} → statement M
 child-at-spec =

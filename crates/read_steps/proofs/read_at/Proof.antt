@@ -79,10 +79,11 @@ returns-4 c =
     let at-if1 = at-way-up .before .before in
     let at-kind = at-if1 .before in
     let start = at-kind .before .before .before .before in
-    content-granted (reads-granted (reads-content (start .pre) _ (at-kind .kind .ensures) (at-if1 .if1 .left)) name.R refl _
-    (at-way-up .way-up .ensures) _ (at-waits .waits .ensures) _ (at-if2 .if2 .left)
-    (content-fits _ (start .args .out .now) (at-size .size .ensures .0) (at-if3 .if3 .left))
-    (at-grant .grant .ensures)) (at-size .size .ensures .0) (at-content .content .ensures)
+    let read = reads-content (start .pre) _ (at-kind .kind .ensures) (at-if1 .if1 .left) in
+    let fits = content-fits _ (start .args .out .now) (at-size .size .ensures .0) (at-if3 .if3 .left) in
+    let granted =
+    reads-granted read name.R refl _ (at-way-up .way-up .ensures) _ (at-waits .waits .ensures) _ (at-if2 .if2 .left) fits (at-grant .grant .ensures) in
+    content-granted granted (at-size .size .ensures .0) (at-content .content .ensures)
 
 pub read-at-spec : {M : Type 1} → statement M
 read-at-spec =

@@ -93,11 +93,13 @@ returns-4 c =
     let at-waits = at-if1 .before in
     let at-way-up = at-waits .before .before in
     let start = at-way-up .before .before .before .before .before in
-    cells-granted _ (at-select .select .ensures) (at-numbers .numbers .ensures) (at-cells .cells .ensures)
-    (reads-granted (reads-cells (start .pre)) name.RR refl _ (at-way-up .way-up .ensures) _ (at-waits .waits .ensures) _
-    (at-if1 .if1 .left) (cells-fit _ (at-select .select .ensures) (start .pre .layout) (start .args .numbers .now)
-    (start .args .cells .now) (at-if2 .if2 .left) (at-if3 .if3 .left))
-    (at-grant .grant .ensures))
+    let args = start .args in
+    let fits =
+    cells-fit _ (at-select .select .ensures) (start .pre .layout) (args .numbers .now) (args .cells .now) (at-if2 .if2 .left) (at-if3 .if3 .left) in
+    let granted =
+    reads-granted (reads-cells (start .pre)) name.RR refl _ (at-way-up .way-up .ensures) _ (at-waits .waits .ensures) _ (at-if1 .if1 .left) fits
+    (at-grant .grant .ensures) in
+    cells-granted _ (at-select .select .ensures) (at-numbers .numbers .ensures) (at-cells .cells .ensures) granted
 
 pub read-tree-at-spec : {M : Type 1} → statement M
 read-tree-at-spec =
