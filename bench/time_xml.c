@@ -53,6 +53,7 @@ static xmlDocPtr read_by_libxml2(const char *xml, size_t length)
 
 struct times {
     double load[MOST_ENGINES], write[MOST_ENGINES], expat, libxml2, libxml2_write;
+    size_t written; /* the length of what write gave */
 };
 
 static void time_document(const char *xml, size_t length, struct times *times)
@@ -73,6 +74,7 @@ static void time_document(const char *xml, size_t length, struct times *times)
             answer = engine->write(state[e], NOODLEFEN_STATE_BYTES, out, sizeof out);
             write[e][i] = now() - from;
             must_grant(engine->name, "write", answer);
+            times->written = noodlefen_value(answer);
         }
         from = now();
         read_by_expat(xml, length);
@@ -120,7 +122,7 @@ static void print_document(const char *name, const char *xml, size_t length)
     struct times times;
     time_document(xml, length, &times);
     print_row("load", name, length, times.load, times.expat, times.libxml2);
-    print_row("write", name, length, times.write, 0, times.libxml2_write);
+    print_row("write", name, times.written, times.write, 0, times.libxml2_write);
 }
 
 void time_xml(const char *settings_path)
@@ -140,7 +142,7 @@ void time_xml(const char *settings_path)
         sprintf(name, "%u nodes", sizes[i]);
         print_document(name, xml, tree_document(xml, sizes[i]));
     }
-    print_document("64 KB", xml, long_document(xml));
+    print_document("64 KB input", xml, long_document(xml));
     FILE *file = fopen(settings_path, "rb");
     if (file != NULL) {
         size_t length = fread(xml, 1, sizeof xml, file);
