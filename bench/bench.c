@@ -39,9 +39,12 @@ double median(double *samples, int count)
     return samples[count / 2];
 }
 
+/* The documents begin with the declaration that write puts there, so that libxml2 writes the same text. */
+#define DECLARATION "<?xml version=\"1.0\" encoding=\"UTF-8\"?>\n"
+
 size_t tree_document(char *out, unsigned nodes)
 {
-    char *at = out + sprintf(out, "<ropeway>");
+    char *at = out + sprintf(out, DECLARATION "<ropeway>");
     unsigned left = nodes - 2;
     for (; left >= 5; left -= 5)
         at += sprintf(at, "<drive id=\"%u\"><speed>6.25</speed></drive>", left);
@@ -66,7 +69,7 @@ size_t long_document(char *out)
         "<weight-of-the-carrier-when-empty  ></weight-of-the-carrier-when-empty  >"
         "</carrier-of-detachable-chairlift\n>";
     enum { CARRIERS = 78 }; /* 13 nodes each */
-    char *at = out + sprintf(out, "<ropeway-of-the-northern-station>");
+    char *at = out + sprintf(out, DECLARATION "<ropeway-of-the-northern-station>");
     for (unsigned i = 0; i < CARRIERS; i++)
         at += sprintf(at, carrier, i);
     at += sprintf(at, "</ropeway-of-the-northern-station>");
