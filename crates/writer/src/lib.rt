@@ -152,6 +152,30 @@ fn put_row(
     at + put_begin(&mut out[at..], s, above, previous, p, kind)
 }
 
+// The ends of all open nodes, behind the last row. A function of its own, so that `put_ends` is called once and compiled into the rows' loop.
+fn put_last_ends(
+    out: &mut [u8],
+    s: &[u8],
+    path: &[u16; 1024],
+    kinds: &[u8; 1024],
+    top: usize,
+) -> usize
+    requires { ⌜ (Layout (now s)) × (OnPath (nodes (now s)) (now path) top) × (OfKinds (nodes (now s)) (now path) (now kinds) top) × (length (ends (suc top - 0) (open-labels (nodes (now s)) (now path) (suc top)) 0) ≤ length (now out)) ⌝ }
+    ensures { λ r. ⌜ Wrote (ends (suc top - 0) (open-labels (nodes (now (s .entry))) (now (path .entry)) (suc top)) 0) (now (out .entry)) (now (out .exit)) r ⌝ }
+{
+    let mut at: usize = 0;
+    let mut last: u8 = 0;
+    let mut e = top + 1;
+    while 0 < e {
+        e -= 1;
+        let p = path[e] as usize;
+        let kind = kinds[e];
+        at = at + put_end(&mut out[at..], s, p, kind, last);
+        last = kind;
+    }
+    at
+}
+
 // What stands for the rows below the document's.
 fn put_body(out: &mut [u8], s: &[u8], places: &[u16; 1024], count: usize) -> usize
     requires { ⌜ (Layout (now s)) × (Listed (nodes (now s)) (now places) count) × (length (body (lines (nodes (now s)) (now places) count)) ≤ length (now out)) ⌝ }
@@ -175,7 +199,7 @@ fn put_body(out: &mut [u8], s: &[u8], places: &[u16; 1024], count: usize) -> usi
         top = d;
         i += 1;
     }
-    at + put_ends(&mut out[at..], s, &path, &kinds, top, 0)
+    at + put_last_ends(&mut out[at..], s, &path, &kinds, top)
 }
 
 // What stands for the rows of the document.

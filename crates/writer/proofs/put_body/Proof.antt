@@ -176,21 +176,21 @@ loop-again c =
       (next-row (c15 .pre .1) (c10 .loop .inv .2) (omega arith) refl (c7 .depth .ensures) (c10 .loop .inv .3) (c15 .pre .2)) .on _ _ (c2 .put-row .ensures),
     )
 
-sub-put-ends : tie.Need-sub-put-ends Inv-loop μ-loop
-sub-put-ends c =
+sub-put-last-ends : tie.Need-sub-put-last-ends Inv-loop μ-loop
+sub-put-last-ends c =
     let c6 = c .before .before .before .before .before .before in
     (last-ends (c6 .pre .1) (c .before .loop .inv .2) (omega arith) (c .before .loop .inv .3) (c6 .pre .2)) .inside
 
-part-put-ends-start : tie.Need-part-put-ends-start Inv-loop μ-loop
-part-put-ends-start c =
+part-put-last-ends-start : tie.Need-part-put-last-ends-start Inv-loop μ-loop
+part-put-last-ends-start c =
     let c6 = c .before .before .before .before .before .before in
     (last-ends (c6 .pre .1) (c .before .loop .inv .2) (omega arith) (c .before .loop .inv .3) (c6 .pre .2)) .inside
 
-part-put-ends-end : tie.Need-part-put-ends-end Inv-loop μ-loop
-part-put-ends-end c = search needs
+part-put-last-ends-end : tie.Need-part-put-last-ends-end Inv-loop μ-loop
+part-put-last-ends-end c = search needs
 
-put-ends-requires : tie.Need-put-ends-requires Inv-loop μ-loop
-put-ends-requires c κs =
+put-last-ends-requires : tie.Need-put-last-ends-requires Inv-loop μ-loop
+put-last-ends-requires c κs =
     let c4 = c .before .before .before .before in
     let c9 = c4 .before .before .before .before .before in (
       c9 .pre .0,
@@ -204,7 +204,7 @@ add-result c =
     let c2 = c .before .before in
     let c7 = c2 .before .before .before .before .before in
     let c12 = c7 .before .before .before .before .before in
-    omega (arith, (last-ends (c12 .pre .1) (c7 .loop .inv .2) (omega arith) (c7 .loop .inv .3) (c12 .pre .2)) .small, c2 .put-ends .ensures .count)
+    omega (arith, (last-ends (c12 .pre .1) (c7 .loop .inv .2) (omega arith) (c7 .loop .inv .3) (c12 .pre .2)) .small, c2 .put-last-ends .ensures .count)
 
 same-length : tie.Need-same-length Inv-loop μ-loop
 same-length c = search needs
@@ -214,7 +214,7 @@ returns c =
     let c2 = c .before .before in
     let c7 = c2 .before .before .before .before .before in
     let c12 = c7 .before .before .before .before .before in
-    both (last-ends (c12 .pre .1) (c7 .loop .inv .2) (omega arith) (c7 .loop .inv .3) (c12 .pre .2)) _ _ (c2 .put-ends .ensures)
+    both (last-ends (c12 .pre .1) (c7 .loop .inv .2) (omega arith) (c7 .loop .inv .3) (c12 .pre .2)) _ _ (c2 .put-last-ends .ensures)
 
 pub put-body-spec : {M : Type 1} → statement M
 put-body-spec =
@@ -247,10 +247,10 @@ put-body-spec =
     add-i
     loop-less
     loop-again
-    sub-put-ends
-    part-put-ends-start
-    part-put-ends-end
-    put-ends-requires
+    sub-put-last-ends
+    part-put-last-ends-start
+    part-put-last-ends-end
+    put-last-ends-requires
     add-result
     same-length
     returns)
