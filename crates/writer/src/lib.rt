@@ -116,7 +116,9 @@ fn put_ends(
     top: usize,
     d: usize,
 ) -> usize
-    requires { ⌜ (Layout (now s)) × (OnPath (nodes (now s)) (now path) top) × (OfKinds (nodes (now s)) (now path) (now kinds) top) × (length (ends (suc top - d) (open-labels (nodes (now s)) (now path) (suc top)) 0) ≤ length (now out)) ⌝ }
+    requires { ⌜ (Layout (now s)) × (OnPath (nodes (now s)) (now path) top)
+        × (OfKinds (nodes (now s)) (now path) (now kinds) top)
+        × (length (ends (suc top - d) (open-labels (nodes (now s)) (now path) (suc top)) 0) ≤ length (now out)) ⌝ }
     ensures { λ r. ⌜ Wrote (ends (suc top - d) (open-labels (nodes (now (s .entry))) (now (path .entry)) (suc top)) 0) (now (out .entry)) (now (out .exit)) r ⌝ }
 {
     let mut at: usize = 0;
@@ -143,7 +145,9 @@ fn put_row(
     p: usize,
     kind: u8,
 ) -> usize
-    requires { ⌜ (Layout (now s)) × (OnPath (nodes (now s)) (now path) top) × (OfKinds (nodes (now s)) (now path) (now kinds) top) × (1 ≤ d) × (d ≤ suc top) × (p < length (nodes (now s))) × (kind ≡ label-at (nodes (now s)) p .kind) × (length (row-text (nodes (now s)) (now path) top d p) ≤ length (now out)) ⌝ }
+    requires { ⌜ (Layout (now s)) × (OnPath (nodes (now s)) (now path) top)
+        × (OfKinds (nodes (now s)) (now path) (now kinds) top)
+        × (1 ≤ d) × (d ≤ suc top) × (p < length (nodes (now s))) × (kind ≡ label-at (nodes (now s)) p .kind) × (length (row-text (nodes (now s)) (now path) top d p) ≤ length (now out)) ⌝ }
     ensures { λ r. ⌜ Wrote (row-text (nodes (now (s .entry))) (now (path .entry)) top d p) (now (out .entry)) (now (out .exit)) r ⌝ }
 {
     let above = kinds[d - 1];
@@ -160,7 +164,9 @@ fn put_last_ends(
     kinds: &[u8; 1024],
     top: usize,
 ) -> usize
-    requires { ⌜ (Layout (now s)) × (OnPath (nodes (now s)) (now path) top) × (OfKinds (nodes (now s)) (now path) (now kinds) top) × (length (ends (suc top - 0) (open-labels (nodes (now s)) (now path) (suc top)) 0) ≤ length (now out)) ⌝ }
+    requires { ⌜ (Layout (now s)) × (OnPath (nodes (now s)) (now path) top)
+        × (OfKinds (nodes (now s)) (now path) (now kinds) top)
+        × (length (ends (suc top - 0) (open-labels (nodes (now s)) (now path) (suc top)) 0) ≤ length (now out)) ⌝ }
     ensures { λ r. ⌜ Wrote (ends (suc top - 0) (open-labels (nodes (now (s .entry))) (now (path .entry)) (suc top)) 0) (now (out .entry)) (now (out .exit)) r ⌝ }
 {
     let mut at: usize = 0;
