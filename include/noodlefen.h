@@ -5,7 +5,7 @@
  * the beginning, and every other call wants it as the call before left it. It may be moved between calls, all of it.
  *
  * Slices of one call (state, input, output) must not overlap. A length of 0 wants a pointer that is not
- * NULL; where a caller has NULL and 0, the functions ending in _nullable pass a valid pointer instead.
+ * NULL; the functions ending in _nullable also take NULL, which means length 0 whatever length is said.
  *
  * A call is granted, waits or is refused. Unless it is granted, nothing that was lent has changed. Bytes
  * of a lent buffer behind the answer keep their values. State bytes that are too short, or not of the form
@@ -21,13 +21,27 @@
 extern "C" {
 #endif
 
+/* The version of this interface. MAJOR grows when a program that was right has to be changed or compiled again, MINOR when calls
+ * or causes are added. NOODLEFEN_VERSION is a number that #if can compare: 1000 for each MAJOR. */
+#define NOODLEFEN_VERSION_MAJOR 1
+#define NOODLEFEN_VERSION_MINOR 0
+#define NOODLEFEN_VERSION (1000 * NOODLEFEN_VERSION_MAJOR + NOODLEFEN_VERSION_MINOR)
+
+/* The format mark: the first bytes of every started state. It changes whenever the form of the state bytes does, and a state with
+ * another mark is refused for 13 by every call but start. To change the library, write the settings out with the old one and load
+ * them with the new one; do not hand over state bytes. */
+#define NOODLEFEN_FORMAT "NFSTATE1"
+
 /* The state's exact need in bytes; 1,048,576 are never too short. */
 #define NOODLEFEN_STATE_BYTES 110608
+
+/* A node number. In a lent list of numbers it takes as many bytes as this type. */
+typedef uint16_t noodlefen_node;
 
 #define NOODLEFEN_TRANSACTIONS 16  /* transaction numbers are 1 to 16 */
 #define NOODLEFEN_NODES 1024       /* nodes held at most, the document included */
 #define NOODLEFEN_CONTENT_BYTES 32 /* bytes of a name or text at most */
-#define NOODLEFEN_NUMBER_BYTES 2   /* bytes of a node number in a lent list, low byte first */
+#define NOODLEFEN_NUMBER_BYTES (sizeof(noodlefen_node)) /* bytes of a node number in a lent list, low byte first */
 #define NOODLEFEN_CELL_BYTES 33    /* bytes of a cell of noodlefen_read_tree: length, content, zeros */
 #define NOODLEFEN_XML_BYTES 65536  /* bytes of an XML document at most */
 
@@ -82,6 +96,30 @@ static inline int noodlefen_refused(noodlefen_answer answer) { return (answer & 
 /* The cause of a refusal, one of enum noodlefen_causes; otherwise 0. */
 static inline unsigned noodlefen_cause(noodlefen_answer answer) { return (unsigned)((answer >> 8) & 0xFF); }
 
+/* The cause in words. */
+static inline const char *noodlefen_cause_text(unsigned cause)
+{
+    switch (cause) {
+    case NOODLEFEN_NO_CAUSE: return "not refused";
+    case NOODLEFEN_TRANSACTION_NUMBER: return "the transaction number is not 1 to 16";
+    case NOODLEFEN_ALREADY_OPEN: return "the transaction is already open";
+    case NOODLEFEN_NOT_OPEN: return "the transaction is not open";
+    case NOODLEFEN_GRAMMAR: return "the input is not XML as this library reads it";
+    case NOODLEFEN_LOADED_CONTENT: return "a name, value or text of the input is longer than 32 bytes";
+    case NOODLEFEN_LOADED_NODES: return "the input has more than 1,024 nodes";
+    case NOODLEFEN_NO_NODE: return "there is no node of this number";
+    case NOODLEFEN_KIND: return "this cannot be done with a node of this kind";
+    case NOODLEFEN_CONTENT: return "the content or name is not allowed";
+    case NOODLEFEN_NUMBER_HELD: return "a node already holds this number";
+    case NOODLEFEN_PLACE: return "a node of this kind cannot be inserted at this place";
+    case NOODLEFEN_FULL: return "1,024 nodes are held already";
+    case NOODLEFEN_TOO_SHORT: return "a lent buffer is too short, or the state is too short, damaged or never started";
+    case NOODLEFEN_NOT_EXPRESSIBLE: return "the settings cannot be written as XML";
+    case NOODLEFEN_TRANSACTION_OPEN: return "a transaction is open";
+    default: return "unknown cause";
+    }
+}
+
 /* The value: what the call's own comment says if granted, the set if it waits, the byte offset if refused for cause 4, 5 or 6,
  * otherwise 0. */
 static inline uint64_t noodlefen_value(noodlefen_answer answer) { return answer >> 16; }
@@ -90,7 +128,45 @@ static inline uint64_t noodlefen_value(noodlefen_answer answer) { return answer 
 static inline unsigned noodlefen_kind(noodlefen_answer answer) { return (unsigned)(noodlefen_value(answer) >> 32); }
 
 /* The node number in a granted answer: the parent for noodlefen_test, the child for noodlefen_child. */
-static inline uint32_t noodlefen_number(noodlefen_answer answer) { return (uint32_t)(noodlefen_value(answer) & 0xFFFFFFFFu); }
+static inline noodlefen_node noodlefen_number(noodlefen_answer answer)
+{
+    return (noodlefen_node)(noodlefen_value(answer) & 0xFFFFFFFFu);
+}
+
+/* Whether the call waits for transaction t, perhaps among others. */
+static inline int noodlefen_blocked_by(noodlefen_answer answer, uint32_t t)
+{
+    return noodlefen_waits(answer) && t >= 1 && t <= NOODLEFEN_TRANSACTIONS && (noodlefen_value(answer) >> (t - 1) & 1) != 0;
+}
+
+/* Number i, counted from 0, of a list that noodlefen_test_tree or noodlefen_read_tree has written. */
+static inline noodlefen_node noodlefen_list_number(const uint8_t *numbers, size_t i)
+{
+    uint32_t number = 0;
+    for (size_t byte = NOODLEFEN_NUMBER_BYTES; byte > 0; byte--)
+        number = number << 8 | numbers[i * NOODLEFEN_NUMBER_BYTES + byte - 1];
+    return (noodlefen_node)number;
+}
+
+/* Length and content of cell i, counted from 0, of those that noodlefen_read_tree has written. */
+static inline size_t noodlefen_cell_length(const uint8_t *cells, size_t i) { return cells[i * NOODLEFEN_CELL_BYTES]; }
+static inline const uint8_t *noodlefen_cell_content(const uint8_t *cells, size_t i) { return cells + i * NOODLEFEN_CELL_BYTES + 1; }
+
+/* A place in a text: line and column count from 1, and a column is a byte. */
+typedef struct noodlefen_position {
+    size_t line, column;
+} noodlefen_position;
+
+/* The place of a byte offset, counted from 0, such as the value of a refused load. An offset past the input is its end. */
+static inline noodlefen_position noodlefen_position_of(const uint8_t *xml, size_t xml_len, uint64_t offset)
+{
+    noodlefen_position position = {1, 1};
+    for (size_t i = 0; i < xml_len && i < offset; i++) {
+        position.line += xml[i] == '\n';
+        position.column = xml[i] == '\n' ? 1 : position.column + 1;
+    }
+    return position;
+}
 
 /* Sets the state to the beginning: the document node 0 alone, nothing open. Ends all open transactions without committing them.
  * Refused only if the state is too short (13). */
@@ -118,156 +194,79 @@ noodlefen_answer noodlefen_abort(uint8_t *state, size_t state_len, uint32_t t);
 
 /* Step T: the kind of node n and its parent's number (0 for the document): noodlefen_kind and noodlefen_number.
  * Refused for 1, 3 or 7; may wait. */
-noodlefen_answer noodlefen_test(uint8_t *state, size_t state_len, uint32_t t, uint16_t n);
+noodlefen_answer noodlefen_test(uint8_t *state, size_t state_len, uint32_t t, noodlefen_node n);
 
 /* Step C: number and kind of the k-th child of n, counted from 1; kind 0 if there is none.
  * Refused for 1, 3 or 7; may wait. */
-noodlefen_answer noodlefen_child(uint8_t *state, size_t state_len, uint32_t t, uint16_t n, uint32_t k);
+noodlefen_answer noodlefen_child(uint8_t *state, size_t state_len, uint32_t t, noodlefen_node n, uint32_t k);
 
 /* Step R: writes the content of n to out; the value is its length, at most 32.
  * Refused for 1, 3, 7, 8 or 13; may wait. */
-noodlefen_answer noodlefen_read(uint8_t *state, size_t state_len, uint32_t t, uint16_t n, uint8_t *out, size_t out_len);
+noodlefen_answer noodlefen_read(uint8_t *state, size_t state_len, uint32_t t, noodlefen_node n, uint8_t *out, size_t out_len);
 
 /* Step U: gives n the content bytes: a name for an element or attribute, a text for a text.
  * Refused for 1, 3, 7, 8 or 9; may wait. */
-noodlefen_answer noodlefen_update(uint8_t *state, size_t state_len, uint32_t t, uint16_t n,
+noodlefen_answer noodlefen_update(uint8_t *state, size_t state_len, uint32_t t, noodlefen_node n,
                                   const uint8_t *bytes, size_t bytes_len);
 
 /* Step D: deletes n and all below it. Their numbers stay held until t ends.
  * Refused for 1, 3, 7 or 8; may wait. */
-noodlefen_answer noodlefen_delete(uint8_t *state, size_t state_len, uint32_t t, uint16_t n);
+noodlefen_answer noodlefen_delete(uint8_t *state, size_t state_len, uint32_t t, noodlefen_node n);
 
 /* Step I: a new node numbered m of a kind 2 to 4, with the content bytes, becomes the k-th child of n.
  * Refused for 1, 3, 7, 8, 9, 10, 11 or 12; may wait (after 10, before 11). */
-noodlefen_answer noodlefen_insert(uint8_t *state, size_t state_len, uint32_t t, uint16_t m, uint32_t kind,
-                                  const uint8_t *bytes, size_t bytes_len, uint16_t n, uint32_t k);
+noodlefen_answer noodlefen_insert(uint8_t *state, size_t state_len, uint32_t t, noodlefen_node m, uint32_t kind,
+                                  const uint8_t *bytes, size_t bytes_len, noodlefen_node n, uint32_t k);
 
 /* Step TT: writes the numbers of n and all below it in document order, two bytes each, low byte first; the value is their count.
  * Refused for 1, 3, 7 or 13; may wait. */
-noodlefen_answer noodlefen_test_tree(uint8_t *state, size_t state_len, uint32_t t, uint16_t n,
+noodlefen_answer noodlefen_test_tree(uint8_t *state, size_t state_len, uint32_t t, noodlefen_node n,
                                      uint8_t *numbers, size_t numbers_len);
 
 /* Step RR: as noodlefen_test_tree, and a cell of 33 bytes for each node: length, content, zeros.
  * Refused for 1, 3, 7 or 13 (either buffer); may wait. */
-noodlefen_answer noodlefen_read_tree(uint8_t *state, size_t state_len, uint32_t t, uint16_t n,
+noodlefen_answer noodlefen_read_tree(uint8_t *state, size_t state_len, uint32_t t, noodlefen_node n,
                                      uint8_t *numbers, size_t numbers_len, uint8_t *cells, size_t cells_len);
 
 /* Step UU: each element in the subtree of n (n too) that is named from is named to; the value is how many.
  * Refused for 1, 3, 7 or 9; may wait. */
-noodlefen_answer noodlefen_rename_tree(uint8_t *state, size_t state_len, uint32_t t, uint16_t n,
+noodlefen_answer noodlefen_rename_tree(uint8_t *state, size_t state_len, uint32_t t, noodlefen_node n,
                                        const uint8_t *from, size_t from_len, const uint8_t *to, size_t to_len);
 
-/* A valid pointer in place of NULL, for slices of length 0. */
-static inline uint8_t *noodlefen_lent(uint8_t *bytes)
+/* A byte that nobody reads or writes: what a slice of length 0 points to where the caller has NULL. */
+static inline uint8_t *noodlefen_nothing(void)
 {
-    static uint8_t none;
-    return bytes != NULL ? bytes : &none;
+    static uint8_t nothing;
+    return &nothing;
 }
 
-/* The same for slices that are only read. */
-static inline const uint8_t *noodlefen_given(const uint8_t *bytes)
-{
-    static const uint8_t none = 0;
-    return bytes != NULL ? bytes : &none;
-}
+/* The calls that take a buffer, as functions that also take NULL for any slice, the state too: noodlefen_load_nullable and so on. */
+#define NOODLEFEN_NULLABLE(call, parameters, arguments) \
+    static inline noodlefen_answer noodlefen_##call##_nullable parameters { return noodlefen_##call arguments; }
+#define NOODLEFEN_SLICE(bytes) bytes != NULL ? bytes : noodlefen_nothing(), bytes != NULL ? bytes##_len : 0
 
-/* noodlefen_start, where NULL may come with a length of 0. */
-static inline noodlefen_answer noodlefen_start_nullable(uint8_t *state, size_t state_len)
-{
-    return noodlefen_start(noodlefen_lent(state), state_len);
-}
+NOODLEFEN_NULLABLE(load, (uint8_t *state, size_t state_len, const uint8_t *xml, size_t xml_len),
+                   (NOODLEFEN_SLICE(state), NOODLEFEN_SLICE(xml)))
+NOODLEFEN_NULLABLE(write, (const uint8_t *state, size_t state_len, uint8_t *out, size_t out_len),
+                   (NOODLEFEN_SLICE(state), NOODLEFEN_SLICE(out)))
+NOODLEFEN_NULLABLE(read, (uint8_t *state, size_t state_len, uint32_t t, noodlefen_node n, uint8_t *out, size_t out_len),
+                   (NOODLEFEN_SLICE(state), t, n, NOODLEFEN_SLICE(out)))
+NOODLEFEN_NULLABLE(update, (uint8_t *state, size_t state_len, uint32_t t, noodlefen_node n, const uint8_t *bytes, size_t bytes_len),
+                   (NOODLEFEN_SLICE(state), t, n, NOODLEFEN_SLICE(bytes)))
+NOODLEFEN_NULLABLE(insert, (uint8_t *state, size_t state_len, uint32_t t, noodlefen_node m, uint32_t kind,
+                            const uint8_t *bytes, size_t bytes_len, noodlefen_node n, uint32_t k),
+                   (NOODLEFEN_SLICE(state), t, m, kind, NOODLEFEN_SLICE(bytes), n, k))
+NOODLEFEN_NULLABLE(test_tree, (uint8_t *state, size_t state_len, uint32_t t, noodlefen_node n, uint8_t *numbers, size_t numbers_len),
+                   (NOODLEFEN_SLICE(state), t, n, NOODLEFEN_SLICE(numbers)))
+NOODLEFEN_NULLABLE(read_tree, (uint8_t *state, size_t state_len, uint32_t t, noodlefen_node n,
+                               uint8_t *numbers, size_t numbers_len, uint8_t *cells, size_t cells_len),
+                   (NOODLEFEN_SLICE(state), t, n, NOODLEFEN_SLICE(numbers), NOODLEFEN_SLICE(cells)))
+NOODLEFEN_NULLABLE(rename_tree, (uint8_t *state, size_t state_len, uint32_t t, noodlefen_node n,
+                                 const uint8_t *from, size_t from_len, const uint8_t *to, size_t to_len),
+                   (NOODLEFEN_SLICE(state), t, n, NOODLEFEN_SLICE(from), NOODLEFEN_SLICE(to)))
 
-/* noodlefen_load, where NULL may come with a length of 0. */
-static inline noodlefen_answer noodlefen_load_nullable(uint8_t *state, size_t state_len, const uint8_t *xml, size_t xml_len)
-{
-    return noodlefen_load(noodlefen_lent(state), state_len, noodlefen_given(xml), xml_len);
-}
-
-/* noodlefen_write, where NULL may come with a length of 0. */
-static inline noodlefen_answer noodlefen_write_nullable(const uint8_t *state, size_t state_len, uint8_t *out, size_t out_len)
-{
-    return noodlefen_write(noodlefen_given(state), state_len, noodlefen_lent(out), out_len);
-}
-
-/* noodlefen_begin, where NULL may come with a length of 0. */
-static inline noodlefen_answer noodlefen_begin_nullable(uint8_t *state, size_t state_len, uint32_t t)
-{
-    return noodlefen_begin(noodlefen_lent(state), state_len, t);
-}
-
-/* noodlefen_commit, where NULL may come with a length of 0. */
-static inline noodlefen_answer noodlefen_commit_nullable(uint8_t *state, size_t state_len, uint32_t t)
-{
-    return noodlefen_commit(noodlefen_lent(state), state_len, t);
-}
-
-/* noodlefen_abort, where NULL may come with a length of 0. */
-static inline noodlefen_answer noodlefen_abort_nullable(uint8_t *state, size_t state_len, uint32_t t)
-{
-    return noodlefen_abort(noodlefen_lent(state), state_len, t);
-}
-
-/* noodlefen_test, where NULL may come with a length of 0. */
-static inline noodlefen_answer noodlefen_test_nullable(uint8_t *state, size_t state_len, uint32_t t, uint16_t n)
-{
-    return noodlefen_test(noodlefen_lent(state), state_len, t, n);
-}
-
-/* noodlefen_child, where NULL may come with a length of 0. */
-static inline noodlefen_answer noodlefen_child_nullable(uint8_t *state, size_t state_len, uint32_t t, uint16_t n, uint32_t k)
-{
-    return noodlefen_child(noodlefen_lent(state), state_len, t, n, k);
-}
-
-/* noodlefen_read, where NULL may come with a length of 0. */
-static inline noodlefen_answer noodlefen_read_nullable(uint8_t *state, size_t state_len, uint32_t t, uint16_t n,
-                                                       uint8_t *out, size_t out_len)
-{
-    return noodlefen_read(noodlefen_lent(state), state_len, t, n, noodlefen_lent(out), out_len);
-}
-
-/* noodlefen_update, where NULL may come with a length of 0. */
-static inline noodlefen_answer noodlefen_update_nullable(uint8_t *state, size_t state_len, uint32_t t, uint16_t n,
-                                                         const uint8_t *bytes, size_t bytes_len)
-{
-    return noodlefen_update(noodlefen_lent(state), state_len, t, n, noodlefen_given(bytes), bytes_len);
-}
-
-/* noodlefen_delete, where NULL may come with a length of 0. */
-static inline noodlefen_answer noodlefen_delete_nullable(uint8_t *state, size_t state_len, uint32_t t, uint16_t n)
-{
-    return noodlefen_delete(noodlefen_lent(state), state_len, t, n);
-}
-
-/* noodlefen_insert, where NULL may come with a length of 0. */
-static inline noodlefen_answer noodlefen_insert_nullable(uint8_t *state, size_t state_len, uint32_t t, uint16_t m, uint32_t kind,
-                                                         const uint8_t *bytes, size_t bytes_len, uint16_t n, uint32_t k)
-{
-    return noodlefen_insert(noodlefen_lent(state), state_len, t, m, kind, noodlefen_given(bytes), bytes_len, n, k);
-}
-
-/* noodlefen_test_tree, where NULL may come with a length of 0. */
-static inline noodlefen_answer noodlefen_test_tree_nullable(uint8_t *state, size_t state_len, uint32_t t, uint16_t n,
-                                                            uint8_t *numbers, size_t numbers_len)
-{
-    return noodlefen_test_tree(noodlefen_lent(state), state_len, t, n, noodlefen_lent(numbers), numbers_len);
-}
-
-/* noodlefen_read_tree, where NULL may come with a length of 0. */
-static inline noodlefen_answer noodlefen_read_tree_nullable(uint8_t *state, size_t state_len, uint32_t t, uint16_t n,
-                                                            uint8_t *numbers, size_t numbers_len, uint8_t *cells, size_t cells_len)
-{
-    return noodlefen_read_tree(noodlefen_lent(state), state_len, t, n, noodlefen_lent(numbers), numbers_len,
-                               noodlefen_lent(cells), cells_len);
-}
-
-/* noodlefen_rename_tree, where NULL may come with a length of 0. */
-static inline noodlefen_answer noodlefen_rename_tree_nullable(uint8_t *state, size_t state_len, uint32_t t, uint16_t n,
-                                                              const uint8_t *from, size_t from_len, const uint8_t *to, size_t to_len)
-{
-    return noodlefen_rename_tree(noodlefen_lent(state), state_len, t, n, noodlefen_given(from), from_len,
-                                 noodlefen_given(to), to_len);
-}
+#undef NOODLEFEN_NULLABLE
+#undef NOODLEFEN_SLICE
 
 #ifdef __cplusplus
 }
