@@ -1,0 +1,281 @@
+/*
+ * recipes.c: the recipes of docs/PANEL.md, tried. Each is a function that a panel can copy, and a run of it that is printed.
+ *
+ *   recipes      prints recipes.txt; recipes_shared.c has those for several processes
+ */
+#include <stdio.h>
+#include <stdlib.h>
+#include <string.h>
+
+#include "noodlefen.h"
+
+static uint8_t state[NOODLEFEN_STATE_BYTES];
+static uint8_t copy[NOODLEFEN_STATE_BYTES];
+
+/* Ends the program where a call that has to be granted is not. */
+static noodlefen_answer must(noodlefen_answer answer)
+{
+    if (!noodlefen_granted(answer)) {
+        printf("FAILED: %s\n", noodlefen_waits(answer) ? "a call waits" : noodlefen_cause_text(noodlefen_cause(answer)));
+        exit(1);
+    }
+    return answer;
+}
+
+static void print_answer(const char *call, noodlefen_answer answer)
+{
+    printf("  %s: ", call);
+    if (noodlefen_granted(answer))
+        printf("granted\n");
+    else if (noodlefen_waits(answer))
+        printf("waits, set %lu\n", (unsigned long)noodlefen_value(answer));
+    else
+        printf("refused, cause %u\n", noodlefen_cause(answer));
+}
+
+static noodlefen_answer update(uint8_t *bytes, uint32_t t, noodlefen_node n, const char *text)
+{
+    return noodlefen_update(bytes, NOODLEFEN_STATE_BYTES, t, n, (const uint8_t *)text, strlen(text));
+}
+
+static void begin_with(const char *xml)
+{
+    must(noodlefen_start(state, sizeof state));
+    must(noodlefen_load(state, sizeof state, (const uint8_t *)xml, strlen(xml)));
+    must(noodlefen_begin(state, sizeof state, 1));
+    must(noodlefen_begin(state, sizeof state, 2));
+}
+
+/* Prints the settings of a state as they are written, behind the declaration. */
+static void print_settings(const uint8_t *bytes)
+{
+    static uint8_t out[NOODLEFEN_XML_BYTES];
+    noodlefen_answer answer = noodlefen_write(bytes, NOODLEFEN_STATE_BYTES, out, sizeof out);
+    if (!noodlefen_granted(answer)) {
+        print_answer("write", answer);
+        return;
+    }
+    const char *line = memchr(out, '\n', (size_t)noodlefen_value(answer));
+    printf("  %.*s\n", (int)(noodlefen_value(answer) - (uint64_t)(line + 1 - (const char *)out)), line + 1);
+}
+
+/* --- A number for a new node. Load gives numbers below 1,024; the others are shared out, 4,032 to each transaction number, so that two
+ * engineers never choose the same. A number that is held is refused for cause 10, also while a deletion of its node is not committed. */
+static noodlefen_answer insert_new(uint32_t t, uint32_t kind, const char *content, noodlefen_node n, uint32_t k, noodlefen_node *m)
+{
+    enum { SHARE = (65536 - NOODLEFEN_NODES) / NOODLEFEN_TRANSACTIONS };
+    static unsigned next[NOODLEFEN_TRANSACTIONS + 1];
+    noodlefen_answer answer;
+    do {
+        *m = (noodlefen_node)(NOODLEFEN_NODES + (t - 1) * SHARE + next[t]);
+        answer = noodlefen_insert(state, sizeof state, t, *m, kind, (const uint8_t *)content, strlen(content), n, k);
+        next[t] = (next[t] + 1) % SHARE;
+    } while (noodlefen_cause(answer) == NOODLEFEN_NUMBER_HELD);
+    return answer;
+}
+
+static void numbers(void)
+{
+    noodlefen_node first, second, third;
+    printf("a number for a new node\n");
+    begin_with("<a><b/><c/></a>");
+    must(noodlefen_insert(state, sizeof state, 2, 5057, NOODLEFEN_ELEMENT, (const uint8_t *)"x", 1, 3, 1));
+    must(insert_new(1, NOODLEFEN_ELEMENT, "d", 2, 1, &first));
+    must(insert_new(2, NOODLEFEN_ELEMENT, "e", 3, 1, &second));
+    must(insert_new(2, NOODLEFEN_ELEMENT, "f", 3, 1, &third));
+    printf("  numbers %u, %u, %u (5057 was held)\n", first, second, third);
+}
+
+/* --- The value of an attribute: its only child is a text, and without one the value is empty. */
+static noodlefen_answer set_value(uint32_t t, noodlefen_node attribute, const char *value)
+{
+    noodlefen_node m;
+    noodlefen_answer text = noodlefen_child(state, sizeof state, t, attribute, 1);
+    if (!noodlefen_granted(text))
+        return text;
+    if (noodlefen_kind(text) == 0) /* no text: a first value, or empty already */
+        return value[0] == 0 ? text : insert_new(t, NOODLEFEN_TEXT, value, attribute, 1, &m);
+    if (value[0] == 0)
+        return noodlefen_delete(state, sizeof state, t, noodlefen_number(text));
+    return update(state, t, noodlefen_number(text), value);
+}
+
+static void values(void)
+{
+    static const char *const values[] = {"7", "", "", "8"};
+    printf("the value of an attribute\n");
+    begin_with("<a b=\"6\"/>");
+    for (size_t i = 0; i < sizeof values / sizeof *values; i++) {
+        must(set_value(1, 2, values[i]));
+        memcpy(copy, state, sizeof copy);
+        must(noodlefen_commit(copy, sizeof copy, 1));
+        print_settings(copy);
+    }
+}
+
+/* --- Whether the settings could be written if t committed now, tried on a copy. Ask right before the commit. */
+static noodlefen_answer try_commit(uint32_t t)
+{
+    static uint8_t out[NOODLEFEN_XML_BYTES];
+    memcpy(copy, state, sizeof copy);
+    noodlefen_answer answer = noodlefen_commit(copy, sizeof copy, t);
+    return noodlefen_granted(answer) ? noodlefen_write(copy, sizeof copy, out, sizeof out) : answer;
+}
+
+/* The place k of n among the children of its parent. */
+static noodlefen_answer place_of(uint32_t t, noodlefen_node parent, noodlefen_node n, uint32_t *k)
+{
+    for (*k = 1;; *k += 1) {
+        noodlefen_answer child = noodlefen_child(state, sizeof state, t, parent, *k);
+        if (!noodlefen_granted(child) || noodlefen_kind(child) == 0 || noodlefen_number(child) == n)
+            return child;
+    }
+}
+
+/* --- Deletes an element. In an indented file texts of blanks stand before and behind it, and two neighbouring texts cannot be
+ * written; so the one before goes too. Where it waits in the middle it can be made again, whole. */
+static noodlefen_answer delete_element(uint32_t t, noodlefen_node n)
+{
+    uint32_t k;
+    noodlefen_answer answer = noodlefen_test(state, sizeof state, t, n);
+    noodlefen_node parent = noodlefen_number(answer);
+    if (noodlefen_granted(answer))
+        answer = place_of(t, parent, n, &k);
+    if (!noodlefen_granted(answer))
+        return answer;
+    /* The locks of C are the same for every k, and for k = 0 it gives none: these two are granted. */
+    noodlefen_answer before = noodlefen_child(state, sizeof state, t, parent, k - 1);
+    noodlefen_answer behind = noodlefen_child(state, sizeof state, t, parent, k + 1);
+    if (noodlefen_kind(before) == NOODLEFEN_TEXT && noodlefen_kind(behind) == NOODLEFEN_TEXT)
+        answer = noodlefen_delete(state, sizeof state, t, noodlefen_number(before));
+    return noodlefen_granted(answer) ? noodlefen_delete(state, sizeof state, t, n) : answer;
+}
+
+static void deletion(void)
+{
+    static const char indented[] = "<line>\n  <speed>6</speed>\n  <lamp/>\n</line>";
+    printf("an element of an indented file deleted\n");
+    begin_with(indented);
+    must(noodlefen_delete(state, sizeof state, 1, 6));
+    print_answer("alone, commit tried on a copy", try_commit(1));
+    must(noodlefen_abort(state, sizeof state, 1));
+    must(noodlefen_begin(state, sizeof state, 1));
+    must(delete_element(1, 6));
+    print_answer("with the blanks before it", try_commit(1));
+    must(noodlefen_commit(state, sizeof state, 1));
+    print_settings(state);
+}
+
+/* Two deletions that are fine by themselves leave neighbouring texts together; the second to commit sees it. */
+static void two_deletions(void)
+{
+    printf("two engineers delete neighbours\n");
+    begin_with("<a>x<b/><c/>y</a>");
+    must(noodlefen_delete(state, sizeof state, 1, 3));
+    must(noodlefen_delete(state, sizeof state, 2, 4));
+    print_answer("commit of the first tried", try_commit(1));
+    must(noodlefen_commit(state, sizeof state, 1));
+    print_answer("commit of the second tried", try_commit(2));
+}
+
+/* --- The committed settings in the copy, with transaction 1 open in it: its steps there wait for nobody and lock nothing in the state. */
+static void copy_committed(void)
+{
+    memcpy(copy, state, sizeof copy);
+    for (uint32_t t = 1; t <= NOODLEFEN_TRANSACTIONS; t++)
+        noodlefen_abort(copy, sizeof copy, t); /* refused for cause 3 where t is not open */
+    must(noodlefen_begin(copy, sizeof copy, 1));
+}
+
+static void read_copy(void)
+{
+    uint8_t content[NOODLEFEN_CONTENT_BYTES];
+    printf("reading without locks\n");
+    begin_with("<a>6</a>");
+    must(update(state, 1, 2, "7"));
+    print_answer("read of the state", noodlefen_read(state, sizeof state, 2, 2, content, sizeof content));
+    copy_committed();
+    noodlefen_answer answer = must(noodlefen_read(copy, sizeof copy, 1, 2, content, sizeof content));
+    printf("  read of the copy: \"%.*s\"\n", (int)noodlefen_value(answer), (const char *)content);
+    must(update(state, 1, 2, "8"));
+}
+
+/* --- What a step would answer, without its locks: the step on a copy. */
+static void predict(void)
+{
+    printf("a wait predicted\n");
+    begin_with("<a>6</a>");
+    must(update(state, 1, 2, "7"));
+    memcpy(copy, state, sizeof copy);
+    print_answer("update tried on a copy", update(copy, 2, 2, "8"));
+    print_answer("test tried on a copy", noodlefen_test(copy, sizeof copy, 2, 2));
+}
+
+/* --- Whether t waits, over others, for itself: waits_for[u] is the set of u's last call if that waits, otherwise 0. */
+static int in_ring(const uint64_t waits_for[NOODLEFEN_TRANSACTIONS + 1], uint32_t t)
+{
+    uint64_t reached = waits_for[t];
+    for (int round = 0; round < NOODLEFEN_TRANSACTIONS; round++)
+        for (uint32_t u = 1; u <= NOODLEFEN_TRANSACTIONS; u++)
+            if (reached >> (u - 1) & 1)
+                reached |= waits_for[u];
+    return (int)(reached >> (t - 1) & 1);
+}
+
+/* Two engineers read a value, then change it: each waits for the other's lock of reading. */
+static void ring(void)
+{
+    uint64_t waits_for[NOODLEFEN_TRANSACTIONS + 1] = {0};
+    uint8_t content[NOODLEFEN_CONTENT_BYTES];
+    printf("read, then update, by two engineers\n");
+    begin_with("<a>6</a>");
+    must(noodlefen_read(state, sizeof state, 1, 2, content, sizeof content));
+    must(noodlefen_read(state, sizeof state, 2, 2, content, sizeof content));
+    for (uint32_t t = 1; t <= 2; t++) {
+        noodlefen_answer answer = update(state, t, 2, "7");
+        waits_for[t] = noodlefen_waits(answer) ? noodlefen_value(answer) : 0;
+        print_answer(t == 1 ? "update by the first" : "update by the second", answer);
+        printf("  a ring: %s\n", in_ring(waits_for, t) ? "yes, the second aborts" : "no");
+    }
+    must(noodlefen_abort(state, sizeof state, 2));
+    print_answer("update by the first", update(state, 1, 2, "7"));
+}
+
+/* --- Adds 1 to a number. The update comes first: it takes the lock, and from then on the committed content, read from a copy, is the
+ * current one until t ends. Two engineers who do so never wait in a ring for this node. */
+static noodlefen_answer add_one(uint32_t t, noodlefen_node n)
+{
+    char content[NOODLEFEN_CONTENT_BYTES + 1] = "";
+    noodlefen_answer answer = update(state, t, n, "0");
+    if (!noodlefen_granted(answer))
+        return answer;
+    copy_committed();
+    must(noodlefen_read(copy, sizeof copy, 1, n, (uint8_t *)content, NOODLEFEN_CONTENT_BYTES));
+    snprintf(content, sizeof content, "%ld", strtol(content, NULL, 10) + 1);
+    return update(state, t, n, content);
+}
+
+static void no_ring(void)
+{
+    printf("update first, then read the copy\n");
+    begin_with("<a>6</a>");
+    print_answer("first", add_one(1, 2));
+    print_answer("second", add_one(2, 2));
+    must(noodlefen_commit(state, sizeof state, 1));
+    print_answer("second", add_one(2, 2));
+    must(noodlefen_commit(state, sizeof state, 2));
+    print_settings(state);
+}
+
+int main(void)
+{
+    numbers();
+    values();
+    deletion();
+    two_deletions();
+    read_copy();
+    predict();
+    ring();
+    no_ring();
+    return 0;
+}
