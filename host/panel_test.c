@@ -340,22 +340,6 @@ static void test_damaged_states(void)
     printf("damaged states: %lu calls, %lu refused for 13\n", tries, turned_down);
 }
 
-static void test_nullable(void)
-{
-    begin_with(tree_e);
-    check(noodlefen_update_nullable(state.bytes, state.length, 1, 5, NULL, 0) == refused(9, 0), "NULL content", __LINE__);
-    check(noodlefen_read_nullable(state.bytes, state.length, 1, 5, NULL, 0) == refused(13, 0), "NULL buffer", __LINE__);
-    check(noodlefen_test_tree_nullable(state.bytes, state.length, 1, 0, NULL, 0) == refused(13, 0), "NULL buffer", __LINE__);
-    check(noodlefen_read_tree_nullable(state.bytes, state.length, 1, 0, NULL, 0, NULL, 0) == refused(13, 0), "NULL buffers", __LINE__);
-    check(noodlefen_rename_tree_nullable(state.bytes, state.length, 1, 0, NULL, 0, NULL, 0) == refused(9, 0), "NULL names", __LINE__);
-    check(noodlefen_insert_nullable(state.bytes, state.length, 1, 9, 2, NULL, 0, 1, 2) == refused(9, 0), "NULL content", __LINE__);
-    check(noodlefen_write_nullable(state.bytes, state.length, NULL, 0) == refused(13, 0), "NULL buffer", __LINE__);
-    EXPECT(granted(0), .what = COMMIT, .t = 1);
-    EXPECT(granted(0), .what = COMMIT, .t = 2);
-    check(noodlefen_load_nullable(state.bytes, state.length, NULL, 0) == refused(4, 0), "NULL document", __LINE__);
-    check(noodlefen_load_nullable(NULL, 0, NULL, 0) == refused(13, 0), "NULL state", __LINE__);
-}
-
 static void test_all(size_t length, size_t shift)
 {
     state = lend(length, shift, NULL);
@@ -363,7 +347,6 @@ static void test_all(size_t length, size_t shift)
     test_steps();
     test_documents();
     test_random_calls();
-    test_nullable();
     give_back(&state);
 }
 
