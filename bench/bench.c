@@ -7,15 +7,16 @@
 
 #include "timing.h"
 
-#define TIMED(prefix)                                                                                                        \
-    {#prefix, prefix##_start, prefix##_load, prefix##_write, prefix##_begin, prefix##_commit, prefix##_abort, prefix##_test, \
-     prefix##_child, prefix##_read, prefix##_update, prefix##_delete, prefix##_insert, prefix##_test_tree,                   \
-     prefix##_read_tree, prefix##_rename_tree}
-
 const struct timed timed_engines[] = {
-    TIMED(bench),
+    {"bench",
+#define CALL(name, parameters, arguments) bench_##name,
+#include "../host/calls.def"
+    },
 #ifdef WITH_LIBRARY
-    TIMED(noodlefen),
+    {"noodlefen",
+#define CALL(name, parameters, arguments) noodlefen_##name,
+#include "../host/calls.def"
+    },
 #endif
 };
 const int timed_count = sizeof timed_engines / sizeof timed_engines[0];

@@ -101,7 +101,7 @@ static unsigned subtree_end(const uint8_t *s, unsigned row)
     return end;
 }
 
-noodlefen_answer bench_test(uint8_t *s, size_t length, uint32_t t, uint16_t n)
+noodlefen_answer bench_test(uint8_t *s, size_t length, uint32_t t, noodlefen_node n)
 {
     unsigned row, set, cause = first_causes(s, length, t, n, &row);
     struct path path;
@@ -117,7 +117,7 @@ noodlefen_answer bench_test(uint8_t *s, size_t length, uint32_t t, uint16_t n)
     return granted(number_of(s, parent) + ((uint64_t)s[AT_KIND + row] << 32));
 }
 
-noodlefen_answer bench_child(uint8_t *s, size_t length, uint32_t t, uint16_t n, uint32_t k)
+noodlefen_answer bench_child(uint8_t *s, size_t length, uint32_t t, noodlefen_node n, uint32_t k)
 {
     unsigned row, set, cause = first_causes(s, length, t, n, &row);
     struct path path;
@@ -134,7 +134,7 @@ noodlefen_answer bench_child(uint8_t *s, size_t length, uint32_t t, uint16_t n, 
     return granted(0);
 }
 
-noodlefen_answer bench_read(uint8_t *s, size_t length, uint32_t t, uint16_t n, uint8_t *out, size_t out_len)
+noodlefen_answer bench_read(uint8_t *s, size_t length, uint32_t t, noodlefen_node n, uint8_t *out, size_t out_len)
 {
     unsigned row, set, cause = first_causes(s, length, t, n, &row);
     struct path path;
@@ -164,7 +164,7 @@ static void change_content(uint8_t *s, unsigned t, unsigned row, const uint8_t *
     put_cell(cell_at(s, slot), bytes, length);
 }
 
-noodlefen_answer bench_update(uint8_t *s, size_t length, uint32_t t, uint16_t n, const uint8_t *bytes, size_t bytes_len)
+noodlefen_answer bench_update(uint8_t *s, size_t length, uint32_t t, noodlefen_node n, const uint8_t *bytes, size_t bytes_len)
 {
     unsigned row, set, cause = first_causes(s, length, t, n, &row);
     struct path path;
@@ -182,7 +182,7 @@ noodlefen_answer bench_update(uint8_t *s, size_t length, uint32_t t, uint16_t n,
     return granted(0);
 }
 
-noodlefen_answer bench_delete(uint8_t *s, size_t length, uint32_t t, uint16_t n)
+noodlefen_answer bench_delete(uint8_t *s, size_t length, uint32_t t, noodlefen_node n)
 {
     unsigned row, set, cause = first_causes(s, length, t, n, &row);
     struct path path;
@@ -249,8 +249,8 @@ static int number_held(const uint8_t *s, unsigned number)
     return (int)found;
 }
 
-noodlefen_answer bench_insert(uint8_t *s, size_t length, uint32_t t, uint16_t m, uint32_t kind,
-                              const uint8_t *bytes, size_t bytes_len, uint16_t n, uint32_t k)
+noodlefen_answer bench_insert(uint8_t *s, size_t length, uint32_t t, noodlefen_node m, uint32_t kind,
+                              const uint8_t *bytes, size_t bytes_len, noodlefen_node n, uint32_t k)
 {
     /* By the parent's kind, the set of kinds that it takes. */
     static const uint8_t takes[5] = {0, M(2), M(2) | M(3) | M(4), M(4), 0};
@@ -289,7 +289,7 @@ static unsigned list_rows(const uint8_t *s, unsigned t, unsigned row, uint16_t *
     return listed;
 }
 
-noodlefen_answer bench_test_tree(uint8_t *s, size_t length, uint32_t t, uint16_t n, uint8_t *numbers, size_t numbers_len)
+noodlefen_answer bench_test_tree(uint8_t *s, size_t length, uint32_t t, noodlefen_node n, uint8_t *numbers, size_t numbers_len)
 {
     unsigned row, set, cause = first_causes(s, length, t, n, &row);
     struct path path;
@@ -308,7 +308,7 @@ noodlefen_answer bench_test_tree(uint8_t *s, size_t length, uint32_t t, uint16_t
     return granted(listed);
 }
 
-noodlefen_answer bench_read_tree(uint8_t *s, size_t length, uint32_t t, uint16_t n,
+noodlefen_answer bench_read_tree(uint8_t *s, size_t length, uint32_t t, noodlefen_node n,
                                  uint8_t *numbers, size_t numbers_len, uint8_t *cells, size_t cells_len)
 {
     unsigned row, set, cause = first_causes(s, length, t, n, &row);
@@ -330,7 +330,7 @@ noodlefen_answer bench_read_tree(uint8_t *s, size_t length, uint32_t t, uint16_t
     return granted(listed);
 }
 
-noodlefen_answer bench_rename_tree(uint8_t *s, size_t length, uint32_t t, uint16_t n,
+noodlefen_answer bench_rename_tree(uint8_t *s, size_t length, uint32_t t, noodlefen_node n,
                                    const uint8_t *from, size_t from_len, const uint8_t *to, size_t to_len)
 {
     unsigned row, set, cause = first_causes(s, length, t, n, &row);

@@ -12,17 +12,18 @@ static const char *const words[WHATS] = {"T", "C", "R", "U", "D", "I", "TT", "RR
 static const unsigned sizes[SIZES] = {16, 128, 1024};
 static const unsigned opens[OPENS] = {1, 4, 16};
 
-static uint8_t numbers[2 * NOODLEFEN_NODES], cells[33 * NOODLEFEN_NODES];
+static uint8_t numbers[NOODLEFEN_NUMBER_BYTES * NOODLEFEN_NODES], cells[NOODLEFEN_CELL_BYTES * NOODLEFEN_NODES];
 
 /* Nodes of tree_document: the root is 1; a drive has an attribute, its text, an element, and its text behind it. */
 struct places {
-    uint16_t drive, speed, text, last;
+    noodlefen_node drive, speed, text, last;
 };
 
 static struct places places_in(unsigned nodes)
 {
     unsigned drives = (nodes - 2) / 5, middle = 2 + 5 * (drives / 2);
-    struct places places = {(uint16_t)middle, (uint16_t)(middle + 3), (uint16_t)(middle + 4), (uint16_t)(nodes - 2)};
+    struct places places = {(noodlefen_node)middle, (noodlefen_node)(middle + 3), (noodlefen_node)(middle + 4),
+                            (noodlefen_node)(nodes - 2)};
     return places;
 }
 
@@ -35,7 +36,7 @@ static noodlefen_answer call(const struct timed *engine, uint8_t *state, enum wh
     case C: return engine->child(state, length, 1, at.drive, 2);
     case R: return engine->read(state, length, 1, at.text, cells, sizeof cells);
     case U: return engine->update(state, length, 1, at.text, text, 3);
-    case D: return engine->remove(state, length, 1, at.drive);
+    case D: return engine->delete(state, length, 1, at.drive);
     case I: return engine->insert(state, length, 1, 5000, NOODLEFEN_ELEMENT, name, 5, at.drive, 2);
     case TT: return engine->test_tree(state, length, 1, 0, numbers, sizeof numbers);
     case RR: return engine->read_tree(state, length, 1, 0, numbers, sizeof numbers, cells, sizeof cells);

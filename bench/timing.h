@@ -7,21 +7,9 @@
 /* The functions that are timed, for each engine. */
 struct timed {
     const char *name;
-    noodlefen_answer (*start)(uint8_t *, size_t);
-    noodlefen_answer (*load)(uint8_t *, size_t, const uint8_t *, size_t);
-    noodlefen_answer (*write)(const uint8_t *, size_t, uint8_t *, size_t);
-    noodlefen_answer (*begin)(uint8_t *, size_t, uint32_t);
-    noodlefen_answer (*commit)(uint8_t *, size_t, uint32_t);
-    noodlefen_answer (*abort)(uint8_t *, size_t, uint32_t);
-    noodlefen_answer (*test)(uint8_t *, size_t, uint32_t, uint16_t);
-    noodlefen_answer (*child)(uint8_t *, size_t, uint32_t, uint16_t, uint32_t);
-    noodlefen_answer (*read)(uint8_t *, size_t, uint32_t, uint16_t, uint8_t *, size_t);
-    noodlefen_answer (*update)(uint8_t *, size_t, uint32_t, uint16_t, const uint8_t *, size_t);
-    noodlefen_answer (*remove)(uint8_t *, size_t, uint32_t, uint16_t);
-    noodlefen_answer (*insert)(uint8_t *, size_t, uint32_t, uint16_t, uint32_t, const uint8_t *, size_t, uint16_t, uint32_t);
-    noodlefen_answer (*test_tree)(uint8_t *, size_t, uint32_t, uint16_t, uint8_t *, size_t);
-    noodlefen_answer (*read_tree)(uint8_t *, size_t, uint32_t, uint16_t, uint8_t *, size_t, uint8_t *, size_t);
-    noodlefen_answer (*rename_tree)(uint8_t *, size_t, uint32_t, uint16_t, const uint8_t *, size_t, const uint8_t *, size_t);
+    /* The calls: noodlefen_answer (*start)(uint8_t *state, size_t state_len) and so on. */
+#define CALL(name, parameters, arguments) noodlefen_answer(*name) parameters;
+#include "../host/calls.def"
 };
 
 /* The C engine first, then the library if it was linked. */

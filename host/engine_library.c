@@ -1,16 +1,35 @@
-#include "engine.h"
-
+/* engine_library.c: the functions of noodlefen.h; state and buffers of every call have exact lengths between guard pages. */
 #include <stdlib.h>
 #include <string.h>
 
-enum { GUARD = 64, GUARD_BYTE = 0xA5 };
+#include "engine.h"
+#include "fence.h"
+
+enum { MOST_STATE = 1048576, MOST_BUFFER = 1 << 17, MOST_BUFFERS = 2 };
 
 struct library {
-    uint8_t *state;   /* with GUARD bytes behind it */
-    uint8_t *before;  /* the state as the last granted call left it */
+    struct fence fence;
+    uint8_t *state;   /* within the fence */
+    uint8_t *before;  /* the fence's bytes as the last granted call left them */
     size_t length;
     unsigned long faults;
 };
+
+/* The buffers of the call that is being made. */
+static struct buffer {
+    struct fence fence;
+    const uint8_t *given; /* an input, or NULL */
+    uint8_t *lent;        /* an output, or NULL */
+    uint8_t *bytes;       /* its copy within the fence */
+    size_t length;
+} buffers[MOST_BUFFERS];
+static unsigned in_use;
+
+static uint8_t *within(const struct fence *fence, size_t length)
+{
+    static unsigned turn;
+    return turn++ % 4 == 3 ? fence_begin(fence, length) : fence_end(fence, length);
+}
 
 static void *make(void)
 {
@@ -19,130 +38,85 @@ static void *make(void)
     if (l == NULL)
         abort();
     /* Mostly the exact need, at times the size that is never too short. */
-    l->length = made++ % 8 == 7 ? 1048576 : NOODLEFEN_STATE_BYTES;
-    l->state = malloc(l->length + GUARD);
-    l->before = malloc(l->length + GUARD);
-    if (l->state == NULL || l->before == NULL)
+    l->length = made++ % 8 == 7 ? MOST_STATE : NOODLEFEN_STATE_BYTES;
+    l->fence = fence_new(l->length);
+    l->state = within(&l->fence, l->length);
+    l->before = malloc(l->fence.size);
+    if (l->before == NULL)
         abort();
-    memset(l->state, GUARD_BYTE, l->length + GUARD);
-    memcpy(l->before, l->state, l->length + GUARD);
+    memset(l->fence.bytes, 0xA5, l->fence.size);
+    memcpy(l->before, l->fence.bytes, l->fence.size);
+    for (int i = 0; i < MOST_BUFFERS && buffers[i].fence.bytes == NULL; i++)
+        buffers[i].fence = fence_new(MOST_BUFFER);
     return l;
 }
 
 static void drop(void *e)
 {
     struct library *l = e;
-    free(l->state);
+    fence_free(&l->fence);
     free(l->before);
     free(l);
 }
 
 static unsigned long faults(void *e) { return ((struct library *)e)->faults; }
 
-/* Compares the state with the one before, and answers the answer. */
+static struct buffer *copied(const uint8_t *bytes, size_t length)
+{
+    struct buffer *buffer = &buffers[in_use++];
+    buffer->given = NULL;
+    buffer->lent = NULL;
+    buffer->bytes = within(&buffer->fence, length);
+    buffer->length = length;
+    if (length > 0)
+        memcpy(buffer->bytes, bytes, length);
+    return buffer;
+}
+
+static const uint8_t *give(const uint8_t *bytes, size_t length)
+{
+    struct buffer *buffer = copied(bytes, length);
+    buffer->given = bytes;
+    return buffer->bytes;
+}
+
+static uint8_t *lend(uint8_t *bytes, size_t length)
+{
+    struct buffer *buffer = copied(bytes, length);
+    buffer->lent = bytes;
+    return buffer->bytes;
+}
+
+/* Takes the outputs back, compares inputs and state with what they were, and answers the answer. */
 static noodlefen_answer checked(struct library *l, noodlefen_answer answer)
 {
-    size_t kept_from = noodlefen_granted(answer) ? l->length : 0;
-    if (memcmp(l->state + kept_from, l->before + kept_from, l->length + GUARD - kept_from) != 0)
+    for (; in_use > 0; in_use--) {
+        const struct buffer *buffer = &buffers[in_use - 1];
+        if (buffer->lent != NULL)
+            memcpy(buffer->lent, buffer->bytes, buffer->length);
+        else if (buffer->length > 0 && memcmp(buffer->given, buffer->bytes, buffer->length) != 0)
+            l->faults++;
+    }
+    size_t from = (size_t)(l->state - l->fence.bytes), to = noodlefen_granted(answer) ? from + l->length : from;
+    if (memcmp(l->fence.bytes, l->before, from) != 0 || memcmp(l->fence.bytes + to, l->before + to, l->fence.size - to) != 0)
         l->faults++;
-    memcpy(l->before, l->state, l->length + GUARD);
+    memcpy(l->before, l->fence.bytes, l->fence.size);
     return answer;
 }
 
-static noodlefen_answer start(void *e)
-{
-    struct library *l = e;
-    return checked(l, noodlefen_start(l->state, l->length));
-}
+#define STATE void *e
+#define READ_STATE void *e
+#define PASSED_STATE ((struct library *)e)->state, ((struct library *)e)->length
+#define GIVEN(bytes) give(bytes, bytes##_len), bytes##_len
+#define LENT(bytes) lend(bytes, bytes##_len), bytes##_len
+#define CALL(name, parameters, arguments) \
+    static noodlefen_answer library_##name parameters { return checked(e, noodlefen_##name arguments); }
+#include "calls.def"
 
-static noodlefen_answer load(void *e, const uint8_t *xml, size_t xml_len)
-{
-    struct library *l = e;
-    return checked(l, noodlefen_load_nullable(l->state, l->length, xml, xml_len));
-}
-
-static noodlefen_answer write(void *e, uint8_t *out, size_t out_len)
-{
-    struct library *l = e;
-    return checked(l, noodlefen_write_nullable(l->state, l->length, out, out_len));
-}
-
-static noodlefen_answer begin(void *e, uint32_t t)
-{
-    struct library *l = e;
-    return checked(l, noodlefen_begin(l->state, l->length, t));
-}
-
-static noodlefen_answer commit(void *e, uint32_t t)
-{
-    struct library *l = e;
-    return checked(l, noodlefen_commit(l->state, l->length, t));
-}
-
-static noodlefen_answer abort_(void *e, uint32_t t)
-{
-    struct library *l = e;
-    return checked(l, noodlefen_abort(l->state, l->length, t));
-}
-
-static noodlefen_answer test(void *e, uint32_t t, uint16_t n)
-{
-    struct library *l = e;
-    return checked(l, noodlefen_test(l->state, l->length, t, n));
-}
-
-static noodlefen_answer child(void *e, uint32_t t, uint16_t n, uint32_t k)
-{
-    struct library *l = e;
-    return checked(l, noodlefen_child(l->state, l->length, t, n, k));
-}
-
-static noodlefen_answer read(void *e, uint32_t t, uint16_t n, uint8_t *out, size_t out_len)
-{
-    struct library *l = e;
-    return checked(l, noodlefen_read_nullable(l->state, l->length, t, n, out, out_len));
-}
-
-static noodlefen_answer update(void *e, uint32_t t, uint16_t n, const uint8_t *bytes, size_t bytes_len)
-{
-    struct library *l = e;
-    return checked(l, noodlefen_update_nullable(l->state, l->length, t, n, bytes, bytes_len));
-}
-
-static noodlefen_answer remove_(void *e, uint32_t t, uint16_t n)
-{
-    struct library *l = e;
-    return checked(l, noodlefen_delete(l->state, l->length, t, n));
-}
-
-static noodlefen_answer insert(void *e, uint32_t t, uint16_t m, uint32_t kind, const uint8_t *bytes, size_t bytes_len,
-                               uint16_t n, uint32_t k)
-{
-    struct library *l = e;
-    return checked(l, noodlefen_insert_nullable(l->state, l->length, t, m, kind, bytes, bytes_len, n, k));
-}
-
-static noodlefen_answer test_tree(void *e, uint32_t t, uint16_t n, uint8_t *numbers, size_t numbers_len)
-{
-    struct library *l = e;
-    return checked(l, noodlefen_test_tree_nullable(l->state, l->length, t, n, numbers, numbers_len));
-}
-
-static noodlefen_answer read_tree(void *e, uint32_t t, uint16_t n, uint8_t *numbers, size_t numbers_len,
-                                  uint8_t *cells, size_t cells_len)
-{
-    struct library *l = e;
-    return checked(l, noodlefen_read_tree_nullable(l->state, l->length, t, n, numbers, numbers_len, cells, cells_len));
-}
-
-static noodlefen_answer rename_tree(void *e, uint32_t t, uint16_t n, const uint8_t *from, size_t from_len,
-                                    const uint8_t *to, size_t to_len)
-{
-    struct library *l = e;
-    return checked(l, noodlefen_rename_tree_nullable(l->state, l->length, t, n, from, from_len, to, to_len));
-}
-
-const struct engine library_engine = {"library", make, drop, faults, start, load, write, begin, commit, abort_, test, child,
-                                      read, update, remove_, insert, test_tree, read_tree, rename_tree};
+const struct engine library_engine = {
+    "library", make, drop, faults,
+#define CALL(name, parameters, arguments) library_##name,
+#include "calls.def"
+};
 
 const struct engine *const tested_engine = &library_engine;

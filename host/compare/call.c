@@ -78,7 +78,7 @@ noodlefen_answer make_call(const struct engine *engine, void *e, const struct ca
     case CALL_C: return engine->child(e, c->t, c->n, c->k);
     case CALL_R: return engine->read(e, c->t, c->n, lent->bytes, c->room);
     case CALL_U: return engine->update(e, c->t, c->n, c->a, c->a_length);
-    case CALL_D: return engine->remove(e, c->t, c->n);
+    case CALL_D: return engine->delete(e, c->t, c->n);
     case CALL_I: return engine->insert(e, c->t, c->m, c->kind, c->a, c->a_length, c->n, c->k);
     case CALL_TT: return engine->test_tree(e, c->t, c->n, lent->bytes, c->room);
     case CALL_RR: return engine->read_tree(e, c->t, c->n, lent->bytes, c->room, lent->cells, c->cells_room);

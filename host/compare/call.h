@@ -16,7 +16,7 @@ enum { MOST_ARGUMENT = 64, GUARD_BYTES = 48 };
 struct call {
     enum call_name what;
     uint32_t t, k, kind;
-    uint16_t n, m;
+    noodlefen_node n, m;
     uint8_t a[MOST_ARGUMENT], b[MOST_ARGUMENT]; /* U, I: content a; UU: names a and b */
     size_t a_length, b_length;
     const uint8_t *xml;                         /* load */

@@ -173,8 +173,9 @@ static void run(unsigned long calls, uint64_t seed)
                 well = agree(&write, &answer);
             }
         }
-        passed += well;
-        if (!well)
+        if (well)
+            passed++;
+        else
             g.calls_left = 0;
         if ((i + 1) % (calls / 10 + 1) == 0) {
             printf("%lu of %lu calls, %lu failed\n", i + 1, calls, failed);

@@ -127,7 +127,7 @@ static void put_element(struct writer *w, unsigned depth)
     }
     put(w, ">");
     for (unsigned i = 0, text_before = 0; i < children && w->nodes + 1 < w->most_nodes; i++) {
-        int text = !text_before && once_in(w->r, 3);
+        unsigned text = !text_before && once_in(w->r, 3);
         if (text)
             put_content(w, 0);
         else

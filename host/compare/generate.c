@@ -69,20 +69,20 @@ static uint32_t pick_transaction(struct generator *g, int open)
     return t;
 }
 
-static uint16_t pick_number(struct generator *g)
+static noodlefen_node pick_number(struct generator *g)
 {
     struct random *r = &g->random;
     if (once_in(r, 40))
-        return (uint16_t)random_word(r);
+        return (noodlefen_node)random_word(r);
     if (once_in(r, 20))
-        return (uint16_t)below(r, g->range);
+        return (noodlefen_node)below(r, g->range);
     return g->numbers[below(r, g->known)];
 }
 
-static uint16_t pick_fresh(struct generator *g)
+static noodlefen_node pick_fresh(struct generator *g)
 {
     struct random *r = &g->random;
-    return (uint16_t)(once_in(r, 4) ? random_word(r) : once_in(r, 3) ? below(r, g->range) : g->range + below(r, 40));
+    return (noodlefen_node)(once_in(r, 4) ? random_word(r) : once_in(r, 3) ? below(r, g->range) : g->range + below(r, 40));
 }
 
 /* A length that may be one too few, right or one too many for what was seen last, or quite another. */
@@ -132,7 +132,8 @@ static void pick_insert(struct generator *g, struct call *call)
     call->kind = kind < 8 ? 2 : kind < 12 ? 3 : kind < 19 ? 4 : wrong[below(r, 8)];
     for (unsigned i = 0; i < 6; i++) {
         unsigned parent_kind = g->kinds[call->n];
-        if (parent_kind == 2 || (parent_kind == 0 && once_in(r, 2)) || (parent_kind == 3 && call->kind == 4) || (parent_kind == 1 && call->kind == 2) || once_in(r, 12))
+        if (parent_kind == 2 || (parent_kind == 0 && once_in(r, 2)) || (parent_kind == 3 && call->kind == 4)
+            || (parent_kind == 1 && call->kind == 2) || once_in(r, 12))
             break;
         call->n = pick_number(g);
     }
@@ -156,11 +157,11 @@ static void pick_arguments(struct generator *g, struct call *call)
         call->room = pick_room(g, g->lengths[call->n], 40);
         break;
     case CALL_TT:
-        call->room = pick_room(g, 2 * (size_t)g->counts[call->n], 2200);
+        call->room = pick_room(g, NOODLEFEN_NUMBER_BYTES * (size_t)g->counts[call->n], 2200);
         break;
     case CALL_RR:
-        call->room = pick_room(g, 2 * (size_t)g->counts[call->n], 2200);
-        call->cells_room = pick_room(g, 33 * (size_t)g->counts[call->n], 34000);
+        call->room = pick_room(g, NOODLEFEN_NUMBER_BYTES * (size_t)g->counts[call->n], 2200);
+        call->cells_room = pick_room(g, NOODLEFEN_CELL_BYTES * (size_t)g->counts[call->n], 34000);
         break;
     case CALL_U:
         pick_content(g, call, g->kinds[call->n] == 4);
@@ -226,7 +227,7 @@ void generate(struct generator *g, struct call *call)
         pick_arguments(g, call);
 }
 
-static void learn_number(struct generator *g, uint16_t number, unsigned kind)
+static void learn_number(struct generator *g, noodlefen_node number, unsigned kind)
 {
     if (g->known < sizeof g->numbers / sizeof g->numbers[0])
         g->numbers[g->known++] = number;
@@ -234,7 +235,7 @@ static void learn_number(struct generator *g, uint16_t number, unsigned kind)
     g->counts[number] = 1;
 }
 
-static void unlearn_number(struct generator *g, uint16_t number)
+static void unlearn_number(struct generator *g, noodlefen_node number)
 {
     for (unsigned i = 1; i < g->known; i++)
         if (g->numbers[i] == number)
@@ -255,7 +256,7 @@ void generator_learn(struct generator *g, const struct call *call, noodlefen_ans
     case CALL_LOAD:
         forget(g);
         for (unsigned i = 1; i < value; i++)
-            learn_number(g, (uint16_t)i, 0);
+            learn_number(g, (noodlefen_node)i, 0);
         g->counts[0] = (uint16_t)value;
         g->counts[1] = (uint16_t)(value - 1);
         break;
@@ -264,7 +265,7 @@ void generator_learn(struct generator *g, const struct call *call, noodlefen_ans
     case CALL_COMMIT:
     case CALL_ABORT: g->open &= ~(1u << call->t); break;
     case CALL_T: g->kinds[call->n] = (uint8_t)noodlefen_kind(answer); break;
-    case CALL_C: g->kinds[(uint16_t)noodlefen_number(answer)] = (uint8_t)noodlefen_kind(answer); break;
+    case CALL_C: g->kinds[noodlefen_number(answer)] = (uint8_t)noodlefen_kind(answer); break;
     case CALL_R: g->lengths[call->n] = (uint8_t)value; break;
     case CALL_U: g->lengths[call->n] = (uint8_t)call->a_length; break;
     case CALL_I:

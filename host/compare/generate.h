@@ -17,7 +17,7 @@ struct generator {
     /* What the answers so far have shown; only a guess at what comes next. */
     uint32_t open;             /* bit t for an open transaction t */
     unsigned known;            /* numbers that nodes may have */
-    uint16_t numbers[8192];
+    noodlefen_node numbers[8192];
     uint8_t kinds[65536];      /* by number, 0 if not known */
     uint16_t counts[65536];    /* nodes in the subtree when last seen */
     uint8_t lengths[65536];    /* bytes of content when last seen */

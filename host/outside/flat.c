@@ -49,7 +49,7 @@ int flat_equal(const struct flat *one, const struct flat *other)
 
 void flat_of_engine(struct flat *flat, const struct engine *engine, void *e)
 {
-    static uint8_t numbers[2 * NOODLEFEN_NODES], cells[33 * NOODLEFEN_NODES];
+    static uint8_t numbers[NOODLEFEN_NUMBER_BYTES * NOODLEFEN_NODES], cells[NOODLEFEN_CELL_BYTES * NOODLEFEN_NODES];
     static uint16_t depths[65536];
     static uint8_t kinds[65536];
     engine->begin(e, 1);
@@ -57,11 +57,11 @@ void flat_of_engine(struct flat *flat, const struct engine *engine, void *e)
     depths[0] = 0;
     kinds[0] = NOODLEFEN_DOCUMENT;
     for (size_t i = 1; i < noodlefen_value(answer); i++) {
-        uint16_t number = (uint16_t)(numbers[2 * i] + 256 * numbers[2 * i + 1]);
+        noodlefen_node number = noodlefen_list_number(numbers, i);
         noodlefen_answer test = engine->test(e, 1, number);
-        uint16_t parent = (uint16_t)noodlefen_number(test);
-        const char *content = (const char *)cells + 33 * i + 1;
-        size_t length = cells[33 * i];
+        noodlefen_node parent = noodlefen_number(test);
+        const char *content = (const char *)noodlefen_cell_content(cells, i);
+        size_t length = noodlefen_cell_length(cells, i);
         kinds[number] = (uint8_t)noodlefen_kind(test);
         depths[number] = (uint16_t)(depths[parent] + 1);
         if (kinds[parent] == NOODLEFEN_ATTRIBUTE)

@@ -69,7 +69,7 @@ static struct node *begin_node(struct reader *r, struct node *parent, int kind)
         refuse(r, 6, r->place);
         return NULL;
     }
-    struct node *node = node_new((uint16_t)r->nodes, kind, NULL, 0);
+    struct node *node = node_new((noodlefen_node)r->nodes, kind, NULL, 0);
     r->nodes++;
     node_attach(parent, node, NULL);
     return node;

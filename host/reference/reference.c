@@ -340,57 +340,57 @@ static noodlefen_answer take_step(struct reference *r, uint32_t t, const struct 
 
 static const struct lent nothing = {NULL, 0};
 
-noodlefen_answer reference_test(struct reference *r, uint32_t t, uint16_t n)
+noodlefen_answer reference_test(struct reference *r, uint32_t t, noodlefen_node n)
 {
     struct step step = {.what = STEP_T, .n = n};
     return take_step(r, t, &step, nothing, nothing);
 }
 
-noodlefen_answer reference_child(struct reference *r, uint32_t t, uint16_t n, uint32_t k)
+noodlefen_answer reference_child(struct reference *r, uint32_t t, noodlefen_node n, uint32_t k)
 {
     struct step step = {.what = STEP_C, .n = n, .k = k};
     return take_step(r, t, &step, nothing, nothing);
 }
 
-noodlefen_answer reference_read(struct reference *r, uint32_t t, uint16_t n, uint8_t *out, size_t out_len)
+noodlefen_answer reference_read(struct reference *r, uint32_t t, noodlefen_node n, uint8_t *out, size_t out_len)
 {
     struct step step = {.what = STEP_R, .n = n};
     return take_step(r, t, &step, (struct lent){out, out_len}, nothing);
 }
 
-noodlefen_answer reference_update(struct reference *r, uint32_t t, uint16_t n, const uint8_t *bytes, size_t bytes_len)
+noodlefen_answer reference_update(struct reference *r, uint32_t t, noodlefen_node n, const uint8_t *bytes, size_t bytes_len)
 {
     struct step step = {.what = STEP_U, .n = n, .a = bytes, .a_length = bytes_len};
     return take_step(r, t, &step, nothing, nothing);
 }
 
-noodlefen_answer reference_delete(struct reference *r, uint32_t t, uint16_t n)
+noodlefen_answer reference_delete(struct reference *r, uint32_t t, noodlefen_node n)
 {
     struct step step = {.what = STEP_D, .n = n};
     return take_step(r, t, &step, nothing, nothing);
 }
 
-noodlefen_answer reference_insert(struct reference *r, uint32_t t, uint16_t m, uint32_t kind,
-                                  const uint8_t *bytes, size_t bytes_len, uint16_t n, uint32_t k)
+noodlefen_answer reference_insert(struct reference *r, uint32_t t, noodlefen_node m, uint32_t kind,
+                                  const uint8_t *bytes, size_t bytes_len, noodlefen_node n, uint32_t k)
 {
     struct step step = {.what = STEP_I, .n = n, .k = k, .m = m, .kind = kind, .a = bytes, .a_length = bytes_len};
     return take_step(r, t, &step, nothing, nothing);
 }
 
-noodlefen_answer reference_test_tree(struct reference *r, uint32_t t, uint16_t n, uint8_t *numbers, size_t numbers_len)
+noodlefen_answer reference_test_tree(struct reference *r, uint32_t t, noodlefen_node n, uint8_t *numbers, size_t numbers_len)
 {
     struct step step = {.what = STEP_TT, .n = n};
     return take_step(r, t, &step, (struct lent){numbers, numbers_len}, nothing);
 }
 
-noodlefen_answer reference_read_tree(struct reference *r, uint32_t t, uint16_t n,
+noodlefen_answer reference_read_tree(struct reference *r, uint32_t t, noodlefen_node n,
                                      uint8_t *numbers, size_t numbers_len, uint8_t *cells, size_t cells_len)
 {
     struct step step = {.what = STEP_RR, .n = n};
     return take_step(r, t, &step, (struct lent){numbers, numbers_len}, (struct lent){cells, cells_len});
 }
 
-noodlefen_answer reference_rename_tree(struct reference *r, uint32_t t, uint16_t n,
+noodlefen_answer reference_rename_tree(struct reference *r, uint32_t t, noodlefen_node n,
                                        const uint8_t *from, size_t from_len, const uint8_t *to, size_t to_len)
 {
     struct step step = {.what = STEP_UU, .n = n, .a = from, .a_length = from_len, .b = to, .b_length = to_len};

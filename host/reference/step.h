@@ -8,9 +8,9 @@ enum step_name { STEP_T, STEP_C, STEP_R, STEP_U, STEP_D, STEP_I, STEP_TT, STEP_R
 
 struct step {
     enum step_name what;
-    uint16_t n;
+    noodlefen_node n;
     uint32_t k;              /* C, I */
-    uint16_t m;              /* I */
+    noodlefen_node m;        /* I */
     uint32_t kind;           /* I */
     const uint8_t *a, *b;    /* U, I: content a; UU: names a and b */
     size_t a_length, b_length;

@@ -3,7 +3,7 @@
 #include <stdlib.h>
 #include <string.h>
 
-struct node *node_new(uint16_t number, int kind, const uint8_t *content, size_t length)
+struct node *node_new(noodlefen_node number, int kind, const uint8_t *content, size_t length)
 {
     struct node *node = calloc(1, sizeof *node);
     if (node == NULL)
@@ -88,7 +88,7 @@ struct node *node_after(const struct node *top, struct node *node, uint32_t view
     return next;
 }
 
-struct node *node_find(struct node *top, uint16_t number)
+struct node *node_find(struct node *top, noodlefen_node number)
 {
     for (struct node *node = top; node != NULL; node = node_after(top, node, EVERYTHING))
         if (node->number == number)

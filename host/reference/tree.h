@@ -2,14 +2,13 @@
 #ifndef TREE_H
 #define TREE_H
 
-#include <stddef.h>
-#include <stdint.h>
+#include "noodlefen.h"
 
 enum { DOCUMENT = 1, ELEMENT = 2, ATTRIBUTE = 3, TEXT = 4 };
 enum { MOST_NODES = 1024, MOST_CONTENT = 32, MOST_TRANSACTIONS = 16 };
 
 struct node {
-    uint16_t number;
+    noodlefen_node number;
     int kind;
     size_t length;
     uint8_t content[MOST_CONTENT];
@@ -23,7 +22,7 @@ struct node {
 /* What a transaction sees of a tree is the tree without the nodes it deleted. The viewer EVERYTHING deleted none. */
 enum { EVERYTHING = 0 };
 
-struct node *node_new(uint16_t number, int kind, const uint8_t *content, size_t length);
+struct node *node_new(noodlefen_node number, int kind, const uint8_t *content, size_t length);
 void node_set_content(struct node *node, const uint8_t *content, size_t length);
 void node_attach(struct node *parent, struct node *node, struct node *before); /* before NULL: as the last child */
 void node_detach(struct node *node);
@@ -32,7 +31,7 @@ struct node *node_copy(const struct node *node);      /* with all below it, with
 
 int node_hidden(const struct node *node, uint32_t viewer);                     /* viewer deleted it or an ancestor */
 struct node *node_after(const struct node *top, struct node *node, uint32_t viewer); /* the next below top in document order */
-struct node *node_find(struct node *top, uint16_t number);                     /* NULL if no node is so numbered */
+struct node *node_find(struct node *top, noodlefen_node number);               /* NULL if no node is so numbered */
 size_t node_count(struct node *top, uint32_t viewer);
 size_t node_children(const struct node *node, uint32_t viewer);
 struct node *node_child(const struct node *node, uint32_t k, uint32_t viewer);       /* k from 1; NULL if there is none */

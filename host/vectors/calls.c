@@ -47,15 +47,15 @@ static size_t room(const struct words *words, int place, size_t otherwise)
     return place < words->count ? strtoul(words->list[place], NULL, 10) : otherwise;
 }
 
-static uint8_t numbers[2 * NOODLEFEN_NODES], cells[33 * NOODLEFEN_NODES];
+static uint8_t numbers[NOODLEFEN_NUMBER_BYTES * NOODLEFEN_NODES], cells[NOODLEFEN_CELL_BYTES * NOODLEFEN_NODES];
 
 static void list_nodes(char *got, size_t count, int with_cells)
 {
     for (size_t i = 0; i < count; i++) {
-        got += sprintf(got, i == 0 ? "%u" : ",%u", numbers[2 * i] + 256u * numbers[2 * i + 1]);
+        got += sprintf(got, i == 0 ? "%u" : ",%u", (unsigned)noodlefen_list_number(numbers, i));
         if (with_cells) {
             strcpy(got, "=");
-            append_readable(got, cells + 33 * i + 1, cells[33 * i]);
+            append_readable(got, noodlefen_cell_content(cells, i), noodlefen_cell_length(cells, i));
             got += strlen(got);
         }
     }
@@ -64,7 +64,7 @@ static void list_nodes(char *got, size_t count, int with_cells)
 static noodlefen_answer call(const struct engine *engine, void *e, uint32_t t, const struct words *w, char *value)
 {
     const char *what = w->list[0];
-    uint16_t n = (uint16_t)number(w, 1);
+    noodlefen_node n = (noodlefen_node)number(w, 1);
     noodlefen_answer answer = 0;
     if (strcmp(what, "begin") == 0)
         return engine->begin(e, t);
@@ -96,10 +96,10 @@ static noodlefen_answer call(const struct engine *engine, void *e, uint32_t t, c
         answer = engine->update(e, t, n, bytes.bytes, bytes.length);
         free(bytes.bytes);
     } else if (strcmp(what, "D") == 0) {
-        answer = engine->remove(e, t, n);
+        answer = engine->delete(e, t, n);
     } else if (strcmp(what, "I") == 0) {
         struct bytes bytes = bytes_of(w, 3);
-        answer = engine->insert(e, t, n, number(w, 2), bytes.bytes, bytes.length, (uint16_t)number(w, 4), number(w, 5));
+        answer = engine->insert(e, t, n, number(w, 2), bytes.bytes, bytes.length, (noodlefen_node)number(w, 4), number(w, 5));
         free(bytes.bytes);
     } else if (strcmp(what, "TT") == 0) {
         answer = engine->test_tree(e, t, n, numbers, room(w, 2, sizeof numbers));

@@ -30,12 +30,12 @@ static const char *skip_word(const char *text)
 /* The nodes that a granted load gives, compared with the list: kind, parent and content of each, and the order by TT. */
 static int nodes_match(const struct engine *engine, void *e, size_t count, const char *list, char *got)
 {
-    static uint8_t numbers[2 * NOODLEFEN_NODES];
+    static uint8_t numbers[NOODLEFEN_NUMBER_BYTES * NOODLEFEN_NODES];
     engine->begin(e, 1);
     if (noodlefen_value(engine->test_tree(e, 1, 0, numbers, sizeof numbers)) != count)
         return sprintf(got, "another count by TT"), 0;
     for (size_t i = 0; i < count; i++)
-        if (numbers[2 * i] + 256u * numbers[2 * i + 1] != i)
+        if (noodlefen_list_number(numbers, i) != i)
             return sprintf(got, "another order by TT"), 0;
     char *expanded = expand(list, strlen(list));
     size_t node = 1;
@@ -51,8 +51,8 @@ static int nodes_match(const struct engine *engine, void *e, size_t count, const
             return sprintf(got, "(a node that cannot be read: %s)", token), 0;
         uint8_t read[NOODLEFEN_CONTENT_BYTES];
         struct bytes expected = unescape(content + 1, strlen(content + 1));
-        noodlefen_answer t = engine->test(e, 1, (uint16_t)node);
-        noodlefen_answer r = engine->read(e, 1, (uint16_t)node, read, sizeof read);
+        noodlefen_answer t = engine->test(e, 1, (noodlefen_node)node);
+        noodlefen_answer r = engine->read(e, 1, (noodlefen_node)node, read, sizeof read);
         right = noodlefen_granted(t) && noodlefen_granted(r) && noodlefen_number(t) == parent
             && noodlefen_kind(t) == (kind == 'e' ? 2u : kind == 'a' ? 3u : 4u)
             && noodlefen_value(r) == expected.length && memcmp(read, expected.bytes, expected.length) == 0;
