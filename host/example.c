@@ -69,18 +69,6 @@ static noodlefen_answer show(noodlefen_answer answer, const char *format, ...)
     return answer;
 }
 
-static void print_content(const struct content *content)
-{
-    printf("    \"");
-    for (size_t i = 0; i < content->length; i++) {
-        if (content->bytes[i] == '\n' || content->bytes[i] == '\t')
-            printf(content->bytes[i] == '\n' ? "\\n" : "\\t");
-        else
-            putchar(content->bytes[i]);
-    }
-    printf("\"\n");
-}
-
 static noodlefen_answer read_content(uint32_t t, noodlefen_node n, struct content *content)
 {
     noodlefen_answer answer = noodlefen_read(state, sizeof state, t, n, content->bytes, sizeof content->bytes);
@@ -243,20 +231,22 @@ static int change_and_read(noodlefen_node n, const char *change)
         answer = show(read_content(2, n, &content), "transaction 2: read node %u", n);
     } while (again(answer, &tries, first_engineer_works));
     if (noodlefen_granted(answer))
-        print_content(&content);
+        printf("    \"%.*s\"\n", (int)content.length, (const char *)content.bytes);
     return noodlefen_granted(answer);
 }
 
 /* Step I with a number that no node has. Load gives numbers below 1,024, so those from there on are free at first. Of 65,536 numbers
- * at most 1,024 are held: the next one is soon free. */
+ * at most 1,024 are held, so one is soon found. */
 static noodlefen_answer insert_new(uint32_t t, uint32_t kind, const char *content, noodlefen_node parent, uint32_t k, noodlefen_node *m)
 {
     static noodlefen_node next = NOODLEFEN_NODES;
     noodlefen_answer answer;
-    do {
-        *m = next++;
+    for (;; next++) {
+        *m = next;
         answer = noodlefen_insert(state, sizeof state, t, *m, kind, bytes_of(content), strlen(content), parent, k);
-    } while (noodlefen_cause(answer) == NOODLEFEN_NUMBER_HELD);
+        if (noodlefen_cause(answer) != NOODLEFEN_NUMBER_HELD)
+            break;
+    }
     return show(answer, "transaction %u: insert \"%s\" as child %u of node %u", (unsigned)t, content, (unsigned)k, parent);
 }
 
