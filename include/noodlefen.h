@@ -218,13 +218,13 @@ noodlefen_answer noodlefen_delete(uint8_t *state, size_t state_len, uint32_t t, 
 noodlefen_answer noodlefen_insert(uint8_t *state, size_t state_len, uint32_t t, noodlefen_node m, uint32_t kind,
                                   const uint8_t *bytes, size_t bytes_len, noodlefen_node n, uint32_t k);
 
-/* Step TT: writes the numbers of n and all below it in document order, two bytes each, low byte first; the value is their count.
- * Refused for 1, 3, 7 or 13; may wait. */
+/* Step TT: writes the numbers of n and all below it in document order, low byte first; the value is their count.
+ * Read them with noodlefen_list_number. Refused for 1, 3, 7 or 13; may wait. */
 noodlefen_answer noodlefen_test_tree(uint8_t *state, size_t state_len, uint32_t t, noodlefen_node n,
                                      uint8_t *numbers, size_t numbers_len);
 
 /* Step RR: as noodlefen_test_tree, and a cell of 33 bytes for each node: length, content, zeros.
- * Refused for 1, 3, 7 or 13 (either buffer); may wait. */
+ * Read them with noodlefen_cell_length and noodlefen_cell_content. Refused for 1, 3, 7 or 13 (either buffer); may wait. */
 noodlefen_answer noodlefen_read_tree(uint8_t *state, size_t state_len, uint32_t t, noodlefen_node n,
                                      uint8_t *numbers, size_t numbers_len, uint8_t *cells, size_t cells_len);
 
