@@ -206,6 +206,22 @@ static void test_nulls(enum call_name what)
             test_null(what, set, lengths[i]);
 }
 
+/* The helpers that look into bytes: up to the last one and no further. */
+static void test_helpers(void)
+{
+    struct slice bytes = within(FIRST, NOODLEFEN_CELL_BYTES, 1);
+    set_all(READ_AND_WRITE);
+    memset(bytes.bytes, '\n', bytes.length);
+    bytes.bytes[0] = NOODLEFEN_CONTENT_BYTES;
+    check(noodlefen_position_of(bytes.bytes, bytes.length, SIZE_MAX).line == NOODLEFEN_CELL_BYTES, CALL_load, "the place of the end");
+    check(noodlefen_position_of(fence_end(&fences[FIRST], 0), 0, 1).line == 1, CALL_load, "a place in no text");
+    check(noodlefen_cell_length(bytes.bytes, 0) == NOODLEFEN_CONTENT_BYTES
+          && noodlefen_cell_content(bytes.bytes, 0) + NOODLEFEN_CONTENT_BYTES == bytes.bytes + bytes.length, CALL_read_tree, "the cell");
+    memset(fence_end(&fences[FIRST], NOODLEFEN_NUMBER_BYTES), 0xFF, NOODLEFEN_NUMBER_BYTES);
+    check(noodlefen_list_number(fence_end(&fences[FIRST], 3 * NOODLEFEN_NUMBER_BYTES), 2) == (noodlefen_node)-1, CALL_test_tree,
+          "the last number");
+}
+
 int main(void)
 {
     fences[STATE_SLICE] = fence_new(NOODLEFEN_STATE_BYTES);
@@ -220,6 +236,7 @@ int main(void)
         if (has_buffer((enum call_name)what, 0))
             test_nulls((enum call_name)what);
     }
+    test_helpers();
     printf("%lu passed, %lu failed\n", passed, failed);
     return failed != 0;
 }

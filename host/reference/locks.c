@@ -58,7 +58,7 @@ unsigned wait_set(const struct needs *needs, uint32_t caller, const int open[])
             continue;
         for (size_t i = 0; i < needs->count; i++)
             for (int held = 0; held < MODES; held++)
-                if ((needs->list[i].node->modes[t] >> held & 1) && modes_clash(held, needs->list[i].mode))
+                if ((needs->list[i].node->modes[t] >> held & 1) && modes_clash((enum mode)held, needs->list[i].mode))
                     set |= 1u << (t - 1);
     }
     return set;

@@ -9,7 +9,7 @@
 
 /* A change of the held tree, kept so that an abort can take it back. */
 struct change {
-    enum { INSERTED, DELETED, CHANGED } what;
+    enum change_name { INSERTED, DELETED, CHANGED } what;
     struct node *node;
     size_t length;                       /* CHANGED: the content before */
     uint8_t content[MOST_CONTENT];
@@ -45,7 +45,7 @@ static noodlefen_answer refused(int cause, size_t offset)
     return 2 | (uint64_t)cause << 8 | (uint64_t)offset << 16;
 }
 
-static void remember(struct transaction *transaction, int what, struct node *node)
+static void remember(struct transaction *transaction, enum change_name what, struct node *node)
 {
     struct change *change = calloc(1, sizeof *change);
     if (change == NULL)
