@@ -166,6 +166,31 @@ static void deletion(void)
     print_settings(state);
 }
 
+/* --- Joins two texts that became neighbours: the first gets both contents, if they have at most 32 bytes together (otherwise 9). */
+static noodlefen_answer join_texts(uint32_t t, noodlefen_node first, noodlefen_node second)
+{
+    uint8_t content[2 * NOODLEFEN_CONTENT_BYTES];
+    noodlefen_answer before = noodlefen_read(state, sizeof state, t, first, content, NOODLEFEN_CONTENT_BYTES);
+    if (!noodlefen_granted(before))
+        return before;
+    size_t length = (size_t)noodlefen_value(before);
+    noodlefen_answer behind = noodlefen_read(state, sizeof state, t, second, content + length, NOODLEFEN_CONTENT_BYTES);
+    if (!noodlefen_granted(behind))
+        return behind;
+    noodlefen_answer answer = noodlefen_update(state, sizeof state, t, first, content, length + (size_t)noodlefen_value(behind));
+    return noodlefen_granted(answer) ? noodlefen_delete(state, sizeof state, t, second) : answer;
+}
+
+static void joining(void)
+{
+    printf("two texts with words joined\n");
+    begin_with("<a>up<b/> and down</a>");
+    must(noodlefen_delete(state, sizeof state, 1, 3));
+    must(join_texts(1, 2, 4));
+    must(noodlefen_commit(state, sizeof state, 1));
+    print_settings(state);
+}
+
 /* Two deletions that are fine by themselves leave neighbouring texts together; the second to commit sees it. */
 static void two_deletions(void)
 {
@@ -272,6 +297,7 @@ int main(void)
     numbers();
     values();
     deletion();
+    joining();
     two_deletions();
     read_copy();
     predict();
