@@ -56,7 +56,8 @@ first-after text (refused c) b = b
 first-after text (refused-at c offset) b = b
 
 -- the call c in the state M: number, buffers and the state left are the definition's; `writing` says what writing a document answers
-pub record ByDefinition (writing : ℕ → Document → Answer) (text : List ℕ → Document → List ℕ) (M : State) (x : Exchange) (c : Call) : Type 0 where
+pub record ByDefinition (writing : ℕ → Document → Answer) (text : List ℕ → Document → List ℕ)
+    (M : State) (x : Exchange) (c : Call) : Type 0 where
   pub code : x .code ≡ code-of (answer-of (writing (length (x .first .before))) (next c M .outcome))
   pub first : x .first .after ≡ first-after text (next c M .outcome) (x .first .before)
   pub second : x .second .after ≡ lent-after second-lent (next c M .outcome) (x .second .before)
@@ -94,7 +95,8 @@ pub record StateBytes (x : Exchange) : Type 0 where
 pub record Answers (x : Exchange) : Type 0 where
   pub on-states : (M : State) (c : Call) → Holds (x .state .before) M → MakesCall x c → ByDefinition write-answer write-buffer M x c
   -- a start needs no state before it, only bytes enough
-  pub starts : x .request ≡ Request.start → state-size ≤ length (x .state .before) → ByDefinition write-answer write-buffer start-state x start
+  pub starts : x .request ≡ Request.start → state-size ≤ length (x .state .before)
+      → ByDefinition write-answer write-buffer start-state x start
 
 -- "every call .. refuses an unfit request with a number of document 01; a refusal or a wait changes no node, lock or lent buffer"
 pub record Demand1 (x : Exchange) : Type 0 where
@@ -121,7 +123,7 @@ pub record Demand2 (M : State) (x : Exchange) (c : Call) : Type 0 where
 
 -- demand 3 -----------------------------------------------------------------------------
 
--- "a granted write gives what writing the plain document of the calls before it gives": the length, and the text before the buffer's old rest
+-- "a granted write gives what writing the plain document of the calls before it gives": its length, and its bytes before the buffer's rest
 abbrev pub WritesPlain : List Call → Exchange → Call → Type 0
 WritesPlain before x c = c ≡ write → outcome (x .code) ≡ 0
     → (x .code ≡ code-of (Count (length (xml.write (plain (since-start before))))))

@@ -88,10 +88,14 @@ unfolding history state-after
 history-append M [] b = refl
 history-append M (c ∷ a) b = rw (history-append (next c M .state) a b)
 
-pub state-append : (M : State) (a b : List Call) → state-after M (a ++ b) ≡ state-after (state-after M a) b
+state-append : (M : State) (a b : List Call) → state-after M (a ++ b) ≡ state-after (state-after M a) b
 unfolding state-after
 state-append M [] b = refl
 state-append M (c ∷ a) b = state-append (next c M .state) a b
+
+pub further : (before : List Call) (c : Call) → reached (before ++ (c ∷ [])) ≡ next c (reached before) .state
+unfolding state-after
+further before c = state-append start-state (start ∷ before) (c ∷ [])
 
 write-gives : (cs : List Call) (c : Call) → c ≡ write → next c (reached cs) .outcome ≡ written (plain (since-start cs))
 unfolding next
@@ -109,11 +113,9 @@ writes-from before (c ∷ cs) = (write-gives before c, next-event (writes-from (
     longer : since-start (before ++ (c ∷ [])) ≡ since-start before ++ (e ∷ [])
     longer = history-append start-state (start ∷ before) (c ∷ [])
 
-    further : reached (before ++ (c ∷ [])) ≡ next c (reached before) .state
-    further = state-append start-state (start ∷ before) (c ∷ [])
-
-    next-event : writes-plain (since-start (before ++ (c ∷ []))) (history (reached (before ++ (c ∷ []))) cs) → writes-plain (since-start before ++ (e ∷ [])) (history (next c (reached before) .state) cs)
-    next-event w = rw (longer, further) at w
+    next-event : writes-plain (since-start (before ++ (c ∷ []))) (history (reached (before ++ (c ∷ []))) cs)
+        → writes-plain (since-start before ++ (e ∷ [])) (history (next c (reached before) .state) cs)
+    next-event w = rw (longer, further before c) at w
 
 unfoldable pub is-write : Call → Bool
 is-write start = false

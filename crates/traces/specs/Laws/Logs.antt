@@ -7,11 +7,11 @@ use mathlib.Core.Logic.{_↔_}
 use lib.ListN.{length}
 use lib.Dec.{eqb}
 use borrow.Author.Tests.{eqb-true, eq-eqb}
-use Rattle.tree.specs.Document.{node-0-alone}
+use Rattle.tree.specs.Document.{Document, node-0-alone}
 use Rattle.tree.specs.Steps.{Step, Value, unfit, plain-answers}
 use Rattle.tree.specs.Laws.Tests.{refuted}
 use Rattle.tree.specs.Laws.Lists.{map-append}
-use Rattle.protocol.specs.State.{State, start-state}
+use Rattle.protocol.specs.State.{State}
 use Rattle.protocol.specs.Lent.{Room, second-lent}
 use Rattle.protocol.specs.Calls.{Call, start, load, begin, commit, abort, step, write, unreadable, stands-for, Outcome, granted, next}
 use Rattle.protocol.specs.History.{history, state-after, is-granted, value-of, Log, new-log, with-log, logged, log-after}
@@ -20,9 +20,10 @@ use Rattle.protocol.specs.Answers.{code-of, answer-of, lent-after}
 use Rattle.writer.specs.Contract.{writing, text-after}
 use Rattle.serializability.specs.Theorem.{since-start, reached, answered}
 use Rattle.serializability.specs.Laws.Unfit.{granted-fits, step-value}
-use Rattle.serializability.specs.Laws.Main.{is-write, state-append, demand-3}
+use Rattle.serializability.specs.Laws.Main.{is-write, further, demand-3}
 use Rattle.traces.specs.Exchange.{Exchange, outcome}
-use Rattle.traces.specs.Theorem.{first-after, Demand2, GrantedStep, log-by-codes, granted-steps, steps, Feeds, AnsweredWith, AllAnswered, PlainAnswers, Each}
+use Rattle.traces.specs.Theorem.{first-after, Demand2, Each}
+use Rattle.traces.specs.Theorem.{GrantedStep, log-by-codes, granted-steps, steps, Feeds, AnsweredWith, AllAnswered, PlainAnswers}
 
 -- one call ---------------------------------------------------------------------------------
 
@@ -35,28 +36,30 @@ granted-same n g h = go g refl
     go false f = refuted _ (λ e. false≢true (sym f ∙ h .0 (eqb-true n 0 e)))
 
 -- the calls whose codes tell that they were granted are logged as the definition's granted ones; a write has no entry
-by-code : {E : Type 0} (entry : Step → Value → E) (v : Value) (L : Log E) (M : State) (x : Exchange) (c : Call) → Demand2 M x c
-    → cond (eqb (outcome (x .code)) 0) (logged entry c v L) L ≡ cond (is-granted (next c M .outcome)) (logged entry c v L) L
-unfolding is-write
-by-code {E} entry v L M x c d = go c d
-  where
-    same : (g : Bool) → (outcome (x .code) ≡ 0) ↔ (g ≡ true) → (N : Log E) → cond (eqb (outcome (x .code)) 0) N L ≡ cond g N L
-    same g h N = rw (granted-same (outcome (x .code)) g h)
+module _ {E : Type 0} (entry : Step → Value → E) (v : Value) (L : Log E) (M : State) (x : Exchange) where
+  abbrev Same : Call → Type 0
+  Same c = cond (eqb (outcome (x .code)) 0) (logged entry c v L) L ≡ cond (is-granted (next c M .outcome)) (logged entry c v L) L
 
-    none : (a b : Bool) → cond a L L ≡ cond b L L
-    none true true = refl
-    none true false = refl
-    none false true = refl
-    none false false = refl
+  told : (c : Call) → Demand2 M x c → is-write c ≡ false → Same c
+  unfolding is-write
+  told c d w =
+      rw (granted-same (outcome (x .code)) (is-granted (next c M .outcome)) (d .as-granted (λ e. false≢true (sym w ∙ ap is-write e))))
 
-    go : (c : Call) → Demand2 M x c → cond (eqb (outcome (x .code)) 0) (logged entry c v L) L ≡ cond (is-granted (next c M .outcome)) (logged entry c v L) L
-    go start d = same _ (d .as-granted (λ e. false≢true (ap is-write e))) _
-    go (load i) d = same _ (d .as-granted (λ e. false≢true (ap is-write e))) _
-    go (begin t) d = same _ (d .as-granted (λ e. false≢true (ap is-write e))) _
-    go (commit t) d = same _ (d .as-granted (λ e. false≢true (ap is-write e))) _
-    go (abort t) d = same _ (d .as-granted (λ e. false≢true (ap is-write e))) _
-    go (step t s room) d = same _ (d .as-granted (λ e. false≢true (ap is-write e))) _
-    go write d = none (eqb (outcome (x .code)) 0) (is-granted (next write M .outcome))
+  either : (a b : Bool) → cond a L L ≡ cond b L L
+  either true true = refl
+  either true false = refl
+  either false true = refl
+  either false false = refl
+
+  by-code : (c : Call) → Demand2 M x c → Same c
+  unfolding is-write
+  by-code start d = told start d refl
+  by-code (load i) d = told (load i) d refl
+  by-code (begin t) d = told (begin t) d refl
+  by-code (commit t) d = told (commit t) d refl
+  by-code (abort t) d = told (abort t) d refl
+  by-code (step t s room) d = told (step t s room) d refl
+  by-code write d = either (eqb (outcome (x .code)) 0) (is-granted (next write M .outcome))
 
 -- a granted step was answered with its value
 step-answered : (M : State) (x : Exchange) (t : ℕ) (s : Step) (room : Room) → Demand2 M x (step t s room)
@@ -89,18 +92,23 @@ all-append [] ws (g ∷ gs) hs a b = absurd a
 all-append (v ∷ vs) ws [] hs a b = absurd a
 all-append (v ∷ vs) ws (g ∷ gs) hs a b = (a .0, all-append vs ws gs hs (a .1) b)
 
-append : (ss ts : List Step) (vs ws : List Value) (gs hs : List GrantedStep) → Entries ss vs gs → Entries ts ws hs → Entries (ss ++ ts) (vs ++ ws) (gs ++ hs)
+append : (ss ts : List Step) (vs ws : List Value) (gs hs : List GrantedStep) → Entries ss vs gs → Entries ts ws hs
+    → Entries (ss ++ ts) (vs ++ ws) (gs ++ hs)
 append ss ts vs ws gs hs a b =
     (rw (← a .0, ← b .0) (map-append (λ (g : GrantedStep). g .step) gs hs), all-append vs ws gs hs (a .1) (b .1))
 
 -- the log of t replaced
-replaced : (t : ℕ) (ss : List Step) (vs : List Value) (gs : List GrantedStep) (F : Log Step) (A : Log Value) (G : Log GrantedStep) → Matches F A G
-    → Entries ss vs gs → (u : ℕ) → Entries (with-log t ss (F .open-log) u) (with-log t vs (A .open-log) u) (with-log t gs (G .open-log) u)
+replaced : (t : ℕ) (ss : List Step) (vs : List Value) (gs : List GrantedStep) (F : Log Step) (A : Log Value) (G : Log GrantedStep)
+    → Matches F A G → Entries ss vs gs
+    → (u : ℕ) → Entries (with-log t ss (F .open-log) u) (with-log t vs (A .open-log) u) (with-log t gs (G .open-log) u)
 replaced t ss vs gs F A G m h u = go (eqb u t)
   where
     go : (b : Bool) → Entries (cond b ss (F .open-log u)) (cond b vs (A .open-log u)) (cond b gs (G .open-log u))
     go true = h
     go false = m .open-log u
+
+begun : (d : Document) → Matches (new-log d) (new-log d) (new-log d)
+begun d = record { first = refl; committed = (refl, tt); open-log = λ u. (refl, tt) }
 
 abbrev entry : Exchange → Step → Value → GrantedStep
 entry x s v = record { step = s; exchange = x }
@@ -110,10 +118,11 @@ module _ (M : State) (x : Exchange) (F : Log Step) (A : Log Value) (G : Log Gran
   emptied t = replaced t [] [] [] F A G m (refl, tt)
 
   logged-matches : (c : Call) → Demand2 M x c → is-granted (next c M .outcome) ≡ true
-      → Matches (logged (λ s v. s) c (value-of (next c M .outcome)) F) (logged (λ s v. v) c (value-of (next c M .outcome)) A) (logged (entry x) c unfit G)
-  logged-matches start d g = record { first = refl; committed = (refl, tt); open-log = λ u. (refl, tt) }
+      → Matches (logged (λ s v. s) c (value-of (next c M .outcome)) F) (logged (λ s v. v) c (value-of (next c M .outcome)) A)
+      (logged (entry x) c unfit G)
+  logged-matches start d g = begun node-0-alone
   logged-matches (load (unreadable cause offset)) d g = m
-  logged-matches (load (stands-for e l)) d g = record { first = refl; committed = (refl, tt); open-log = λ u. (refl, tt) }
+  logged-matches (load (stands-for e l)) d g = begun e
   logged-matches (begin t) d g = record { first = m .first; committed = m .committed; open-log = emptied t }
   logged-matches (commit t) d g = record {
     first = m .first;
@@ -127,7 +136,8 @@ module _ (M : State) (x : Exchange) (F : Log Step) (A : Log Value) (G : Log Gran
         first = m .first;
         committed = m .committed;
         open-log = replaced t (F .open-log t ++ (s ∷ [])) (A .open-log t ++ (v ∷ [])) (G .open-log t ++ (entry x s v ∷ [])) F A G m
-            (append (F .open-log t) (s ∷ []) (A .open-log t) (v ∷ []) (G .open-log t) (entry x s v ∷ []) (m .open-log t) (refl, (step-answered M x t s room d g, tt)));
+            (append (F .open-log t) (s ∷ []) (A .open-log t) (v ∷ []) (G .open-log t) (entry x s v ∷ [])
+            (m .open-log t) (refl, (step-answered M x t s room d g, tt)));
       }
   logged-matches write d g = m
 
@@ -146,17 +156,14 @@ module _ (M : State) (x : Exchange) (F : Log Step) (A : Log Value) (G : Log Gran
 
 -- lists of calls ---------------------------------------------------------------------------
 
-pub further : (before : List Call) (c : Call) → reached (before ++ (c ∷ [])) ≡ next c (reached before) .state
-unfolding state-after
-further before c = state-append start-state (start ∷ before) (c ∷ [])
-
 -- demand 2 of each call, in the state that the calls before it reach
 abbrev pub InReached : List Call → Exchange → Call → Type 0
 InReached before x c = Demand2 (reached before) x c
 
 logs-match : (before : List Call) (xs : List Exchange) (cs : List Call) → Each InReached before xs cs
     → (F : Log Step) (A : Log Value) (G : Log GrantedStep) → Matches F A G
-    → Matches (log-after (λ s v. s) F (history (reached before) cs)) (log-after (λ s v. v) A (history (reached before) cs)) (log-by-codes G xs cs)
+    → Matches (log-after (λ s v. s) F (history (reached before) cs)) (log-after (λ s v. v) A (history (reached before) cs))
+    (log-by-codes G xs cs)
 unfolding log-after history log-by-codes
 logs-match before [] [] h F A G m = m
 logs-match before [] (c ∷ cs) h F A G m = absurd h
@@ -171,7 +178,7 @@ module _ (x : Exchange) (xs : List Exchange) (cs : List Call) (g : outcome (x .c
 
   all-match : Matches (fed (since-start cs)) (answered (since-start cs)) G
   unfolding log-after history log-by-codes next state-after
-  all-match = rw g (logs-match [] xs cs h (new-log node-0-alone) (new-log node-0-alone) (new-log node-0-alone) (record { first = refl; committed = (refl, tt); open-log = λ u. (refl, tt) }))
+  all-match = rw g (logs-match [] xs cs h (new-log _) (new-log _) (new-log _) (begun node-0-alone))
 
   pub feeds : Feeds G (since-start cs)
   feeds = record { first = all-match .first; committed = all-match .committed .0; open-log = λ t. all-match .open-log t .0 }
@@ -179,5 +186,7 @@ module _ (x : Exchange) (xs : List Exchange) (cs : List Call) (g : outcome (x .c
   pub plain-answers-given : PlainAnswers G
   unfolding plain-run-answers answers-given
   plain-answers-given =
-      let e : plain-answers (G .first) (steps (G .committed)) ≡ answered (since-start cs) .committed = rw (all-match .first, all-match .committed .0) (demand-3 cs .answers) in
-      subst (λ (vs : List Value). AllAnswered vs (G .committed)) (sym e) (all-match .committed .1)
+      let m = all-match in
+      let e : plain-answers (G .first) (steps (G .committed)) ≡ answered (since-start cs) .committed
+      = rw (m .first, m .committed .0) (demand-3 cs .answers) in
+      subst (λ (vs : List Value). AllAnswered vs (G .committed)) (sym e) (m .committed .1)

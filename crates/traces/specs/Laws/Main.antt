@@ -10,7 +10,7 @@ use Rattle.protocol.specs.Answers.{code-of, answer-of, granted-answer}
 use Rattle.protocol.specs.declared.Answer.the-variants.{Done}
 use Rattle.form.specs.Form.{Holds}
 use Rattle.serializability.specs.Theorem.{reached}
-use Rattle.serializability.specs.Laws.Main.{plain-committed, demand-3}
+use Rattle.serializability.specs.Laws.Main.{plain-committed, further, demand-3}
 use Rattle.serializability.specs.Laws.Reached.{always-reached}
 use Rattle.traces.specs.Exchange.{Request, Exchange, outcome}
 use Rattle.traces.specs.Contract.{MakesCall, Contract}
@@ -19,7 +19,7 @@ use Rattle.traces.specs.Laws.Causes.{makes-one, makes-only}
 use Rattle.traces.specs.Laws.OneCall.{outcomes-of, demand-2, granted-text}
 use Rattle.traces.specs.Laws.Answers.{start-of, answers-of}
 use Rattle.traces.specs.Laws.StateBytes.{granted-size, state-bytes}
-use Rattle.traces.specs.Laws.Logs.{further, InReached, feeds, plain-answers-given}
+use Rattle.traces.specs.Laws.Logs.{InReached, feeds, plain-answers-given}
 
 -- the calls that were made ----------------------------------------------------------------
 
@@ -48,12 +48,14 @@ each-demand s (x ∷ xs) l y (List·Memᴰ·tail i) = each-demand (x .state .aft
 abbrev Both : List Call → Exchange → Call → Type 0
 Both before x c = Demand2 (reached before) x c × WritesPlain before x c
 
-both : (before : List Call) (x : Exchange) (c : Call) → Contract x → MakesCall x c → Holds (x .state .before) (reached before) → Both before x c
+both : (before : List Call) (x : Exchange) (c : Call) → Contract x → MakesCall x c → Holds (x .state .before) (reached before)
+    → Both before x c
 both before x c k m h =
     let d = demand-2 (reached before) x c k m h (always-reached before .documents-legal (λ u. false)) in
     (d, λ e g. rw (← plain-committed before) (granted-text (reached before) x c d e g))
 
-each-both : (before : List Call) (s : List ℕ) (xs : List Exchange) (cs : List Call) → Holds s (reached before) → Linked s xs → Made xs cs → Each Both before xs cs
+each-both : (before : List Call) (s : List ℕ) (xs : List Exchange) (cs : List Call) → Holds s (reached before) → Linked s xs → Made xs cs
+    → Each Both before xs cs
 each-both before s [] [] h l no-call = tt
 each-both before s (x ∷ xs) (c ∷ cs) h l (call-then m k) =
     let b = both before x c (l .0) m (rw (l .1) h) in
@@ -65,7 +67,8 @@ holds-last : (before : List Call) (s : List ℕ) (xs : List Exchange) (cs : List
 holds-last before s [] [] h l no-call = rw (append-nil before) h
 holds-last before s (x ∷ xs) (c ∷ cs) h l (call-then m k) =
     let b = both before x c (l .0) m (rw (l .1) h) in
-    rw (append-assoc before (c ∷ []) cs) at (holds-last (before ++ (c ∷ [])) (x .state .after) xs cs (rw (further before c) (b .0 .by-definition .left)) (l .2) k)
+    let n : Holds (x .state .after) (reached (before ++ (c ∷ []))) = rw (further before c) (b .0 .by-definition .left) in
+    rw (append-assoc before (c ∷ []) cs) at (holds-last (before ++ (c ∷ [])) (x .state .after) xs cs n (l .2) k)
 
 each-part : (P Q : List Call → Exchange → Call → Type 0) → ((before : List Call) (x : Exchange) (c : Call) → P before x c → Q before x c)
     → (before : List Call) (xs : List Exchange) (cs : List Call) → Each P before xs cs → Each Q before xs cs
@@ -86,8 +89,8 @@ pub delivered : (x : Exchange) (xs : List Exchange) → Trace x xs → Delivered
 unfolding state-after next
 delivered x xs t =
     let m = made-some xs in
-    let d = demand-1 x (t .contract) in
-    let h : Holds (x .state .after) (reached []) = d .answers .starts (t .starts) (granted-size x (t .contract) (t .starts) (t .start-granted)) .left in
+    let n = granted-size x (t .contract) (t .starts) (t .start-granted) in
+    let h : Holds (x .state .after) (reached []) = demand-1 x (t .contract) .answers .starts (t .starts) n .left in
     let b = each-both [] (x .state .after) xs (m .0) h (t .linked) (m .1) in
     let e : Each InReached [] xs (m .0) = each-part Both InReached (λ before y c p. p .0) [] xs (m .0) b in
     record {
