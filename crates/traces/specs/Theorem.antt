@@ -6,7 +6,6 @@ use mathlib.Core.Logic.{_↔_}
 use mathlib.Core.Bool.{true, false, cond}
 use mathlib.Core.List.{List, [], _∷_, _++_, map, List·Memᴰ}
 use lib.ListN.{length, take, drop}
-use lib.Dec.{eqb}
 use Rattle.tree.specs.Document.{Document, node-0-alone}
 use Rattle.tree.specs.Steps.{Step, Value, unfit, plain-answers}
 use Rattle.locks.specs.Needs.{needs}
@@ -23,7 +22,7 @@ use Rattle.serializability.specs.Theorem.{since-start, reached, WaitSet, Demand
 use Rattle.xml.specs.Writing as xml
 use Rattle.xml.specs.Writing.{ReadBack}
 use Rattle.writer.specs.Contract.{writing, text-after, write-answer, write-buffer}
-use Rattle.traces.specs.Exchange.{Request, Exchange, Memory, outcome, cause, value}
+use Rattle.traces.specs.Exchange.{Request, Exchange, Memory, outcome, cause, value, told-granted}
 use Rattle.traces.specs.Contract.{MakesCall, Contract}
 
 -- lists of calls -----------------------------------------------------------------------
@@ -140,7 +139,7 @@ unfoldable pub log-by-codes : Log GrantedStep → List Exchange → List Call �
 log-by-codes L [] cs = L
 log-by-codes L (x ∷ xs) [] = L
 log-by-codes L (x ∷ xs) (c ∷ cs) =
-    log-by-codes (cond (eqb (outcome (x .code)) 0) (logged (λ s v. record { step = s; exchange = x }) c unfit L) L) xs cs
+    log-by-codes (cond (told-granted (x .code)) (logged (λ s v. record { step = s; exchange = x }) c unfit L) L) xs cs
 
 abbrev pub granted-steps : List Exchange → List Call → Log GrantedStep
 granted-steps xs cs = log-by-codes (new-log node-0-alone) xs cs

@@ -2,11 +2,13 @@
 use mathlib.Core.Path.{_≡_, refl, ap, _∙_}
 use Prim.Native.Nat.{ℕ, _≤_}
 use mathlib.Core.List.{List}
+use native.Mathlib.Omega.{arith}
 use lib.ListN.{length}
 use Rattle.tree.specs.Document.{Document}
 use Rattle.protocol.specs.State.{State, start-state, committed-document}
 use Rattle.protocol.specs.Lent.{first-lent, second-lent}
-use Rattle.protocol.specs.Calls.{Call, start, load, begin, commit, abort, step, write, Outcome, granted, written, waits, refused, refused-at, next}
+use Rattle.protocol.specs.Calls.{Call, start, load, begin, commit, abort, step, write, next}
+use Rattle.protocol.specs.Calls.{Outcome, granted, written, waits, refused, refused-at}
 use Rattle.protocol.specs.Answers.{code-of, answer-of, lent-after}
 use Rattle.protocol.specs.declared.Answer.{Answer}
 use Rattle.layout.specs.Layout.{state-size}
@@ -29,9 +31,11 @@ same-first text r (refused c) b h = refl
 same-first text r (refused-at c i) b h = refl
 
 -- w says what writing a document answers, and text what it leaves in its buffer
-module _ (w : ℕ → Document → Answer) (text : List ℕ → Document → List ℕ) (M : State) (x : Exchange) (r : Answer) (e : x .code ≡ code-of r) where
+module _ (w : ℕ → Document → Answer) (text : List ℕ → Document → List ℕ) (M : State)
+    (x : Exchange) (r : Answer) (e : x .code ≡ code-of r) where
   abbrev pub Writes : Type 0
-  Writes = (r ≡ w (length (x .first .before)) (committed-document M)) × (x .first .after ≡ text (x .first .before) (committed-document M))
+  Writes = (r ≡ w (length (x .first .before)) (committed-document M))
+      × (x .first .after ≡ text (x .first .before) (committed-document M))
 
   start-by : contract.Start x r → state-size ≤ length (x .state .before) → ByDefinition w text M x start
   unfolding next first-after lent-after first-lent second-lent
@@ -73,6 +77,7 @@ start-of x k q = k .ensured start (rw q makes-start)
 pub answers-of : (x : Exchange) → Contract x → Answers x
 answers-of x k = record {
   on-states = λ M c b m.
-      ensured-by write-answer write-buffer M x (k .answer) (k .code) b (λ h. (h .written .answer M b, h .written .text M b)) c (k .ensured c m);
-  starts = λ q l. start-by write-answer write-buffer start-state x (k .answer) (k .code) (start-of x k q) l;
+      ensured-by write-answer write-buffer M x (k .answer) (k .code) b
+      (λ h. (h .written .answer M b, h .written .text M b)) c (k .ensured c m);
+  starts = λ q l. start-by write-answer write-buffer start-state x (k .answer) (k .code) (start-of x k q) (omega arith);
 }

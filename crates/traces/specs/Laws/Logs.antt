@@ -21,29 +21,29 @@ use Rattle.writer.specs.Contract.{writing, text-after}
 use Rattle.serializability.specs.Theorem.{since-start, reached, answered}
 use Rattle.serializability.specs.Laws.Unfit.{granted-fits, step-value}
 use Rattle.serializability.specs.Laws.Main.{is-write, further, demand-3}
-use Rattle.traces.specs.Exchange.{Exchange, outcome}
+use Rattle.traces.specs.Exchange.{Exchange, outcome, told-granted}
 use Rattle.traces.specs.Theorem.{first-after, Demand2, Each}
 use Rattle.traces.specs.Theorem.{GrantedStep, log-by-codes, granted-steps, steps, Feeds, AnsweredWith, AllAnswered, PlainAnswers}
 
 -- one call ---------------------------------------------------------------------------------
 
 -- the code tells whether the call was granted
-granted-same : (n : ℕ) (g : Bool) → (n ≡ 0) ↔ (g ≡ true) → eqb n 0 ≡ g
-granted-same n g h = go g refl
+granted-same : (code : ℕ) (g : Bool) → (outcome code ≡ 0) ↔ (g ≡ true) → told-granted code ≡ g
+granted-same code g h = go g refl
   where
-    go : (b : Bool) → g ≡ b → eqb n 0 ≡ b
-    go true f = eq-eqb n 0 (h .1 f)
-    go false f = refuted _ (λ e. false≢true (sym f ∙ h .0 (eqb-true n 0 e)))
+    go : (b : Bool) → g ≡ b → told-granted code ≡ b
+    go true f = eq-eqb (outcome code) 0 (h .1 f)
+    go false f = refuted _ (λ e. false≢true (sym f ∙ h .0 (eqb-true (outcome code) 0 e)))
 
 -- the calls whose codes tell that they were granted are logged as the definition's granted ones; a write has no entry
 module _ {E : Type 0} (entry : Step → Value → E) (v : Value) (L : Log E) (M : State) (x : Exchange) where
   abbrev Same : Call → Type 0
-  Same c = cond (eqb (outcome (x .code)) 0) (logged entry c v L) L ≡ cond (is-granted (next c M .outcome)) (logged entry c v L) L
+  Same c = cond (told-granted (x .code)) (logged entry c v L) L ≡ cond (is-granted (next c M .outcome)) (logged entry c v L) L
 
   told : (c : Call) → Demand2 M x c → is-write c ≡ false → Same c
   unfolding is-write
   told c d w =
-      rw (granted-same (outcome (x .code)) (is-granted (next c M .outcome)) (d .as-granted (λ e. false≢true (sym w ∙ ap is-write e))))
+      rw (granted-same (x .code) (is-granted (next c M .outcome)) (d .as-granted (λ e. false≢true (sym w ∙ ap is-write e))))
 
   either : (a b : Bool) → cond a L L ≡ cond b L L
   either true true = refl
@@ -59,7 +59,7 @@ module _ {E : Type 0} (entry : Step → Value → E) (v : Value) (L : Log E) (M 
   by-code (commit t) d = told (commit t) d refl
   by-code (abort t) d = told (abort t) d refl
   by-code (step t s room) d = told (step t s room) d refl
-  by-code write d = either (eqb (outcome (x .code)) 0) (is-granted (next write M .outcome))
+  by-code write d = either (told-granted (x .code)) (is-granted (next write M .outcome))
 
 -- a granted step was answered with its value
 step-answered : (M : State) (x : Exchange) (t : ℕ) (s : Step) (room : Room) → Demand2 M x (step t s room)
@@ -126,7 +126,8 @@ module _ (M : State) (x : Exchange) (F : Log Step) (A : Log Value) (G : Log Gran
   logged-matches (begin t) d g = record { first = m .first; committed = m .committed; open-log = emptied t }
   logged-matches (commit t) d g = record {
     first = m .first;
-    committed = append (F .committed) (F .open-log t) (A .committed) (A .open-log t) (G .committed) (G .open-log t) (m .committed) (m .open-log t);
+    committed = append (F .committed) (F .open-log t) (A .committed) (A .open-log t) (G .committed) (G .open-log t)
+        (m .committed) (m .open-log t);
     open-log = emptied t;
   }
   logged-matches (abort t) d g = record { first = m .first; committed = m .committed; open-log = emptied t }
@@ -145,7 +146,7 @@ module _ (M : State) (x : Exchange) (F : Log Step) (A : Log Value) (G : Log Gran
   call-matches : (c : Call) → Demand2 M x c
       → Matches (cond (is-granted (next c M .outcome)) (logged (λ s v. s) c (value-of (next c M .outcome)) F) F)
       (cond (is-granted (next c M .outcome)) (logged (λ s v. v) c (value-of (next c M .outcome)) A) A)
-      (cond (eqb (outcome (x .code)) 0) (logged (entry x) c unfit G) G)
+      (cond (told-granted (x .code)) (logged (entry x) c unfit G) G)
   call-matches c d = rw (by-code (entry x) unfit G M x c d) (go (is-granted (next c M .outcome)) refl)
     where
       go : (b : Bool) → is-granted (next c M .outcome) ≡ b

@@ -216,12 +216,14 @@ module _ (M : State) (x : Exchange) (r : Answer) (e : x .code ≡ code-of r) (b 
     read-back = λ k g.
         let m = committed-document M in
         let w = granted-write (x .first .before) m (rw (d .code) at g) in (
-          rw (d .code, w .2, count-value (length (xml.write m)), d .first, w .1) (take-append-seam (xml.write m) (drop (length (xml.write m)) (x .first .before))),
+          rw (d .code, w .2, count-value (length (xml.write m)), d .first, w .1)
+              (take-append-seam (xml.write m) (drop (length (xml.write m)) (x .first .before))),
           read-back m l (w .0) (few-lines b),
         );
   }
 
-  ensured-meets : (c : Call) → Listed (next c M .outcome) → legal (committed-document M) ≡ true → ByDefinition writing text-after M x c → Ensured x r c → Demand2 M x c
+  ensured-meets : (c : Call) → Listed (next c M .outcome) → legal (committed-document M) ≡ true → ByDefinition writing text-after M x c
+      → Ensured x r c → Demand2 M x c
   unfolding Ensured
   ensured-meets start l g d h = told-meets start (h .restarted .answer (b .layout .size) M) l d
   ensured-meets write l g d h = write-meets g d
@@ -232,7 +234,8 @@ module _ (M : State) (x : Exchange) (r : Answer) (e : x .code ≡ code-of r) (b 
   ensured-meets (step t s room) l g d h = told-meets (step t s room) (h .performed .answer M b) l d
 
 -- on bytes that hold a state whose committed document is by the rules
-pub demand-2 : (M : State) (x : Exchange) (c : Call) → Contract x → MakesCall x c → Holds (x .state .before) M → legal (committed-document M) ≡ true → Demand2 M x c
+pub demand-2 : (M : State) (x : Exchange) (c : Call) → Contract x → MakesCall x c → Holds (x .state .before) M
+    → legal (committed-document M) ≡ true → Demand2 M x c
 demand-2 M x c k m b g =
     let d = ensured-by writing text-after M x (k .answer) (k .code) b (λ h. legal-writing M (h .written) b g) c (k .ensured c m) in
     ensured-meets M x (k .answer) (k .code) b c (listed m M) g d (k .ensured c m)
