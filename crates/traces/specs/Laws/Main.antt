@@ -3,7 +3,7 @@ use mathlib.Core.Path.{_≡_, refl, ap, ap₂, _∙_}
 use Prim.Native.Nat.{ℕ}
 use mathlib.Core.Bool.{false}
 use mathlib.Core.List.{List, [], _∷_, _++_, append-nil, append-assoc, List·Memᴰ, List·Memᴰ·head, List·Memᴰ·tail, List·Memᴰ·not-nil}
-use Rattle.protocol.specs.State.{start-state}
+use Rattle.protocol.specs.State.{State, start-state}
 use Rattle.protocol.specs.Calls.{Call, next}
 use Rattle.protocol.specs.History.{state-after}
 use Rattle.protocol.specs.Answers.{code-of, answer-of, granted-answer}
@@ -54,11 +54,15 @@ both before x c k m h =
     let d = demand-2 (reached before) x c k m h (always-reached before .documents-legal (λ u. false)) in
     (d, λ e g. rw (← plain-committed before) (granted-text (reached before) x c d e g))
 
+-- the same bytes hold the same state
+holds-same : {s s′ : List ℕ} {M : State} → s′ ≡ s → Holds s M → Holds s′ M
+holds-same e h = rw e h
+
 each-both : (before : List Call) (s : List ℕ) (xs : List Exchange) (cs : List Call) → Holds s (reached before) → Linked s xs → Made xs cs
     → Each Both before xs cs
 each-both before s [] [] h l no-call = tt
 each-both before s (x ∷ xs) (c ∷ cs) h l (call-then m k) =
-    let b = both before x c (l .0) m (rw (l .1) h) in
+    let b = both before x c (l .0) m (holds-same (l .1) h) in
     (b, each-both (before ++ (c ∷ [])) (x .state .after) xs cs (rw (further before c) (b .0 .by-definition .left)) (l .2) k)
 
 -- the bytes in the end
@@ -66,7 +70,7 @@ holds-last : (before : List Call) (s : List ℕ) (xs : List Exchange) (cs : List
     → Holds (last-state s xs) (reached (before ++ cs))
 holds-last before s [] [] h l no-call = rw (append-nil before) h
 holds-last before s (x ∷ xs) (c ∷ cs) h l (call-then m k) =
-    let b = both before x c (l .0) m (rw (l .1) h) in
+    let b = both before x c (l .0) m (holds-same (l .1) h) in
     let n : Holds (x .state .after) (reached (before ++ (c ∷ []))) = rw (further before c) (b .0 .by-definition .left) in
     rw (append-assoc before (c ∷ []) cs) at (holds-last (before ++ (c ∷ [])) (x .state .after) xs cs n (l .2) k)
 
