@@ -133,8 +133,8 @@ pub record GrantedStep : Type 0 where
   pub step : Step
   pub exchange : Exchange
 
--- the log of a list of exchanges and of the calls that they make. "Of their answers only which calls and steps were granted": the codes say
--- it. A granted step's entry has its exchange in place of a value
+-- the log (protocol's History) of a list of exchanges and of the calls that they make. "Of their answers only which calls and steps were
+-- granted": the codes say it. The entry of a granted step has its exchange in place of a value
 unfoldable pub log-by-codes : Log GrantedStep → List Exchange → List Call → Log GrantedStep
 log-by-codes L [] cs = L
 log-by-codes L (x ∷ xs) [] = L
@@ -160,6 +160,7 @@ pub record AnsweredWith (v : Value) (x : Exchange) : Type 0 where
   pub first : x .first .after ≡ filled (first-lent v) (x .first .before)
   pub second : x .second .after ≡ filled (second-lent v) (x .second .before)
 
+-- one value for each step, in order
 abbrev pub AllAnswered : List Value → List GrantedStep → Type 0
 AllAnswered [] [] = Unit {0}
 AllAnswered [] (g ∷ gs) = ⊥
