@@ -11,17 +11,19 @@ use Rattle.tree.specs.Steps.{Step, Value, unfit, target, plain-document, plain-
 use Rattle.locks.specs.Modes.{Mode}
 use Rattle.locks.specs.Words.{bit}
 use Rattle.locks.specs.Needs.{Lock, needs}
-use Rattle.protocol.specs.State.{State, Marked, is-transaction, transactions, nodes, callers-document, held-document, document-of, committed-document}
+use Rattle.protocol.specs.State.{State, start-state, Marked, is-transaction, transactions, nodes}
+use Rattle.protocol.specs.State.{callers-document, held-document, document-of, committed-document}
 use Rattle.protocol.specs.Lent.{Room}
 use Rattle.protocol.specs.Calls.{Call, start, abort, step, write, granted, written, waits, refused, blocks, next}
 use Rattle.protocol.specs.History.{Event, history, state-after, is-granted, Log, new-log, log-after, fed, plain, plain-run-answers, answers-given, pending}
 
--- a list that begins with a start, in any state: a start is always granted
-abbrev pub since-start : State → List Call → List Event
-since-start M cs = history M (start ∷ cs)
+-- a list that begins with a start, which is always granted, and the state that it reaches. They begin in one fixed state: start forgets the
+-- state before it (`start-forgets`)
+abbrev pub since-start : List Call → List Event
+since-start cs = history start-state (start ∷ cs)
 
-abbrev pub reached : State → List Call → State
-reached M cs = state-after M (start ∷ cs)
+abbrev pub reached : List Call → State
+reached cs = state-after start-state (start ∷ cs)
 
 -- any order ----------------------------------------------------------------------------
 
@@ -47,14 +49,14 @@ pub record Runs (h : List Event) (b : List ℕ) (d : Document) : Type 0 where
   pub answers : plain-answers (fed h .first) (steps-of h b) ≡ answers-of h b
 
 -- any of the open transactions, in any order, leave what the tree shows of them
-abbrev pub AnyOrder : State → List Call → Type 0
-AnyOrder M cs = (b : List ℕ) → distinct b ≡ true → Runs (since-start M cs) b (document-of (λ u. has u b) (reached M cs .tree))
+abbrev pub AnyOrder : List Call → Type 0
+AnyOrder cs = (b : List ℕ) → distinct b ≡ true → Runs (since-start cs) b (document-of (λ u. has u b) (reached cs .tree))
 
 -- A.14: "let the plain rules run the committed transactions in commit order and then those still open, .. in an arbitrary order.
 -- Each step must have the answer it had here, and the document left must equal the held one"
-abbrev pub OpenInAnyOrder : State → List Call → Type 0
-OpenInAnyOrder M cs = (b : List ℕ) → distinct b ≡ true → ((u : ℕ) → has u b ≡ reached M cs .is-open u)
-    → Runs (since-start M cs) b (held-document (reached M cs))
+abbrev pub OpenInAnyOrder : List Call → Type 0
+OpenInAnyOrder cs = (b : List ℕ) → distinct b ≡ true → ((u : ℕ) → has u b ≡ reached cs .is-open u)
+    → Runs (since-start cs) b (held-document (reached cs))
 
 -- demand 3 -----------------------------------------------------------------------------
 
@@ -68,15 +70,15 @@ abbrev pub all-aborted : State → State
 all-aborted M = state-after M (map abort transactions)
 
 -- a single claim about the list
-pub record Demand3 (M : State) (cs : List Call) : Type 0 where
-  pub held-plain : (held-document (reached M cs) ≡ plain (since-start M cs)) ↔ (pending (since-start M cs) ≡ false)
-  pub answers : plain-run-answers (since-start M cs) ≡ answers-given (since-start M cs)
+pub record Demand3 (cs : List Call) : Type 0 where
+  pub held-plain : (held-document (reached cs) ≡ plain (since-start cs)) ↔ (pending (since-start cs) ≡ false)
+  pub answers : plain-run-answers (since-start cs) ≡ answers-given (since-start cs)
   -- "answers unfit, as no granted step does": the plain run allows each of these steps
-  pub none-unfit : List·Memᴰ unfit (plain-run-answers (since-start M cs)) → ⊥
-  pub committed : committed-document (reached M cs) ≡ plain (since-start M cs)
+  pub none-unfit : List·Memᴰ unfit (plain-run-answers (since-start cs)) → ⊥
+  pub committed : committed-document (reached cs) ≡ plain (since-start cs)
   -- "the committed one .. is the one held if they all aborted"
-  pub aborted : held-document (all-aborted (reached M cs)) ≡ plain (since-start M cs)
-  pub writes : writes-plain [] (since-start M cs)
+  pub aborted : held-document (all-aborted (reached cs)) ≡ plain (since-start cs)
+  pub writes : writes-plain [] (since-start cs)
 
 -- the states that are reached ----------------------------------------------------------
 

@@ -1,6 +1,8 @@
 -- What a panel program hands over in a call, and what it gets back: numbers and bytes alone (include/noodlefen.h).
 use Prim.Native.Nat.{ℕ, _/_, _%_}
+use mathlib.Core.Bool.{Bool}
 use mathlib.Core.List.{List, []}
+use lib.Dec.{eqb}
 
 -- the numbers and the bytes that a call is given, beside the state and the buffers for its answer
 pub data Request : Type 0 where
@@ -52,3 +54,7 @@ cause code = code / 256 % 256
 
 abbrev pub value : ℕ → ℕ
 value code = code / 65536
+
+-- granted, by the number
+abbrev pub told-granted : ℕ → Bool
+told-granted code = eqb (outcome code) 0

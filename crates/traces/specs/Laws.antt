@@ -1,8 +1,9 @@
 pub mod Codes
 pub mod Causes
+pub mod Answers
 pub mod OneCall
 pub mod StateBytes
-pub mod Refusals
 pub mod OneAnswer
+pub mod Logs
 pub mod Main
 pub mod Exports

@@ -3,24 +3,26 @@
 use mathlib.Core.Path.{_≡_}
 use Prim.Native.Nat.{ℕ, _≤_, _<_}
 use mathlib.Core.Logic.{_↔_}
-use mathlib.Core.Bool.{true, false}
-use mathlib.Core.List.{List, [], _∷_, _++_, List·Memᴰ}
+use mathlib.Core.Bool.{true, false, cond}
+use mathlib.Core.List.{List, [], _∷_, _++_, map, List·Memᴰ}
 use lib.ListN.{length, take, drop}
-use Rattle.tree.specs.Steps.{Step}
+use Rattle.tree.specs.Document.{Document, node-0-alone}
+use Rattle.tree.specs.Steps.{Step, Value, unfit, plain-answers}
 use Rattle.locks.specs.Needs.{needs}
-use Rattle.protocol.specs.State.{State, callers-document, committed-document}
+use Rattle.protocol.specs.State.{State, start-state, callers-document, committed-document}
 use Rattle.protocol.specs.Lent.{Room, filled, first-lent, second-lent}
-use Rattle.protocol.specs.Calls.{Call, step, write, Outcome, granted, written, waits, refused, refused-at, next}
-use Rattle.protocol.specs.History.{is-granted, plain}
-use Rattle.protocol.specs.Answers.{code-of, answer-of, lent-after}
-use Rattle.protocol.specs.declared.Answer.the-variants.{Refused, RefusedAt}
+use Rattle.protocol.specs.Calls.{Call, start, step, write, Outcome, granted, written, waits, refused, refused-at, next}
+use Rattle.protocol.specs.History.{Event, is-granted, Log, new-log, logged, fed, plain}
+use Rattle.protocol.specs.Answers.{granted-answer, code-of, answer-of, lent-after}
+use Rattle.protocol.specs.declared.Answer.{Answer}
+use Rattle.protocol.specs.declared.Answer.the-variants.{Count, Refused}
 use Rattle.layout.specs.Layout.{state-size}
 use Rattle.form.specs.Form.{form, Holds}
 use Rattle.serializability.specs.Theorem.{since-start, reached, WaitSet, Demand3}
 use Rattle.xml.specs.Writing as xml
 use Rattle.xml.specs.Writing.{ReadBack}
-use Rattle.traces.specs.Exchange.{Request, Exchange, Memory, outcome, cause, value}
-use Rattle.writer.specs.Contract.{writing, text-after, write-answer}
+use Rattle.writer.specs.Contract.{writing, text-after, write-answer, write-buffer}
+use Rattle.traces.specs.Exchange.{Request, Exchange, Memory, outcome, cause, value, told-granted}
 use Rattle.traces.specs.Contract.{MakesCall, Contract}
 
 -- lists of calls -----------------------------------------------------------------------
@@ -41,6 +43,24 @@ pub record Trace (x : Exchange) (xs : List Exchange) : Type 0 where
 pub data Made : List Exchange → List Call → Type 0 where
   no-call : Made [] []
   call-then : {x : Exchange} {xs : List Exchange} {c : Call} {cs : List Call} → MakesCall x c → Made xs cs → Made (x ∷ xs) (c ∷ cs)
+
+-- one call, by the definitions ---------------------------------------------------------
+
+-- the first buffer afterwards; it held b, and `text` says what writing a document leaves there
+unfoldable pub first-after : (List ℕ → Document → List ℕ) → Outcome → List ℕ → List ℕ
+first-after text (granted v) b = filled (first-lent v) b
+first-after text (written d) b = text b d
+first-after text (waits set) b = b
+first-after text (refused c) b = b
+first-after text (refused-at c offset) b = b
+
+-- the call c in the state M: number, buffers and the state left are the definition's; `writing` says what writing a document answers
+pub record ByDefinition (writing : ℕ → Document → Answer) (text : List ℕ → Document → List ℕ)
+    (M : State) (x : Exchange) (c : Call) : Type 0 where
+  pub code : x .code ≡ code-of (answer-of (writing (length (x .first .before))) (next c M .outcome))
+  pub first : x .first .after ≡ first-after text (next c M .outcome) (x .first .before)
+  pub second : x .second .after ≡ lent-after second-lent (next c M .outcome) (x .second .before)
+  pub left : Holds (x .state .after) (next c M .state)
 
 -- demand 1 -----------------------------------------------------------------------------
 
@@ -69,42 +89,28 @@ pub record StateBytes (x : Exchange) : Type 0 where
   pub begun : x .request ≡ Request.start → outcome (x .code) ≡ 0 → form (x .state .after) ≡ true
   pub kept : form (x .state .before) ≡ true → form (x .state .after) ≡ true
 
--- in every state that bytes hold, reached by calls or not, a call that the definition refuses is refused with the definition's number
-pub record Refusals (x : Exchange) : Type 0 where
-  pub refuses : (M : State) (c : Call) (n : ℕ) → Holds (x .state .before) M → MakesCall x c → next c M .outcome ≡ refused n
-      → x .code ≡ code-of (Refused n)
-  pub refuses-at : (M : State) (c : Call) (n offset : ℕ) → Holds (x .state .before) M → MakesCall x c → next c M .outcome ≡ refused-at n offset
-      → x .code ≡ code-of (RefusedAt n offset)
-  -- the definition of a write's outcome leaves its causes to the answer: "write: 14, 13"
-  pub writes : (M : State) → Holds (x .state .before) M → x .request ≡ Request.write
-      → x .code ≡ code-of (write-answer (length (x .first .before)) (committed-document M))
+-- in every state that bytes hold, reached by calls or not. A write there is by `write-answer` and `write-buffer`, which are `writing` and
+-- `text-after` but for a tree against the rules, as no call leaves it: that is not expressible either
+pub record Answers (x : Exchange) : Type 0 where
+  pub on-states : (M : State) (c : Call) → Holds (x .state .before) M → MakesCall x c → ByDefinition write-answer write-buffer M x c
+  -- a start needs no state before it, only bytes enough
+  pub starts : x .request ≡ Request.start → state-size ≤ length (x .state .before)
+      → ByDefinition write-answer write-buffer start-state x start
 
 -- "every call .. refuses an unfit request with a number of document 01; a refusal or a wait changes no node, lock or lent buffer"
 pub record Demand1 (x : Exchange) : Type 0 where
   pub outcomes : Outcomes x
   pub state-bytes : StateBytes x
-  pub refusals : Refusals x
+  pub answers : Answers x
 
 -- demand 2 -----------------------------------------------------------------------------
-
--- the first buffer afterwards, by the definitions; it held b
-unfoldable pub first-after : Outcome → List ℕ → List ℕ
-first-after (granted v) b = filled (first-lent v) b
-first-after (written d) b = text-after b d
-first-after (waits set) b = b
-first-after (refused c) b = b
-first-after (refused-at c offset) b = b
 
 -- of the call c in the state M: "each step's answer, its locks and its wait set are document 01's", and so are reading and writing
 pub record Demand2 (M : State) (x : Exchange) (c : Call) : Type 0 where
   -- the bytes hold M, and then the definition's next state; they are of the form, so 13 is never given for the state
   pub held : Holds (x .state .before) M
-  pub left : Holds (x .state .after) (next c M .state)
+  pub by-definition : ByDefinition writing text-after M x c
   pub formed : form (x .state .after) ≡ true
-  -- the answer is the definition's, and so is what stands in the buffers
-  pub answer : x .code ≡ code-of (answer-of (writing (length (x .first .before))) (next c M .outcome))
-  pub first : x .first .after ≡ first-after (next c M .outcome) (x .first .before)
-  pub second : x .second .after ≡ lent-after second-lent (next c M .outcome) (x .second .before)
   -- a call is told as granted exactly if the plain run is fed it as granted (write, which does nothing there, may be refused by 13 and 14)
   pub as-granted : (c ≡ write → ⊥) → (outcome (x .code) ≡ 0) ↔ (is-granted (next c M .outcome) ≡ true)
   -- a wait names exactly the open transactions that hold a clashing mode
@@ -116,9 +122,54 @@ pub record Demand2 (M : State) (x : Exchange) (c : Call) : Type 0 where
 
 -- demand 3 -----------------------------------------------------------------------------
 
--- "a granted write gives what writing the plain document of the calls before it gives"
-abbrev pub WritesPlain : State → List Call → Exchange → Call → Type 0
-WritesPlain M before x c = c ≡ write → outcome (x .code) ≡ 0 → x .first .after ≡ filled (xml.write (plain (since-start M before))) (x .first .before)
+-- "a granted write gives what writing the plain document of the calls before it gives": its length, and its bytes before the buffer's rest
+abbrev pub WritesPlain : List Call → Exchange → Call → Type 0
+WritesPlain before x c = c ≡ write → outcome (x .code) ≡ 0
+    → (x .code ≡ code-of (Count (length (xml.write (plain (since-start before))))))
+    × (x .first .after ≡ filled (xml.write (plain (since-start before))) (x .first .before))
+
+-- a granted step, and the exchange in which it was made
+pub record GrantedStep : Type 0 where
+  pub step : Step
+  pub exchange : Exchange
+
+-- the log (protocol's History) of a list of exchanges and of the calls that they make. "Of their answers only which calls and steps were
+-- granted": the codes say it. The entry of a granted step has its exchange in place of a value
+unfoldable pub log-by-codes : Log GrantedStep → List Exchange → List Call → Log GrantedStep
+log-by-codes L [] cs = L
+log-by-codes L (x ∷ xs) [] = L
+log-by-codes L (x ∷ xs) (c ∷ cs) =
+    log-by-codes (cond (told-granted (x .code)) (logged (λ s v. record { step = s; exchange = x }) c unfit L) L) xs cs
+
+abbrev pub granted-steps : List Exchange → List Call → Log GrantedStep
+granted-steps xs cs = log-by-codes (new-log node-0-alone) xs cs
+
+abbrev pub steps : List GrantedStep → List Step
+steps gs = map (λ g. g .step) gs
+
+-- the plain run of the events h is fed these steps
+pub record Feeds (L : Log GrantedStep) (h : List Event) : Type 0 where
+  pub first : L .first ≡ fed h .first
+  pub committed : steps (L .committed) ≡ fed h .committed
+  pub open-log : (t : ℕ) → steps (L .open-log t) ≡ fed h .open-log t
+
+-- x was answered with the value v, which is not unfit: "what a step puts in a lent buffer belongs to its answer"
+pub record AnsweredWith (v : Value) (x : Exchange) : Type 0 where
+  pub fits : v ≡ unfit → ⊥
+  pub code : x .code ≡ code-of (granted-answer v)
+  pub first : x .first .after ≡ filled (first-lent v) (x .first .before)
+  pub second : x .second .after ≡ filled (second-lent v) (x .second .before)
+
+-- one value for each step, in order
+abbrev pub AllAnswered : List Value → List GrantedStep → Type 0
+AllAnswered [] [] = Unit {0}
+AllAnswered [] (g ∷ gs) = ⊥
+AllAnswered (v ∷ vs) [] = ⊥
+AllAnswered (v ∷ vs) (g ∷ gs) = AnsweredWith v (g .exchange) × AllAnswered vs gs
+
+-- "each granted step of a committed transaction has in the plain run the answer it had here"
+abbrev pub PlainAnswers : Log GrantedStep → Type 0
+PlainAnswers L = AllAnswered (plain-answers (L .first) (steps (L .committed))) (L .committed)
 
 -- all of them --------------------------------------------------------------------------
 
@@ -134,8 +185,8 @@ abbrev pub last-state : List ℕ → List Exchange → List ℕ
 last-state s [] = s
 last-state s (x ∷ xs) = last-state (x .state .after) xs
 
--- of the calls that x, a granted start, and xs make. M is any state: the definition's start leads from each to the same
-pub record Delivered (M : State) (x : Exchange) (xs : List Exchange) : Type 0 where
+-- of the calls that x, a granted start on any bytes, and xs make
+pub record Delivered (x : Exchange) (xs : List Exchange) : Type 0 where
   -- the calls that xs makes: these and no others
   pub calls : List Call
   pub made : Made xs calls
@@ -145,7 +196,10 @@ pub record Delivered (M : State) (x : Exchange) (xs : List Exchange) : Type 0 wh
   pub start-buffers : Same (x .first) × Same (x .second)
   pub demand-1 : (y : Exchange) → List·Memᴰ y (x ∷ xs) → Demand1 y
   -- the state that demand 3 speaks of is the one that the bytes hold in the end; they hold no other (`holds-one`)
-  pub held : Holds (last-state (x .state .after) xs) (reached M calls)
-  pub demand-2 : Each (λ before y c. Demand2 (reached M before) y c) [] xs calls
-  pub demand-3 : Demand3 M calls
-  pub writes : Each (WritesPlain M) [] xs calls
+  pub held : Holds (last-state (x .state .after) xs) (reached calls)
+  pub demand-2 : Each (λ before y c. Demand2 (reached before) y c) [] xs calls
+  pub demand-3 : Demand3 calls
+  pub writes : Each WritesPlain [] xs calls
+  -- of the numbers and the bytes themselves: the plain run is fed from arguments and codes alone, and has the answers that were given
+  pub feeds : Feeds (granted-steps (x ∷ xs) (start ∷ calls)) (since-start calls)
+  pub answers : PlainAnswers (granted-steps (x ∷ xs) (start ∷ calls))

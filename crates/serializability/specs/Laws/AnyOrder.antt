@@ -25,18 +25,18 @@ value-of-entry x = x .value
 unfoldable pub entries : List Call → Log Entry
 entries cs = tracked note start-state (new-log node-0-alone) cs
 
-pub reached-tracks : (M : State) (cs : List Call) → Tracks (entries cs) (reached M cs)
+pub reached-tracks : (cs : List Call) → Tracks (entries cs) (reached cs)
 unfolding entries state-after next
-reached-tracks M cs = calls-track (new-log node-0-alone) start-state start-tracks cs
+reached-tracks cs = calls-track (new-log node-0-alone) start-state start-tracks cs
 
 -- both logs of the history are read off it
-pub fed-is : (M : State) (cs : List Call) → fed (since-start M cs) ≡ noted-as step-of (entries cs)
+pub fed-is : (cs : List Call) → fed (since-start cs) ≡ noted-as step-of (entries cs)
 unfolding entries log-after history next
-fed-is M cs = tracked-as note step-of (λ s v. s) (λ c N s v. refl) start-state (new-log node-0-alone) cs
+fed-is cs = tracked-as note step-of (λ s v. s) (λ c N s v. refl) start-state (new-log node-0-alone) cs
 
-pub answered-is : (M : State) (cs : List Call) → answered (since-start M cs) ≡ noted-as value-of-entry (entries cs)
+pub answered-is : (cs : List Call) → answered (since-start cs) ≡ noted-as value-of-entry (entries cs)
 unfolding entries log-after history next
-answered-is M cs = tracked-as note value-of-entry (λ s v. v) (λ c N s v. refl) start-state (new-log node-0-alone) cs
+answered-is cs = tracked-as note value-of-entry (λ s v. v) (λ c N s v. refl) start-state (new-log node-0-alone) cs
 
 logs-same : (log : ℕ → List Entry) (b : List ℕ) → orders.logs log b ≡ logs log b
 logs-same log [] = refl
@@ -50,14 +50,14 @@ notes-of : {E : Type 0} (g : Entry → E) (L : Log Entry) (b : List ℕ) → map
 notes-of g L b = rw (logs-as g (L .open-log) b) (sym (map-append g (L .committed) (logs (L .open-log) b)))
 
 -- where the logs of some transactions lead
-pub runs-from : (M : State) (cs : List Call) (b : List ℕ) (d : Document) → Run (entries cs .first) (entries-of (entries cs) b) d → Runs (since-start M cs) b d
-runs-from M cs b d r = record {
-  document = rw (fed-is M cs, notes-of step-of (entries cs) b) (run-document (entries cs .first) (entries-of (entries cs) b) d r);
-  answers = rw (fed-is M cs, answered-is M cs, notes-of step-of (entries cs) b, notes-of value-of-entry (entries cs) b) (run-answers (entries cs .first) (entries-of (entries cs) b) d r);
+pub runs-from : (cs : List Call) (b : List ℕ) (d : Document) → Run (entries cs .first) (entries-of (entries cs) b) d → Runs (since-start cs) b d
+runs-from cs b d r = record {
+  document = rw (fed-is cs, notes-of step-of (entries cs) b) (run-document (entries cs .first) (entries-of (entries cs) b) d r);
+  answers = rw (fed-is cs, answered-is cs, notes-of step-of (entries cs) b, notes-of value-of-entry (entries cs) b) (run-answers (entries cs .first) (entries-of (entries cs) b) d r);
 }
 
-pub any-order : (M : State) (cs : List Call) → AnyOrder M cs
-any-order M cs b n =
-    let tr = reached-tracks M cs in
-    let r : Run (tr .c) (logs (entries cs .open-log) b) (document-of (λ u. has u b) (reached M cs .tree)) = rw (logs-same (entries cs .open-log) b) at (tr .good .serial b n .run) in
-    runs-from M cs b (document-of (λ u. has u b) (reached M cs .tree)) (run-append (entries cs .first) (entries cs .committed) (logs (entries cs .open-log) b) (tr .c) _ (tr .run) r)
+pub any-order : (cs : List Call) → AnyOrder cs
+any-order cs b n =
+    let tr = reached-tracks cs in
+    let r : Run (tr .c) (logs (entries cs .open-log) b) (document-of (λ u. has u b) (reached cs .tree)) = rw (logs-same (entries cs .open-log) b) at (tr .good .serial b n .run) in
+    runs-from cs b (document-of (λ u. has u b) (reached cs .tree)) (run-append (entries cs .first) (entries cs .committed) (logs (entries cs .open-log) b) (tr .c) _ (tr .run) r)

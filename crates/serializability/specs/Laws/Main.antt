@@ -10,7 +10,7 @@ use Rattle.tree.specs.Steps.{unfit, plain-document}
 use Rattle.tree.specs.Laws.Tests.{refuted}
 use Rattle.tree.specs.Laws.Lists.{any-at, at-any, every-at, any-same}
 use Rattle.commute.specs.Laws.Runs.{run-document, run-answers}
-use Rattle.protocol.specs.State.{State, is-transaction, transactions, held-document, document-of, committed-document}
+use Rattle.protocol.specs.State.{State, start-state, is-transaction, transactions, held-document, document-of, committed-document}
 use Rattle.protocol.specs.Calls.{Call, start, load, begin, commit, abort, step, write, written, next}
 use Rattle.protocol.specs.History.{Event, history, state-after, fed, plain, plain-run-answers, answers-given, pending-in, pending}
 use Rattle.serializability.specs.Theorem.{since-start, reached, OpenInAnyOrder, writes-plain, Demand3}
@@ -22,58 +22,63 @@ use Rattle.serializability.specs.Laws.Held.{held-shown}
 use Rattle.serializability.specs.Laws.Unfit.{none-unfit}
 use Rattle.serializability.specs.Laws.Pending.{steps, log-run, quiet-held, held-quiet}
 
+-- a list of calls begins in one fixed state: start forgets the state before it
+pub start-forgets : (M : State) (cs : List Call) → (history M (start ∷ cs) ≡ since-start cs) × (state-after M (start ∷ cs) ≡ reached cs)
+unfolding history state-after next
+start-forgets M cs = (refl, refl)
+
 -- A.14 ---------------------------------------------------------------------------------------
 
-pub open-in-any-order : (M : State) (cs : List Call) → OpenInAnyOrder M cs
-open-in-any-order M cs b n o =
-    let tr = reached-tracks M cs in
-    rw (held-shown (tr .c) (entries cs .open-log) (reached M cs) (tr .good), document-same (reached M cs .is-open) (λ u. has u b) (reached M cs .tree) (λ u. sym (o u))) (any-order M cs b n)
+pub open-in-any-order : (cs : List Call) → OpenInAnyOrder cs
+open-in-any-order cs b n o =
+    let tr = reached-tracks cs in
+    rw (held-shown (tr .c) (entries cs .open-log) (reached cs) (tr .good), document-same (reached cs .is-open) (λ u. has u b) (reached cs .tree) (λ u. sym (o u))) (any-order cs b n)
 
 -- demand 3 -------------------------------------------------------------------------------------
 
-module _ (M : State) (cs : List Call) where
-  abbrev tr : Tracks (entries cs) (reached M cs)
-  tr = reached-tracks M cs
+module _ (cs : List Call) where
+  abbrev tr : Tracks (entries cs) (reached cs)
+  tr = reached-tracks cs
 
   abbrev h : List Event
-  h = since-start M cs
+  h = since-start cs
 
-  pub plain-committed : committed-document (reached M cs) ≡ plain h
+  pub plain-committed : committed-document (reached cs) ≡ plain h
   unfolding plain
   plain-committed = sym (tr .good .serial [] refl .run)
-      ∙ sym (rw (fed-is M cs) (run-document (entries cs .first) (entries cs .committed) (tr .c) (tr .run)))
+      ∙ sym (rw (fed-is cs) (run-document (entries cs .first) (entries cs .committed) (tr .c) (tr .run)))
 
   plain-same-answers : plain-run-answers h ≡ answers-given h
   unfolding plain-run-answers answers-given
-  plain-same-answers = rw (fed-is M cs) (run-answers (entries cs .first) (entries cs .committed) (tr .c) (tr .run)) ∙ sym (ap (λ L. L .committed) (answered-is M cs))
+  plain-same-answers = rw (fed-is cs) (run-answers (entries cs .first) (entries cs .committed) (tr .c) (tr .run)) ∙ sym (ap (λ L. L .committed) (answered-is cs))
 
   -- they are the answers given here
   no-plain-unfit : List·Memᴰ unfit (plain-run-answers h) → ⊥
   unfolding answers-given
-  no-plain-unfit i = none-unfit M (start ∷ cs) node-0-alone (rw plain-same-answers at i)
+  no-plain-unfit i = none-unfit start-state (start ∷ cs) node-0-alone (rw plain-same-answers at i)
 
   -- pending, by the marks
   abbrev pending-of : ℕ → Bool
-  pending-of t = pending-in (committed-document (reached M cs)) (steps (entries cs .open-log t)) (document-of (λ u. has u (t ∷ [])) (reached M cs .tree))
+  pending-of t = pending-in (committed-document (reached cs)) (steps (entries cs .open-log t)) (document-of (λ u. has u (t ∷ [])) (reached cs .tree))
 
   pending-is : pending h ≡ any pending-of transactions
   unfolding pending
   pending-is = any-same _ _ transactions (λ t i. one t)
     where
       one : (t : ℕ) → pending-in (plain h) (fed h .open-log t) (plain-document (plain h) (fed h .open-log t)) ≡ pending-of t
-      one t = rw (fed-is M cs, ← plain-committed, run-document (committed-document (reached M cs)) (entries cs .open-log t) _ (log-run (tr .c) (entries cs .open-log) (reached M cs) (tr .good) t))
+      one t = rw (fed-is cs, ← plain-committed, run-document (committed-document (reached cs)) (entries cs .open-log t) _ (log-run (tr .c) (entries cs .open-log) (reached cs) (tr .good) t))
 
-  held-plain : (held-document (reached M cs) ≡ plain h) ↔ (pending h ≡ false)
+  held-plain : (held-document (reached cs) ≡ plain h) ↔ (pending h ≡ false)
   held-plain = (forth, back)
     where
-      forth : held-document (reached M cs) ≡ plain h → pending h ≡ false
+      forth : held-document (reached cs) ≡ plain h → pending h ≡ false
       forth e = rw pending-is (refuted _ (λ p.
           let a = any-at pending-of transactions p in
-          true≢false (sym (a .2) ∙ held-quiet (tr .c) (entries cs .open-log) (reached M cs) (tr .good) (e ∙ sym plain-committed) (a .0)
+          true≢false (sym (a .2) ∙ held-quiet (tr .c) (entries cs .open-log) (reached cs) (tr .good) (e ∙ sym plain-committed) (a .0)
           (λ z. false≢true (rw z at (every-at is-transaction transactions refl (a .1)))))))
 
-      back : pending h ≡ false → held-document (reached M cs) ≡ plain h
-      back e = quiet-held (tr .c) (entries cs .open-log) (reached M cs) (tr .good)
+      back : pending h ≡ false → held-document (reached cs) ≡ plain h
+      back e = quiet-held (tr .c) (entries cs .open-log) (reached cs) (tr .good)
           (λ t i. refuted _ (λ p. true≢false (sym (at-any pending-of transactions i p) ∙ (sym pending-is ∙ e)))) ∙ plain-committed
 
 -- writes ---------------------------------------------------------------------------------------
@@ -83,34 +88,36 @@ unfolding history state-after
 history-append M [] b = refl
 history-append M (c ∷ a) b = rw (history-append (next c M .state) a b)
 
-pub state-append : (M : State) (a b : List Call) → state-after M (a ++ b) ≡ state-after (state-after M a) b
+state-append : (M : State) (a b : List Call) → state-after M (a ++ b) ≡ state-after (state-after M a) b
 unfolding state-after
 state-append M [] b = refl
 state-append M (c ∷ a) b = state-append (next c M .state) a b
 
-write-gives : (M : State) (cs : List Call) (c : Call) → c ≡ write → next c (reached M cs) .outcome ≡ written (plain (since-start M cs))
+pub further : (before : List Call) (c : Call) → reached (before ++ (c ∷ [])) ≡ next c (reached before) .state
+unfolding state-after
+further before c = state-append start-state (start ∷ before) (c ∷ [])
+
+write-gives : (cs : List Call) (c : Call) → c ≡ write → next c (reached cs) .outcome ≡ written (plain (since-start cs))
 unfolding next
-write-gives M cs c e = ap (λ (x : Call). next x (reached M cs) .outcome) e ∙ ap written (plain-committed M cs)
+write-gives cs c e = ap (λ (x : Call). next x (reached cs) .outcome) e ∙ ap written (plain-committed cs)
 
 -- behind the calls `before`
-writes-from : (M : State) (before cs : List Call) → writes-plain (since-start M before) (history (reached M before) cs)
+writes-from : (before cs : List Call) → writes-plain (since-start before) (history (reached before) cs)
 unfolding history state-after
-writes-from M before [] = tt
-writes-from M before (c ∷ cs) = (write-gives M before c, next-event (writes-from M (before ++ (c ∷ [])) cs))
+writes-from before [] = tt
+writes-from before (c ∷ cs) = (write-gives before c, next-event (writes-from (before ++ (c ∷ [])) cs))
   where
     e : Event
-    e = record { call = c; outcome = next c (reached M before) .outcome }
+    e = record { call = c; outcome = next c (reached before) .outcome }
 
-    longer : since-start M (before ++ (c ∷ [])) ≡ since-start M before ++ (e ∷ [])
-    longer = history-append M (start ∷ before) (c ∷ [])
+    longer : since-start (before ++ (c ∷ [])) ≡ since-start before ++ (e ∷ [])
+    longer = history-append start-state (start ∷ before) (c ∷ [])
 
-    further : reached M (before ++ (c ∷ [])) ≡ next c (reached M before) .state
-    further = state-append M (start ∷ before) (c ∷ [])
+    next-event : writes-plain (since-start (before ++ (c ∷ []))) (history (reached (before ++ (c ∷ []))) cs)
+        → writes-plain (since-start before ++ (e ∷ [])) (history (next c (reached before) .state) cs)
+    next-event w = rw (longer, further before c) at w
 
-    next-event : writes-plain (since-start M (before ++ (c ∷ []))) (history (reached M (before ++ (c ∷ []))) cs) → writes-plain (since-start M before ++ (e ∷ [])) (history (next c (reached M before) .state) cs)
-    next-event w = rw (longer, further) at w
-
-is-write : Call → Bool
+unfoldable pub is-write : Call → Bool
 is-write start = false
 is-write (load i) = false
 is-write (begin t) = false
@@ -119,16 +126,16 @@ is-write (abort t) = false
 is-write (step t s room) = false
 is-write write = true
 
-all-writes : (M : State) (cs : List Call) → writes-plain [] (since-start M cs)
+all-writes : (cs : List Call) → writes-plain [] (since-start cs)
 unfolding history is-write state-after
-all-writes M cs = (λ e. absurd (false≢true (ap is-write e)), writes-from M [] cs)
+all-writes cs = (λ e. absurd (false≢true (ap is-write e)), writes-from [] cs)
 
-pub demand-3 : (M : State) (cs : List Call) → Demand3 M cs
-demand-3 M cs = record {
-  held-plain = held-plain M cs;
-  answers = plain-same-answers M cs;
-  none-unfit = no-plain-unfit M cs;
-  committed = plain-committed M cs;
-  aborted = always-reached M cs .committed-if-aborted ∙ plain-committed M cs;
-  writes = all-writes M cs;
+pub demand-3 : (cs : List Call) → Demand3 cs
+demand-3 cs = record {
+  held-plain = held-plain cs;
+  answers = plain-same-answers cs;
+  none-unfit = no-plain-unfit cs;
+  committed = plain-committed cs;
+  aborted = always-reached cs .committed-if-aborted ∙ plain-committed cs;
+  writes = all-writes cs;
 }

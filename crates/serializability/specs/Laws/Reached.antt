@@ -144,17 +144,17 @@ aborted-held L M tr =
     (λ u. refuted _ (λ e. true≢false (sym e ∙ aborts-close transactions M listed u (transaction-in u (N .good .numbered u e)))))
     ∙ aborts-committed transactions M listed
 
-pub always-reached : (M : State) (cs : List Call) → Reached (reached M cs)
-always-reached M cs = record {
-  numbers-distinct = distinct-numbers (reached M cs .tree) (tr .good .covered .distinct);
+pub always-reached : (cs : List Call) → Reached (reached cs)
+always-reached cs = record {
+  numbers-distinct = distinct-numbers (reached cs .tree) (tr .good .covered .distinct);
   documents-legal = legal-set;
-  held-legal = rw (held-shown (tr .c) (entries cs .open-log) (reached M cs) (tr .good)) (legal-set (reached M cs .is-open));
-  locks-open = holders-open M cs;
-  committed-if-aborted = aborted-held (entries cs) (reached M cs) tr;
+  held-legal = rw (held-shown (tr .c) (entries cs .open-log) (reached cs) (tr .good)) (legal-set (reached cs .is-open));
+  locks-open = holders-open cs;
+  committed-if-aborted = aborted-held (entries cs) (reached cs) tr;
 }
   where
-    tr : Tracks (entries cs) (reached M cs)
-    tr = reached-tracks M cs
+    tr : Tracks (entries cs) (reached cs)
+    tr = reached-tracks cs
 
-    legal-set : (S : ℕ → Bool) → legal (document-of S (reached M cs .tree)) ≡ true
-    legal-set S = set-legal (tr .c) (entries cs .open-log) (reached M cs) (tr .good) S (legal-run (entries cs .first) (entries cs .committed) (tr .c) (tr .first-legal) (tr .run))
+    legal-set : (S : ℕ → Bool) → legal (document-of S (reached cs .tree)) ≡ true
+    legal-set S = set-legal (tr .c) (entries cs .open-log) (reached cs) (tr .good) S (legal-run (entries cs .first) (entries cs .committed) (tr .c) (tr .first-legal) (tr .run))

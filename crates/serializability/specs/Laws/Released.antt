@@ -154,8 +154,8 @@ unfolding state-after
 calls-kept M k [] = k
 calls-kept M k (c ∷ cs) = calls-kept (next c M .state) (call-kept M k c) cs
 
-pub holders-open : (M : State) (cs : List Call) (a : Marked) → List·Memᴰ a (nodes (reached M cs .tree)) → (u : ℕ) (m : Mode) → a .held u m ≡ true → reached M cs .is-open u ≡ true
+pub holders-open : (cs : List Call) (a : Marked) → List·Memᴰ a (nodes (reached cs .tree)) → (u : ℕ) (m : Mode) → a .held u m ≡ true → reached cs .is-open u ≡ true
 unfolding state-after next Kept Released
-holders-open M cs a i u m h =
-    let r = node-place (reached M cs .tree) i in
+holders-open cs a i u m h =
+    let r = node-place (reached cs .tree) i in
     calls-kept start-state (load-released (λ v. false) node-0-alone) cs (r .0) (r .1) u m (ap (λ (x : Marked). x .held u m) (r .2) ∙ h)

@@ -113,6 +113,19 @@ granted-fits (abort t) M e = is-fit (next (abort t) M) (open-fits t M _ (λ g. r
 granted-fits (step t s room) M e = is-fit (next (step t s room) M) (open-fits t M _ (judged-fits t s room M _)) e
 granted-fits write M e = false≢true (ap with-value e)
 
+-- a granted step has a value
+pub step-value : (t : ℕ) (s : Step) (room : Room) (M : State) → is-granted (next (step t s room) M .outcome) ≡ true
+    → next (step t s room) M .outcome ≡ granted (value-of (next (step t s room) M .outcome))
+unfolding next fit
+step-value t s room M g = go (next (step t s room) M .outcome) (open-fits t M _ (judged-fits t s room M _) g)
+  where
+    go : (o : Outcome) → fit (value-of o) ≡ true → o ≡ granted (value-of o)
+    go (granted v) f = refl
+    go (written d) f = absurd (false≢true f)
+    go (waits w) f = absurd (false≢true f)
+    go (refused c) f = absurd (false≢true f)
+    go (refused-at c o) f = absurd (false≢true f)
+
 -- ledgers ------------------------------------------------------------------------------------
 
 abbrev note : Step → Value → Value

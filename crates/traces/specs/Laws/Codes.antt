@@ -10,7 +10,7 @@ use Rattle.protocol.specs.Calls.{Outcome, granted, written, waits, refused, ref
 use Rattle.protocol.specs.History.{is-granted}
 use Rattle.protocol.specs.Answers.{granted-answer, answer-of, packed, code-of}
 use Rattle.protocol.specs.declared.Answer.{Answer}
-use Rattle.protocol.specs.declared.Answer.the-variants.{Done, Waits}
+use Rattle.protocol.specs.declared.Answer.the-variants.{Done, Count, Waits}
 use Rattle.traces.specs.Exchange.{outcome, cause, value}
 
 -- one of the fifteen causes, where it is a refusal
@@ -99,3 +99,7 @@ told (refused-at c i) l = told-refused c i (refused-at c i) l refl
 pub not-written : (r : Answer) (d : Document) → ((writing : Document → Answer) → r ≡ answer-of writing (written d)) → ⊥
 unfolding answer-of code-of
 not-written r d h = let e : code-of (Waits 0) ≡ code-of Done = ap code-of (sym (h (λ d. Waits 0)) ∙ h (λ d. Done)) in omega arith
+
+pub count-value : (n : ℕ) → value (code-of (Count n)) ≡ n
+unfolding code-of
+count-value n = packed-value 0 0 n (omega arith) (omega arith)

@@ -4,21 +4,22 @@ use Prim.Native.Nat.{ℕ}
 use mathlib.Core.Bool.{false}
 use mathlib.Core.List.{List, [], _∷_, _++_, append-nil, append-assoc, List·Memᴰ, List·Memᴰ·head, List·Memᴰ·tail, List·Memᴰ·not-nil}
 use Rattle.protocol.specs.State.{State, start-state}
-use Rattle.protocol.specs.Calls.{Call, start, next}
+use Rattle.protocol.specs.Calls.{Call, next}
 use Rattle.protocol.specs.History.{state-after}
 use Rattle.protocol.specs.Answers.{code-of, answer-of, granted-answer}
 use Rattle.protocol.specs.declared.Answer.the-variants.{Done}
 use Rattle.form.specs.Form.{Holds}
 use Rattle.serializability.specs.Theorem.{reached}
-use Rattle.serializability.specs.Laws.Main.{state-append, plain-committed, demand-3}
+use Rattle.serializability.specs.Laws.Main.{plain-committed, further, demand-3}
 use Rattle.serializability.specs.Laws.Reached.{always-reached}
 use Rattle.traces.specs.Exchange.{Request, Exchange, outcome}
 use Rattle.traces.specs.Contract.{MakesCall, Contract}
 use Rattle.traces.specs.Theorem.{Linked, Trace, Made, no-call, call-then, Demand1, Demand2, WritesPlain, Each, last-state, Delivered}
 use Rattle.traces.specs.Laws.Causes.{makes-one, makes-only}
 use Rattle.traces.specs.Laws.OneCall.{outcomes-of, demand-2, granted-text}
-use Rattle.traces.specs.Laws.StateBytes.{start-of, granted-size, granted-start, state-bytes}
-use Rattle.traces.specs.Laws.Refusals.{refusals}
+use Rattle.traces.specs.Laws.Answers.{start-of, answers-of}
+use Rattle.traces.specs.Laws.StateBytes.{granted-size, state-bytes}
+use Rattle.traces.specs.Laws.Logs.{InReached, feeds, plain-answers-given}
 
 -- the calls that were made ----------------------------------------------------------------
 
@@ -34,7 +35,7 @@ made-only (call-then m k) (call-then n l) = ap₂ (λ (c : Call) (cs : List Call
 
 -- of every call that meets its contract, whatever bytes it was lent
 pub demand-1 : (x : Exchange) → Contract x → Demand1 x
-demand-1 x k = record { outcomes = outcomes-of x k; state-bytes = state-bytes x k; refusals = refusals x k }
+demand-1 x k = record { outcomes = outcomes-of x k; state-bytes = state-bytes x k; answers = answers-of x k }
 
 each-demand : (s : List ℕ) (xs : List Exchange) → Linked s xs → (y : Exchange) → List·Memᴰ y xs → Demand1 y
 each-demand s [] l y i = absurd (List·Memᴰ·not-nil i)
@@ -43,33 +44,35 @@ each-demand s (x ∷ xs) l y (List·Memᴰ·tail i) = each-demand (x .state .aft
 
 -- demands 2 and 3 --------------------------------------------------------------------------
 
-module _ (M : State) where
-  -- of one call, behind the calls `before`
-  abbrev Both : List Call → Exchange → Call → Type 0
-  Both before x c = Demand2 (reached M before) x c × WritesPlain M before x c
+-- of one call, behind the calls `before`
+abbrev Both : List Call → Exchange → Call → Type 0
+Both before x c = Demand2 (reached before) x c × WritesPlain before x c
 
-  both : (before : List Call) (x : Exchange) (c : Call) → Contract x → MakesCall x c → Holds (x .state .before) (reached M before) → Both before x c
-  both before x c k m h =
-      let d = demand-2 (reached M before) x c k m h (always-reached M before .documents-legal (λ u. false)) in
-      (d, λ e g. rw (← plain-committed M before) (granted-text (reached M before) x c d e g))
+both : (before : List Call) (x : Exchange) (c : Call) → Contract x → MakesCall x c → Holds (x .state .before) (reached before)
+    → Both before x c
+both before x c k m h =
+    let d = demand-2 (reached before) x c k m h (always-reached before .documents-legal (λ u. false)) in
+    (d, λ e g. rw (← plain-committed before) (granted-text (reached before) x c d e g))
 
-  further : (before : List Call) (c : Call) → reached M (before ++ (c ∷ [])) ≡ next c (reached M before) .state
-  unfolding state-after
-  further before c = state-append M (start ∷ before) (c ∷ [])
+-- the same bytes hold the same state
+holds-same : {s s′ : List ℕ} {M : State} → s′ ≡ s → Holds s M → Holds s′ M
+holds-same e h = rw e h
 
-  each-both : (before : List Call) (s : List ℕ) (xs : List Exchange) (cs : List Call) → Holds s (reached M before) → Linked s xs → Made xs cs → Each Both before xs cs
-  each-both before s [] [] h l no-call = tt
-  each-both before s (x ∷ xs) (c ∷ cs) h l (call-then m k) =
-      let b = both before x c (l .0) m (rw (l .1) h) in
-      (b, each-both (before ++ (c ∷ [])) (x .state .after) xs cs (rw (further before c) (b .0 .left)) (l .2) k)
+each-both : (before : List Call) (s : List ℕ) (xs : List Exchange) (cs : List Call) → Holds s (reached before) → Linked s xs → Made xs cs
+    → Each Both before xs cs
+each-both before s [] [] h l no-call = tt
+each-both before s (x ∷ xs) (c ∷ cs) h l (call-then m k) =
+    let b = both before x c (l .0) m (holds-same (l .1) h) in
+    (b, each-both (before ++ (c ∷ [])) (x .state .after) xs cs (rw (further before c) (b .0 .by-definition .left)) (l .2) k)
 
-  -- the bytes in the end
-  holds-last : (before : List Call) (s : List ℕ) (xs : List Exchange) (cs : List Call) → Holds s (reached M before) → Linked s xs → Made xs cs
-      → Holds (last-state s xs) (reached M (before ++ cs))
-  holds-last before s [] [] h l no-call = rw (append-nil before) h
-  holds-last before s (x ∷ xs) (c ∷ cs) h l (call-then m k) =
-      let b = both before x c (l .0) m (rw (l .1) h) in
-      rw (append-assoc before (c ∷ []) cs) at (holds-last (before ++ (c ∷ [])) (x .state .after) xs cs (rw (further before c) (b .0 .left)) (l .2) k)
+-- the bytes in the end
+holds-last : (before : List Call) (s : List ℕ) (xs : List Exchange) (cs : List Call) → Holds s (reached before) → Linked s xs → Made xs cs
+    → Holds (last-state s xs) (reached (before ++ cs))
+holds-last before s [] [] h l no-call = rw (append-nil before) h
+holds-last before s (x ∷ xs) (c ∷ cs) h l (call-then m k) =
+    let b = both before x c (l .0) m (holds-same (l .1) h) in
+    let n : Holds (x .state .after) (reached (before ++ (c ∷ []))) = rw (further before c) (b .0 .by-definition .left) in
+    rw (append-assoc before (c ∷ []) cs) at (holds-last (before ++ (c ∷ [])) (x .state .after) xs cs n (l .2) k)
 
 each-part : (P Q : List Call → Exchange → Call → Type 0) → ((before : List Call) (x : Exchange) (c : Call) → P before x c → Q before x c)
     → (before : List Call) (xs : List Exchange) (cs : List Call) → Each P before xs cs → Each Q before xs cs
@@ -86,12 +89,14 @@ unfolding next answer-of granted-answer code-of
 start-code x k q g = k .code ∙ ap code-of (start-of x k q .restarted .answer (granted-size x k q g) start-state (λ d. Done))
 
 -- THE THEOREM
-pub delivered : (M : State) (x : Exchange) (xs : List Exchange) → Trace x xs → Delivered M x xs
-unfolding state-after
-delivered M x xs t =
+pub delivered : (x : Exchange) (xs : List Exchange) → Trace x xs → Delivered x xs
+unfolding state-after next
+delivered x xs t =
     let m = made-some xs in
-    let h : Holds (x .state .after) (reached M []) = granted-start M x (t .contract) (t .starts) (t .start-granted) in
-    let b = each-both M [] (x .state .after) xs (m .0) h (t .linked) (m .1) in
+    let n = granted-size x (t .contract) (t .starts) (t .start-granted) in
+    let h : Holds (x .state .after) (reached []) = demand-1 x (t .contract) .answers .starts (t .starts) n .left in
+    let b = each-both [] (x .state .after) xs (m .0) h (t .linked) (m .1) in
+    let e : Each InReached [] xs (m .0) = each-part Both InReached (λ before y c p. p .0) [] xs (m .0) b in
     record {
       calls = m .0;
       made = m .1;
@@ -99,10 +104,12 @@ delivered M x xs t =
       start-code = start-code x (t .contract) (t .starts) (t .start-granted);
       start-buffers = let k = start-of x (t .contract) (t .starts) in (k .first, k .second);
       demand-1 = all-calls;
-      held = holds-last M [] (x .state .after) xs (m .0) h (t .linked) (m .1);
-      demand-2 = each-part (Both M) (λ before y c. Demand2 (reached M before) y c) (λ before y c p. p .0) [] xs (m .0) b;
-      demand-3 = demand-3 M (m .0);
-      writes = each-part (Both M) (WritesPlain M) (λ before y c p. p .1) [] xs (m .0) b;
+      held = holds-last [] (x .state .after) xs (m .0) h (t .linked) (m .1);
+      demand-2 = e;
+      demand-3 = demand-3 (m .0);
+      writes = each-part Both WritesPlain (λ before y c p. p .1) [] xs (m .0) b;
+      feeds = feeds x xs (m .0) (t .start-granted) e;
+      answers = plain-answers-given x xs (m .0) (t .start-granted) e;
     }
   where
     all-calls : (y : Exchange) → List·Memᴰ y (x ∷ xs) → Demand1 y

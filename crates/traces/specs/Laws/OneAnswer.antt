@@ -14,7 +14,7 @@ use Rattle.traces.specs.Exchange.{Exchange}
 use Rattle.traces.specs.Contract as contract
 use Rattle.traces.specs.Contract.{MakesCall, Ensured, OneAnswer, EveryChoice, EveryStart}
 use Rattle.traces.specs.Laws.Causes.{makes-one}
-use Rattle.traces.specs.Laws.StateBytes.{start-of}
+use Rattle.traces.specs.Laws.Answers.{start-of}
 
 module _ (x y : Exchange) (f : x .first .before ≡ y .first .before) (g : x .second .before ≡ y .second .before)
     (r s : Answer) (p : x .code ≡ code-of r) (q : y .code ≡ code-of s) where

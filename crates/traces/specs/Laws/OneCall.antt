@@ -31,9 +31,10 @@ use Rattle.writer.specs.Contract.{writable, writing, text-after, write-answer, 
 use Rattle.writer.specs.Laws.Calls.{legal-writing}
 use Rattle.traces.specs.Contract as contract
 use Rattle.traces.specs.Contract.{MakesCall, Ensured, Contract}
-use Rattle.traces.specs.Theorem.{Same, Outcomes, first-after, Demand2}
-use Rattle.traces.specs.Laws.Codes.{Listed, Told, told, not-written}
+use Rattle.traces.specs.Theorem.{Same, first-after, ByDefinition, Outcomes, Demand2}
+use Rattle.traces.specs.Laws.Codes.{Listed, Told, told, not-written, count-value}
 use Rattle.traces.specs.Laws.Causes.{makes-one, listed}
+use Rattle.traces.specs.Laws.Answers.{ensured-by}
 
 -- demand 1 ------------------------------------------------------------------------------
 
@@ -143,22 +144,6 @@ outcomes-of x k = let m = makes-one _ (x .request) in ensured-demand x (k .answe
 
 -- demand 2 ------------------------------------------------------------------------------
 
-is-wait : Outcome → Bool
-is-wait (granted v) = false
-is-wait (written d) = false
-is-wait (waits w) = true
-is-wait (refused c) = false
-is-wait (refused-at c i) = false
-
--- where nothing is written
-same-first : (r : Answer) (o : Outcome) (b : List ℕ) → ((w : Document → Answer) → r ≡ answer-of w o) → lent-after first-lent o b ≡ first-after o b
-unfolding lent-after first-after
-same-first r (granted v) b h = refl
-same-first r (written d) b h = absurd (not-written r d h)
-same-first r (waits w) b h = refl
-same-first r (refused c) b h = refl
-same-first r (refused-at c i) b h = refl
-
 -- no document shown has more nodes than are held
 view-length : {A B K : Type 0} (seen : A → Bool) (g : A → B) (key : B → K) (p : List K) (e : ℕ) (f : Forest A) → length (rows key p (view seen g f)) ≤ length (flat e f)
 unfolding rows view flat
@@ -181,16 +166,16 @@ unfolding lines document-of
 few-lines {s} {M} h = omega (arith, view-length (shown (λ u. false)) (as-shown (λ u. false)) (λ (a : Node). a .number) [] 0 (M .tree), h .layout .many, h .layout .room, ap length (h .rows))
 
 -- what a granted write gave: the tests that it passed
-pub granted-write : (out : List ℕ) (d : Document) → outcome (code-of (writing (length out) d)) ≡ 0
-    → (xml.expressible d ≡ true) × (text-after out d ≡ filled (xml.write d) out) × (value (code-of (writing (length out) d)) ≡ length (xml.write d))
+granted-write : (out : List ℕ) (d : Document) → outcome (code-of (writing (length out) d)) ≡ 0
+    → (xml.expressible d ≡ true) × (text-after out d ≡ filled (xml.write d) out) × (writing (length out) d ≡ Count (length (xml.write d)))
 unfolding writing text-after writable code-of
 granted-write out d h = go (xml.expressible d) refl (leb (length (xml.write d)) (length out)) h
   where
     go : (p : Bool) → xml.expressible d ≡ p → (q : Bool)
         → outcome (code-of (cond p (cond q (Count (length (xml.write d))) (Refused 13)) (Refused 14))) ≡ 0
         → (xml.expressible d ≡ true) × (cond (p && q) (filled (xml.write d) out) out ≡ filled (xml.write d) out)
-        × (value (code-of (cond p (cond q (Count (length (xml.write d))) (Refused 13)) (Refused 14))) ≡ length (xml.write d))
-    go true e true h = (e, refl, omega arith)
+        × (cond p (cond q (Count (length (xml.write d))) (Refused 13)) (Refused 14) ≡ Count (length (xml.write d)))
+    go true e true h = (e, refl, refl)
     go true e false h = absurd (omega arith)
     go false e q h = absurd (omega arith)
 
@@ -204,84 +189,65 @@ write-no-wait out d h = go (xml.expressible d) (leb (length (xml.write d)) (leng
     go false q h = omega arith
 
 module _ (M : State) (x : Exchange) (r : Answer) (e : x .code ≡ code-of r) (b : Holds (x .state .before) M) where
-  step-meets : (c : Call) → contract.OnState x r c → Listed (next c M .outcome) → Demand2 M x c
+  -- a call that does not write
+  told-meets : (c : Call) → ((w : Document → Answer) → r ≡ answer-of w (next c M .outcome)) → Listed (next c M .outcome)
+      → ByDefinition writing text-after M x c → Demand2 M x c
   unfolding next
-  step-meets c h l = record {
+  told-meets c given l d = record {
     held = b;
-    left = h .performed .state M b;
-    formed = holds-form (h .performed .state M b);
-    answer = e ∙ ap code-of (given (writing (length (x .first .before))));
-    first = h .first .filled M b ∙ same-first r (next c M .outcome) (x .first .before) given;
-    second = h .second .filled M b;
-    as-granted = λ _. tells x r e (next c M .outcome) l (given (λ d. Done)) .as-granted;
-    wait-set = λ t s room k w. waiting t s room M (value (x .code)) (ap (λ (y : Call). next y M .outcome) (sym k) ∙ tells x r e (next c M .outcome) l (given (λ d. Done)) .waiting w);
+    by-definition = d;
+    formed = holds-form (d .left);
+    as-granted = λ _. t .as-granted;
+    wait-set = λ u s room k w. waiting u s room M (value (x .code)) (ap (λ (y : Call). next y M .outcome) (sym k) ∙ t .waiting w);
     read-back = λ k g. absurd (not-written r (committed-document M) (λ w. given w ∙ ap (λ (y : Call). answer-of w (next y M .outcome)) k));
   }
     where
-      given : (w : Document → Answer) → r ≡ answer-of w (next c M .outcome)
-      given w = h .performed .answer M b w
+      t : Told (x .code) (next c M .outcome)
+      t = tells x r e (next c M .outcome) l (given (λ d. Done))
 
-  start-meets : contract.Start x r → Demand2 M x start
-  unfolding next first-after lent-after first-lent second-lent is-wait
-  start-meets h = record {
+  write-meets : legal (committed-document M) ≡ true → ByDefinition writing text-after M x write → Demand2 M x write
+  unfolding next first-after answer-of
+  write-meets l d = record {
     held = b;
-    left = h .restarted .state (b .layout .size) M;
-    formed = holds-form (h .restarted .state (b .layout .size) M);
-    answer = e ∙ ap code-of (given (writing (length (x .first .before))));
-    first = h .first;
-    second = h .second;
-    as-granted = λ _. tells x r e (granted done) tt (given (λ d. Done)) .as-granted;
-    wait-set = λ t s room k w. absurd (no-wait w);
-    read-back = λ k g. absurd (not-written r (committed-document M) (λ w. given w ∙ ap (λ (y : Call). answer-of w (next y M .outcome)) k));
-  }
-    where
-      given : (w : Document → Answer) → r ≡ answer-of w (next start M .outcome)
-      given w = h .restarted .answer (b .layout .size) M w
-
-      no-wait : outcome (x .code) ≡ 1 → ⊥
-      no-wait w = false≢true (ap is-wait (tells x r e (granted done) tt (given (λ d. Done)) .waiting w))
-
-  write-meets : contract.Write x r → legal (committed-document M) ≡ true → Demand2 M x write
-  unfolding next first-after lent-after answer-of
-  write-meets h l = record {
-    held = b;
-    left = rw (h .state) b;
-    formed = rw (h .state) (holds-form b);
-    answer = e ∙ ap code-of (given .0);
-    first = given .1;
-    second = h .second;
+    by-definition = d;
+    formed = holds-form (d .left);
     as-granted = λ n. absurd (n refl);
-    wait-set = λ t s room k w. absurd (write-no-wait (x .first .before) (committed-document M) (rw (e, given .0) at w));
+    wait-set = λ t s room k w. absurd (write-no-wait (x .first .before) (committed-document M) (rw (d .code) at w));
     read-back = λ k g.
-        let d = committed-document M in
-        let w = granted-write (x .first .before) d (rw (e, given .0) at g) in (
-          rw (e, given .0, w .2, given .1, w .1) (take-append-seam (xml.write d) (drop (length (xml.write d)) (x .first .before))),
-          read-back d l (w .0) (few-lines b),
+        let m = committed-document M in
+        let w = granted-write (x .first .before) m (rw (d .code) at g) in (
+          rw (d .code, w .2, count-value (length (xml.write m)), d .first, w .1)
+              (take-append-seam (xml.write m) (drop (length (xml.write m)) (x .first .before))),
+          read-back m l (w .0) (few-lines b),
         );
   }
-    where
-      given : (r ≡ writing (length (x .first .before)) (committed-document M)) × (x .first .after ≡ text-after (x .first .before) (committed-document M))
-      given = legal-writing M (h .written) b l
 
-  ensured-meets : (c : Call) → Listed (next c M .outcome) → legal (committed-document M) ≡ true → Ensured x r c → Demand2 M x c
+  ensured-meets : (c : Call) → Listed (next c M .outcome) → legal (committed-document M) ≡ true → ByDefinition writing text-after M x c
+      → Ensured x r c → Demand2 M x c
   unfolding Ensured
-  ensured-meets start l g h = start-meets h
-  ensured-meets write l g h = write-meets h g
-  ensured-meets (load i) l g h = step-meets (load i) h l
-  ensured-meets (begin t) l g h = step-meets (begin t) h l
-  ensured-meets (commit t) l g h = step-meets (commit t) h l
-  ensured-meets (abort t) l g h = step-meets (abort t) h l
-  ensured-meets (step t s room) l g h = step-meets (step t s room) h l
+  ensured-meets start l g d h = told-meets start (h .restarted .answer (b .layout .size) M) l d
+  ensured-meets write l g d h = write-meets g d
+  ensured-meets (load i) l g d h = told-meets (load i) (h .performed .answer M b) l d
+  ensured-meets (begin t) l g d h = told-meets (begin t) (h .performed .answer M b) l d
+  ensured-meets (commit t) l g d h = told-meets (commit t) (h .performed .answer M b) l d
+  ensured-meets (abort t) l g d h = told-meets (abort t) (h .performed .answer M b) l d
+  ensured-meets (step t s room) l g d h = told-meets (step t s room) (h .performed .answer M b) l d
 
 -- on bytes that hold a state whose committed document is by the rules
-pub demand-2 : (M : State) (x : Exchange) (c : Call) → Contract x → MakesCall x c → Holds (x .state .before) M → legal (committed-document M) ≡ true → Demand2 M x c
-demand-2 M x c k m b g = ensured-meets M x (k .answer) (k .code) b c (listed m M) g (k .ensured c m)
+pub demand-2 : (M : State) (x : Exchange) (c : Call) → Contract x → MakesCall x c → Holds (x .state .before) M
+    → legal (committed-document M) ≡ true → Demand2 M x c
+demand-2 M x c k m b g =
+    let d = ensured-by writing text-after M x (k .answer) (k .code) b (λ h. legal-writing M (h .written) b g) c (k .ensured c m) in
+    ensured-meets M x (k .answer) (k .code) b c (listed m M) g d (k .ensured c m)
 
--- a granted write puts the text of the committed document before the rest of the buffer
+-- a granted write answers the length of the committed document's text, and puts the text before the rest of the buffer
 pub granted-text : (M : State) (x : Exchange) (c : Call) → Demand2 M x c → c ≡ write → outcome (x .code) ≡ 0
-    → x .first .after ≡ filled (xml.write (committed-document M)) (x .first .before)
+    → (x .code ≡ code-of (Count (length (xml.write (committed-document M)))))
+    × (x .first .after ≡ filled (xml.write (committed-document M)) (x .first .before))
 unfolding next first-after answer-of
 granted-text M x c h k g =
     let o : next c M .outcome ≡ written (committed-document M) = ap (λ (y : Call). next y M .outcome) k in
-    let a : x .code ≡ code-of (writing (length (x .first .before)) (committed-document M)) = h .answer ∙ rw o in
-    h .first ∙ rw o (granted-write (x .first .before) (committed-document M) (rw a at g) .1)
+    let d = h .by-definition in
+    let a : x .code ≡ code-of (writing (length (x .first .before)) (committed-document M)) = d .code ∙ rw o in
+    let w = granted-write (x .first .before) (committed-document M) (rw a at g) in
+    (a ∙ ap code-of (w .2), d .first ∙ rw o (w .1))

@@ -7,20 +7,19 @@ use native.Mathlib.Omega.{arith}
 use lib.ListN.{length}
 use lib.Dec.{leb}
 use borrow.Author.Tests.{leb-true, leb-false}
-use Rattle.protocol.specs.State.{State, start-state}
 use Rattle.protocol.specs.Lent.{Room}
 use Rattle.protocol.specs.Calls.{Call, start, load, begin, commit, abort, step, write, next}
 use Rattle.protocol.specs.Answers.{code-of, answer-of, granted-answer}
 use Rattle.protocol.specs.declared.Answer.{Answer}
-use Rattle.protocol.specs.declared.Answer.the-variants.{Done, Refused}
+use Rattle.protocol.specs.declared.Answer.the-variants.{Refused}
 use Rattle.layout.specs.Layout.{state-size}
-use Rattle.form.specs.Form.{form, Holds}
+use Rattle.form.specs.Form.{form}
 use Rattle.form.specs.Laws.Holds.{form-layout, form-holds, holds-form}
 use Rattle.traces.specs.Exchange.{Request, Exchange, outcome}
-use Rattle.traces.specs.Contract as contract
 use Rattle.traces.specs.Contract.{Makes, makes-start, MakesCall, Ensured, Contract}
 use Rattle.traces.specs.Theorem.{StateBytes}
 use Rattle.traces.specs.Laws.Causes.{makes-one}
+use Rattle.traces.specs.Laws.Answers.{start-of, answers-of}
 
 -- bytes that are too short are not of the form
 short-form : (s : List ℕ) → length s < state-size → form s ≡ false
@@ -54,26 +53,6 @@ module _ (x : Exchange) (r : Answer) where
   short-answer (abort t) h l = h .performed .unformed (short-form (x .state .before) l) .0
   short-answer (step t s room) h l = h .performed .unformed (short-form (x .state .before) l) .0
 
-  start-answer : Ensured x r start → 1048576 ≤ length (x .state .before) → r ≡ Done
-  unfolding Ensured next answer-of granted-answer
-  start-answer h l = h .restarted .answer (omega arith) start-state (λ d. Done)
-
-  -- a call on bytes that hold a state leaves such bytes
-  holds-on : (c : Call) → Ensured x r c → (M : State) → Holds (x .state .before) M → Holds (x .state .after) (next c M .state)
-  unfolding Ensured next
-  holds-on start h M b = h .restarted .state (b .layout .size) M
-  holds-on write h M b = rw (h .state) b
-  holds-on (load i) h M b = h .performed .state M b
-  holds-on (begin t) h M b = h .performed .state M b
-  holds-on (commit t) h M b = h .performed .state M b
-  holds-on (abort t) h M b = h .performed .state M b
-  holds-on (step t s room) h M b = h .performed .state M b
-
--- the contract of a start
-pub start-of : (x : Exchange) (k : Contract x) → x .request ≡ Request.start → contract.Start x (k .answer)
-unfolding Ensured
-start-of x k q = k .ensured start (rw q makes-start)
-
 -- a granted start was lent bytes enough
 pub granted-size : (x : Exchange) → Contract x → x .request ≡ Request.start → outcome (x .code) ≡ 0 → state-size ≤ length (x .state .before)
 unfolding code-of
@@ -86,21 +65,14 @@ granted-size x k q g = go (leb state-size (length (x .state .before))) refl
         let c : x .code ≡ 3330 = k .code ∙ ap code-of (u .0) in
         absurd (omega (arith, g))
 
--- and leaves the first state
-pub granted-start : (M : State) (x : Exchange) → Contract x → x .request ≡ Request.start → outcome (x .code) ≡ 0
-    → Holds (x .state .after) (next start M .state)
-granted-start M x k q g = start-of x k q .restarted .state (granted-size x k q g) M
-
 pub state-bytes : (x : Exchange) → Contract x → StateBytes x
-unfolding code-of
+unfolding code-of next answer-of granted-answer
 state-bytes x k = record {
   short = λ l. k .code ∙ ap code-of (short-answer x (k .answer) (m .0) (k .ensured (m .0) (m .1)) l);
   unformed = λ f n. k .code ∙ ap code-of (unformed-answer x (k .answer) (m .0) (m .1) (k .ensured (m .0) (m .1)) f n);
-  enough = λ q l. ap outcome (k .code ∙ ap code-of (start-answer x (k .answer) (k .ensured start (rw q makes-start)) l));
-  begun = λ q g. holds-form (granted-start start-state x k q g);
-  kept = λ f.
-      let M = form-holds (x .state .before) f in
-      holds-form (holds-on x (k .answer) (m .0) (k .ensured (m .0) (m .1)) (M .0) (M .1));
+  enough = λ q l. ap outcome (answers-of x k .starts q (omega arith) .code);
+  begun = λ q g. holds-form (answers-of x k .starts q (granted-size x k q g) .left);
+  kept = λ f. let M = form-holds (x .state .before) f in holds-form (answers-of x k .on-states (M .0) (m .0) (M .1) (m .1) .left);
 }
   where
     m : (c : Call) × MakesCall x c
