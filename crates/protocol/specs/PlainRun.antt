@@ -7,7 +7,8 @@ use mathlib.Core.List.{List, [], _∷_, map}
 use Rattle.tree.specs.Text.{bytes}
 use Rattle.tree.specs.Lists.{keep}
 use Rattle.tree.specs.Forest.{nil, node, rows, amend, view, place, put}
-use Rattle.tree.specs.Content.{name-start, name-byte, text-byte, is-name, is-text, allowed, takes, attributes-first, children-rule, insert-at}
+use Rattle.tree.specs.Content.{name-start, name-byte, text-byte, is-name, is-text, allowed, takes, attributes-first, children-rule}
+use Rattle.tree.specs.Content.{insert-at}
 use Rattle.tree.specs.Document.{Document, node-0-alone, lines, select, ruled, legal}
 use Rattle.tree.specs.Steps.{T, R, U, D, I, placed, done, kind-parent, content-is, plain-document}
 use Rattle.tree.specs.Examples.{tree-E}
@@ -24,7 +25,12 @@ a-node n kind content below following = node (record { number = n; kind = kind; 
 
 -- E with another text 5, and with other nodes behind the element speed
 abbrev E-with : String → Document → Document
-E-with speed behind = a-node 0 1 "" (a-node 1 2 "lift" (a-node 2 3 "rope" (a-node 3 4 "2" nil nil) (a-node 4 2 "speed" (a-node 5 4 speed nil nil) behind)) nil) nil
+E-with speed behind = a-node 0 1 ""
+    (a-node 1 2 "lift"
+    (a-node 2 3 "rope" (a-node 3 4 "2" nil nil)
+    (a-node 4 2 "speed" (a-node 5 4 speed nil nil)
+    behind))
+    nil) nil
 
 abbrev ramp : Document
 ramp = a-node 6 2 "ramp" nil nil
@@ -85,6 +91,6 @@ plain-runs =
 pub plain-runs-hold : map from-E plain-runs ≡ plain-runs
 unfolding tree-E played from-E state-after history log-after plain pending next judged wait-set loadable first-lent second-lent
     nodes callers-document document-of grant commit-tree abort-tree tree-of node-0-alone clash locks
-    legal ruled lines select rows keep amend view place put name-start name-byte text-byte is-name is-text allowed takes attributes-first children-rule
-    insert-at placed plain-document
+    legal ruled lines select rows keep amend view place put name-start name-byte text-byte is-name is-text allowed takes
+    attributes-first children-rule insert-at placed plain-document
 plain-runs-hold = refl

@@ -1,5 +1,5 @@
--- The order of causes: document 01, "Refused calls": "1, 2 or 3, 7, 8, 9, 10, wait, 11, 12, 13"; "Load: 15, then ..". Two tables, one theorem:
--- to the calls marked "before" both causes apply. (4 before 5 and 6 at one offset: xml/specs/Laws/Examples; 14 before 13: writer/specs.)
+-- The order of causes: document 01, "Refused calls": "Order: 1, 2 or 3, 7, 8, 9, 10, wait, 11, 12, 13. Load: 15, then the earliest offset".
+-- Two tables, one theorem; where a line says "before", both causes apply to the call. Load's offsets are in xml/specs/Laws/Examples.
 use Prim.Native.Nat.{ℕ, zero, suc}
 use mathlib.Core.Path.{_≡_, refl}
 use mathlib.Core.Bool.{true}
@@ -7,7 +7,8 @@ use mathlib.Core.List.{List, [], _∷_, map}
 use Rattle.tree.specs.Text.{bytes}
 use Rattle.tree.specs.Lists.{keep}
 use Rattle.tree.specs.Forest.{nil, node, rows, amend, view, place, put}
-use Rattle.tree.specs.Content.{name-start, name-byte, text-byte, is-name, is-text, allowed, takes, attributes-first, children-rule, insert-at}
+use Rattle.tree.specs.Content.{name-start, name-byte, text-byte, is-name, is-text, allowed, takes, attributes-first, children-rule}
+use Rattle.tree.specs.Content.{insert-at}
 use Rattle.tree.specs.Document.{Document, node-0-alone, lines, select, ruled, legal}
 use Rattle.tree.specs.Steps.{Step, T, C, R, U, D, I, TT, RR, UU, placed, done, child-is, content-is, numbers-are, cells-are}
 use Rattle.tree.specs.Examples.{tree-E}
@@ -15,8 +16,8 @@ use Rattle.locks.specs.Modes.{clash}
 use Rattle.locks.specs.Needs.{locks}
 use Rattle.protocol.specs.State.{start-state, nodes, callers-document, document-of, grant, commit-tree, abort-tree, tree-of}
 use Rattle.protocol.specs.Lent.{first-lent, second-lent}
-use Rattle.protocol.specs.Calls.{loadable, unreadable, stands-for, Call, start, load, begin, commit, abort, step, Outcome, granted, waits, refused}
-use Rattle.protocol.specs.Calls.{refused-at, wait-set, judged, next}
+use Rattle.protocol.specs.Calls.{loadable, unreadable, stands-for, Call, start, load, begin, commit, abort, step}
+use Rattle.protocol.specs.Calls.{Outcome, granted, waits, refused, refused-at, wait-set, judged, next}
 use Rattle.protocol.specs.History.{history, state-after}
 use Rattle.protocol.specs.Examples.{Item, gives, does, played, from-E}
 
@@ -130,6 +131,6 @@ pub refusals-hold :
     (map from-E refusals ≡ refusals) × (played (state-after start-state filling) (history start-state filling) at-the-limit ≡ at-the-limit)
 unfolding tree-E played from-E state-after history next judged wait-set loadable first-lent second-lent full
     nodes callers-document document-of grant commit-tree abort-tree tree-of node-0-alone clash locks
-    legal ruled lines select rows keep amend view place put name-start name-byte text-byte is-name is-text allowed takes attributes-first children-rule
-    insert-at placed
+    legal ruled lines select rows keep amend view place put name-start name-byte text-byte is-name is-text allowed takes
+    attributes-first children-rule insert-at placed
 refusals-hold = (refl, refl)

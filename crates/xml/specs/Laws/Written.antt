@@ -12,10 +12,10 @@ use Rattle.tree.specs.Content.{name-start, name-byte, text-byte, spells-name}
 use Rattle.xml.specs.Bytes.{line-feed, less-than, greater-than, ampersand, quotation-mark, equals-sign, blank, used, double, value-literal}
 use Rattle.xml.specs.Bytes.{text-literal, brackets, long-declaration}
 use Rattle.xml.specs.Shape.{Shape, element, attribute, text}
-use Rattle.xml.specs.Grammar.{Name, no-blank, blank-then, NameBytes, no-name-byte, name-byte-then, Named, name, entity-amp, entity-gt}
+use Rattle.xml.specs.Grammar.{Name, Blanks, no-blank, blank-then, NameBytes, no-name-byte, name-byte-then, Named, name, entity-amp, entity-gt}
 use Rattle.xml.specs.Grammar.{entity-lt, entity-quot, Value, value-close, value-byte, value-entity, Chars, chars-end, chars-byte, chars-entity}
 use Rattle.xml.specs.Grammar.{text-node, behind, inside, opened, Part, spacing, empty, full, attribute-part, text-part, markup, element-part}
-use Rattle.xml.specs.Grammar.{end-tag, root, declared-long, Spells}
+use Rattle.xml.specs.Grammar.{end-tag, Root, root, declared-long, Spells}
 use Rattle.xml.specs.Writing.{escape, escaped, value, childless, contents}
 use Rattle.xml.specs.Writing as writing
 use Rattle.xml.specs.Laws.Structure.{Spot, attributes, children, behind-text, Formed, formed-nil, formed-attribute, formed-text, formed-element}
@@ -147,9 +147,13 @@ written n t (formed-element {m = m} {g = g} {f = f} i h r) =
 written n t (no-text r) = let x = written n t r in rw (x .1) (markup (x .2))
 written n t (no-attribute {seen = seen} r) = written-last n seen t r (written n t r)
 
--- WRITTEN: the tree spells what was written
-pub written-spells : {f : Shape} → FormedRoot f → Spells (long-declaration ++ (line-feed ∷ contents f)) f
-unfolding contents blank
-written-spells (formed-root {n = n} {f = f} i r) =
+-- WRITTEN: what is written spells the tree, blanks before it or none
+pub written-root : {f : Shape} {s : List ℕ} → FormedRoot f → Blanks s (contents f) → Root true s f
+unfolding contents
+written-root (formed-root {n = n} {f = f} i r) b =
     let x : Part true (behind n []) (writing.attributes f ++ (ending n f ++ [])) f [] = written n [] r in
-    declared-long (root (blank-then refl no-blank) (named n _ i) x no-blank)
+    root b (named n _ i) x no-blank
+
+pub written-spells : {f : Shape} → FormedRoot f → Spells (long-declaration ++ (line-feed ∷ contents f)) f
+unfolding blank
+written-spells r = declared-long (written-root r (blank-then refl no-blank))
