@@ -4,6 +4,7 @@ use Prim.Native.Nat.{ℕ, zero, suc}
 use mathlib.Core.Path.{_≡_, refl}
 use mathlib.Core.Bool.{true}
 use mathlib.Core.List.{List, [], _∷_, map}
+use lib.ListN.{length}
 use Rattle.tree.specs.Text.{bytes}
 use Rattle.tree.specs.Lists.{keep}
 use Rattle.tree.specs.Forest.{nil, node, rows, amend, view, place, put}
@@ -18,12 +19,16 @@ use Rattle.protocol.specs.State.{start-state, nodes, callers-document, d
 use Rattle.protocol.specs.Lent.{first-lent, second-lent}
 use Rattle.protocol.specs.Calls.{loadable, unreadable, stands-for, Call, start, load, begin, commit, abort, step}
 use Rattle.protocol.specs.Calls.{Outcome, granted, waits, refused, refused-at, wait-set, judged, next}
+use Rattle.protocol.specs.Answers.{lent-after}
 use Rattle.protocol.specs.History.{history, state-after}
-use Rattle.protocol.specs.Examples.{Item, gives, does, played, from-E}
+use Rattle.protocol.specs.Examples.{Item, gives, fills, does, played, from-E}
 
--- t does s with lent buffers of these lengths
-abbrev lends : ℕ → ℕ → ℕ → Step → Outcome → Item
-lends a b t s o = gives (step t s (record { first = a; second = b })) o
+-- t does s with one lent buffer, which holds these bytes before and after; with two lent buffers of these lengths
+abbrev lends : ℕ → Step → List ℕ → Outcome → List ℕ → Item
+lends t s before o after = fills (step t s (record { first = length before; second = 0 })) o before after
+
+abbrev lends-two : ℕ → ℕ → ℕ → Step → Outcome → Item
+lends-two a b t s o = gives (step t s (record { first = a; second = b })) o
 
 -- from E, with t1 and t2 open
 abbrev pub refusals : List (List Item)
@@ -68,15 +73,24 @@ refusals =
     -- a wait before 11
     ∷ does 1 (I 9 2 (bytes "x") 1 9) (waits 2)
     -- a wait before 13
-    ∷ lends 0 0 1 (R 5) (waits 2) ∷ []) ∷
-    -- 13: one byte less than the answer takes, in either buffer
-    (lends 0 0 1 (R 5) (refused 13)
-    ∷ lends 1 0 1 (R 5) (granted (content-is (bytes "6")))
-    ∷ lends 3 0 1 (TT 4) (refused 13)
-    ∷ lends 4 0 1 (TT 4) (granted (numbers-are (4 ∷ 5 ∷ [])))
-    ∷ lends 3 66 1 (RR 4) (refused 13)
-    ∷ lends 4 65 1 (RR 4) (refused 13)
-    ∷ lends 4 66 1 (RR 4) (granted (cells-are ((4, bytes "speed") ∷ (5, bytes "6") ∷ []))) ∷ []) ∷
+    ∷ lends 1 (R 5) [] (waits 2) [] ∷ []) ∷
+    -- 13: one byte less than the answer takes, in either buffer; "bytes of a lent buffer behind the answer keep their values"
+    (lends 1 (R 4) (bytes "----") (refused 13) (bytes "----")
+    ∷ lends 1 (R 4) (bytes "-------") (granted (content-is (bytes "speed"))) (bytes "speed--")
+    ∷ lends 1 (TT 4) (bytes "---") (refused 13) (bytes "---")
+    ∷ lends 1 (TT 4) (bytes "-----") (granted (numbers-are (4 ∷ 5 ∷ []))) (4 ∷ 0 ∷ 5 ∷ 0 ∷ bytes "-")
+    ∷ lends-two 3 66 1 (RR 4) (refused 13)
+    ∷ lends-two 4 65 1 (RR 4) (refused 13)
+    ∷ lends-two 4 66 1 (RR 4) (granted (cells-are ((4, bytes "speed") ∷ (5, bytes "6") ∷ []))) ∷ []) ∷
+    -- "left as it was: everything": a step that is refused or waits takes no lock and leaves the lent buffer
+    (does 1 (I 9 2 (bytes "x") 1 9) (refused 11)
+    ∷ lends 1 (R 5) [] (refused 13) []
+    ∷ does 2 (D 6) (granted done)
+    ∷ does 2 (U 5 (bytes "7")) (granted done)
+    ∷ lends 1 (R 5) (bytes "-") (waits 2) (bytes "-")
+    ∷ gives (abort 2) (granted done)
+    ∷ gives (begin 2) (granted done)
+    ∷ does 2 (U 5 (bytes "8")) (granted done) ∷ []) ∷
     -- 15 before 4, 5 and 6, which are given when nothing is open
     (gives (load (unreadable 4 0)) (refused 15)
     ∷ gives (commit 1) (granted done)
@@ -129,7 +143,7 @@ at-the-limit =
 
 pub refusals-hold :
     (map from-E refusals ≡ refusals) × (played (state-after start-state filling) (history start-state filling) at-the-limit ≡ at-the-limit)
-unfolding tree-E played from-E state-after history next judged wait-set loadable first-lent second-lent full
+unfolding tree-E played from-E state-after history lent-after next judged wait-set loadable first-lent second-lent full
     nodes callers-document document-of grant commit-tree abort-tree tree-of node-0-alone clash locks
     legal ruled lines select rows keep amend view place put name-start name-byte text-byte is-name is-text allowed takes
     attributes-first children-rule insert-at placed

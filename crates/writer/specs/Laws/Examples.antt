@@ -10,11 +10,12 @@ use Rattle.tree.specs.Document.{Document, node-0-alone}
 use Rattle.tree.specs.Examples.{tree-E}
 use Rattle.protocol.specs.declared.Answer.{Answer}
 use Rattle.protocol.specs.declared.Answer.the-variants.{Count, Refused}
+use Rattle.form.specs.Form.{form}
 use Rattle.xml.specs.Bytes.{used}
 use Rattle.xml.specs.Shape.{shape}
 use Rattle.xml.specs.Writing.{escaped, attributes, contents, write, repeats, neighbouring-texts, expressible}
 use Rattle.markup.specs.Rows.{may-stand, in-order, ordered}
-use Rattle.writer.specs.Contract.{writing, write-answer}
+use Rattle.writer.specs.Contract.{writing, write-answer, Written}
 
 abbrev a-node : ℕ → ℕ → String → Document → Document → Document
 a-node n kind content below following = node (record { number = n; kind = kind; content = bytes content }) below following
@@ -42,6 +43,11 @@ write-refusals =
     ∷ []
 
 pub write-refusals-hold : map (λ (x : Row). write-answer (x .0) (x .1)) write-refusals ≡ map (λ (x : Row). x .2) write-refusals
-unfolding tree-E node-0-alone write-answer writing ordered in-order may-stand takes shape view expressible repeats neighbouring-texts write contents
-    attributes escaped used
+unfolding tree-E node-0-alone write-answer writing ordered in-order may-stand takes shape view expressible repeats neighbouring-texts
+    write contents attributes escaped used
 write-refusals-hold = refl
+
+-- "state bytes that are too short, or not of the form .., give 13 before all else": no bytes at all, whatever the buffer
+pub write-state-first : {o o′ : List ℕ} {r : Answer} → Written [] o o′ r → r ≡ Refused 13
+unfolding form
+write-state-first w = w .unformed refl .0
