@@ -62,7 +62,10 @@ refusals =
     -- 9 before 10
     ∷ does 1 (I 6 2 (bytes "6") 1 4) (refused 9)
     -- 10 before 11
-    ∷ does 1 (I 6 2 (bytes "x") 1 9) (refused 10) ∷ []) ∷
+    ∷ does 1 (I 6 2 (bytes "x") 1 9) (refused 10)
+    -- document 01: 32 bytes of text granted, 33 give 9
+    ∷ does 1 (U 5 (bytes "12345678901234567890123456789012")) (granted done)
+    ∷ does 1 (U 5 (bytes "123456789012345678901234567890123")) (refused 9) ∷ []) ∷
     -- 8, 9 and 10 before a wait
     (does 2 (D 1) (granted done)
     ∷ does 1 (RR 0) (waits 2)

@@ -50,6 +50,9 @@ inputs =
     ∷ ("<a b='1' c=\"'\"/>", fine 6)
     ∷ ("<a b='1' b='2'/>", bad 4 10)
     ∷ ("<a b='1' bb='2'/>", fine 6)
+    -- a name that repeats another ends with its 32nd byte, or has a 33rd
+    ∷ ("<a abcdefghijabcdefghijabcdefghijab='' abcdefghijabcdefghijabcdefghijab=''/>", bad 4 71)
+    ∷ ("<a abcdefghijabcdefghijabcdefghijab='' abcdefghijabcdefghijabcdefghijabc=''/>", bad 5 71)
     -- characters
     ∷ ("<a>]]&gt;</a>", fine 3)
     ∷ ("<a>]]></a>", bad 4 5)
@@ -88,6 +91,10 @@ inputs-at-limits =
     -- document 01: 1,024 nodes load, 1,025 give 6
     (0, with-elements 1022 "</a>", fine 1024)
     ∷ (0, with-elements 1023 "</a>", bad 6 4091)
+    -- the 1,025th begins with a < and a name's first byte, or with a &, whatever follows; a < before another byte begins none
+    ∷ (0, with-elements 1022 "<b!", bad 6 4091)
+    ∷ (0, with-elements 1022 "&!", bad 6 4091)
+    ∷ (0, with-elements 1022 "<!", bad 4 4092)
     -- 65,536 bytes, and one more
     ∷ (65532, bytes "<a/>", fine 2)
     ∷ (65532, bytes "<a/> ", bad 4 65536)
