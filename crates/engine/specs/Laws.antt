@@ -3,3 +3,4 @@ pub mod Seen
 pub mod Admission
 pub mod Judgement
 pub mod Test
+pub mod Order

@@ -15,16 +15,20 @@ use Rattle.locks.specs.Needs.{locks}
 use Rattle.protocol.specs.State.{State, start-state, nodes, callers-document, document-of, grant, commit-tree, abort-tree, tree-of}
 use Rattle.protocol.specs.Lent.{first-lent, second-lent}
 use Rattle.protocol.specs.Calls.{loadable, stands-for, Call, start, load, begin, abort, step, Outcome, granted, waits, refused, wait-set, judged, next}
+use Rattle.protocol.specs.Answers.{lent-after}
 use Rattle.protocol.specs.History.{Event, history, state-after, log-after, plain, pending}
 
 pub E-loadable : loadable tree-E ≡ true
 unfolding tree-E loadable legal ruled lines rows name-start name-byte text-byte is-name is-text allowed takes attributes-first children-rule
 E-loadable = refl
 
--- a line of an example: a call and what it gives, or whether something is pending
+-- a line of an example: a call and what it gives, and what a first lent buffer holds before and after it; whether something is pending;
+-- the plain run's document
 pub data Item : Type 0 where
   gives : (call : Call) (outcome : Outcome) → Item
+  fills : (call : Call) (outcome : Outcome) (before after : List ℕ) → Item
   is-pending : (answer : Bool) → Item
+  plain-is : (document : Document) → Item
 
 -- t does s, with room for every answer
 abbrev pub does : ℕ → Step → Outcome → Item
@@ -34,18 +38,17 @@ does t s o = gives (step t s (record { first = 64; second = 1024 })) o
 abbrev pub opening : List Call
 opening = start ∷ load (stands-for tree-E E-loadable) ∷ begin 1 ∷ begin 2 ∷ []
 
--- the calls of an example
-abbrev pub calls : List Item → List Call
-calls [] = []
-calls (gives c o ∷ l) = c ∷ calls l
-calls (is-pending b ∷ l) = calls l
-
--- the example with the outcomes that the definitions give, and with what is pending then; h is what was called before
+-- the example with the outcomes, buffers, answers about what is pending and plain documents that the definitions give; h is what was
+-- called before
 unfoldable pub played : State → List Event → List Item → List Item
 played M h [] = []
 played M h (gives c o ∷ l) =
     gives c (next c M .outcome) ∷ played (next c M .state) (h ++ (record { call = c; outcome = next c M .outcome } ∷ [])) l
+played M h (fills c o b b′ ∷ l) =
+    fills c (next c M .outcome) b (lent-after first-lent (next c M .outcome) b)
+    ∷ played (next c M .state) (h ++ (record { call = c; outcome = next c M .outcome } ∷ [])) l
 played M h (is-pending b ∷ l) = is-pending (pending h) ∷ played M h l
+played M h (plain-is d ∷ l) = plain-is (plain h) ∷ played M h l
 
 -- an example after the opening calls
 unfoldable pub from-E : List Item → List Item

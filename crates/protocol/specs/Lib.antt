@@ -5,3 +5,5 @@ pub mod Answers
 pub mod History
 pub mod Examples
 pub mod Mistakes
+pub mod Refusals
+pub mod PlainRun

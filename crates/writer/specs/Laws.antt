@@ -1,3 +1,4 @@
 pub mod Pieces
 pub mod Rows
 pub mod Calls
+pub mod Examples

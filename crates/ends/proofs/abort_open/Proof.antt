@@ -4,12 +4,12 @@ use Rattle.protocol.specs.State.{undone}
 use Rattle.edits.specs.Rows.{not-inserted-by}
 use Rattle.ends.specs.Ends.{undone-marks}
 use Rattle.ends.specs.Laws.Marks.{left-open, kept-open, ended, undone-whole}
-use Rattle.ends.specs.Laws.Calls.{not-inserted}
+use Rattle.ends.specs.Laws.Calls.{unmarked-document}
 use Rattle.ends.proofs.abort_open.Statement.{statement}
 use Rattle.ends.proofs.abort_open.Tie as tie
 
 prune-requires : tie.Need-prune-requires
-prune-requires c κs = (c .before .before .pre .layout, search needs, not-inserted _ _ (c .before .before .pre))
+prune-requires c κs = let pre = c .before .before .pre in (pre .layout, search needs, search (unmarked-document _ _ pre))
 
 undo-requires : tie.Need-undo-requires
 undo-requires c κs = search needs

@@ -3,12 +3,12 @@ use native.Mathlib.Omega.{arith}
 use Rattle.protocol.specs.State.{seen-by, lasting}
 use Rattle.ends.specs.Ends.{lasting-marks}
 use Rattle.ends.specs.Laws.Marks.{left-open, kept-open, ended, lasting-whole}
-use Rattle.ends.specs.Laws.Calls.{not-deleted}
+use Rattle.ends.specs.Laws.Calls.{unmarked-document}
 use Rattle.ends.proofs.commit_open.Statement.{statement}
 use Rattle.ends.proofs.commit_open.Tie as tie
 
 prune-requires : tie.Need-prune-requires
-prune-requires c κs = (c .before .before .pre .layout, search needs, not-deleted _ _ (c .before .before .pre))
+prune-requires c κs = let pre = c .before .before .pre in (pre .layout, search needs, search (unmarked-document _ _ pre))
 
 settle-requires : tie.Need-settle-requires
 settle-requires c κs = search needs

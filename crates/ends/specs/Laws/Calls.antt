@@ -40,11 +40,13 @@ first-document s f =
     let e : getD (nodes s) 0 no-entry .1 ≡ r .it = ap (λ (l : List Entry). getD l 0 no-entry .1) (m .1 .rows ∙ ap (flat 0) (r .whole)) in
     rw e (r .document)
 
-pub not-inserted : (s : List ℕ) (t : ℕ) → Opened s t → not-marked 2 t (getD (nodes s) 0 no-entry .1) ≡ true
-not-inserted s t o = rw (first-document s (o .formed) .inserter, ne-eqb nobody t (λ e. omega (arith, o .low)))
-
-pub not-deleted : (s : List ℕ) (t : ℕ) → Opened s t → not-marked 3 t (getD (nodes s) 0 no-entry .1) ≡ true
-not-deleted s t o = rw (first-document s (o .formed) .deleter, ne-eqb nobody t (λ e. omega (arith, o .low)))
+-- mark 2 is the inserter's, mark 3 the deleter's
+pub unmarked-document : (s : List ℕ) (t : ℕ) → Opened s t
+    → (not-marked 2 t (getD (nodes s) 0 no-entry .1) ≡ true) × (not-marked 3 t (getD (nodes s) 0 no-entry .1) ≡ true)
+unmarked-document s t o =
+    let d = first-document s (o .formed) in
+    let n = ne-eqb nobody t (λ e. omega (arith, o .low)) in
+    (rw (d .inserter, n), rw (d .deleter, n))
 
 -- start ---------------------------------------------------------------------------------------------
 

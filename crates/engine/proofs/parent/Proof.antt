@@ -23,7 +23,7 @@ cast-number c = search needs
 
 -- src/lib.rt:99:5
 number-requires : tie.Need-number-requires
-number-requires c κs = (search needs, c .before .before .before .pre .1 .inside .inside 1 (omega arith))
+number-requires c κs = (search needs, c .before .before .before .pre .1 .inside .inside _ (omega arith))
 
 -- src/lib.rt:92:1
 returns-2 : tie.Need-returns-2

@@ -1,10 +1,11 @@
 use Rattle.judging.specs.Laws.Whole.{taken-length, judged-long, judged-short}
+use native.Mathlib.Omega.{arith}
 use borrow.Author.Needs.{needs}
 use Rattle.judging.proofs.judge.Statement.{statement}
 use Rattle.judging.proofs.judge.Tie as tie
 
 slice-aggregate-first : tie.Need-slice-aggregate-first
-slice-aggregate-first c = taken-length 65537 (c .before .before .before .args .x .now) (c .before .if1 .taken)
+slice-aggregate-first c = taken-length _ (c .before .before .before .args .x .now) (omega (arith, c .before .if1 .taken))
 
 unlimited-requires : tie.Need-unlimited-requires
 unlimited-requires c κs = search needs

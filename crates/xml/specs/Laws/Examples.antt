@@ -1,14 +1,34 @@
 -- Inputs with what the judgement says of them: one theorem over the whole table.
 use Prim.Native.String.{String}
-use mathlib.Core.Path.{_≡_, refl}
-use mathlib.Core.List.{List, [], _∷_, map}
-use Rattle.tree.specs.Content.{name-start, name-byte, text-byte}
+use Prim.Native.Nat.{ℕ, zero, suc, _+_, _≤_, _<_}
+use mathlib.Core.Path.{_≡_, refl, ap, ap₂, _∙_}
+use mathlib.Core.Bool.{true}
+use mathlib.Core.List.{List, [], _∷_, _++_, map}
+use native.Mathlib.Omega.{arith}
+use lib.ListN.{length}
+use lib.Dec.{leb}
+use borrow.Author.Tests.{leb-true, lt-leb}
+use Rattle.tree.specs.Lists.{every}
+use Rattle.tree.specs.Forest.{rows, view}
+use Rattle.tree.specs.Content.{name-start, name-byte, text-byte, is-name, is-text, allowed, takes, attributes-first, children-rule}
+use Rattle.tree.specs.Document.{lines, ruled, legal}
+use Rattle.tree.specs.Examples.{tree-E}
+use Rattle.protocol.specs.Calls.{stands-for}
+use Rattle.protocol.specs.Examples.{E-loadable}
 use Rattle.tree.specs.Text.{bytes}
-use Rattle.xml.specs.Bytes.{blank, value-literal, text-literal, brackets, used}
+use Rattle.xml.specs.Bytes.{space, blank, value-literal, text-literal, brackets, used}
+use Rattle.xml.specs.Shape.{size, longest, numbered, shape}
+use Rattle.xml.specs.Grammar.{no-blank, bare, Spells}
+use Rattle.xml.specs.Reading.{input-limit, ReadsAs}
+use Rattle.xml.specs.Writing.{escaped, attributes, contents, below, write, repeats, neighbouring-texts}
 use Rattle.xml.specs.Laws.Words.{follow}
-use Rattle.xml.specs.Laws.Automaton.{depth, tag-step, step}
+use Rattle.xml.specs.Laws.Automaton.{prolog, depth, tag-step, step}
 use Rattle.xml.specs.Laws.Counts.{births, tail, peak}
 use Rattle.xml.specs.Laws.Judge.{Verdict, fine, bad, judge, judgement}
+use Rattle.xml.specs.Laws.Structure.{FormedRoot, left-of, right-of}
+use Rattle.xml.specs.Laws.Readings.{accepted-iff}
+use Rattle.xml.specs.Laws.Written.{written-root, written-spells}
+use Rattle.xml.specs.Laws.Expressible.{formed-document}
 
 abbrev pub inputs : List (String × Verdict)
 inputs =
@@ -30,6 +50,9 @@ inputs =
     ∷ ("<a b='1' c=\"'\"/>", fine 6)
     ∷ ("<a b='1' b='2'/>", bad 4 10)
     ∷ ("<a b='1' bb='2'/>", fine 6)
+    -- a name that repeats another ends with its 32nd byte, or has a 33rd
+    ∷ ("<a abcdefghijabcdefghijabcdefghijab='' abcdefghijabcdefghijabcdefghijab=''/>", bad 4 71)
+    ∷ ("<a abcdefghijabcdefghijabcdefghijab='' abcdefghijabcdefghijabcdefghijabc=''/>", bad 5 71)
     -- characters
     ∷ ("<a>]]&gt;</a>", fine 3)
     ∷ ("<a>]]></a>", bad 4 5)
@@ -44,5 +67,114 @@ inputs =
     ∷ []
 
 pub examples : map (λ (x : String × Verdict). judgement (bytes (x .0))) inputs ≡ map (λ (x : String × Verdict). x .1) inputs
-unfolding judgement judge step tag-step depth follow births tail peak blank value-literal text-literal brackets used name-start name-byte text-byte
+unfolding judgement judge step tag-step depth follow births tail peak blank value-literal text-literal brackets used name-start name-byte
+    text-byte
 examples = refl
+
+abbrev times : ℕ → List ℕ → List ℕ
+times zero s = []
+times (suc n) s = s ++ times n s
+
+-- an input at the limits: so many blanks, then these bytes, and the judgement
+abbrev pub Limit : Type 0
+Limit = ℕ × List ℕ × Verdict
+
+abbrev pub input : ℕ → List ℕ → List ℕ
+input n s = times n (space ∷ []) ++ s
+
+-- the root and n childless elements in it, then the rest
+abbrev with-elements : ℕ → String → List ℕ
+with-elements n rest = bytes "<a>" ++ (times n (bytes "<b/>") ++ bytes rest)
+
+abbrev pub inputs-at-limits : List Limit
+inputs-at-limits =
+    -- document 01: 1,024 nodes load, 1,025 give 6
+    (0, with-elements 1022 "</a>", fine 1024)
+    ∷ (0, with-elements 1023 "</a>", bad 6 4091)
+    -- the 1,025th begins with a < and a name's first byte, or with a &, whatever follows; a < before another byte begins none
+    ∷ (0, with-elements 1022 "<b!", bad 6 4091)
+    ∷ (0, with-elements 1022 "&!", bad 6 4091)
+    ∷ (0, with-elements 1022 "<!", bad 4 4092)
+    -- 65,536 bytes, and one more
+    ∷ (65532, bytes "<a/>", fine 2)
+    ∷ (65532, bytes "<a/> ", bad 4 65536)
+    -- 4 before 5 and 6 at one offset: a byte too many is the 33rd of a text, or the first of a text that is the 1,025th node
+    ∷ (65501, bytes "<a>123456789012345678901234567890123", bad 4 65536)
+    ∷ (61445, with-elements 1022 "1", bad 4 65536)
+    -- a < one byte earlier is the 1,025th node: the earliest offset
+    ∷ (61444, with-elements 1022 "<b", bad 6 65535)
+    ∷ []
+
+-- the judgement behind n blanks
+abbrev late : ℕ → List ℕ → Verdict
+late zero s = judgement s
+late (suc n) s = judge prolog 1 0 space (suc n) s
+
+blank-judged : (i : ℕ) (s : List ℕ) → i < input-limit → judge prolog 1 0 space i (space ∷ s) ≡ judge prolog 1 0 space (suc i) s
+unfolding judge step blank births tail peak
+blank-judged i s h = rw (lt-leb input-limit i h)
+
+late-judged : (n i : ℕ) (s : List ℕ) → i + n ≤ input-limit → judge prolog 1 0 space i (input n s) ≡ judge prolog 1 0 space (i + n) s
+late-judged zero i s h = ap (λ (k : ℕ). judge prolog 1 0 space k s) (omega arith)
+late-judged (suc n) i s h =
+    blank-judged i (input n s) (omega arith) ∙ late-judged n (suc i) s (omega arith)
+    ∙ ap (λ (k : ℕ). judge prolog 1 0 space k s) (omega arith)
+
+first-blank : (s : List ℕ) → judgement (space ∷ s) ≡ judge prolog 1 0 space 1 s
+unfolding judgement judge step blank births tail peak
+first-blank s = refl
+
+is-late : (n : ℕ) (s : List ℕ) → n ≤ input-limit → judgement (input n s) ≡ late n s
+is-late zero s h = refl
+is-late (suc n) s h = first-blank (input n s) ∙ late-judged n 1 s (omega arith) ∙ ap (λ (k : ℕ). judge prolog 1 0 space k s) (omega arith)
+
+all-late : (l : List Limit) → every (λ x. leb (x .0) input-limit) l ≡ true
+    → map (λ (x : Limit). judgement (input (x .0) (x .1))) l ≡ map (λ (x : Limit). late (x .0) (x .1)) l
+all-late [] h = refl
+all-late (x ∷ l) h =
+    ap₂ _∷_ (is-late (x .0) (x .1) (leb-true (x .0) input-limit (left-of _ _ h))) (all-late l (right-of (leb (x .0) input-limit) _ h))
+
+computed : map (λ (x : Limit). late (x .0) (x .1)) inputs-at-limits ≡ map (λ (x : Limit). x .2) inputs-at-limits
+unfolding judgement judge step tag-step depth follow births tail peak blank value-literal text-literal brackets used name-start name-byte
+    text-byte
+computed = refl
+
+pub limits : map (λ (x : Limit). judgement (input (x .0) (x .1))) inputs-at-limits ≡ map (λ (x : Limit). x .2) inputs-at-limits
+limits = all-late inputs-at-limits refl ∙ computed
+
+-- tree E of document 01: its text, written and read -----------------------------------------
+
+abbrev pub text-E : List ℕ
+text-E = bytes "<lift rope=\"2\"><speed>6</speed><ramp/></lift>"
+
+abbrev pub whole-text-E : List ℕ
+whole-text-E = bytes "<?xml version=\"1.0\" encoding=\"UTF-8\"?>\n<lift rope=\"2\"><speed>6</speed><ramp/></lift>"
+
+pub writes-E : write tree-E ≡ whole-text-E
+unfolding tree-E write shape view contents attributes escaped
+writes-E = refl
+
+formed-E : FormedRoot (below (shape tree-E))
+unfolding tree-E shape view repeats neighbouring-texts legal ruled lines rows name-start name-byte text-byte is-name is-text allowed takes
+    attributes-first children-rule used
+formed-E = formed-document tree-E refl (refl, refl, refl)
+
+-- with the declaration or without, the text stands for tree E with document 01's numbers
+reads-E : (s : List ℕ) → Spells s (below (shape tree-E)) → length s ≤ 100 → ReadsAs s (stands-for tree-E E-loadable)
+unfolding tree-E shape view numbered size longest
+reads-E s x l = accepted-iff s tree-E E-loadable .1 (record {
+  shape = below (shape tree-E);
+  spelled = x;
+  stands = refl;
+  short-input = omega (arith, l);
+  few-nodes = omega arith;
+  short-contents = omega arith;
+})
+
+pub bare-reads-E : ReadsAs text-E (stands-for tree-E E-loadable)
+unfolding tree-E shape view contents attributes escaped
+bare-reads-E = reads-E text-E (bare (written-root formed-E no-blank)) (omega arith)
+
+pub whole-reads-E : ReadsAs whole-text-E (stands-for tree-E E-loadable)
+unfolding tree-E shape view contents attributes escaped
+whole-reads-E = reads-E whole-text-E (written-spells formed-E) (omega arith)

@@ -209,7 +209,7 @@ legal-ruled : (d : Document) → legal d ≡ true → (rooted d ≡ true) × (ru
 unfolding legal
 legal-ruled d h = let x = left-of (rooted d && ruled d) _ h in (left-of (rooted d) _ x, right-of (rooted d) _ x)
 
-formed-document : (d : Document) → legal d ≡ true → Writable d → FormedRoot (below (shape d))
+pub formed-document : (d : Document) → legal d ≡ true → Writable d → FormedRoot (below (shape d))
 unfolding shape view
 formed-document nil h w = absurd (false≢true (legal-ruled nil h .0))
 formed-document (node a ks nil) h w =

@@ -12,10 +12,10 @@ use Rattle.tree.specs.Content.{name-start, name-byte, text-byte, spells-name}
 use Rattle.xml.specs.Bytes.{line-feed, less-than, greater-than, ampersand, quotation-mark, equals-sign, blank, used, double, value-literal}
 use Rattle.xml.specs.Bytes.{text-literal, brackets, long-declaration}
 use Rattle.xml.specs.Shape.{Shape, element, attribute, text}
-use Rattle.xml.specs.Grammar.{Name, no-blank, blank-then, NameBytes, no-name-byte, name-byte-then, Named, name, entity-amp, entity-gt}
+use Rattle.xml.specs.Grammar.{Name, Blanks, no-blank, blank-then, NameBytes, no-name-byte, name-byte-then, Named, name, entity-amp, entity-gt}
 use Rattle.xml.specs.Grammar.{entity-lt, entity-quot, Value, value-close, value-byte, value-entity, Chars, chars-end, chars-byte, chars-entity}
 use Rattle.xml.specs.Grammar.{text-node, behind, inside, opened, Part, spacing, empty, full, attribute-part, text-part, markup, element-part}
-use Rattle.xml.specs.Grammar.{end-tag, root, declared-long, Spells}
+use Rattle.xml.specs.Grammar.{end-tag, Root, root, declared-long, Spells}
 use Rattle.xml.specs.Writing.{escape, escaped, value, childless, contents}
 use Rattle.xml.specs.Writing as writing
 use Rattle.xml.specs.Laws.Structure.{Spot, attributes, children, behind-text, Formed, formed-nil, formed-attribute, formed-text, formed-element}
@@ -30,18 +30,21 @@ named [] t h = absurd (false≢true h)
 named (b ∷ r) t h = name (left-of (name-start b) _ h) (name-bytes r t (right-of (name-start b) _ h))
 
 -- an escaped byte, by the four that are written as entities
-escape-cases : (P : List ℕ → Type 0) (b : ℕ) → (b ≡ ampersand → P (bytes "&amp;")) → (b ≡ less-than → P (bytes "&lt;")) → (b ≡ greater-than → P (bytes "&gt;"))
-    → (b ≡ quotation-mark → P (bytes "&quot;"))
+escape-cases : (P : List ℕ → Type 0) (b : ℕ) → (b ≡ ampersand → P (escape ampersand)) → (b ≡ less-than → P (escape less-than))
+    → (b ≡ greater-than → P (escape greater-than)) → (b ≡ quotation-mark → P (escape quotation-mark))
     → (eqb b ampersand ≡ false → eqb b less-than ≡ false → eqb b greater-than ≡ false → eqb b quotation-mark ≡ false → P (b ∷ [])) → P (escape b)
 escape-cases P b f g h k l = go (eqb b ampersand) refl (eqb b less-than) refl (eqb b greater-than) refl (eqb b quotation-mark) refl
   where
-    go : (x : Bool) → eqb b ampersand ≡ x → (y : Bool) → eqb b less-than ≡ y → (z : Bool) → eqb b greater-than ≡ z → (w : Bool) → eqb b quotation-mark ≡ w
-        → P (cond x (bytes "&amp;") (cond y (bytes "&lt;") (cond z (bytes "&gt;") (cond w (bytes "&quot;") (b ∷ [])))))
-    go true e y e₁ z e₂ w e₃ = f (eqb-true b ampersand e)
-    go false e true e₁ z e₂ w e₃ = g (eqb-true b less-than e₁)
-    go false e false e₁ true e₂ w e₃ = h (eqb-true b greater-than e₂)
-    go false e false e₁ false e₂ true e₃ = k (eqb-true b quotation-mark e₃)
-    go false e false e₁ false e₂ false e₃ = l e e₁ e₂ e₃
+    at-byte : (c : ℕ) → b ≡ c → P (escape c) → P (escape b)
+    at-byte c e x = rw e x
+
+    go : (x : Bool) → eqb b ampersand ≡ x → (y : Bool) → eqb b less-than ≡ y → (z : Bool) → eqb b greater-than ≡ z
+        → (w : Bool) → eqb b quotation-mark ≡ w → P (escape b)
+    go true e y e₁ z e₂ w e₃ = let i = eqb-true b ampersand e in at-byte ampersand i (f i)
+    go false e true e₁ z e₂ w e₃ = let i = eqb-true b less-than e₁ in at-byte less-than i (g i)
+    go false e false e₁ true e₂ w e₃ = let i = eqb-true b greater-than e₂ in at-byte greater-than i (h i)
+    go false e false e₁ false e₂ true e₃ = let i = eqb-true b quotation-mark e₃ in at-byte quotation-mark i (k i)
+    go false e false e₁ false e₂ false e₃ = rw (e, e₁, e₂, e₃) (l e e₁ e₂ e₃)
 
 value-written : (c t : List ℕ) → every text-byte c ≡ true → Value double (escaped c ++ (quotation-mark ∷ t)) t c
 unfolding escaped value-literal
@@ -147,9 +150,13 @@ written n t (formed-element {m = m} {g = g} {f = f} i h r) =
 written n t (no-text r) = let x = written n t r in rw (x .1) (markup (x .2))
 written n t (no-attribute {seen = seen} r) = written-last n seen t r (written n t r)
 
--- WRITTEN: the tree spells what was written
-pub written-spells : {f : Shape} → FormedRoot f → Spells (long-declaration ++ (line-feed ∷ contents f)) f
-unfolding contents blank
-written-spells (formed-root {n = n} {f = f} i r) =
+-- WRITTEN: what is written spells the tree, blanks before it or none
+pub written-root : {f : Shape} {s : List ℕ} → FormedRoot f → Blanks s (contents f) → Root true s f
+unfolding contents
+written-root (formed-root {n = n} {f = f} i r) b =
     let x : Part true (behind n []) (writing.attributes f ++ (ending n f ++ [])) f [] = written n [] r in
-    declared-long (root (blank-then refl no-blank) (named n _ i) x no-blank)
+    root b (named n _ i) x no-blank
+
+pub written-spells : {f : Shape} → FormedRoot f → Spells (long-declaration ++ (line-feed ∷ contents f)) f
+unfolding blank
+written-spells r = declared-long (written-root r (blank-then refl no-blank))
