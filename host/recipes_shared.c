@@ -46,26 +46,36 @@ static void must(noodlefen_answer answer, const char *what)
         fail(what);
 }
 
-/* --- Maps a file into memory that all panels share. The mutex tells when its owner has died (robust). */
+/* --- Maps a file into memory that all panels share. */
 static void share(int file)
 {
-    pthread_mutexattr_t attributes;
     if (ftruncate(file, sizeof *shared) != 0)
         fail("ftruncate");
     shared = (struct shared *)mmap(NULL, sizeof *shared, PROT_READ | PROT_WRITE, MAP_SHARED, file, 0);
     if (shared == MAP_FAILED)
         fail("mmap");
-    pthread_mutexattr_init(&attributes);
-    pthread_mutexattr_setpshared(&attributes, PTHREAD_PROCESS_SHARED);
-    pthread_mutexattr_setrobust(&attributes, PTHREAD_MUTEX_ROBUST);
-    pthread_mutex_init(&shared->mutex, &attributes); /* by one process alone, once */
+}
+
+/* --- Makes the mutex, which tells when its owner has died (robust): one process alone, once, before the others come. */
+static void make_mutex(void)
+{
+    pthread_mutexattr_t attributes;
+    int error = pthread_mutexattr_init(&attributes);
+    if (error == 0)
+        error = pthread_mutexattr_setpshared(&attributes, PTHREAD_PROCESS_SHARED);
+    if (error == 0)
+        error = pthread_mutexattr_setrobust(&attributes, PTHREAD_MUTEX_ROBUST);
+    if (error == 0)
+        error = pthread_mutex_init(&shared->mutex, &attributes);
+    if (error != 0)
+        fail("mutex");
 }
 
 /* --- Before a call: the mutex, and the settings to make it on. */
 static struct settings *enter(void)
 {
     int error = pthread_mutex_lock(&shared->mutex);
-    if (error == EOWNERDEAD) /* a panel died in the middle of a call; the current settings are those before it */
+    if (error == EOWNERDEAD) /* a panel died in the middle of a call; the current settings are whole */
         error = pthread_mutex_consistent(&shared->mutex);
     if (error != 0)
         fail("mutex");
@@ -242,6 +252,7 @@ int main(void)
     if (file == NULL)
         fail("tmpfile");
     share(fileno(file));
+    make_mutex();
     must(leave(noodlefen_start(enter()->state, NOODLEFEN_STATE_BYTES)), "start");
     must(leave(noodlefen_load(enter()->state, NOODLEFEN_STATE_BYTES, xml, sizeof xml - 1)), "load");
     four_panels();
