@@ -28,8 +28,9 @@ struct content {
 };
 
 /* What a search came to. That there is no such node, that the search has to wait and that it is refused are three different things. */
+enum outcome { FOUND, NONE, WAITS, REFUSED };
 struct found {
-    enum { FOUND, NONE, WAITS, REFUSED } outcome;
+    enum outcome outcome;
     noodlefen_node node;     /* FOUND */
     noodlefen_answer answer; /* WAITS, REFUSED: of the step that was not granted */
 };
@@ -313,7 +314,7 @@ static int edit(void)
     if (text.outcome == WAITS || text.outcome == REFUSED)
         return 0;
     if (text.outcome == NONE)
-        printf("No element has a text: the name of the root element is worked on.\n");
+        printf("No element has a text of more than blanks: the name of the root element is worked on.\n");
     if (!begin(1) || !begin(2))
         return 0;
     int done = text.outcome == FOUND ? change_and_read(text.node, "7") : change_and_read(ROOT, "changed");

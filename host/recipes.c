@@ -55,7 +55,7 @@ static void print_settings(const uint8_t *bytes)
         print_answer("write", answer);
         return;
     }
-    const char *line = memchr(out, '\n', (size_t)noodlefen_value(answer));
+    const char *line = (const char *)memchr(out, '\n', (size_t)noodlefen_value(answer));
     printf("  %.*s\n", (int)(noodlefen_value(answer) - (uint64_t)(line + 1 - (const char *)out)), line + 1);
 }
 
@@ -132,8 +132,41 @@ static noodlefen_answer place_of(uint32_t t, noodlefen_node parent, noodlefen_no
     }
 }
 
-/* --- Deletes an element. In an indented file texts of blanks stand before and behind it, and two neighbouring texts cannot be
- * written; so the one before goes too. Where it waits in the middle it can be made again, whole. */
+static int blanks_only(const uint8_t *bytes, size_t length)
+{
+    for (size_t i = 0; i < length; i++)
+        if (bytes[i] > ' ')
+            return 0;
+    return 1;
+}
+
+/* --- Makes one text of two that become neighbours. One of blanks only is deleted, the first if both are. Otherwise the first gets both
+ * contents, if they have at most 32 bytes together (otherwise 9). Where it waits in the middle it can be made again, whole: the first U
+ * changes nothing but takes the lock, so that the last one cannot wait and nothing is joined twice. */
+static noodlefen_answer join_texts(uint32_t t, noodlefen_node first, noodlefen_node second)
+{
+    uint8_t content[2 * NOODLEFEN_CONTENT_BYTES];
+    noodlefen_answer answer = noodlefen_read(state, sizeof state, t, first, content, NOODLEFEN_CONTENT_BYTES);
+    size_t length = (size_t)noodlefen_value(answer);
+    if (!noodlefen_granted(answer))
+        return answer;
+    if (blanks_only(content, length))
+        return noodlefen_delete(state, sizeof state, t, first);
+    answer = noodlefen_read(state, sizeof state, t, second, content + length, NOODLEFEN_CONTENT_BYTES);
+    size_t both = length + (size_t)noodlefen_value(answer);
+    if (!noodlefen_granted(answer))
+        return answer;
+    if (blanks_only(content + length, both - length))
+        return noodlefen_delete(state, sizeof state, t, second);
+    if (both <= NOODLEFEN_CONTENT_BYTES)
+        answer = noodlefen_update(state, sizeof state, t, first, content, length);
+    if (both <= NOODLEFEN_CONTENT_BYTES && noodlefen_granted(answer))
+        answer = noodlefen_delete(state, sizeof state, t, second);
+    return noodlefen_granted(answer) ? noodlefen_update(state, sizeof state, t, first, content, both) : answer;
+}
+
+/* --- Deletes an element. In an indented file texts of blanks stand before and behind it, and two neighbouring texts cannot be written;
+ * so one is made of them. Where it waits in the middle it can be made again, whole. */
 static noodlefen_answer delete_element(uint32_t t, noodlefen_node n)
 {
     uint32_t k;
@@ -147,7 +180,7 @@ static noodlefen_answer delete_element(uint32_t t, noodlefen_node n)
     noodlefen_answer before = noodlefen_child(state, sizeof state, t, parent, k - 1);
     noodlefen_answer behind = noodlefen_child(state, sizeof state, t, parent, k + 1);
     if (noodlefen_kind(before) == NOODLEFEN_TEXT && noodlefen_kind(behind) == NOODLEFEN_TEXT)
-        answer = noodlefen_delete(state, sizeof state, t, noodlefen_number(before));
+        answer = join_texts(t, noodlefen_number(before), noodlefen_number(behind));
     return noodlefen_granted(answer) ? noodlefen_delete(state, sizeof state, t, n) : answer;
 }
 
@@ -166,29 +199,24 @@ static void deletion(void)
     print_settings(state);
 }
 
-/* --- Joins two texts that became neighbours: the first gets both contents, if they have at most 32 bytes together (otherwise 9). */
-static noodlefen_answer join_texts(uint32_t t, noodlefen_node first, noodlefen_node second)
-{
-    uint8_t content[2 * NOODLEFEN_CONTENT_BYTES];
-    noodlefen_answer before = noodlefen_read(state, sizeof state, t, first, content, NOODLEFEN_CONTENT_BYTES);
-    if (!noodlefen_granted(before))
-        return before;
-    size_t length = (size_t)noodlefen_value(before);
-    noodlefen_answer behind = noodlefen_read(state, sizeof state, t, second, content + length, NOODLEFEN_CONTENT_BYTES);
-    if (!noodlefen_granted(behind))
-        return behind;
-    noodlefen_answer answer = noodlefen_update(state, sizeof state, t, first, content, length + (size_t)noodlefen_value(behind));
-    return noodlefen_granted(answer) ? noodlefen_delete(state, sizeof state, t, second) : answer;
-}
-
+/* With words before and behind; the second engineer has read the text behind. */
 static void joining(void)
 {
-    printf("two texts with words joined\n");
+    uint8_t content[NOODLEFEN_CONTENT_BYTES];
+    printf("an element between words deleted\n");
     begin_with("<a>up<b/> and down</a>");
-    must(noodlefen_delete(state, sizeof state, 1, 3));
-    must(join_texts(1, 2, 4));
+    must(noodlefen_read(state, sizeof state, 2, 4, content, sizeof content));
+    print_answer("while the text is read", delete_element(1, 3));
+    must(noodlefen_abort(state, sizeof state, 2));
+    print_answer("once more", delete_element(1, 3));
     must(noodlefen_commit(state, sizeof state, 1));
     print_settings(state);
+    begin_with("<a>up<b/>\n</a>");
+    must(delete_element(1, 3));
+    must(noodlefen_commit(state, sizeof state, 1));
+    print_settings(state);
+    begin_with("<a>more than sixteen<b/>and sixteen more</a>");
+    print_answer("over 32 bytes together", delete_element(1, 3));
 }
 
 /* Two deletions that are fine by themselves leave neighbouring texts together; the second to commit sees it. */
@@ -266,26 +294,26 @@ static void ring(void)
     print_answer("update by the first", update(state, 1, 2, "7"));
 }
 
-/* --- Adds 1 to a number. The update comes first: it takes the lock, and from then on the committed content, read from a copy, is the
- * current one until t ends. Two engineers who do so never wait in a ring for this node. */
+/* --- Adds 1 to a number, in one hold of the mutex: what the transaction would read, from a copy, so that no lock of reading stands in
+ * anybody's way; then the update. Two engineers who do so never wait in a ring for this node. */
 static noodlefen_answer add_one(uint32_t t, noodlefen_node n)
 {
     char content[NOODLEFEN_CONTENT_BYTES + 1] = "";
-    noodlefen_answer answer = update(state, t, n, "0");
+    memcpy(copy, state, sizeof copy);
+    noodlefen_answer answer = noodlefen_read(copy, sizeof copy, t, n, (uint8_t *)content, NOODLEFEN_CONTENT_BYTES);
     if (!noodlefen_granted(answer))
         return answer;
-    copy_committed();
-    must(noodlefen_read(copy, sizeof copy, 1, n, (uint8_t *)content, NOODLEFEN_CONTENT_BYTES));
     snprintf(content, sizeof content, "%ld", strtol(content, NULL, 10) + 1);
     return update(state, t, n, content);
 }
 
 static void no_ring(void)
 {
-    printf("update first, then read the copy\n");
+    printf("read a copy, then update, by two engineers\n");
     begin_with("<a>6</a>");
     print_answer("first", add_one(1, 2));
     print_answer("second", add_one(2, 2));
+    print_answer("first, once more", add_one(1, 2));
     must(noodlefen_commit(state, sizeof state, 1));
     print_answer("second", add_one(2, 2));
     must(noodlefen_commit(state, sizeof state, 2));

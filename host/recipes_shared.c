@@ -46,26 +46,39 @@ static void must(noodlefen_answer answer, const char *what)
         fail(what);
 }
 
-/* --- Maps a file into memory that all panels share. The mutex tells when its owner has died (robust). */
+/* --- Maps a file into memory that all panels share. */
 static void share(int file)
 {
-    pthread_mutexattr_t attributes;
     if (ftruncate(file, sizeof *shared) != 0)
         fail("ftruncate");
-    shared = mmap(NULL, sizeof *shared, PROT_READ | PROT_WRITE, MAP_SHARED, file, 0);
+    shared = (struct shared *)mmap(NULL, sizeof *shared, PROT_READ | PROT_WRITE, MAP_SHARED, file, 0);
     if (shared == MAP_FAILED)
         fail("mmap");
-    pthread_mutexattr_init(&attributes);
-    pthread_mutexattr_setpshared(&attributes, PTHREAD_PROCESS_SHARED);
-    pthread_mutexattr_setrobust(&attributes, PTHREAD_MUTEX_ROBUST);
-    pthread_mutex_init(&shared->mutex, &attributes); /* by one process alone, once */
+}
+
+/* --- Makes the mutex, which tells when its owner has died (robust): one process alone, once, before the others come. */
+static void make_mutex(void)
+{
+    pthread_mutexattr_t attributes;
+    int error = pthread_mutexattr_init(&attributes);
+    if (error == 0)
+        error = pthread_mutexattr_setpshared(&attributes, PTHREAD_PROCESS_SHARED);
+    if (error == 0)
+        error = pthread_mutexattr_setrobust(&attributes, PTHREAD_MUTEX_ROBUST);
+    if (error == 0)
+        error = pthread_mutex_init(&shared->mutex, &attributes);
+    if (error != 0)
+        fail("mutex");
 }
 
 /* --- Before a call: the mutex, and the settings to make it on. */
 static struct settings *enter(void)
 {
-    if (pthread_mutex_lock(&shared->mutex) == EOWNERDEAD)
-        pthread_mutex_consistent(&shared->mutex);
+    int error = pthread_mutex_lock(&shared->mutex);
+    if (error == EOWNERDEAD) /* a panel died in the middle of a call; the current settings are whole */
+        error = pthread_mutex_consistent(&shared->mutex);
+    if (error != 0)
+        fail("mutex");
     struct settings *spare = &shared->versions[1 - shared->current];
     *spare = shared->versions[shared->current];
     return spare;
@@ -137,22 +150,34 @@ static void sleep_a_little(void)
     nanosleep(&moment, NULL);
 }
 
-/* A panel: adds 1 to a number of the settings, again and again. The update comes first, since it takes the lock. */
+/* --- Adds 1 to a number: read from a copy, which takes no lock, and updated before anybody else makes a call. */
+static noodlefen_answer add_one(uint32_t t, noodlefen_node n)
+{
+    static uint8_t copy[NOODLEFEN_STATE_BYTES];
+    char content[NOODLEFEN_CONTENT_BYTES + 1] = "";
+    struct settings *settings = enter();
+    memcpy(copy, settings->state, sizeof copy);
+    noodlefen_answer answer = noodlefen_read(copy, sizeof copy, t, n, (uint8_t *)content, NOODLEFEN_CONTENT_BYTES);
+    if (noodlefen_granted(answer)) {
+        snprintf(content, sizeof content, "%ld", strtol(content, NULL, 10) + 1);
+        answer = noodlefen_update(settings->state, NOODLEFEN_STATE_BYTES, t, n, (const uint8_t *)content, strlen(content));
+    }
+    return leave(answer);
+}
+
+/* A panel: adds 1 to a number of the settings, again and again. */
 static void count(noodlefen_node n, int times)
 {
     for (int i = 0; i < times; i++) {
-        char content[NOODLEFEN_CONTENT_BYTES + 1];
         uint32_t t = open_transaction();
         if (t == 0)
             fail("all transactions are open");
-        noodlefen_answer answer = update(t, n, "0");
+        noodlefen_answer answer = add_one(t, n);
         for (int tries = 0; noodlefen_waits(answer) && tries < 100000; tries++) {
             sleep_a_little();
-            answer = update(t, n, "0");
+            answer = add_one(t, n);
         }
         must(answer, "update");
-        snprintf(content, sizeof content, "%ld", committed_number(n) + 1);
-        must(update(t, n, content), "update");
         must(commit(t), "commit");
     }
 }
@@ -227,6 +252,7 @@ int main(void)
     if (file == NULL)
         fail("tmpfile");
     share(fileno(file));
+    make_mutex();
     must(leave(noodlefen_start(enter()->state, NOODLEFEN_STATE_BYTES)), "start");
     must(leave(noodlefen_load(enter()->state, NOODLEFEN_STATE_BYTES, xml, sizeof xml - 1)), "load");
     four_panels();

@@ -35,7 +35,8 @@ extern "C" {
 /* The state's exact need in bytes; 1,048,576 are never too short. */
 #define NOODLEFEN_STATE_BYTES 110608
 
-/* A node number. In a lent list of numbers it takes as many bytes as this type. */
+/* A node number. In a lent list of numbers it takes as many bytes as this type. Keep numbers in variables of this type: C cuts a wider
+ * number without a word when it is handed over. */
 typedef uint16_t noodlefen_node;
 
 #define NOODLEFEN_TRANSACTIONS 16  /* transaction numbers are 1 to 16 */
@@ -124,7 +125,8 @@ static inline const char *noodlefen_cause_text(unsigned cause)
  * otherwise 0. */
 static inline uint64_t noodlefen_value(noodlefen_answer answer) { return answer >> 16; }
 
-/* The kind in a granted answer of noodlefen_test or noodlefen_child; 0 if there is no such child. */
+/* The kind in a granted answer of noodlefen_test or noodlefen_child; 0 if there is no such child. Ask noodlefen_granted first: an
+ * answer that waits or is refused has kind 0 too. */
 static inline unsigned noodlefen_kind(noodlefen_answer answer) { return (unsigned)(noodlefen_value(answer) >> 32); }
 
 /* The node number in a granted answer: the parent for noodlefen_test, the child for noodlefen_child. */
