@@ -64,12 +64,13 @@ static void print_settings(const uint8_t *bytes)
 static noodlefen_answer insert_new(uint32_t t, uint32_t kind, const char *content, noodlefen_node n, uint32_t k, noodlefen_node *m)
 {
     enum { SHARE = (65536 - NOODLEFEN_NODES) / NOODLEFEN_TRANSACTIONS };
-    static unsigned next[NOODLEFEN_TRANSACTIONS + 1];
+    static unsigned tried[NOODLEFEN_TRANSACTIONS + 1]; /* the first for a t that is not 1 to 16, which is refused */
+    unsigned *next = &tried[t <= NOODLEFEN_TRANSACTIONS ? t : 0];
     noodlefen_answer answer;
     do {
-        *m = (noodlefen_node)(NOODLEFEN_NODES + (t - 1) * SHARE + next[t]);
+        *m = (noodlefen_node)(NOODLEFEN_NODES + (t - 1) * SHARE + *next);
         answer = noodlefen_insert(state, sizeof state, t, *m, kind, (const uint8_t *)content, strlen(content), n, k);
-        next[t] = (next[t] + 1) % SHARE;
+        *next = (*next + 1) % SHARE;
     } while (noodlefen_cause(answer) == NOODLEFEN_NUMBER_HELD);
     return answer;
 }
