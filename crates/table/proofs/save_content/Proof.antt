@@ -45,7 +45,7 @@ returns c =
     let slot = c .before .before .before .before .before .slot in
     let copy-32 = c .before .before .copy-32 in
     copied-kept _ _ _ 0 1 _ _ _ _ _ (slot .ensures .0) (copy-32 .ensures) (omega arith) (omega arith) (omega arith)
-    (omega arith) (search needs) (search needs) (search needs) (search needs)
+    (omega arith) (search needs) (search needs) refl (search needs)
 
 pub save-content-spec : {M : Type 1} → statement M
 save-content-spec =
