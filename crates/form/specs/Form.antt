@@ -8,7 +8,7 @@ use lib.Dec.{eqb, leb, ltb}
 use Rattle.tree.specs.Lists.{every, distinct, same}
 use Rattle.tree.specs.Forest.{Forest, nil, node}
 use Rattle.tree.specs.Content.{document-kind, element-kind, text-kind, content-limit, between}
-use Rattle.protocol.specs.State.{nobody, Marked, Tree, State}
+use Rattle.protocol.specs.State.{nobody, Marked, Tree, State, writer-of}
 use Rattle.protocol.specs.Calls.{node-limit}
 use Rattle.layout.specs.Lists.{tabulate}
 use Rattle.layout.specs.Flat.{flat}
@@ -19,7 +19,7 @@ use Rattle.lookup.specs.Places.{unique}
 
 -- a kind from low to high, nobody or one of sixteen transactions as the writer, and inserter and deleter at most `most`
 unfoldable pub in-range : ℕ → ℕ → ℕ → Marked → Bool
-in-range low high most a = between low high (a .now .kind) && (leb (a .writer) 16 && (leb (a .inserter) most && leb (a .deleter) most))
+in-range low high most a = between low high (a .now .kind) && (leb (writer-of (a .update)) 16 && (leb (a .inserter) most && leb (a .deleter) most))
 
 -- a node below the document: element, attribute or text
 unfoldable pub valid : Marked → Bool

@@ -29,7 +29,7 @@ returns-2 c =
     let a = c .before .before .before .before .args in
     let pre = c .before .before .before .before .pre in
     let field = c .before .field in
-    not-cleared _ (a .i) (a .o) (a .t) _ (field .ensures) (c .if1 .left) (pre .2) (pre .0)
+    not-cleared _ (a .i) (a .o) (a .t) _ (field .ensures) (c .if1 .left) (pre .0)
 
 pub clear-mark-spec : {M : Type 1} → statement M
 clear-mark-spec =

@@ -1,6 +1,6 @@
 use borrow.Author.Needs.{needs}
 use native.Mathlib.Omega.{arith}
-use Rattle.ends.specs.Laws.Marks.{rewritten-own, not-rewritten}
+use Rattle.ends.specs.Laws.Marks.{own-saved, rewritten-own, not-rewritten}
 use Rattle.ends.proofs.rewrite.Statement.{statement}
 use Rattle.ends.proofs.rewrite.Tie as tie
 
@@ -8,7 +8,10 @@ writer-requires : tie.Need-writer-requires
 writer-requires c κs = search needs
 
 restore-content-requires : tie.Need-restore-content-requires
-restore-content-requires c κs = search needs
+restore-content-requires c κs =
+    let writer = c .before .before .writer in
+    let pre = c .before .before .before .before .before .pre in
+    (search needs, search needs, own-saved _ _ _ (writer .ensures) (c .before .if1 .taken) (pre .2))
 
 same-length : tie.Need-same-length
 same-length c = search needs

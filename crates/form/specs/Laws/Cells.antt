@@ -10,8 +10,8 @@ use lib.Dec.{eqb, leb}
 use borrow.Author.Tests.{le-leb, lt-leb}
 use Rattle.tree.specs.Content.{between, content-limit}
 use Rattle.locks.specs.Modes.{no-mode}
-use Rattle.layout.specs.Layout.{cell-at, cell, decode}
-use Rattle.layout.specs.Laws.Fields.{cell-byte}
+use Rattle.layout.specs.Layout.{cell-at, cell, stored, decode}
+use Rattle.layout.specs.Laws.Fields.{cell-byte, writer-update}
 use Rattle.form.specs.Form.{in-range, sizes-in-range}
 use Rattle.form.specs.Check.{cell-in-range}
 
@@ -44,6 +44,7 @@ module _ (s : List ℕ) (k : ℕ) where
           cell-byte s k 1 (omega arith),
           cell-byte s k 2 (omega arith),
           cell-byte s k 3 (omega arith),
+          writer-update (getD (cell s k) 1 0) (stored 1 (cell s k)),
         )
 
     pub cell-low : getD s (cell-at k) 0 < low → false ≡ cell-in-range low high most (cell s k)

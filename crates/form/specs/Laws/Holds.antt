@@ -89,12 +89,12 @@ sized-of : (c : List ℕ) → sizes-in-range c ≡ true → Sized c
 unfolding sizes-in-range
 sized-of c h = record {
   now = leb-true (getD c 4 0) content-limit (and-left (leb (getD c 4 0) content-limit) _ h);
-  before = leb-true (getD c 5 0) content-limit (and-right (leb (getD c 4 0) content-limit) _ h);
+  saved = leb-true (getD c 5 0) content-limit (and-right (leb (getD c 4 0) content-limit) _ h);
 }
 
 of-sized : (c : List ℕ) → Sized c → sizes-in-range c ≡ true
 unfolding sizes-in-range
-of-sized c z = rw (le-leb (getD c 4 0) content-limit (z .now), le-leb (getD c 5 0) content-limit (z .before))
+of-sized c z = rw (le-leb (getD c 4 0) content-limit (z .now), le-leb (getD c 5 0) content-limit (z .saved))
 
 -- the theorems ------------------------------------------------------------------------------------------
 
