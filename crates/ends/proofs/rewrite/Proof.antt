@@ -10,8 +10,8 @@ writer-requires c κs = search needs
 restore-content-requires : tie.Need-restore-content-requires
 restore-content-requires c κs =
     let writer = c .before .before .writer in
-    let pre = c .before .before .before .before .before .pre in
-    (search needs, search needs, own-saved _ _ _ (writer .ensures) (c .before .if1 .taken) (pre .2))
+    let begin = c .before .before .before .before .before in
+    (search needs, search needs, own-saved (begin .args .s .now) (begin .args .i) _ _ (writer .ensures) (c .before .if1 .taken) (begin .pre .2))
 
 same-length : tie.Need-same-length
 same-length c = search needs

@@ -43,8 +43,9 @@ not-cleared s i o t r e p h =
     none-kept s i (without-mark o t) (rw (ne-eqb (field o a) t (λ x. p (e ∙ x)))) h
 
 -- t wrote the node: a content is saved
-pub own-saved : (a : Marked) (t r : ℕ) → r ≡ writer-of (a .update) → r ≡ t → 1 ≤ t → has-text 1 a ≡ true
-own-saved a t r e p l = rw (ne-eqb (writer-of (a .update)) nobody (λ q. omega arith))
+pub own-saved : (s : List ℕ) (i t r : ℕ) → r ≡ writer-of (getD (nodes s) i no-entry .1 .update) → r ≡ t → 1 ≤ t
+    → has-text 1 (getD (nodes s) i no-entry .1) ≡ true
+own-saved s i t r e p l = rw (ne-eqb (writer-of (getD (nodes s) i no-entry .1 .update)) nobody (λ q. omega arith))
 
 pub rewritten-own : {s s′ : List ℕ} (i t r : ℕ) → r ≡ writer-of (getD (nodes s) i no-entry .1 .update) → r ≡ t
     → Kept s s′ (modify i (second restored) (nodes s)) → Kept s s′ (modify i (second (rewritten t)) (nodes s))
