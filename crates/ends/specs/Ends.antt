@@ -29,7 +29,7 @@ pub record Restarted (s s′ : List ℕ) (r : Answer) : Type 0 where
 
 -- mark o (1 writer, 2 inserter, 3 deleter) of t is nobody's
 abbrev pub without-mark : ℕ → ℕ → Marked → Marked
-without-mark o t a = cond (eqb (field o a) t) (with-field o nobody [] a) a
+without-mark o t a = cond (eqb (field o a) t) (with-field o nobody a) a
 
 -- the saved content again where t wrote the node
 abbrev pub rewritten : ℕ → Marked → Marked

@@ -1,7 +1,7 @@
 -- The form of the lent bytes (docs/STATE.md), and the state that bytes of the form hold.
 use mathlib.Core.Path.{_≡_}
 use Prim.Native.Nat.{ℕ, zero, suc}
-use mathlib.Core.Bool.{Bool, true, false, _&&_}
+use mathlib.Core.Bool.{Bool, true, false, _&&_, _||_}
 use mathlib.Core.List.{List, [], _∷_}
 use lib.ListN.{length, getD}
 use lib.Dec.{eqb, leb, ltb}
@@ -61,9 +61,9 @@ slots s = tabulate node-limit (slot s)
 unfoldable pub cells : List ℕ → List (List ℕ)
 cells s = tabulate (count s) (λ i. cell s (slot s i))
 
--- both sizes of a cell are those of contents
+-- the sizes of a cell are those of contents; a content is saved only where somebody wrote
 unfoldable pub sizes-in-range : List ℕ → Bool
-sizes-in-range c = leb (getD c 4 0) content-limit && leb (getD c 5 0) content-limit
+sizes-in-range c = leb (getD c 4 0) content-limit && (eqb (getD c 1 0) nobody || leb (getD c 5 0) content-limit)
 
 -- each number below the limit, and no two alike
 unfoldable pub apart : ℕ → List ℕ → Bool

@@ -1,22 +1,31 @@
 -- The fields of a node, and a node with one of them changed.
-use Prim.Native.Nat.{ℕ, zero, suc}
+use mathlib.Core.Path.{_≡_}
+use Prim.Native.Nat.{ℕ, zero, suc, _≤_}
 use mathlib.Core.Bool.{Bool, true, false, cond, not}
 use mathlib.Core.List.{List, [], _∷_, _++_}
+use lib.ListN.{getD}
 use lib.Dec.{eqb}
 use Rattle.tree.specs.Steps.{with-content}
 use Rattle.locks.specs.Modes.{no-mode, in-word}
-use Rattle.protocol.specs.State.{nobody, Update, wrote, writer-of, saved-of, Marked, committed-content, none-of}
-use Rattle.layout.specs.Layout.{slot, cell, stored, update-of}
+use Rattle.protocol.specs.State.{nobody, Update, unwritten, wrote, writer-of, saved-of, Marked, committed-content, none-of}
+use Rattle.layout.specs.Layout.{slot, cell, stored, update-of, nodes, no-entry, Kept}
+use Rattle.layout.specs.Lists.{modify}
+use Rattle.layout.specs.Flat.{second}
 
 -- the four bytes of a cell that stand for themselves: 0 kind, 1 writer, 2 inserter, 3 deleter
 abbrev pub field : ℕ → Marked → ℕ
 field o a = cond (eqb o 0) (a .now .kind) (cond (eqb o 1) (writer-of (a .update)) (cond (eqb o 2) (a .inserter) (a .deleter)))
 
--- a new writer makes the bytes b that stand in the cell the saved content
-abbrev pub with-field : ℕ → ℕ → List ℕ → Marked → Marked
-with-field o v b a = record {
+-- storing a writer would make bytes that are not looked at the saved content: of the writers only 0 is stored alone
+abbrev pub storable : ℕ → ℕ → Bool
+storable zero v = true
+storable (suc zero) v = eqb v nobody
+storable (suc (suc o)) v = true
+
+abbrev pub with-field : ℕ → ℕ → Marked → Marked
+with-field o v a = record {
   now = record { number = a .now .number; kind = cond (eqb o 0) v (a .now .kind); content = a .now .content };
-  update = cond (eqb o 1) (update-of v b) (a .update);
+  update = cond (eqb o 1) unwritten (a .update);
   inserter = cond (eqb o 2) v (a .inserter);
   deleter = cond (eqb o 3) v (a .deleter);
   held = a .held;
@@ -37,9 +46,12 @@ with-update u a = record { now = a .now; update = u; inserter = a .inserter; del
 abbrev pub with-inserter : ℕ → Marked → Marked
 with-inserter v a = record { now = a .now; update = a .update; inserter = v; deleter = a .deleter; held = a .held }
 
--- the bytes of the cell of the node at place i that are its saved content, if somebody wrote
+-- the bytes of the cell of the node at place i that are its saved content if somebody wrote, and their number
 unfoldable pub saved-bytes : List ℕ → ℕ → List ℕ
 saved-bytes s i = stored 1 (cell s (slot s i))
+
+unfoldable pub saved-size : List ℕ → ℕ → ℕ
+saved-size s i = getD (cell s (slot s i)) 5 0
 
 -- the contents of a node: 0 the one now, 1 the one saved, which is there only where somebody wrote
 abbrev pub has-text : ℕ → Marked → Bool
@@ -68,6 +80,12 @@ with-saved a = with-update (update-of (writer-of (a .update)) (a .now .content))
 
 abbrev pub restored : Marked → Marked
 restored a = with-now (saved-of (a .update)) a
+
+-- what saving the content of the node at place i leaves; its saved bytes are looked at when a writer is stored
+pub record Saved (s s′ : List ℕ) (i : ℕ) : Type 0 where
+  pub kept : Kept s s′ (modify i (second with-saved) (nodes s))
+  pub bytes : saved-bytes s′ i ≡ getD (nodes s) i no-entry .1 .now .content
+  pub size : saved-size s′ i ≤ 32
 
 -- transaction t writes: the committed content is saved
 abbrev pub marked-written : ℕ → Marked → Marked

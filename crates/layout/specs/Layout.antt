@@ -107,10 +107,10 @@ no-entry = (0, unmarked (record { number = 0; kind = 0; content = [] }))
 
 -- the layout -----------------------------------------------------------------------------
 
--- the sizes of a cell are those of contents
+-- the sizes of a cell are those of contents; a content is saved only where somebody wrote
 pub record Sized (c : List ℕ) : Type 0 where
   pub now : getD c 4 0 ≤ 32
-  pub saved : getD c 5 0 ≤ 32
+  pub saved : (getD c 1 0 ≡ nobody → ⊥) → getD c 5 0 ≤ 32
 
 -- what every function of this crate keeps: the format mark, 1 to 1,024 nodes, an outline whose slots are a permutation, sizes in range
 pub record Layout (s : List ℕ) : Type 0 where

@@ -4,12 +4,12 @@ ghost use mathlib.Core.Bool.{true};
 ghost use Prim.Native.Nat.{_<_, _≤_};
 ghost use lib.ListN.{length, getD};
 ghost use lib.Dec.{eqb};
-ghost use Rattle.protocol.specs.State.{unwritten, writer-of, deleted-by};
+ghost use Rattle.protocol.specs.State.{unwritten, wrote, writer-of, deleted-by};
 ghost use Rattle.layout.specs.Lists.{modify, first};
 ghost use Rattle.layout.specs.Flat.{second};
 ghost use Rattle.layout.specs.Layout.{slot, nodes, no-entry, Layout, Kept};
-ghost use Rattle.layout.specs.Fields.{field, with-field, with-kind, with-update, with-inserter, saved-bytes};
-ghost use Rattle.layout.specs.Fields.{has-text, text, with-now, with-saved, restored, marked-written};
+ghost use Rattle.layout.specs.Fields.{field, storable, with-field, with-kind, with-update, with-inserter};
+ghost use Rattle.layout.specs.Fields.{has-text, text, with-now, restored, saved-bytes, saved-size, Saved, marked-written};
 
 // The bytes that a state takes; those behind are never touched.
 pub const SIZE: usize = 110608;
@@ -89,8 +89,8 @@ pub fn deleter(s: &[u8], i: usize) -> u8
 }
 
 pub fn set_field(s: &mut [u8], i: usize, o: usize, v: u8)
-    requires { ⌜ (Layout (now s)) × (i < length (nodes (now s))) × (o < 4) ⌝ }
-    ensures { λ r. ⌜ Kept (now (s .entry)) (now (s .exit)) (modify i (second (with-field o v (saved-bytes (now (s .entry)) i))) (nodes (now (s .entry)))) ⌝ }
+    requires { ⌜ (Layout (now s)) × (i < length (nodes (now s))) × (o < 4) × (storable o v ≡ true) ⌝ }
+    ensures { λ r. ⌜ Kept (now (s .entry)) (now (s .exit)) (modify i (second (with-field o v)) (nodes (now (s .entry)))) ⌝ }
 {
     let k = slot(s, i);
     s[CELLS + CELL * k + o] = v;
@@ -167,11 +167,21 @@ pub fn set_content(s: &mut [u8], i: usize, b: &[u8])
 // The content now is saved.
 fn save_content(s: &mut [u8], i: usize)
     requires { ⌜ (Layout (now s)) × (i < length (nodes (now s))) ⌝ }
-    ensures { λ r. ⌜ Kept (now (s .entry)) (now (s .exit)) (modify i (second with-saved) (nodes (now (s .entry)))) ⌝ }
+    ensures { λ r. ⌜ Saved (now (s .entry)) (now (s .exit)) i ⌝ }
 {
     let c = CELLS + CELL * slot(s, i);
     s[c + 5] = s[c + 4];
     layout::copy_32(s, c + 6, c + 38);
+}
+
+// The bytes that were saved last are the saved content.
+fn set_writer(s: &mut [u8], i: usize, t: u8)
+    requires { ⌜ (Layout (now s)) × (i < length (nodes (now s))) × (1 ≤ t) × (saved-size (now s) i ≤ 32) ⌝ }
+    ensures { λ r. ⌜ Kept (now (s .entry)) (now (s .exit))
+        (modify i (second (with-update (wrote t (saved-bytes (now (s .entry)) i)))) (nodes (now (s .entry)))) ⌝ }
+{
+    let k = slot(s, i);
+    s[CELLS + CELL * k + 1] = t;
 }
 
 // Transaction t writes: the content now is saved, if nobody wrote before.
@@ -179,12 +189,12 @@ pub fn mark_written(s: &mut [u8], i: usize, t: u8)
     requires { ⌜ (Layout (now s)) × (i < length (nodes (now s))) × (1 ≤ t) ⌝ }
     ensures { λ r. ⌜ Kept (now (s .entry)) (now (s .exit)) (modify i (second (marked-written t)) (nodes (now (s .entry)))) ⌝ }
 {
-    let u = writer(s, i);
-    set_field(s, i, 1, t);
-    if u != 0 {
+    if writer(s, i) != 0 {
+        set_writer(s, i, t);
         return;
     }
     save_content(s, i);
+    set_writer(s, i, t);
 }
 
 // The saved content is the content again.

@@ -1,6 +1,6 @@
 use borrow.Author.Needs.{needs}
 use native.Mathlib.Omega.{arith}
-use Rattle.ends.specs.Laws.Marks.{cleared, not-cleared}
+use Rattle.ends.specs.Laws.Marks.{nobody-storable, cleared, not-cleared}
 use Rattle.ends.proofs.clear_mark.Statement.{statement}
 use Rattle.ends.proofs.clear_mark.Tie as tie
 
@@ -8,7 +8,9 @@ field-requires : tie.Need-field-requires
 field-requires c κs = search needs
 
 set-field-requires : tie.Need-set-field-requires
-set-field-requires c κs = search needs
+set-field-requires c κs =
+    let begin = c .before .before .before .before .before in
+    (begin .pre .0, begin .pre .1, begin .pre .2, nobody-storable (begin .args .o))
 
 same-length : tie.Need-same-length
 same-length c = search needs

@@ -12,7 +12,7 @@ use Rattle.protocol.specs.State.{nobody, writer-of, Marked, without, seen-by, l
 use Rattle.layout.specs.Lists.{modify}
 use Rattle.layout.specs.Flat.{second, prune}
 use Rattle.layout.specs.Layout.{is-open, Entry, nodes, no-entry, Layout, Left, Kept}
-use Rattle.layout.specs.Fields.{field, with-field, saved-bytes, has-text, restored, released}
+use Rattle.layout.specs.Fields.{field, storable, with-field, has-text, restored, released}
 use Rattle.layout.specs.Laws.Lists.{modify-modify, modify-same, modify-none}
 use Rattle.layout.specs.Laws.Kept.{kept-same, kept-then, kept-as, left-kept, left-then, left-as}
 use Rattle.ends.specs.Ends.{without-mark, rewritten, lasting-marks, undone-marks, map-first, Closed, Ended}
@@ -30,11 +30,17 @@ same-kept : {s s′ : List ℕ} (i : ℕ) (f g : Marked → Marked) → f (getD 
     → Kept s s′ (modify i (second f) (nodes s)) → Kept s s′ (modify i (second g) (nodes s))
 same-kept {s} i f g q k = kept-as _ _ (modify-same i (second f) (second g) (nodes s) no-entry (ap (λ (b : Marked). (getD (nodes s) i no-entry .0, b)) q)) k
 
+-- nobody can be stored as every mark
+pub nobody-storable : (o : ℕ) → storable o nobody ≡ true
+nobody-storable zero = refl
+nobody-storable (suc zero) = refl
+nobody-storable (suc (suc o)) = refl
+
 pub cleared : {s s′ : List ℕ} (i o t r : ℕ) → r ≡ field o (getD (nodes s) i no-entry .1) → r ≡ t
-    → Kept s s′ (modify i (second (with-field o nobody (saved-bytes s i))) (nodes s)) → Kept s s′ (modify i (second (without-mark o t)) (nodes s))
+    → Kept s s′ (modify i (second (with-field o nobody)) (nodes s)) → Kept s s′ (modify i (second (without-mark o t)) (nodes s))
 cleared {s} i o t r e p k =
     let a : Marked = getD (nodes s) i no-entry .1 in
-    same-kept i (with-field o nobody (saved-bytes s i)) (without-mark o t) (rw (eq-eqb (field o a) t (sym e ∙ p))) k
+    same-kept i (with-field o nobody) (without-mark o t) (rw (eq-eqb (field o a) t (sym e ∙ p))) k
 
 pub not-cleared : (s : List ℕ) (i o t r : ℕ) → r ≡ field o (getD (nodes s) i no-entry .1) → (r ≡ t → ⊥) → Layout s
     → Kept s s (modify i (second (without-mark o t)) (nodes s))

@@ -74,7 +74,7 @@ module _ (s s₁ s₂ s₃ s₄ : List ℕ) (n p k d m : ℕ) (h : Layout s) (c 
   no-size j b = sym (cell-byte s₁ k (4 + j) (omega arith)) ∙ rw (← add-assoc (cell-at k) 4 j) (f .bytes j b)
 
   sized : Sized (cell s₁ k)
-  sized = record { now = rw (no-size 0 (omega arith)) (omega arith); saved = rw (no-size 1 (omega arith)) (omega arith) }
+  sized = record { now = rw (no-size 0 (omega arith)) (omega arith); saved = λ n. rw (no-size 1 (omega arith)) (omega arith) }
 
   long : length s₃ ≡ length s
   long = x .only .long ∙ g .only .long ∙ f .only .long
