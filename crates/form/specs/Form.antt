@@ -19,7 +19,8 @@ use Rattle.lookup.specs.Places.{unique}
 
 -- a kind from low to high, nobody or one of sixteen transactions as the writer, and inserter and deleter at most `most`
 unfoldable pub in-range : ℕ → ℕ → ℕ → Marked → Bool
-in-range low high most a = between low high (a .now .kind) && (leb (writer-of (a .update)) 16 && (leb (a .inserter) most && leb (a .deleter) most))
+in-range low high most a =
+    between low high (a .now .kind) && (leb (writer-of (a .update)) 16 && (leb (a .inserter) most && leb (a .deleter) most))
 
 -- a node below the document: element, attribute or text
 unfoldable pub valid : Marked → Bool

@@ -30,6 +30,7 @@ abbrev pub writer-of : Update → ℕ
 writer-of unwritten = nobody
 writer-of (wrote t saved) = t
 
+-- never asked for where nobody wrote
 abbrev pub saved-of : Update → List ℕ
 saved-of unwritten = []
 saved-of (wrote t saved) = saved

@@ -1,4 +1,5 @@
-// The lent bytes: where they hold the nodes, the locks and the open transactions (docs/STATE.md). Contracts speak of `nodes` alone.
+// The lent bytes: where they hold the nodes, the locks and the open transactions (docs/STATE.md). The contracts of
+// public functions speak of `nodes` alone.
 ghost use mathlib.Core.Path.{_≡_};
 ghost use mathlib.Core.Bool.{true};
 ghost use Prim.Native.Nat.{_<_, _≤_};

@@ -29,6 +29,7 @@ pub version-now : (l : List Entry) (p : ℕ) → writer-of (item l p .update) �
 unfolding label-at committed-label
 version-now l p e = rw (eq-eqb (writer-of (item l p .update)) 0 e)
 
-pub version-saved : (l : List Entry) (p : ℕ) → (writer-of (item l p .update) ≡ 0 → ⊥) → (text 1 (item l p) ≡ label-at l p .content) × (has-text 1 (item l p) ≡ true)
+pub version-saved : (l : List Entry) (p : ℕ) → (writer-of (item l p .update) ≡ 0 → ⊥)
+    → (text 1 (item l p) ≡ label-at l p .content) × (has-text 1 (item l p) ≡ true)
 unfolding label-at committed-label
 version-saved l p h = let e = ne-eqb (writer-of (item l p .update)) 0 h in (rw e, rw e)

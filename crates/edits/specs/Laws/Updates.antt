@@ -4,10 +4,9 @@ use Prim.Native.Nat.{ℕ, zero, suc, _<_}
 use mathlib.Core.Bool.{Bool, true, false, cond}
 use mathlib.Core.List.{List, [], _∷_, map}
 use lib.ListN.{length, getD, List·getD-map}
-use lib.Dec.{eqb}
 use Rattle.tree.specs.Forest.{Forest, nil, node, amend}
 use Rattle.tree.specs.Laws.Lists.{map-append, map-same}
-use Rattle.protocol.specs.State.{nobody, Marked, Tree, numbered, mark-node, written-by}
+use Rattle.protocol.specs.State.{Marked, Tree, numbered, mark-node}
 use Rattle.layout.specs.Lists.{modify}
 use Rattle.layout.specs.Flat.{flat, second}
 use Rattle.layout.specs.Layout.{Entry, no-entry}

@@ -11,7 +11,8 @@ restore-content-requires : tie.Need-restore-content-requires
 restore-content-requires c κs =
     let writer = c .before .before .writer in
     let begin = c .before .before .before .before .before in
-    (search needs, search needs, own-saved (begin .args .s .now) (begin .args .i) _ _ (writer .ensures) (c .before .if1 .taken) (begin .pre .2))
+    let saved = own-saved (begin .args .s .now) (begin .args .i) _ _ (writer .ensures) (c .before .if1 .taken) (begin .pre .2) in
+    (search needs, search needs, saved)
 
 same-length : tie.Need-same-length
 same-length c = search needs

@@ -1,6 +1,6 @@
 -- The marks of a node cleared one by one, the nodes one after the other, and what an end leaves in all.
 use mathlib.Core.Path.{_≡_, refl, sym, ap, _∙_}
-use Prim.Native.Nat.{ℕ, zero, suc, _+_, _≤_, _<_}
+use Prim.Native.Nat.{ℕ, zero, suc, _+_, _≤_}
 use mathlib.Core.Bool.{Bool, true, false, cond, not, _&&_}
 use mathlib.Core.List.{List, [], _∷_, map}
 use native.Mathlib.Omega.{arith}
@@ -8,7 +8,7 @@ use lib.ListN.{length, getD}
 use lib.Dec.{eqb}
 use borrow.Author.Tests.{eq-eqb, ne-eqb}
 use Rattle.tree.specs.Laws.Lists.{map-map}
-use Rattle.protocol.specs.State.{nobody, writer-of, Marked, without, seen-by, lasting, undone}
+use Rattle.protocol.specs.State.{nobody, writer-of, Marked, seen-by, lasting, undone}
 use Rattle.layout.specs.Lists.{modify}
 use Rattle.layout.specs.Flat.{second, prune}
 use Rattle.layout.specs.Layout.{is-open, Entry, nodes, no-entry, Layout, Left, Kept}

@@ -23,7 +23,8 @@ pub and-first : {a : Bool} (b : Bool) → a ≡ false → (a && b) ≡ false
 and-first b h = rw h
 
 module _ (s : List ℕ) (k : ℕ) where
-  sizes-of : sizes-in-range (cell s k) ≡ (leb (getD s (cell-at k + 4) 0) 32 && (eqb (getD s (cell-at k + 1) 0) 0 || leb (getD s (cell-at k + 5) 0) 32))
+  sizes-of : sizes-in-range (cell s k)
+      ≡ (leb (getD s (cell-at k + 4) 0) 32 && (eqb (getD s (cell-at k + 1) 0) 0 || leb (getD s (cell-at k + 5) 0) 32))
   unfolding sizes-in-range
   sizes-of = rw (cell-byte s k 4 (omega arith), cell-byte s k 1 (omega arith), cell-byte s k 5 (omega arith))
 

@@ -90,7 +90,8 @@ unfolding sizes-in-range
 sized-of c h = record {
   now = leb-true (getD c 4 0) content-limit (and-left (leb (getD c 4 0) content-limit) _ h);
   saved = λ n. leb-true (getD c 5 0) content-limit
-      (or-rest (ne-eqb (getD c 1 0) nobody n) (and-right (leb (getD c 4 0) content-limit) (eqb (getD c 1 0) nobody || leb (getD c 5 0) content-limit) h));
+      (or-rest (ne-eqb (getD c 1 0) nobody n)
+      (and-right (leb (getD c 4 0) content-limit) (eqb (getD c 1 0) nobody || leb (getD c 5 0) content-limit) h));
 }
   where
     or-rest : {a b : Bool} → a ≡ false → (a || b) ≡ true → b ≡ true

@@ -14,7 +14,8 @@ use Rattle.tree.specs.Document.{Document, Node, node-0-alone, top-kinds, ruled,
 use Rattle.tree.specs.Steps.{Step, T, C, R, U, D, I, TT, RR, UU, target}
 use Rattle.tree.specs.Laws.Tests.{and-left, and-right, or-left, or-right, refuted}
 use Rattle.locks.specs.Needs.{Lock}
-use Rattle.protocol.specs.State.{nobody, is-transaction, Marked, Tree, numbered, seen-by, written-by, deleted-by, unmarked, inserted-by, granted-to, writer-of, Update, update-without, unwritten}
+use Rattle.protocol.specs.State.{nobody, is-transaction, Marked, Tree, numbered, seen-by, written-by, deleted-by, unmarked, inserted-by, granted-to}
+use Rattle.protocol.specs.State.{writer-of, Update, update-without, unwritten}
 use Rattle.protocol.specs.State.{without, lasting, undone}
 use Rattle.protocol.specs.State.{mark, renamed, act, grant, commit-tree, abort-tree, tree-of}
 use Rattle.layout.specs.Flat.{flat}

@@ -12,8 +12,8 @@ use Rattle.locks.specs.Modes.{ModeSet, no-mode, in-word}
 use Rattle.protocol.specs.State.{is-transaction, unwritten, wrote, writer-of, Marked}
 use Rattle.layout.specs.Lists.{modify}
 use Rattle.layout.specs.Flat.{second}
-use Rattle.layout.specs.Layout.{state-size, entry-at, cell-at, word, part, count, slot, depth, number, cell, held, stored, update-of, decode, Entry, entry, nodes}
-use Rattle.layout.specs.Layout.{no-entry, Sized, Layout, Kept}
+use Rattle.layout.specs.Layout.{state-size, entry-at, cell-at, word, part, count, slot, depth, number, cell, held, decode, Entry, entry, nodes}
+use Rattle.layout.specs.Layout.{stored, update-of, no-entry, Sized, Layout, Kept}
 use Rattle.layout.specs.Fields.{field, storable, with-field, with-update, saved-bytes, saved-size}
 use Rattle.layout.specs.Laws.Lists.{getD-set-eqb}
 use Rattle.layout.specs.Laws.Bytes.{Only, only-set, only-wider, part-at, part-set}
@@ -53,7 +53,8 @@ field-at s i o k e h l = rw (e, node-at s i (omega (arith, length-nodes s)), cel
     go (suc (suc (suc zero))) l = refl
     go (suc (suc (suc (suc o)))) l = absurd (omega arith)
 
-decode-field : (o v m : ℕ) (c : List ℕ) (h : ℕ → ModeSet) → o < 4 → storable o v ≡ true → length c ≡ 70 → decode m (set c o v) h ≡ with-field o v (decode m c h)
+decode-field : (o v m : ℕ) (c : List ℕ) (h : ℕ → ModeSet) → o < 4 → storable o v ≡ true → length c ≡ 70
+    → decode m (set c o v) h ≡ with-field o v (decode m c h)
 unfolding decode
 decode-field o v m c h l p e =
     let k : o < length c = omega arith in
@@ -65,7 +66,8 @@ decode-field o v m c h l p e =
     )
     (simp getD-set-eqb (rw (go o p)))
   where
-    go : (o : ℕ) → storable o v ≡ true → update-of (cond (eqb o 1) v (getD c 1 0)) (stored 1 c) ≡ cond (eqb o 1) unwritten (update-of (getD c 1 0) (stored 1 c))
+    go : (o : ℕ) → storable o v ≡ true
+        → update-of (cond (eqb o 1) v (getD c 1 0)) (stored 1 c) ≡ cond (eqb o 1) unwritten (update-of (getD c 1 0) (stored 1 c))
     go zero p = refl
     go (suc zero) p = rw p
     go (suc (suc o)) p = rw (ne-eqb (suc (suc o)) 1 (λ q. omega arith))
@@ -81,7 +83,8 @@ sized-field o v c l p e z = record {
     go (suc zero) p q = eqb-true v 0 p
     go (suc (suc o)) p q = rw (ne-eqb (suc (suc o)) 1 (λ r. omega arith)) q
 
-decode-writer : (t m : ℕ) (c : List ℕ) (h : ℕ → ModeSet) → 1 ≤ t → length c ≡ 70 → decode m (set c 1 t) h ≡ with-update (wrote t (stored 1 c)) (decode m c h)
+decode-writer : (t m : ℕ) (c : List ℕ) (h : ℕ → ModeSet) → 1 ≤ t → length c ≡ 70
+    → decode m (set c 1 t) h ≡ with-update (wrote t (stored 1 c)) (decode m c h)
 unfolding decode
 decode-writer t m c h l e =
     let k : 1 < length c = omega arith in

@@ -13,7 +13,8 @@ use Rattle.locks.specs.Modes.{ModeSet}
 use Rattle.protocol.specs.State.{nobody, unwritten, wrote, writer-of, saved-of, Marked}
 use Rattle.layout.specs.Lists.{modify}
 use Rattle.layout.specs.Flat.{second}
-use Rattle.layout.specs.Layout.{state-size, cell-at, part, count, slot, cell, stored, update-of, decode, Entry, entry, nodes, no-entry, Sized, Layout, Kept}
+use Rattle.layout.specs.Layout.{state-size, cell-at, part, count, slot, cell, stored, update-of}
+use Rattle.layout.specs.Layout.{decode, entry, nodes, no-entry, Sized, Layout, Kept}
 use Rattle.layout.specs.Fields.{has-text, text, with-text, saved-bytes, saved-size}
 use Rattle.layout.specs.Laws.Lists.{modify-same}
 use Rattle.layout.specs.Laws.Bytes.{Only, only-set, only-wider, only-then, Filled, part-at, part-same, length-part}
@@ -91,7 +92,8 @@ module _ (s : List ℕ) (i o k : ℕ) (e : k ≡ slot s i) (h : Layout s) (l : i
     byte-at j q =
         let r : j < length (stored o (cell s k)) = rw text-is at q in
         let p : cell-at k + 6 + 32 * o + j ≡ cell-at k + (6 + 32 * o + j) = omega arith in
-        rw (text-is, p, byte-stored o j (cell s k) two small (omega (arith, length-is))) (cell-byte s k (6 + 32 * o + j) (omega (arith, two, length-is, small)))
+        rw (text-is, p, byte-stored o j (cell s k) two small (omega (arith, length-is)))
+        (cell-byte s k (6 + 32 * o + j) (omega (arith, two, length-is, small)))
 
     pub size-small : length (text o (getD (nodes s) i no-entry .1)) ≤ 32
     size-small = rw text-is (omega (arith, length-is, small))
@@ -102,7 +104,8 @@ pub saved-at : (s : List ℕ) (i : ℕ) → Layout s → i < length (nodes s) �
 unfolding saved-bytes
 saved-at s i h l n = text-is s i 1 (slot s i) refl h l (rw (ne-eqb (writer-of (getD (nodes s) i no-entry .1 .update)) nobody n))
 
-pub saved-small : (s : List ℕ) (i : ℕ) → Layout s → i < length (nodes s) → (writer-of (getD (nodes s) i no-entry .1 .update) ≡ nobody → ⊥) → saved-size s i ≤ 32
+pub saved-small : (s : List ℕ) (i : ℕ) → Layout s → i < length (nodes s) → (writer-of (getD (nodes s) i no-entry .1 .update) ≡ nobody → ⊥)
+    → saved-size s i ≤ 32
 unfolding saved-size
 saved-small s i h l n = small s i 1 (slot s i) refl h l (rw (ne-eqb (writer-of (getD (nodes s) i no-entry .1 .update)) nobody n))
 
@@ -117,7 +120,8 @@ decode-text (suc zero) m c c′ b h l f y p e =
     rw (f 0 (omega arith), f 1 (omega arith), f 2 (omega arith), f 3 (omega arith), y, p, e, writer-update (getD c 1 0) (stored 1 c))
 decode-text (suc (suc o)) m c c′ b h l f y p e = absurd (omega arith)
 
-sized-text : (o : ℕ) (c c′ : List ℕ) → o < 2 → getD c′ 1 0 ≡ getD c 1 0 → getD c′ (5 - o) 0 ≡ getD c (5 - o) 0 → getD c′ (4 + o) 0 ≤ 32 → Sized c → Sized c′
+sized-text : (o : ℕ) (c c′ : List ℕ) → o < 2 → getD c′ 1 0 ≡ getD c 1 0 → getD c′ (5 - o) 0 ≡ getD c (5 - o) 0 → getD c′ (4 + o) 0 ≤ 32
+    → Sized c → Sized c′
 sized-text zero c c′ l w y x z = record { now = x; saved = λ n. rw y (z .saved (λ e. n (w ∙ e))) }
 sized-text (suc zero) c c′ l w y x z = record { now = rw y (z .now); saved = λ n. x }
 sized-text (suc (suc o)) c c′ l w y x z = absurd (omega arith)
@@ -164,11 +168,11 @@ text-kept s s″ i o k x n v b e h l q a p w f g =
     (λ j z. sym (cell-byte s″ k (6 + 32 * o + j) (omega arith)) ∙ rw (far j) (f .bytes j (omega arith) ∙ g j z)) in
     let there : slot s″ i ≡ k = same-slot y (omega arith) i (omega (arith, here s i o k e h l, h .room)) ∙ sym e in
     record {
-    kept = cell-kept y h i (sym e) (here s i o k e h l) (with-text o b)
-    (λ m held t z. decode-text o m (cell s k) (cell s″ k) b held q (λ j c. same j (omega arith) (early j (omega arith))) sizes (other t long) is)
-    (λ z. sized-text o (cell s k) (cell s″ k) q (same 1 (omega arith) (early 1 (omega arith))) sizes (omega arith) z);
-    bytes = rw there is;
-    size = rw there (omega arith);
+      kept = cell-kept y h i (sym e) (here s i o k e h l) (with-text o b)
+          (λ m held t z. decode-text o m (cell s k) (cell s″ k) b held q (λ j c. same j (omega arith) (early j (omega arith))) sizes (other t long) is)
+          (λ z. sized-text o (cell s k) (cell s″ k) q (same 1 (omega arith) (early 1 (omega arith))) sizes (omega arith) z);
+      bytes = rw there is;
+      size = rw there (omega arith);
     }
   where
     far : (j : ℕ) → cell-at k + (6 + 32 * o + j) ≡ cell-at k + 6 + 32 * o + j
@@ -216,7 +220,8 @@ copied-kept s s″ i o o′ k p q p′ q′ e f y z y′ z′ h l a c =
     let x : getD s p 0 ≡ length b = ap (λ (m : ℕ). getD s m 0) y ∙ size-at s i o k e h l a in
     let small : length b ≤ 32 = size-small s i o k e h l a in
     let bytes : (j : ℕ) → j < length b → getD (set s p′ (getD s p 0)) (q + j) 0 ≡ getD b j 0 =
-    λ j w. getD-set-other s p′ (q + j) (getD s p 0) 0 (λ r. omega (arith, two s i o k e h l a)) ∙ ap (λ (m : ℕ). getD s (m + j) 0) z ∙ byte-at s i o k e h l a j w in
+    λ j w. getD-set-other s p′ (q + j) (getD s p 0) 0 (λ r. omega (arith, two s i o k e h l a))
+    ∙ ap (λ (m : ℕ). getD s (m + j) 0) z ∙ byte-at s i o k e h l a j w in
     let t = stored-kept s s″ i o′ k (getD s p 0) p′ q′ 32 (λ j. getD (set s p′ (getD s p 0)) (q + j) 0) b e f y′ z′ h l c x small (omega arith) bytes in
     record {
       kept = kept-as _ _ (modify-same i (second (with-text o′ b)) (second (λ a. with-text o′ (text o a) a)) (nodes s) no-entry refl) (t .kept);

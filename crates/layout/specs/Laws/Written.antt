@@ -4,7 +4,7 @@ use Prim.Native.Nat.{ℕ, _≤_, _<_}
 use mathlib.Core.List.{List}
 use lib.ListN.{length, getD}
 use borrow.Author.Tests.{eq-eqb, ne-eqb}
-use Rattle.protocol.specs.State.{nobody, wrote, writer-of, saved-of, Marked}
+use Rattle.protocol.specs.State.{nobody, wrote, writer-of, Marked}
 use Rattle.layout.specs.Lists.{modify}
 use Rattle.layout.specs.Flat.{second}
 use Rattle.layout.specs.Layout.{Entry, nodes, no-entry, Layout, Kept}
@@ -39,16 +39,21 @@ module _ (s : List ℕ) (i t u : ℕ) (e : u ≡ writer-of (getD (nodes s) i no-
         → Kept s s₁ (modify i (second (marked-written t)) (nodes s))
     unfolding a at-depth by-somebody
     written-over k =
-        let q : with-update (wrote t (saved-bytes s i)) a ≡ marked-written t a = rw (ne-eqb (writer-of (a .update)) nobody by-somebody, saved-at s i h l by-somebody) in
-        kept-as _ _ (modify-same i (second (with-update (wrote t (saved-bytes s i)))) (second (marked-written t)) (nodes s) no-entry (ap at-depth q)) k
+        let q : with-update (wrote t (saved-bytes s i)) a ≡ marked-written t a =
+        rw (ne-eqb (writer-of (a .update)) nobody by-somebody, saved-at s i h l by-somebody) in
+        kept-as _ _
+        (modify-same i (second (with-update (wrote t (saved-bytes s i)))) (second (marked-written t)) (nodes s) no-entry (ap at-depth q)) k
 
   -- the content now is saved first
-  pub written-first : {s₁ s₂ : List ℕ} → u ≡ nobody → Saved s s₁ i → Kept s₁ s₂ (modify i (second (with-update (wrote t (saved-bytes s₁ i)))) (nodes s₁))
+  pub written-first : {s₁ s₂ : List ℕ} → u ≡ nobody → Saved s s₁ i
+      → Kept s₁ s₂ (modify i (second (with-update (wrote t (saved-bytes s₁ i)))) (nodes s₁))
       → Kept s s₂ (modify i (second (marked-written t)) (nodes s))
   unfolding a at-depth
   written-first {s₁} n m k =
       let f : Entry → Entry = second (with-update (wrote t (saved-bytes s₁ i))) in
-      let q : with-update (wrote t (saved-bytes s₁ i)) (with-saved a) ≡ marked-written t a = rw (eq-eqb (writer-of (a .update)) nobody (sym e ∙ n), m .bytes) in
+      let q : with-update (wrote t (saved-bytes s₁ i)) (with-saved a) ≡ marked-written t a =
+      rw (eq-eqb (writer-of (a .update)) nobody (sym e ∙ n), m .bytes) in
       kept-as _ _
-      (modify-modify i f (second with-saved) (nodes s) ∙ modify-same i (λ x. f (second with-saved x)) (second (marked-written t)) (nodes s) no-entry (ap at-depth q))
+      (modify-modify i f (second with-saved) (nodes s)
+      ∙ modify-same i (λ x. f (second with-saved x)) (second (marked-written t)) (nodes s) no-entry (ap at-depth q))
       (kept-then (modify i (second with-saved) (nodes s)) (modify i f) (m .kept) k)

@@ -18,7 +18,8 @@ use Rattle.form.specs.Laws.Valid.{root-of}
 
 -- by the form, the first node is the document, which nobody inserted or deleted
 alone : (s : List ℕ) → form s ≡ true →
-    modify 0 (second unlocked) (modify 0 (second (with-now [])) (modify 0 (second (with-update unwritten)) (take 1 (nodes s)))) ≡ flat 0 (tree-of node-0-alone)
+    modify 0 (second unlocked) (modify 0 (second (with-now [])) (modify 0 (second (with-update unwritten)) (take 1 (nodes s))))
+    ≡ flat 0 (tree-of node-0-alone)
 unfolding flat modify tree-of node-0-alone view
 alone s h =
     let p = form-holds s h in

@@ -71,7 +71,7 @@ module _ (c : Document) (log : ℕ → List Entry) (M : State) (g : Good c log M
       (same-done (r .it .inserter) (λ nu. marked-in-set r i (r .it .inserter) nu (rw (eq-eqb (r .it .inserter) (r .it .inserter) refl))))
       (same-deleted (r .it .deleter) (λ nu. marked-in-set r i (r .it .deleter) nu (rw (eq-eqb (r .it .deleter) (r .it .deleter) refl) (or-true (eqb (r .it .inserter) (r .it .deleter)))))))
       (λ r i e. ap (λ x. with-content (r .it .now) (cond x (r .it .now .content) (saved-of (r .it .update))))
-      (same-done (writer-of (r .it .update)) (λ nu. in-set (writer-of (r .it .update)) (g .numbered (writer-of (r .it .update)) (writer-open c log M g r i (writer-of (r .it .update)) nu (eq-eqb (writer-of (r .it .update)) (writer-of (r .it .update)) refl))))))
+      (let u : ℕ = writer-of (r .it .update) in same-done u (λ nu. in-set u (g .numbered u (writer-open c log M g r i u nu (eq-eqb u u refl))))))
 
   pub set-legal : legal c ≡ true → legal (document-of S f) ≡ true
   set-legal h = rw set-shown (legal-run c (orders.logs log b) (document-of (λ u. has u b) f) h (g .serial b (some-distinct S) .run))
