@@ -1,12 +1,12 @@
 // The committed document in the lent bytes: the places of its nodes, and their contents.
 ghost use mathlib.Core.Path.{_≡_};
-ghost use mathlib.Core.Bool.{_&&_};
+ghost use mathlib.Core.Bool.{_&&_, true};
 ghost use Prim.Native.Nat.{_*_, _<_, _≤_};
 ghost use lib.ListN.{length};
 ghost use Rattle.tree.specs.Lists.{same};
 ghost use Rattle.xml.specs.Writing.{escaped};
 ghost use Rattle.layout.specs.Layout.{nodes, Layout};
-ghost use Rattle.layout.specs.Fields.{text};
+ghost use Rattle.layout.specs.Fields.{has-text, text};
 ghost use Rattle.lookup.specs.Places.{item};
 ghost use Rattle.edits.specs.Rows.{left-out};
 ghost use Rattle.committed.specs.Lines.{label-at, Selected};
@@ -55,10 +55,11 @@ pub fn select(s: &[u8]) -> Rows
     Rows { places, count }
 }
 
-// Which content of the node at p is the committed one: 0 the one now, 1 the one kept.
+// Which content of the node at p is the committed one: 0 the one now, 1 the one saved.
 pub fn version(s: &[u8], p: usize) -> usize
     requires { ⌜ (Layout (now s)) × (p < length (nodes (now s))) ⌝ }
-    ensures { λ r. ⌜ (r < 2) × (text r (item (nodes (now (s .entry))) p) ≡ label-at (nodes (now (s .entry))) p .content) ⌝ }
+    ensures { λ r. ⌜ (r < 2) × (text r (item (nodes (now (s .entry))) p) ≡ label-at (nodes (now (s .entry))) p .content)
+        × (has-text r (item (nodes (now (s .entry))) p) ≡ true) ⌝ }
 {
     if table::writer(s, p) != 0 {
         return 1;

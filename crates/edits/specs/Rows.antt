@@ -48,7 +48,7 @@ not-inserted-by t a = not (eqb (a .inserter) t)
 
 -- a node with other sets of modes
 abbrev pub with-held : Marked → (ℕ → ModeSet) → Marked
-with-held a h = record { now = a .now; before = a .before; writer = a .writer; inserter = a .inserter; deleter = a .deleter; held = h }
+with-held a h = record { now = a .now; update = a .update; inserter = a .inserter; deleter = a .deleter; held = h }
 
 -- t is granted these modes on a node
 abbrev pub granted-modes : ℕ → List Mode → Marked → Marked

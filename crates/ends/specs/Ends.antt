@@ -6,7 +6,7 @@ use mathlib.Core.List.{List, [], _∷_, map}
 use lib.ListN.{length, getD, drop}
 use lib.Dec.{eqb}
 use Rattle.tree.specs.Document.{Document}
-use Rattle.protocol.specs.State.{Marked, State, without}
+use Rattle.protocol.specs.State.{nobody, writer-of, saved-of, Marked, State}
 use Rattle.protocol.specs.Calls.{start, next}
 use Rattle.protocol.specs.Answers.{answer-of}
 use Rattle.protocol.specs.declared.Answer.{Answer}
@@ -29,11 +29,11 @@ pub record Restarted (s s′ : List ℕ) (r : Answer) : Type 0 where
 
 -- mark o (1 writer, 2 inserter, 3 deleter) of t is nobody's
 abbrev pub without-mark : ℕ → ℕ → Marked → Marked
-without-mark o t a = with-field o (without t (field o a)) a
+without-mark o t a = cond (eqb (field o a) t) (with-field o nobody a) a
 
--- the committed content again where t wrote the node
+-- the saved content again where t wrote the node
 abbrev pub rewritten : ℕ → Marked → Marked
-rewritten t a = with-now (cond (eqb (a .writer) t) (a .before) (a .now .content)) a
+rewritten t a = with-now (cond (eqb (writer-of (a .update)) t) (saved-of (a .update)) (a .now .content)) a
 
 -- a commit: what t wrote and inserted is everybody's
 abbrev pub lasting-marks : ℕ → Marked → Marked

@@ -115,9 +115,9 @@ pub fn commit(s: &mut [u8], t: u32) -> Answer
     Answer::Done
 }
 
-// The node at i has its committed content again, where t wrote it.
+// The node at i has its saved content again, where t wrote it.
 fn rewrite(s: &mut [u8], i: usize, t: u8)
-    requires { ⌜ (Layout (now s)) × (i < length (nodes (now s))) ⌝ }
+    requires { ⌜ (Layout (now s)) × (i < length (nodes (now s))) × (1 ≤ t) ⌝ }
     ensures { λ r. ⌜ Kept (now (s .entry)) (now (s .exit)) (modify i (second (rewritten t)) (nodes (now (s .entry)))) ⌝ }
 {
     if table::writer(s, i) == t {
@@ -127,7 +127,7 @@ fn rewrite(s: &mut [u8], i: usize, t: u8)
 
 // What t wrote and deleted of the node at i is as before.
 fn undo_node(s: &mut [u8], i: usize, t: u8)
-    requires { ⌜ (Layout (now s)) × (i < length (nodes (now s))) ⌝ }
+    requires { ⌜ (Layout (now s)) × (i < length (nodes (now s))) × (1 ≤ t) ⌝ }
     ensures { λ r. ⌜ Kept (now (s .entry)) (now (s .exit)) (modify i (second (undone-marks t)) (nodes (now (s .entry)))) ⌝ }
 {
     rewrite(s, i, t);
@@ -137,7 +137,7 @@ fn undo_node(s: &mut [u8], i: usize, t: u8)
 
 // The same of all nodes.
 fn undo(s: &mut [u8], t: u8)
-    requires { ⌜ Layout (now s) ⌝ }
+    requires { ⌜ (Layout (now s)) × (1 ≤ t) ⌝ }
     ensures { λ r. ⌜ Kept (now (s .entry)) (now (s .exit)) (map (second (undone-marks t)) (nodes (now (s .entry)))) ⌝ }
 {
     let rows = table::count(s);

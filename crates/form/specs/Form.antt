@@ -1,14 +1,14 @@
 -- The form of the lent bytes (docs/STATE.md), and the state that bytes of the form hold.
 use mathlib.Core.Path.{_≡_}
 use Prim.Native.Nat.{ℕ, zero, suc}
-use mathlib.Core.Bool.{Bool, true, false, _&&_}
+use mathlib.Core.Bool.{Bool, true, false, _&&_, _||_}
 use mathlib.Core.List.{List, [], _∷_}
 use lib.ListN.{length, getD}
 use lib.Dec.{eqb, leb, ltb}
 use Rattle.tree.specs.Lists.{every, distinct, same}
 use Rattle.tree.specs.Forest.{Forest, nil, node}
 use Rattle.tree.specs.Content.{document-kind, element-kind, text-kind, content-limit, between}
-use Rattle.protocol.specs.State.{nobody, Marked, Tree, State}
+use Rattle.protocol.specs.State.{nobody, Marked, Tree, State, writer-of}
 use Rattle.protocol.specs.Calls.{node-limit}
 use Rattle.layout.specs.Lists.{tabulate}
 use Rattle.layout.specs.Flat.{flat}
@@ -19,7 +19,8 @@ use Rattle.lookup.specs.Places.{unique}
 
 -- a kind from low to high, nobody or one of sixteen transactions as the writer, and inserter and deleter at most `most`
 unfoldable pub in-range : ℕ → ℕ → ℕ → Marked → Bool
-in-range low high most a = between low high (a .now .kind) && (leb (a .writer) 16 && (leb (a .inserter) most && leb (a .deleter) most))
+in-range low high most a =
+    between low high (a .now .kind) && (leb (writer-of (a .update)) 16 && (leb (a .inserter) most && leb (a .deleter) most))
 
 -- a node below the document: element, attribute or text
 unfoldable pub valid : Marked → Bool
@@ -61,9 +62,9 @@ slots s = tabulate node-limit (slot s)
 unfoldable pub cells : List ℕ → List (List ℕ)
 cells s = tabulate (count s) (λ i. cell s (slot s i))
 
--- both sizes of a cell are those of contents
+-- the sizes of a cell are those of contents; a content is saved only where somebody wrote
 unfoldable pub sizes-in-range : List ℕ → Bool
-sizes-in-range c = leb (getD c 4 0) content-limit && leb (getD c 5 0) content-limit
+sizes-in-range c = leb (getD c 4 0) content-limit && (eqb (getD c 1 0) nobody || leb (getD c 5 0) content-limit)
 
 -- each number below the limit, and no two alike
 unfoldable pub apart : ℕ → List ℕ → Bool

@@ -8,3 +8,4 @@ pub mod Begins
 pub mod Fresh
 pub mod Check
 pub mod Start
+pub mod Free

@@ -96,7 +96,7 @@ fn apart(s: &[u8], o: usize, n: usize, limit: usize) -> bool
     true
 }
 
-// Whether both sizes of the cell of slot k are at most 32.
+// Whether the size of the content in the cell of slot k is at most 32, and that of the saved one, if there is one.
 fn sizes(s: &[u8], k: usize) -> bool
     requires { ⌜ (state-size ≤ length (now s)) × (k < 1024) ⌝ }
     ensures { λ r. ⌜ r ≡ sizes-in-range (cell (now (s .entry)) k) ⌝ }
@@ -104,6 +104,9 @@ fn sizes(s: &[u8], k: usize) -> bool
     let c = CELLS + CELL * k;
     if 32 < s[c + 4] {
         return false;
+    }
+    if s[c + 1] == 0 {
+        return true;
     }
     s[c + 5] <= 32
 }

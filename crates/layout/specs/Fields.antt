@@ -1,21 +1,31 @@
 -- The fields of a node, and a node with one of them changed.
-use Prim.Native.Nat.{ℕ}
-use mathlib.Core.Bool.{Bool, true, false, cond}
+use mathlib.Core.Path.{_≡_}
+use Prim.Native.Nat.{ℕ, zero, suc, _≤_}
+use mathlib.Core.Bool.{Bool, true, false, cond, not}
 use mathlib.Core.List.{List, [], _∷_, _++_}
+use lib.ListN.{getD}
 use lib.Dec.{eqb}
 use Rattle.tree.specs.Steps.{with-content}
 use Rattle.locks.specs.Modes.{no-mode, in-word}
-use Rattle.protocol.specs.State.{Marked, none-of}
+use Rattle.protocol.specs.State.{nobody, Update, unwritten, wrote, writer-of, saved-of, Marked, committed-content, none-of}
+use Rattle.layout.specs.Layout.{slot, cell, stored, update-of, nodes, no-entry, Kept}
+use Rattle.layout.specs.Lists.{modify}
+use Rattle.layout.specs.Flat.{second}
 
 -- the four bytes of a cell that stand for themselves: 0 kind, 1 writer, 2 inserter, 3 deleter
 abbrev pub field : ℕ → Marked → ℕ
-field o a = cond (eqb o 0) (a .now .kind) (cond (eqb o 1) (a .writer) (cond (eqb o 2) (a .inserter) (a .deleter)))
+field o a = cond (eqb o 0) (a .now .kind) (cond (eqb o 1) (writer-of (a .update)) (cond (eqb o 2) (a .inserter) (a .deleter)))
+
+-- storing a writer would make bytes that are not looked at the saved content: of the writers only 0 is stored alone
+abbrev pub storable : ℕ → ℕ → Bool
+storable zero v = true
+storable (suc zero) v = eqb v nobody
+storable (suc (suc o)) v = true
 
 abbrev pub with-field : ℕ → ℕ → Marked → Marked
 with-field o v a = record {
   now = record { number = a .now .number; kind = cond (eqb o 0) v (a .now .kind); content = a .now .content };
-  before = a .before;
-  writer = cond (eqb o 1) v (a .writer);
+  update = cond (eqb o 1) unwritten (a .update);
   inserter = cond (eqb o 2) v (a .inserter);
   deleter = cond (eqb o 3) v (a .deleter);
   held = a .held;
@@ -24,49 +34,68 @@ with-field o v a = record {
 abbrev pub with-kind : ℕ → Marked → Marked
 with-kind v a = record {
   now = record { number = a .now .number; kind = v; content = a .now .content };
-  before = a .before;
-  writer = a .writer;
+  update = a .update;
   inserter = a .inserter;
   deleter = a .deleter;
   held = a .held;
 }
 
-abbrev pub with-writer : ℕ → Marked → Marked
-with-writer v a = record { now = a .now; before = a .before; writer = v; inserter = a .inserter; deleter = a .deleter; held = a .held }
+abbrev pub with-update : Update → Marked → Marked
+with-update u a = record { now = a .now; update = u; inserter = a .inserter; deleter = a .deleter; held = a .held }
 
 abbrev pub with-inserter : ℕ → Marked → Marked
-with-inserter v a = record { now = a .now; before = a .before; writer = a .writer; inserter = v; deleter = a .deleter; held = a .held }
+with-inserter v a = record { now = a .now; update = a .update; inserter = v; deleter = a .deleter; held = a .held }
 
--- the contents of a node: 0 the one now, 1 the committed one
+-- the bytes of the cell of the node at place i that are its saved content if somebody wrote, and their number
+unfoldable pub saved-bytes : List ℕ → ℕ → List ℕ
+saved-bytes s i = stored 1 (cell s (slot s i))
+
+unfoldable pub saved-size : List ℕ → ℕ → ℕ
+saved-size s i = getD (cell s (slot s i)) 5 0
+
+-- the contents of a node: 0 the one now, 1 the one saved, which is there only where somebody wrote
+abbrev pub has-text : ℕ → Marked → Bool
+has-text zero a = true
+has-text (suc zero) a = not (eqb (writer-of (a .update)) nobody)
+has-text (suc (suc o)) a = false
+
 abbrev pub text : ℕ → Marked → List ℕ
-text o a = cond (eqb o 0) (a .now .content) (a .before)
+text o a = cond (eqb o 0) (a .now .content) (saved-of (a .update))
 
 abbrev pub with-text : ℕ → List ℕ → Marked → Marked
 with-text o b a = record {
   now = with-content (a .now) (cond (eqb o 0) b (a .now .content));
-  before = cond (eqb o 0) (a .before) b;
-  writer = a .writer;
+  update = cond (eqb o 0) (a .update) (update-of (writer-of (a .update)) b);
   inserter = a .inserter;
   deleter = a .deleter;
   held = a .held;
 }
 
 abbrev pub with-now : List ℕ → Marked → Marked
-with-now b a = record { now = with-content (a .now) b; before = a .before; writer = a .writer; inserter = a .inserter; deleter = a .deleter; held = a .held }
+with-now b a = record { now = with-content (a .now) b; update = a .update; inserter = a .inserter; deleter = a .deleter; held = a .held }
 
--- the content now kept as the committed one, and the other way round
-abbrev pub saved : Marked → Marked
-saved a = record { now = a .now; before = a .now .content; writer = a .writer; inserter = a .inserter; deleter = a .deleter; held = a .held }
+-- the content now saved where somebody wrote, and the other way round
+abbrev pub with-saved : Marked → Marked
+with-saved a = with-update (update-of (writer-of (a .update)) (a .now .content)) a
 
 abbrev pub restored : Marked → Marked
-restored a = with-now (a .before) a
+restored a = with-now (saved-of (a .update)) a
+
+-- what saving the content of the node at place i leaves; its saved bytes are looked at when a writer is stored
+pub record Saved (s s′ : List ℕ) (i : ℕ) : Type 0 where
+  pub kept : Kept s s′ (modify i (second with-saved) (nodes s))
+  pub bytes : saved-bytes s′ i ≡ getD (nodes s) i no-entry .1 .now .content
+  pub size : saved-size s′ i ≤ 32
+
+-- transaction t writes: the committed content is saved
+abbrev pub marked-written : ℕ → Marked → Marked
+marked-written t a = with-update (wrote t (committed-content a)) a
 
 -- transaction t holds the modes of a word
 abbrev pub with-modes : ℕ → ℕ → Marked → Marked
 with-modes t w a = record {
   now = a .now;
-  before = a .before;
-  writer = a .writer;
+  update = a .update;
   inserter = a .inserter;
   deleter = a .deleter;
   held = λ u. cond (eqb u t) (in-word w) (a .held u);
@@ -74,8 +103,8 @@ with-modes t w a = record {
 
 -- transaction t holds nothing
 abbrev pub released : ℕ → Marked → Marked
-released t a = record { now = a .now; before = a .before; writer = a .writer; inserter = a .inserter; deleter = a .deleter; held = none-of t (a .held) }
+released t a = record { now = a .now; update = a .update; inserter = a .inserter; deleter = a .deleter; held = none-of t (a .held) }
 
 -- nobody holds anything
 abbrev pub unlocked : Marked → Marked
-unlocked a = record { now = a .now; before = a .before; writer = a .writer; inserter = a .inserter; deleter = a .deleter; held = λ u. no-mode }
+unlocked a = record { now = a .now; update = a .update; inserter = a .inserter; deleter = a .deleter; held = λ u. no-mode }

@@ -4,6 +4,7 @@ pub mod Nodes
 pub mod Kept
 pub mod Fields
 pub mod Texts
+pub mod Written
 pub mod Locks
 pub mod Bits
 pub mod Opens

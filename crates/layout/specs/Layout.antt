@@ -3,11 +3,12 @@ use Prim.Native.Nat.{ℕ, _+_, _*_, _-_, _≤_, _<_}
 use mathlib.Core.Path.{_≡_}
 use mathlib.Core.Bool.{Bool, true, false, cond}
 use mathlib.Core.List.{List, [], _∷_}
+use lib.Dec.{eqb}
 use lib.ListN.{length, getD, take, drop}
 use Rattle.tree.specs.Text.{bytes}
 use Rattle.locks.specs.Modes.{ModeSet, no-mode, in-word}
 use Rattle.locks.specs.Words.{bit}
-use Rattle.protocol.specs.State.{is-transaction, Marked, unmarked}
+use Rattle.protocol.specs.State.{nobody, is-transaction, Update, unwritten, wrote, Marked, unmarked}
 use Rattle.layout.specs.Lists.{tabulate}
 
 -- offsets ----------------------------------------------------------------------------
@@ -30,7 +31,7 @@ count-at = 10
 abbrev pub entry-at : ℕ → ℕ
 entry-at i = 16 + 6 * i
 
--- the cell of a slot: kind, writer, inserter, deleter, two sizes, 32 bytes of content, 32 of committed content
+-- the cell of a slot: kind, writer, inserter, deleter, two sizes, 32 bytes of content, 32 of saved content
 abbrev pub cell-at : ℕ → ℕ
 cell-at k = 6160 + 70 * k
 
@@ -71,12 +72,19 @@ is-open s t = cond (is-transaction t) (bit (word s open-at) (t - 1)) false
 unfoldable pub held : List ℕ → ℕ → ℕ → ModeSet
 held s k t = cond (is-transaction t) (in-word (word s (lock-at t k))) no-mode
 
+-- the contents in a cell's bytes: 0 the one now, 1 the one saved
+abbrev pub stored : ℕ → List ℕ → List ℕ
+stored o c = take (getD c (4 + o) 0) (take 32 (drop (6 + 32 * o) c))
+
+-- nothing written where the writer u is 0, whatever the bytes b of the saved content are
+abbrev pub update-of : ℕ → List ℕ → Update
+update-of u b = cond (eqb u nobody) unwritten (wrote u b)
+
 -- a node of its number, its cell's bytes and the modes held on it
 unfoldable pub decode : ℕ → List ℕ → (ℕ → ModeSet) → Marked
 decode n c h = record {
-  now = record { number = n; kind = getD c 0 0; content = take (getD c 4 0) (take 32 (drop 6 c)) };
-  before = take (getD c 5 0) (take 32 (drop 38 c));
-  writer = getD c 1 0;
+  now = record { number = n; kind = getD c 0 0; content = stored 0 c };
+  update = update-of (getD c 1 0) (stored 1 c);
   inserter = getD c 2 0;
   deleter = getD c 3 0;
   held = h;
@@ -99,10 +107,10 @@ no-entry = (0, unmarked (record { number = 0; kind = 0; content = [] }))
 
 -- the layout -----------------------------------------------------------------------------
 
--- the sizes of a cell are those of contents
+-- the sizes of a cell are those of contents; a content is saved only where somebody wrote
 pub record Sized (c : List ℕ) : Type 0 where
   pub now : getD c 4 0 ≤ 32
-  pub before : getD c 5 0 ≤ 32
+  pub saved : (getD c 1 0 ≡ nobody → ⊥) → getD c 5 0 ≤ 32
 
 -- what every function of this crate keeps: the format mark, 1 to 1,024 nodes, an outline whose slots are a permutation, sizes in range
 pub record Layout (s : List ℕ) : Type 0 where

@@ -36,9 +36,8 @@ fn empty(s: &mut [u8])
     ensures { λ r. ⌜ Left (now (s .entry)) (now (s .exit)) (is-open (now (s .entry))) (flat 0 (tree-of node-0-alone)) ⌝ }
 {
     outline::cut(s, 1);
-    table::set_writer(s, 0, 0);
+    table::clear_writer(s, 0);
     table::set_content(s, 0, b"");
-    table::save_content(s, 0);
     transactions::unlock(s, 0);
 }
 

@@ -2,7 +2,7 @@
 use Prim.Native.Nat.{ℕ, suc, _+_, _≤_, _<_}
 use mathlib.Core.Bool.{Bool, cond, not, _&&_}
 use mathlib.Core.Path.{_≡_}
-use mathlib.Core.List.{List, []}
+use mathlib.Core.List.{List}
 use lib.ListN.{length, getD}
 use lib.Dec.{eqb, ltb, leb}
 use Rattle.protocol.specs.State.{Marked}
@@ -39,11 +39,10 @@ pub record Shifted (s s′ : List ℕ) (p n : ℕ) : Type 0 where
 unfoldable pub exchange : ℕ → ℕ → List Entry → List Entry
 exchange i j l = modify i (λ x. getD l j no-entry) (modify j (λ x. getD l i no-entry) l)
 
--- what opening a place leaves: a node at place p with this depth and number and no committed content, the rest of it as the slot had it
+-- what opening a place leaves: a node at place p with this depth and number, the rest of it as the slot had it
 pub record Opened (s s′ : List ℕ) (p d n : ℕ) : Type 0 where
   pub node : Marked
   pub number : node .now .number ≡ n
-  pub before : node .before ≡ []
   pub many : length (nodes s′) ≡ length (nodes s) + 1
   pub left : Left s s′ (is-open s) (insert p (d, node) (nodes s))
 

@@ -76,7 +76,7 @@ pub fn insert(s: &mut [u8], p: usize, d: u16, n: u16, kind: u8, t: u8, content: 
 {
     open_place(s, p, d, n);
     table::set_kind(s, p, kind);
-    table::set_writer(s, p, 0);
+    table::clear_writer(s, p);
     table::set_inserter(s, p, t);
     table::set_deleter(s, p, 0);
     table::set_content(s, p, content);

@@ -21,12 +21,25 @@ is-transaction t = between 1 16 t
 abbrev pub transactions : List ℕ
 transactions = 1 ∷ 2 ∷ 3 ∷ 4 ∷ 5 ∷ 6 ∷ 7 ∷ 8 ∷ 9 ∷ 10 ∷ 11 ∷ 12 ∷ 13 ∷ 14 ∷ 15 ∷ 16 ∷ []
 
--- a node held: as it is now, its committed content (read only where an open transaction is the writer), which open transaction
--- wrote it, inserted it and deleted it (0: none), and for each transaction the set of modes it was granted there
+-- what open transactions did to a node's content: nothing, or which one wrote it, and the committed content, which is saved only then
+pub data Update : Type 0 where
+  unwritten : Update
+  wrote : (writer : ℕ) (saved : List ℕ) → Update
+
+abbrev pub writer-of : Update → ℕ
+writer-of unwritten = nobody
+writer-of (wrote t saved) = t
+
+-- never asked for where nobody wrote
+abbrev pub saved-of : Update → List ℕ
+saved-of unwritten = []
+saved-of (wrote t saved) = saved
+
+-- a node held: as it is now, what was done to its content, which open transaction inserted it and deleted it (0: none), and for each
+-- transaction the set of modes it was granted there
 pub record Marked : Type 0 where
   pub now : Node
-  pub before : List ℕ
-  pub writer : ℕ
+  pub update : Update
   pub inserter : ℕ
   pub deleter : ℕ
   pub held : ℕ → ModeSet
@@ -74,7 +87,7 @@ abbrev pub shown : (ℕ → Bool) → Marked → Bool
 shown S a = done-by S (a .inserter) && not (deleted-in S a)
 
 abbrev pub as-shown : (ℕ → Bool) → Marked → Node
-as-shown S a = with-content (a .now) (cond (done-by S (a .writer)) (a .now .content) (a .before))
+as-shown S a = with-content (a .now) (cond (done-by S (writer-of (a .update))) (a .now .content) (saved-of (a .update)))
 
 unfoldable pub document-of : (ℕ → Bool) → Tree → Document
 document-of S f = view (shown S) (as-shown S) f
@@ -85,25 +98,28 @@ committed-document M = document-of (λ u. false) (M .tree)
 
 -- marks ------------------------------------------------------------------------------
 
--- t wrote b; the committed content is kept
+-- the committed content: the one now, or the one saved where somebody wrote
+abbrev pub committed-content : Marked → List ℕ
+committed-content a = cond (eqb (writer-of (a .update)) nobody) (a .now .content) (saved-of (a .update))
+
+-- t wrote b; the committed content is saved
 abbrev pub written-by : ℕ → List ℕ → Marked → Marked
 written-by t b a = record {
   now = with-content (a .now) b;
-  before = cond (eqb (a .writer) nobody) (a .now .content) (a .before);
-  writer = t;
+  update = wrote t (committed-content a);
   inserter = a .inserter;
   deleter = a .deleter;
   held = a .held;
 }
 
 abbrev pub deleted-by : ℕ → Marked → Marked
-deleted-by t a = record { now = a .now; before = a .before; writer = a .writer; inserter = a .inserter; deleter = t; held = a .held }
+deleted-by t a = record { now = a .now; update = a .update; inserter = a .inserter; deleter = t; held = a .held }
 
 abbrev pub unmarked : Node → Marked
-unmarked a = record { now = a; before = []; writer = nobody; inserter = nobody; deleter = nobody; held = λ u. no-mode }
+unmarked a = record { now = a; update = unwritten; inserter = nobody; deleter = nobody; held = λ u. no-mode }
 
 abbrev pub inserted-by : ℕ → Node → Marked
-inserted-by t a = record { now = a; before = []; writer = nobody; inserter = t; deleter = nobody; held = λ u. no-mode }
+inserted-by t a = record { now = a; update = unwritten; inserter = t; deleter = nobody; held = λ u. no-mode }
 
 -- t is granted the locks that are on this node
 abbrev pub modes-on : List Lock → ℕ → ModeSet
@@ -113,8 +129,7 @@ modes-on (l ∷ ls) n = cond (eqb (l .0) n) (union (among (l .1 ∷ [])) (modes-
 abbrev pub granted-to : ℕ → List Lock → Marked → Marked
 granted-to t ls a = record {
   now = a .now;
-  before = a .before;
-  writer = a .writer;
+  update = a .update;
   inserter = a .inserter;
   deleter = a .deleter;
   held = λ u. cond (eqb u t) (union (a .held u) (modes-on ls (a .now .number))) (a .held u);
@@ -127,12 +142,15 @@ none-of t h u = cond (eqb u t) no-mode (h u)
 abbrev pub without : ℕ → ℕ → ℕ
 without t u = cond (eqb u t) nobody u
 
+-- what was written without transaction t
+abbrev pub update-without : ℕ → Update → Update
+update-without t u = cond (eqb (writer-of u) t) unwritten u
+
 -- "commit makes changes lasting"
 abbrev pub lasting : ℕ → Marked → Marked
 lasting t a = record {
   now = a .now;
-  before = a .before;
-  writer = without t (a .writer);
+  update = update-without t (a .update);
   inserter = without t (a .inserter);
   deleter = a .deleter;
   held = none-of t (a .held);
@@ -141,9 +159,8 @@ lasting t a = record {
 -- "abort removes them"
 abbrev pub undone : ℕ → Marked → Marked
 undone t a = record {
-  now = with-content (a .now) (cond (eqb (a .writer) t) (a .before) (a .now .content));
-  before = a .before;
-  writer = without t (a .writer);
+  now = with-content (a .now) (cond (eqb (writer-of (a .update)) t) (saved-of (a .update)) (a .now .content));
+  update = update-without t (a .update);
   inserter = a .inserter;
   deleter = without t (a .deleter);
   held = none-of t (a .held);

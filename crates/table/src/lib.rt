@@ -1,13 +1,16 @@
-// The lent bytes: where they hold the nodes, the locks and the open transactions (docs/STATE.md). Contracts speak of `nodes` alone.
+// The lent bytes: where they hold the nodes, the locks and the open transactions (docs/STATE.md). The contracts of
+// public functions speak of `nodes` alone.
 ghost use mathlib.Core.Path.{_≡_};
+ghost use mathlib.Core.Bool.{true};
 ghost use Prim.Native.Nat.{_<_, _≤_};
 ghost use lib.ListN.{length, getD};
 ghost use lib.Dec.{eqb};
-ghost use Rattle.protocol.specs.State.{deleted-by};
+ghost use Rattle.protocol.specs.State.{unwritten, wrote, writer-of, deleted-by};
 ghost use Rattle.layout.specs.Lists.{modify, first};
 ghost use Rattle.layout.specs.Flat.{second};
 ghost use Rattle.layout.specs.Layout.{slot, nodes, no-entry, Layout, Kept};
-ghost use Rattle.layout.specs.Fields.{field, with-field, with-kind, with-writer, with-inserter, text, with-now, saved, restored};
+ghost use Rattle.layout.specs.Fields.{field, storable, with-field, with-kind, with-update, with-inserter};
+ghost use Rattle.layout.specs.Fields.{has-text, text, with-now, restored, saved-bytes, saved-size, Saved, marked-written};
 
 // The bytes that a state takes; those behind are never touched.
 pub const SIZE: usize = 110608;
@@ -67,7 +70,7 @@ pub fn kind(s: &[u8], i: usize) -> u8
 
 pub fn writer(s: &[u8], i: usize) -> u8
     requires { ⌜ (Layout (now s)) × (i < length (nodes (now s))) ⌝ }
-    ensures { λ r. ⌜ r ≡ getD (nodes (now (s .entry))) i no-entry .1 .writer ⌝ }
+    ensures { λ r. ⌜ r ≡ writer-of (getD (nodes (now (s .entry))) i no-entry .1 .update) ⌝ }
 {
     field(s, i, 1)
 }
@@ -87,7 +90,7 @@ pub fn deleter(s: &[u8], i: usize) -> u8
 }
 
 pub fn set_field(s: &mut [u8], i: usize, o: usize, v: u8)
-    requires { ⌜ (Layout (now s)) × (i < length (nodes (now s))) × (o < 4) ⌝ }
+    requires { ⌜ (Layout (now s)) × (i < length (nodes (now s))) × (o < 4) × (storable o v ≡ true) ⌝ }
     ensures { λ r. ⌜ Kept (now (s .entry)) (now (s .exit)) (modify i (second (with-field o v)) (nodes (now (s .entry)))) ⌝ }
 {
     let k = slot(s, i);
@@ -101,11 +104,11 @@ pub fn set_kind(s: &mut [u8], i: usize, v: u8)
     set_field(s, i, 0, v);
 }
 
-pub fn set_writer(s: &mut [u8], i: usize, v: u8)
+pub fn clear_writer(s: &mut [u8], i: usize)
     requires { ⌜ (Layout (now s)) × (i < length (nodes (now s))) ⌝ }
-    ensures { λ r. ⌜ Kept (now (s .entry)) (now (s .exit)) (modify i (second (with-writer v)) (nodes (now (s .entry)))) ⌝ }
+    ensures { λ r. ⌜ Kept (now (s .entry)) (now (s .exit)) (modify i (second (with-update unwritten)) (nodes (now (s .entry)))) ⌝ }
 {
-    set_field(s, i, 1, v);
+    set_field(s, i, 1, 0);
 }
 
 pub fn set_inserter(s: &mut [u8], i: usize, v: u8)
@@ -124,9 +127,10 @@ pub fn set_deleter(s: &mut [u8], i: usize, v: u8)
 
 // Bytes of the state -----------------------------------------------------------------
 
-// The length of a content of the node at i: o is 0 for the one now, 1 for the committed one.
+// The length of a content of the node at i: o is 0 for the one now, 1 for the one saved, if somebody wrote.
 pub fn size(s: &[u8], i: usize, o: usize) -> usize
-    requires { ⌜ (Layout (now s)) × (i < length (nodes (now s))) × (o < 2) ⌝ }
+    requires { ⌜ (Layout (now s)) × (i < length (nodes (now s))) × (o < 2)
+        × (has-text o (getD (nodes (now s)) i no-entry .1) ≡ true) ⌝ }
     ensures { λ r. ⌜ (r ≡ length (text o (getD (nodes (now (s .entry))) i no-entry .1))) × (r ≤ 32) ⌝ }
 {
     s[CELLS + CELL * slot(s, i) + 4 + o] as usize
@@ -134,7 +138,8 @@ pub fn size(s: &[u8], i: usize, o: usize) -> usize
 
 // Byte j of a content of the node at i.
 pub fn content(s: &[u8], i: usize, o: usize, j: usize) -> u8
-    requires { ⌜ (Layout (now s)) × (i < length (nodes (now s))) × (o < 2) × (j < length (text o (getD (nodes (now s)) i no-entry .1))) ⌝ }
+    requires { ⌜ (Layout (now s)) × (i < length (nodes (now s))) × (o < 2)
+        × (has-text o (getD (nodes (now s)) i no-entry .1) ≡ true) × (j < length (text o (getD (nodes (now s)) i no-entry .1))) ⌝ }
     ensures { λ r. ⌜ r ≡ getD (text o (getD (nodes (now (s .entry))) i no-entry .1)) j 0 ⌝ }
 {
     s[CELLS + CELL * slot(s, i) + 6 + 32 * o + j]
@@ -142,7 +147,8 @@ pub fn content(s: &[u8], i: usize, o: usize, j: usize) -> u8
 
 // A content of the node at i.
 pub fn content_bytes(s: &[u8], i: usize, o: usize) -> &[u8]
-    requires { ⌜ (Layout (now s)) × (i < length (nodes (now s))) × (o < 2) ⌝ }
+    requires { ⌜ (Layout (now s)) × (i < length (nodes (now s))) × (o < 2)
+        × (has-text o (getD (nodes (now s)) i no-entry .1) ≡ true) ⌝ }
     ensures { λ r. ⌜ now r ≡ text o (getD (nodes (now (s .entry))) i no-entry .1) ⌝ }
 {
     let n = size(s, i, o);
@@ -159,19 +165,42 @@ pub fn set_content(s: &mut [u8], i: usize, b: &[u8])
     layout::store(s, CELLS + CELL * k + 6, b);
 }
 
-// The content now is kept as the committed one.
-pub fn save_content(s: &mut [u8], i: usize)
+// The content now is saved.
+fn save_content(s: &mut [u8], i: usize)
     requires { ⌜ (Layout (now s)) × (i < length (nodes (now s))) ⌝ }
-    ensures { λ r. ⌜ Kept (now (s .entry)) (now (s .exit)) (modify i (second saved) (nodes (now (s .entry)))) ⌝ }
+    ensures { λ r. ⌜ Saved (now (s .entry)) (now (s .exit)) i ⌝ }
 {
     let c = CELLS + CELL * slot(s, i);
     s[c + 5] = s[c + 4];
     layout::copy_32(s, c + 6, c + 38);
 }
 
-// The committed content is the content again.
+// The bytes that were saved last are the saved content.
+fn set_writer(s: &mut [u8], i: usize, t: u8)
+    requires { ⌜ (Layout (now s)) × (i < length (nodes (now s))) × (1 ≤ t) × (saved-size (now s) i ≤ 32) ⌝ }
+    ensures { λ r. ⌜ Kept (now (s .entry)) (now (s .exit))
+        (modify i (second (with-update (wrote t (saved-bytes (now (s .entry)) i)))) (nodes (now (s .entry)))) ⌝ }
+{
+    let k = slot(s, i);
+    s[CELLS + CELL * k + 1] = t;
+}
+
+// Transaction t writes: the content now is saved, if nobody wrote before.
+pub fn mark_written(s: &mut [u8], i: usize, t: u8)
+    requires { ⌜ (Layout (now s)) × (i < length (nodes (now s))) × (1 ≤ t) ⌝ }
+    ensures { λ r. ⌜ Kept (now (s .entry)) (now (s .exit)) (modify i (second (marked-written t)) (nodes (now (s .entry)))) ⌝ }
+{
+    if writer(s, i) != 0 {
+        set_writer(s, i, t);
+        return;
+    }
+    save_content(s, i);
+    set_writer(s, i, t);
+}
+
+// The saved content is the content again.
 pub fn restore_content(s: &mut [u8], i: usize)
-    requires { ⌜ (Layout (now s)) × (i < length (nodes (now s))) ⌝ }
+    requires { ⌜ (Layout (now s)) × (i < length (nodes (now s))) × (has-text 1 (getD (nodes (now s)) i no-entry .1) ≡ true) ⌝ }
     ensures { λ r. ⌜ Kept (now (s .entry)) (now (s .exit)) (modify i (second restored) (nodes (now (s .entry)))) ⌝ }
 {
     let c = CELLS + CELL * slot(s, i);

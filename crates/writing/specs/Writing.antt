@@ -8,19 +8,14 @@ use lib.Dec.{eqb}
 use Rattle.tree.specs.Lists.{every, keep}
 use Rattle.tree.specs.Content.{attribute-kind, takes, attributes-first}
 use Rattle.tree.specs.Steps.{is-named}
-use Rattle.protocol.specs.State.{nobody, Marked, seen-by}
+use Rattle.protocol.specs.State.{seen-by}
 use Rattle.layout.specs.Lists.{modify}
 use Rattle.layout.specs.Flat.{second}
 use Rattle.layout.specs.Layout.{Entry, nodes, Kept}
-use Rattle.layout.specs.Fields.{saved}
 use Rattle.lookup.specs.Places.{depth, item, seen-from, subtree}
 use Rattle.lookup.specs.Placing.{attributes}
 use Rattle.edits.specs.Rows.{changed-below, renamed-by, renamed-rows}
 use Rattle.writing.specs.declared.Tally.{Tally}
-
--- the content is kept as the committed one, if nobody wrote it
-abbrev pub kept-back : Marked → Marked
-kept-back a = cond (eqb (a .writer) nobody) (saved a) a
 
 -- one node, renamed if it is an element named a; r is 1 if it was
 pub record Renamed (s s′ : List ℕ) (r p t : ℕ) (a b : List ℕ) : Type 0 where

@@ -17,29 +17,17 @@ ghost use Rattle.layout.specs.Layout.{is-open, nodes, Layout, Left, Kept};
 ghost use Rattle.lookup.specs.Places.{item, children, subtree};
 ghost use Rattle.lookup.specs.Placing.{placed-by};
 ghost use Rattle.edits.specs.Rows.{left-out, granted-modes, new-place};
-ghost use Rattle.writing.specs.Writing.{kept-back, counted, Counted, Renamed, RenamedRest, RenamedBelow};
+ghost use Rattle.writing.specs.Writing.{counted, Counted, Renamed, RenamedRest, RenamedBelow};
 
 // Contents ---------------------------------------------------------------------------
 
-// The content is kept as the committed one, if no open transaction wrote the node at p.
-fn save(s: &mut [u8], p: usize)
-    requires { ⌜ (Layout (now s)) × (p < length (nodes (now s))) ⌝ }
-    ensures { λ r. ⌜ Kept (now (s .entry)) (now (s .exit)) (modify p (second kept-back) (nodes (now (s .entry)))) ⌝ }
-{
-    if table::writer(s, p) != 0 {
-        return;
-    }
-    table::save_content(s, p);
-}
-
 // Transaction t writes b.
 pub fn write(s: &mut [u8], p: usize, t: u8, b: &[u8])
-    requires { ⌜ (Layout (now s)) × (p < length (nodes (now s))) × (length (now b) ≤ 32) ⌝ }
+    requires { ⌜ (Layout (now s)) × (p < length (nodes (now s))) × (length (now b) ≤ 32) × (1 ≤ t) ⌝ }
     ensures { λ r. ⌜ Kept (now (s .entry)) (now (s .exit)) (modify p (second (written-by t (now (b .entry)))) (nodes (now (s .entry)))) ⌝ }
 {
-    save(s, p);
+    table::mark_written(s, p, t);
     table::set_content(s, p, b);
-    table::set_writer(s, p, t);
 }
 
 // Names ------------------------------------------------------------------------------
@@ -76,7 +64,7 @@ fn is_named(s: &[u8], p: usize, a: &[u8]) -> bool
 
 // The node at p, if it is an element named a, is named b by t; 1 if so, else 0.
 fn rename(s: &mut [u8], p: usize, t: u8, a: &[u8], b: &[u8]) -> usize
-    requires { ⌜ (Layout (now s)) × (p < length (nodes (now s))) × (length (now b) ≤ 32) ⌝ }
+    requires { ⌜ (Layout (now s)) × (p < length (nodes (now s))) × (length (now b) ≤ 32) × (1 ≤ t) ⌝ }
     ensures { λ r. ⌜ Renamed (now (s .entry)) (now (s .exit)) r p t (now (a .entry)) (now (b .entry)) ⌝ }
 {
     if !is_named(s, p, a) {
@@ -98,7 +86,7 @@ fn left_out(hidden: usize, d: usize) -> bool
 
 // Each element named a below the node at p that t sees is named b by t; how many.
 fn rename_rest(s: &mut [u8], p: usize, t: u8, a: &[u8], b: &[u8]) -> usize
-    requires { ⌜ (Layout (now s)) × (p < length (nodes (now s))) × (length (now b) ≤ 32) ⌝ }
+    requires { ⌜ (Layout (now s)) × (p < length (nodes (now s))) × (length (now b) ≤ 32) × (1 ≤ t) ⌝ }
     ensures { λ r. ⌜ RenamedRest (now (s .entry)) (now (s .exit)) r p t (now (a .entry)) (now (b .entry)) ⌝ }
 {
     let m = table::count(s);
@@ -128,7 +116,7 @@ fn rename_rest(s: &mut [u8], p: usize, t: u8, a: &[u8], b: &[u8]) -> usize
 
 // Each element named a of the subtree at p that t sees is named b by t; how many.
 pub fn rename_below(s: &mut [u8], p: usize, t: u8, a: &[u8], b: &[u8]) -> usize
-    requires { ⌜ (Layout (now s)) × (p < length (nodes (now s))) × (length (now b) ≤ 32) ⌝ }
+    requires { ⌜ (Layout (now s)) × (p < length (nodes (now s))) × (length (now b) ≤ 32) × (1 ≤ t) ⌝ }
     ensures { λ r. ⌜ RenamedBelow (now (s .entry)) (now (s .exit)) r p t (now (a .entry)) (now (b .entry)) ⌝ }
 {
     let first = rename(s, p, t, a, b);

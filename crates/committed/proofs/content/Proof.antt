@@ -15,7 +15,7 @@ returns c =
     let v = c .before .version in
     let a = c .before .before .before in
     let e = c .content-bytes .ensures in
-    (e ∙ v .ensures .1, rw e (size-small (a .args .s .now) (a .args .p) (v .result) _ refl (a .pre .0) (a .pre .1) (v .ensures .0)))
+    (e ∙ v .ensures .1, rw e (size-small (a .args .s .now) (a .args .p) (v .result) _ refl (a .pre .0) (a .pre .1) (v .ensures .2)))
 
 pub content-spec : {M : Type 1} → statement M
 content-spec = tie.close (tie.spec version-requires content-bytes-requires returns)

@@ -1,13 +1,14 @@
 -- Committed contents, and the depths that are left out.
 use mathlib.Core.Path.{_≡_, refl}
 use Prim.Native.Nat.{ℕ}
-use mathlib.Core.Bool.{false}
+use mathlib.Core.Bool.{true, false}
 use mathlib.Core.List.{List}
 use native.Mathlib.Omega.{arith}
 use lib.Dec.{leb}
 use borrow.Author.Tests.{eq-eqb, ne-eqb, lt-ltb}
+use Rattle.protocol.specs.State.{writer-of}
 use Rattle.layout.specs.Layout.{Entry}
-use Rattle.layout.specs.Fields.{text}
+use Rattle.layout.specs.Fields.{has-text, text}
 use Rattle.lookup.specs.Places.{item}
 use Rattle.edits.specs.Rows.{left-out}
 use Rattle.committed.specs.Lines.{committed-label, label-at}
@@ -24,10 +25,11 @@ pub left-out-some : (hidden d : ℕ) → (hidden ≡ 0 → ⊥) → leb hidden d
 left-out-some hidden d h = rw (lt-ltb 0 hidden (omega (arith, h)))
 
 -- nobody, or somebody, wrote the node
-pub version-now : (l : List Entry) (p : ℕ) → item l p .writer ≡ 0 → text 0 (item l p) ≡ label-at l p .content
+pub version-now : (l : List Entry) (p : ℕ) → writer-of (item l p .update) ≡ 0 → text 0 (item l p) ≡ label-at l p .content
 unfolding label-at committed-label
-version-now l p e = rw (eq-eqb (item l p .writer) 0 e)
+version-now l p e = rw (eq-eqb (writer-of (item l p .update)) 0 e)
 
-pub version-before : (l : List Entry) (p : ℕ) → (item l p .writer ≡ 0 → ⊥) → text 1 (item l p) ≡ label-at l p .content
+pub version-saved : (l : List Entry) (p : ℕ) → (writer-of (item l p .update) ≡ 0 → ⊥)
+    → (text 1 (item l p) ≡ label-at l p .content) × (has-text 1 (item l p) ≡ true)
 unfolding label-at committed-label
-version-before l p h = rw (ne-eqb (item l p .writer) 0 h)
+version-saved l p h = let e = ne-eqb (writer-of (item l p .update)) 0 h in (rw e, rw e)

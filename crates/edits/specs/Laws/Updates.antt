@@ -4,14 +4,11 @@ use Prim.Native.Nat.{ℕ, zero, suc, _<_}
 use mathlib.Core.Bool.{Bool, true, false, cond}
 use mathlib.Core.List.{List, [], _∷_, map}
 use lib.ListN.{length, getD, List·getD-map}
-use lib.Dec.{eqb}
 use Rattle.tree.specs.Forest.{Forest, nil, node, amend}
 use Rattle.tree.specs.Laws.Lists.{map-append, map-same}
-use Rattle.protocol.specs.State.{nobody, Marked, Tree, numbered, mark-node, written-by}
+use Rattle.protocol.specs.State.{Marked, Tree, numbered, mark-node}
 use Rattle.layout.specs.Lists.{modify}
 use Rattle.layout.specs.Flat.{flat, second}
-use Rattle.tree.specs.Steps.{with-content}
-use Rattle.layout.specs.Fields.{with-writer, with-now, saved}
 use Rattle.layout.specs.Layout.{Entry, no-entry}
 use Rattle.lookup.specs.Places.{unique}
 use Rattle.edits.specs.Rows.{row-number, row-numbers, number-at}
@@ -47,18 +44,3 @@ mark-node-rows n g f p u h e =
     inside : (b : Bool) (x : Entry) → second (λ a. cond b (g a) a) x ≡ cond b (second g x) x
     inside true x = refl
     inside false x = refl
-
--- what U writes, field by field: the content is kept as the committed one if nobody wrote it
-pub written-fields : (t : ℕ) (b : List ℕ) (a : Marked) → written-by t b a ≡ with-writer t (with-now b (cond (eqb (a .writer) nobody) (saved a) a))
-written-fields t b a = go (eqb (a .writer) nobody)
-  where
-    go : (c : Bool) → record {
-      now = with-content (a .now) b;
-      before = cond c (a .now .content) (a .before);
-      writer = t;
-      inserter = a .inserter;
-      deleter = a .deleter;
-      held = a .held;
-    } ≡ with-writer t (with-now b (cond c (saved a) a))
-    go true = refl
-    go false = refl

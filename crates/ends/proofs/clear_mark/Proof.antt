@@ -1,6 +1,6 @@
 use borrow.Author.Needs.{needs}
 use native.Mathlib.Omega.{arith}
-use Rattle.ends.specs.Laws.Marks.{cleared, not-cleared}
+use Rattle.ends.specs.Laws.Marks.{nobody-storable, cleared, not-cleared}
 use Rattle.ends.proofs.clear_mark.Statement.{statement}
 use Rattle.ends.proofs.clear_mark.Tie as tie
 
@@ -8,7 +8,9 @@ field-requires : tie.Need-field-requires
 field-requires c κs = search needs
 
 set-field-requires : tie.Need-set-field-requires
-set-field-requires c κs = search needs
+set-field-requires c κs =
+    let begin = c .before .before .before .before .before in
+    (begin .pre .0, begin .pre .1, begin .pre .2, nobody-storable (begin .args .o))
 
 same-length : tie.Need-same-length
 same-length c = search needs
@@ -29,7 +31,7 @@ returns-2 c =
     let a = c .before .before .before .before .args in
     let pre = c .before .before .before .before .pre in
     let field = c .before .field in
-    not-cleared _ (a .i) (a .o) (a .t) _ (field .ensures) (c .if1 .left) (pre .2) (pre .0)
+    not-cleared _ (a .i) (a .o) (a .t) _ (field .ensures) (c .if1 .left) (pre .0)
 
 pub clear-mark-spec : {M : Type 1} → statement M
 clear-mark-spec =

@@ -1,6 +1,6 @@
 use borrow.Author.Needs.{needs}
 use native.Mathlib.Omega.{arith}
-use Rattle.ends.specs.Laws.Marks.{rewritten-own, not-rewritten}
+use Rattle.ends.specs.Laws.Marks.{own-saved, rewritten-own, not-rewritten}
 use Rattle.ends.proofs.rewrite.Statement.{statement}
 use Rattle.ends.proofs.rewrite.Tie as tie
 
@@ -8,7 +8,11 @@ writer-requires : tie.Need-writer-requires
 writer-requires c κs = search needs
 
 restore-content-requires : tie.Need-restore-content-requires
-restore-content-requires c κs = search needs
+restore-content-requires c κs =
+    let writer = c .before .before .writer in
+    let begin = c .before .before .before .before .before in
+    let saved = own-saved (begin .args .s .now) (begin .args .i) _ _ (writer .ensures) (c .before .if1 .taken) (begin .pre .2) in
+    (search needs, search needs, saved)
 
 same-length : tie.Need-same-length
 same-length c = search needs

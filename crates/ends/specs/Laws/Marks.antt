@@ -1,6 +1,6 @@
 -- The marks of a node cleared one by one, the nodes one after the other, and what an end leaves in all.
 use mathlib.Core.Path.{_≡_, refl, sym, ap, _∙_}
-use Prim.Native.Nat.{ℕ, zero, suc, _+_, _≤_, _<_}
+use Prim.Native.Nat.{ℕ, zero, suc, _+_, _≤_}
 use mathlib.Core.Bool.{Bool, true, false, cond, not, _&&_}
 use mathlib.Core.List.{List, [], _∷_, map}
 use native.Mathlib.Omega.{arith}
@@ -8,23 +8,16 @@ use lib.ListN.{length, getD}
 use lib.Dec.{eqb}
 use borrow.Author.Tests.{eq-eqb, ne-eqb}
 use Rattle.tree.specs.Laws.Lists.{map-map}
-use Rattle.protocol.specs.State.{nobody, Marked, without, seen-by, lasting, undone}
+use Rattle.protocol.specs.State.{nobody, writer-of, Marked, seen-by, lasting, undone}
 use Rattle.layout.specs.Lists.{modify}
 use Rattle.layout.specs.Flat.{second, prune}
 use Rattle.layout.specs.Layout.{is-open, Entry, nodes, no-entry, Layout, Left, Kept}
-use Rattle.layout.specs.Fields.{field, with-field, restored, released}
+use Rattle.layout.specs.Fields.{field, storable, with-field, has-text, restored, released}
 use Rattle.layout.specs.Laws.Lists.{modify-modify, modify-same, modify-none}
 use Rattle.layout.specs.Laws.Kept.{kept-same, kept-then, kept-as, left-kept, left-then, left-as}
 use Rattle.ends.specs.Ends.{without-mark, rewritten, lasting-marks, undone-marks, map-first, Closed, Ended}
 
 -- one node -------------------------------------------------------------------------------------
-
-own-field : (o : ℕ) (a : Marked) → o < 4 → with-field o (field o a) a ≡ a
-own-field zero a l = refl
-own-field (suc zero) a l = refl
-own-field (suc (suc zero)) a l = refl
-own-field (suc (suc (suc zero))) a l = refl
-own-field (suc (suc (suc (suc o)))) a l = absurd (omega arith)
 
 -- a change that does nothing to the node at i
 none-kept : (s : List ℕ) (i : ℕ) (g : Marked → Marked) → g (getD (nodes s) i no-entry .1) ≡ getD (nodes s) i no-entry .1 → Layout s
@@ -37,31 +30,40 @@ same-kept : {s s′ : List ℕ} (i : ℕ) (f g : Marked → Marked) → f (getD 
     → Kept s s′ (modify i (second f) (nodes s)) → Kept s s′ (modify i (second g) (nodes s))
 same-kept {s} i f g q k = kept-as _ _ (modify-same i (second f) (second g) (nodes s) no-entry (ap (λ (b : Marked). (getD (nodes s) i no-entry .0, b)) q)) k
 
+-- nobody can be stored as every mark
+pub nobody-storable : (o : ℕ) → storable o nobody ≡ true
+nobody-storable zero = refl
+nobody-storable (suc zero) = refl
+nobody-storable (suc (suc o)) = refl
+
 pub cleared : {s s′ : List ℕ} (i o t r : ℕ) → r ≡ field o (getD (nodes s) i no-entry .1) → r ≡ t
-    → Kept s s′ (modify i (second (with-field o 0)) (nodes s)) → Kept s s′ (modify i (second (without-mark o t)) (nodes s))
+    → Kept s s′ (modify i (second (with-field o nobody)) (nodes s)) → Kept s s′ (modify i (second (without-mark o t)) (nodes s))
 cleared {s} i o t r e p k =
     let a : Marked = getD (nodes s) i no-entry .1 in
-    let q : 0 ≡ without t (field o a) = rw (eq-eqb (field o a) t (sym e ∙ p)) in
-    same-kept i (with-field o 0) (without-mark o t) (ap (λ (v : ℕ). with-field o v a) q) k
+    same-kept i (with-field o nobody) (without-mark o t) (rw (eq-eqb (field o a) t (sym e ∙ p))) k
 
-pub not-cleared : (s : List ℕ) (i o t r : ℕ) → r ≡ field o (getD (nodes s) i no-entry .1) → (r ≡ t → ⊥) → o < 4 → Layout s
+pub not-cleared : (s : List ℕ) (i o t r : ℕ) → r ≡ field o (getD (nodes s) i no-entry .1) → (r ≡ t → ⊥) → Layout s
     → Kept s s (modify i (second (without-mark o t)) (nodes s))
-not-cleared s i o t r e p l h =
+not-cleared s i o t r e p h =
     let a : Marked = getD (nodes s) i no-entry .1 in
-    let q : without t (field o a) ≡ field o a = rw (ne-eqb (field o a) t (λ x. p (e ∙ x))) in
-    none-kept s i (without-mark o t) (ap (λ (v : ℕ). with-field o v a) q ∙ own-field o a l) h
+    none-kept s i (without-mark o t) (rw (ne-eqb (field o a) t (λ x. p (e ∙ x)))) h
 
-pub rewritten-own : {s s′ : List ℕ} (i t r : ℕ) → r ≡ getD (nodes s) i no-entry .1 .writer → r ≡ t
+-- t wrote the node: a content is saved
+pub own-saved : (s : List ℕ) (i t r : ℕ) → r ≡ writer-of (getD (nodes s) i no-entry .1 .update) → r ≡ t → 1 ≤ t
+    → has-text 1 (getD (nodes s) i no-entry .1) ≡ true
+own-saved s i t r e p l = rw (ne-eqb (writer-of (getD (nodes s) i no-entry .1 .update)) nobody (λ q. omega arith))
+
+pub rewritten-own : {s s′ : List ℕ} (i t r : ℕ) → r ≡ writer-of (getD (nodes s) i no-entry .1 .update) → r ≡ t
     → Kept s s′ (modify i (second restored) (nodes s)) → Kept s s′ (modify i (second (rewritten t)) (nodes s))
 rewritten-own {s} i t r e p k =
     let a : Marked = getD (nodes s) i no-entry .1 in
-    same-kept i restored (rewritten t) (rw (eq-eqb (a .writer) t (sym e ∙ p))) k
+    same-kept i restored (rewritten t) (rw (eq-eqb (writer-of (a .update)) t (sym e ∙ p))) k
 
-pub not-rewritten : (s : List ℕ) (i t r : ℕ) → r ≡ getD (nodes s) i no-entry .1 .writer → (r ≡ t → ⊥) → Layout s
+pub not-rewritten : (s : List ℕ) (i t r : ℕ) → r ≡ writer-of (getD (nodes s) i no-entry .1 .update) → (r ≡ t → ⊥) → Layout s
     → Kept s s (modify i (second (rewritten t)) (nodes s))
 not-rewritten s i t r e p h =
     let a : Marked = getD (nodes s) i no-entry .1 in
-    none-kept s i (rewritten t) (rw (ne-eqb (a .writer) t (λ x. p (e ∙ x)))) h
+    none-kept s i (rewritten t) (rw (ne-eqb (writer-of (a .update)) t (λ x. p (e ∙ x)))) h
 
 -- two changes of one node
 pub both-marks : {s s′ s″ : List ℕ} (i : ℕ) (g h : Marked → Marked) → Kept s s′ (modify i (second g) (nodes s)) → Kept s′ s″ (modify i (second h) (nodes s′))
@@ -130,7 +132,19 @@ module _ (shown : Marked → Bool) (marks g : Marked → Marked) (t : ℕ) (whol
       (closed-after t _ (map (second (released t))) (left-then (prune shown 0 (nodes s)) (map (second marks)) a b) c)
 
 pub lasting-whole : (t : ℕ) (a : Marked) → released t (lasting-marks t a) ≡ lasting t a
-lasting-whole t a = refl
+lasting-whole t a = go (eqb (writer-of (a .update)) t) refl (eqb (a .inserter) t) refl
+  where
+    go : (x : Bool) → eqb (writer-of (a .update)) t ≡ x → (y : Bool) → eqb (a .inserter) t ≡ y → released t (lasting-marks t a) ≡ lasting t a
+    go true p true q = rw (p, q)
+    go true p false q = rw (p, q)
+    go false p true q = rw (p, q)
+    go false p false q = rw (p, q)
 
 pub undone-whole : (t : ℕ) (a : Marked) → released t (undone-marks t a) ≡ undone t a
-undone-whole t a = refl
+undone-whole t a = go (eqb (writer-of (a .update)) t) refl (eqb (a .deleter) t) refl
+  where
+    go : (x : Bool) → eqb (writer-of (a .update)) t ≡ x → (y : Bool) → eqb (a .deleter) t ≡ y → released t (undone-marks t a) ≡ undone t a
+    go true p true q = rw (p, q)
+    go true p false q = rw (p, q)
+    go false p true q = rw (p, q)
+    go false p false q = rw (p, q)

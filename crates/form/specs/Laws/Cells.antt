@@ -1,17 +1,17 @@
 -- The check of a cell, test by test.
 use mathlib.Core.Path.{_≡_, refl, sym, ap, _∙_}
 use Prim.Native.Nat.{ℕ, zero, suc, _+_, _*_, _≤_, _<_}
-use mathlib.Core.Bool.{Bool, true, false, _&&_, and-false}
+use mathlib.Core.Bool.{Bool, true, false, _&&_, _||_, and-false}
 use mathlib.Core.List.{List, [], _∷_}
 use native.Mathlib.Omega.{arith}
 use native.Mathlib.Nat.{add-zero}
 use lib.ListN.{length, getD}
 use lib.Dec.{eqb, leb}
-use borrow.Author.Tests.{le-leb, lt-leb}
+use borrow.Author.Tests.{le-leb, lt-leb, eq-eqb, ne-eqb}
 use Rattle.tree.specs.Content.{between, content-limit}
 use Rattle.locks.specs.Modes.{no-mode}
-use Rattle.layout.specs.Layout.{cell-at, cell, decode}
-use Rattle.layout.specs.Laws.Fields.{cell-byte}
+use Rattle.layout.specs.Layout.{cell-at, cell, stored, decode}
+use Rattle.layout.specs.Laws.Fields.{cell-byte, writer-update}
 use Rattle.form.specs.Form.{in-range, sizes-in-range}
 use Rattle.form.specs.Check.{cell-in-range}
 
@@ -23,15 +23,20 @@ pub and-first : {a : Bool} (b : Bool) → a ≡ false → (a && b) ≡ false
 and-first b h = rw h
 
 module _ (s : List ℕ) (k : ℕ) where
-  sizes-of : sizes-in-range (cell s k) ≡ (leb (getD s (cell-at k + 4) 0) 32 && leb (getD s (cell-at k + 5) 0) 32)
+  sizes-of : sizes-in-range (cell s k)
+      ≡ (leb (getD s (cell-at k + 4) 0) 32 && (eqb (getD s (cell-at k + 1) 0) 0 || leb (getD s (cell-at k + 5) 0) 32))
   unfolding sizes-in-range
-  sizes-of = rw (cell-byte s k 4 (omega arith), cell-byte s k 5 (omega arith))
+  sizes-of = rw (cell-byte s k 4 (omega arith), cell-byte s k 1 (omega arith), cell-byte s k 5 (omega arith))
 
   pub sizes-now : 32 < getD s (cell-at k + 4) 0 → false ≡ sizes-in-range (cell s k)
   sizes-now h = sym (sizes-of ∙ rw (lt-leb (getD s (cell-at k + 4) 0) 32 h))
 
-  pub sizes-before : getD s (cell-at k + 4) 0 ≤ 32 → leb (getD s (cell-at k + 5) 0) 32 ≡ sizes-in-range (cell s k)
-  sizes-before h = sym (sizes-of ∙ rw (le-leb (getD s (cell-at k + 4) 0) 32 h))
+  module _ (h : getD s (cell-at k + 4) 0 ≤ 32) where
+    pub sizes-unwritten : getD s (cell-at k + 1) 0 ≡ 0 → true ≡ sizes-in-range (cell s k)
+    sizes-unwritten e = sym (sizes-of ∙ rw (le-leb (getD s (cell-at k + 4) 0) 32 h, eq-eqb (getD s (cell-at k + 1) 0) 0 e))
+
+    pub sizes-saved : (getD s (cell-at k + 1) 0 ≡ 0 → ⊥) → leb (getD s (cell-at k + 5) 0) 32 ≡ sizes-in-range (cell s k)
+    sizes-saved n = sym (sizes-of ∙ rw (le-leb (getD s (cell-at k + 4) 0) 32 h, ne-eqb (getD s (cell-at k + 1) 0) 0 n))
 
   module _ (low high most : ℕ) where
     cell-of : cell-in-range low high most (cell s k)
@@ -44,6 +49,7 @@ module _ (s : List ℕ) (k : ℕ) where
           cell-byte s k 1 (omega arith),
           cell-byte s k 2 (omega arith),
           cell-byte s k 3 (omega arith),
+          writer-update (getD (cell s k) 1 0) (stored 1 (cell s k)),
         )
 
     pub cell-low : getD s (cell-at k) 0 < low → false ≡ cell-in-range low high most (cell s k)

@@ -10,7 +10,7 @@ use borrow.Author.Tests.{le-leb, leb-true, lt-ltb, ltb-true, eqb-true, eqb-false
 use Rattle.tree.specs.Lists.{every, has, distinct, same}
 use Rattle.tree.specs.Content.{between, content-limit}
 use Rattle.tree.specs.Laws.Tests.{and-left, and-right, or-left, or-right}
-use Rattle.protocol.specs.State.{Marked, Tree, State}
+use Rattle.protocol.specs.State.{nobody, Marked, Tree, State}
 use Rattle.protocol.specs.Calls.{node-limit}
 use Rattle.layout.specs.Lists.{tabulate}
 use Rattle.layout.specs.Flat.{flat}
@@ -89,12 +89,21 @@ sized-of : (c : List ℕ) → sizes-in-range c ≡ true → Sized c
 unfolding sizes-in-range
 sized-of c h = record {
   now = leb-true (getD c 4 0) content-limit (and-left (leb (getD c 4 0) content-limit) _ h);
-  before = leb-true (getD c 5 0) content-limit (and-right (leb (getD c 4 0) content-limit) _ h);
+  saved = λ n. leb-true (getD c 5 0) content-limit
+      (or-rest (ne-eqb (getD c 1 0) nobody n)
+      (and-right (leb (getD c 4 0) content-limit) (eqb (getD c 1 0) nobody || leb (getD c 5 0) content-limit) h));
 }
+  where
+    or-rest : {a b : Bool} → a ≡ false → (a || b) ≡ true → b ≡ true
+    or-rest e h = rw e at h
 
 of-sized : (c : List ℕ) → Sized c → sizes-in-range c ≡ true
 unfolding sizes-in-range
-of-sized c z = rw (le-leb (getD c 4 0) content-limit (z .now), le-leb (getD c 5 0) content-limit (z .before))
+of-sized c z = rw (le-leb (getD c 4 0) content-limit (z .now)) (go (eqb (getD c 1 0) nobody) refl)
+  where
+    go : (x : Bool) → eqb (getD c 1 0) nobody ≡ x → (x || leb (getD c 5 0) content-limit) ≡ true
+    go true e = refl
+    go false e = le-leb (getD c 5 0) content-limit (z .saved (eqb-false (getD c 1 0) nobody e))
 
 -- the theorems ------------------------------------------------------------------------------------------
 

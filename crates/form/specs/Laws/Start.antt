@@ -145,7 +145,6 @@ module _ (s : List ℕ) (l : state-size ≤ length s) (b : (j : ℕ) → j < sta
         cell-is 2 (omega arith),
         cell-is 3 (omega arith),
         cell-is 4 (omega arith),
-        cell-is 5 (omega arith),
       )
 
   nodes-is : nodes s ≡ (0, unmarked document) ∷ []
@@ -162,7 +161,7 @@ module _ (s : List ℕ) (l : state-size ≤ length s) (b : (j : ℕ) → j < sta
     slots = λ i h. rw (slot-is i h) h;
     apart = λ i j h k e. sym (slot-is i h) ∙ e ∙ slot-is j k;
     sizes = λ i h. let z : i ≡ 0 = omega (arith, count-is) in
-        rw (z, slot-is 0 (omega arith)) (record { now = rw (cell-is 4 (omega arith)) (omega arith); before = rw (cell-is 5 (omega arith)) (omega arith) });
+        rw (z, slot-is 0 (omega arith)) (record { now = rw (cell-is 4 (omega arith)) (omega arith); saved = λ n. rw (cell-is 5 (omega arith)) (omega arith) });
   }
 
   pub start-holds : Holds s start-state

@@ -15,6 +15,7 @@ use Rattle.tree.specs.Steps.{Step, T, C, R, U, D, I, TT, RR, UU, target}
 use Rattle.tree.specs.Laws.Tests.{and-left, and-right, or-left, or-right, refuted}
 use Rattle.locks.specs.Needs.{Lock}
 use Rattle.protocol.specs.State.{nobody, is-transaction, Marked, Tree, numbered, seen-by, written-by, deleted-by, unmarked, inserted-by, granted-to}
+use Rattle.protocol.specs.State.{writer-of, Update, update-without, unwritten}
 use Rattle.protocol.specs.State.{without, lasting, undone}
 use Rattle.protocol.specs.State.{mark, renamed, act, grant, commit-tree, abort-tree, tree-of}
 use Rattle.layout.specs.Flat.{flat}
@@ -30,7 +31,7 @@ use Rattle.form.specs.Laws.Rows.{and-of, between-of, between-low, betwee
 pub record InRange (least greatest most : ℕ) (a : Marked) : Type 0 where
   pub low : least ≤ a .now .kind
   pub high : a .now .kind ≤ greatest
-  pub writer : a .writer ≤ 16
+  pub writer : writer-of (a .update) ≤ 16
   pub inserter : a .inserter ≤ most
   pub deleter : a .deleter ≤ most
 
@@ -38,12 +39,12 @@ in-range-is : (low high most : ℕ) (a : Marked) → in-range low high most a �
 unfolding in-range
 in-range-is low high most a h =
     let k : between low high (a .now .kind) ≡ true = and-left (between low high (a .now .kind)) _ h in
-    let m : (leb (a .writer) 16 && (leb (a .inserter) most && leb (a .deleter) most)) ≡ true = and-right (between low high (a .now .kind)) _ h in
-    let n : (leb (a .inserter) most && leb (a .deleter) most) ≡ true = and-right (leb (a .writer) 16) _ m in
+    let m : (leb (writer-of (a .update)) 16 && (leb (a .inserter) most && leb (a .deleter) most)) ≡ true = and-right (between low high (a .now .kind)) _ h in
+    let n : (leb (a .inserter) most && leb (a .deleter) most) ≡ true = and-right (leb (writer-of (a .update)) 16) _ m in
     record {
       low = between-low low high (a .now .kind) k;
       high = between-high low high (a .now .kind) k;
-      writer = leb-true (a .writer) 16 (and-left (leb (a .writer) 16) _ m);
+      writer = leb-true (writer-of (a .update)) 16 (and-left (leb (writer-of (a .update)) 16) _ m);
       inserter = leb-true (a .inserter) most (and-left (leb (a .inserter) most) _ n);
       deleter = leb-true (a .deleter) most (and-right (leb (a .inserter) most) _ n);
     }
@@ -52,7 +53,7 @@ is-in-range : (low high most : ℕ) (a : Marked) → InRange low high most a →
 unfolding in-range
 is-in-range low high most a h =
     and-of (between-of low high (a .now .kind) (h .low) (h .high))
-    (and-of (le-leb (a .writer) 16 (h .writer)) (and-of (le-leb (a .inserter) most (h .inserter)) (le-leb (a .deleter) most (h .deleter))))
+    (and-of (le-leb (writer-of (a .update)) 16 (h .writer)) (and-of (le-leb (a .inserter) most (h .inserter)) (le-leb (a .deleter) most (h .deleter))))
 
 -- what the form asks of a node below the document
 abbrev pub Valid : Marked → Type 0
@@ -70,7 +71,7 @@ is-valid a h = is-in-range element-kind text-kind 16 a h
 pub record FineDocument (a : Marked) : Type 0 where
   pub kind : a .now .kind ≡ document-kind
   pub number : a .now .number ≡ 0
-  pub writer : a .writer ≤ 16
+  pub writer : writer-of (a .update) ≤ 16
   pub inserter : a .inserter ≡ nobody
   pub deleter : a .deleter ≡ nobody
 
@@ -114,6 +115,13 @@ without-small t u h = go (eqb u t)
     go true = omega arith
     go false = h
 
+update-small : (t : ℕ) (u : Update) → writer-of u ≤ 16 → writer-of (update-without t u) ≤ 16
+update-small t u h = go (eqb (writer-of u) t)
+  where
+    go : (b : Bool) → writer-of (cond b unwritten u) ≤ 16
+    go true = omega arith
+    go false = h
+
 without-nobody : (t u : ℕ) → u ≡ nobody → without t u ≡ nobody
 without-nobody t u h = go (eqb u t)
   where
@@ -141,14 +149,14 @@ keeps-lasting t = record {
   node = λ a h. record {
     low = h .low;
     high = h .high;
-    writer = without-small t (a .writer) (h .writer);
+    writer = update-small t (a .update) (h .writer);
     inserter = without-small t (a .inserter) (h .inserter);
     deleter = h .deleter;
   };
   document = λ a h. record {
     kind = h .kind;
     number = h .number;
-    writer = without-small t (a .writer) (h .writer);
+    writer = update-small t (a .update) (h .writer);
     inserter = without-nobody t (a .inserter) (h .inserter);
     deleter = h .deleter;
   };
@@ -159,14 +167,14 @@ keeps-undone t = record {
   node = λ a h. record {
     low = h .low;
     high = h .high;
-    writer = without-small t (a .writer) (h .writer);
+    writer = update-small t (a .update) (h .writer);
     inserter = h .inserter;
     deleter = without-small t (a .deleter) (h .deleter);
   };
   document = λ a h. record {
     kind = h .kind;
     number = h .number;
-    writer = without-small t (a .writer) (h .writer);
+    writer = update-small t (a .update) (h .writer);
     inserter = h .inserter;
     deleter = without-nobody t (a .deleter) (h .deleter);
   };

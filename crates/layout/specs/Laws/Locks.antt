@@ -182,8 +182,7 @@ held-none s i u l e = rw (node-at s i (omega (arith, length-nodes s)), e)
 unfoldable pub cleared : ℕ → Marked → Marked
 cleared t a = record {
   now = a .now;
-  before = a .before;
-  writer = a .writer;
+  update = a .update;
   inserter = a .inserter;
   deleter = a .deleter;
   held = λ u. cond (ltb u t) no-mode (a .held u);
@@ -198,7 +197,7 @@ not-transaction u h = go (is-transaction u) refl
 
 -- a with other modes
 abbrev holding : Marked → (ℕ → ModeSet) → Marked
-holding a f = record { now = a .now; before = a .before; writer = a .writer; inserter = a .inserter; deleter = a .deleter; held = f }
+holding a f = record { now = a .now; update = a .update; inserter = a .inserter; deleter = a .deleter; held = f }
 
 cleared-none : (a : Marked) → a .held 0 ≡ no-mode → cleared 1 a ≡ a
 unfolding cleared

@@ -10,8 +10,8 @@ open-place-requires c κs = search needs
 set-kind-requires : tie.Need-set-kind-requires
 set-kind-requires c κs = search needs
 
-set-writer-requires : tie.Need-set-writer-requires
-set-writer-requires c κs =
+clear-writer-requires : tie.Need-clear-writer-requires
+clear-writer-requires c κs =
     let c8 = c .before .before .before .before .before .before .before .before in
     let pre = c8 .before .before .before .pre in
     let open-place = c .before .before .before .before .before .before .before .open-place in
@@ -24,9 +24,9 @@ set-inserter-requires c κs =
     let pre = c8 .before .before .before .before .before .before .before .pre in
     let open-place = c8 .before .before .before .open-place in
     let set-kind = c .before .before .before .before .before .before .before .set-kind in
-    let set-writer = c .before .before .before .set-writer in (
-      set-writer .ensures .layout,
-      omega (arith, open-place .ensures .many, set-kind .ensures .many, set-writer .ensures .many, pre .2),
+    let clear-writer = c .before .before .before .clear-writer in (
+      clear-writer .ensures .layout,
+      omega (arith, open-place .ensures .many, set-kind .ensures .many, clear-writer .ensures .many, pre .2),
     )
 
 set-deleter-requires : tie.Need-set-deleter-requires
@@ -36,14 +36,14 @@ set-deleter-requires c κs =
     let pre = c16 .before .before .before .pre in
     let open-place = c8 .before .before .before .before .before .before .before .open-place in
     let set-kind = c8 .before .before .before .set-kind in
-    let set-writer = c .before .before .before .before .before .before .before .set-writer in
+    let clear-writer = c .before .before .before .before .before .before .before .clear-writer in
     let set-inserter = c .before .before .before .set-inserter in (
       set-inserter .ensures .layout,
       omega (
         arith,
         open-place .ensures .many,
         set-kind .ensures .many,
-        set-writer .ensures .many,
+        clear-writer .ensures .many,
         set-inserter .ensures .many,
         pre .2,
       ),
@@ -56,7 +56,7 @@ set-content-requires c κs =
     let pre = c16 .before .before .before .before .before .before .before .pre in
     let open-place = c16 .before .before .before .open-place in
     let set-kind = c8 .before .before .before .before .before .before .before .set-kind in
-    let set-writer = c8 .before .before .before .set-writer in
+    let clear-writer = c8 .before .before .before .clear-writer in
     let set-inserter = c .before .before .before .before .before .before .before .set-inserter in
     let set-deleter = c .before .before .before .set-deleter in (
       set-deleter .ensures .layout,
@@ -64,7 +64,7 @@ set-content-requires c κs =
         arith,
         open-place .ensures .many,
         set-kind .ensures .many,
-        set-writer .ensures .many,
+        clear-writer .ensures .many,
         set-inserter .ensures .many,
         set-deleter .ensures .many,
         pre .2,
@@ -80,7 +80,7 @@ unlock-requires c κs =
     let pre = c24 .before .before .before .pre in
     let open-place = c16 .before .before .before .before .before .before .before .open-place in
     let set-kind = c16 .before .before .before .set-kind in
-    let set-writer = c8 .before .before .before .before .before .before .before .set-writer in
+    let clear-writer = c8 .before .before .before .before .before .before .before .clear-writer in
     let set-inserter = c8 .before .before .before .set-inserter in
     let set-deleter = c .before .before .before .before .before .before .before .set-deleter in
     let set-content = c .before .before .before .set-content in (
@@ -89,7 +89,7 @@ unlock-requires c κs =
         arith,
         open-place .ensures .many,
         set-kind .ensures .many,
-        set-writer .ensures .many,
+        clear-writer .ensures .many,
         set-inserter .ensures .many,
         set-deleter .ensures .many,
         set-content .ensures .many,
@@ -108,12 +108,12 @@ returns c =
     let pre = c24 .before .before .before .before .before .before .pre in
     let open-place = c24 .before .before .open-place in
     let set-kind = c16 .before .before .before .before .before .before .set-kind in
-    let set-writer = c16 .before .before .set-writer in
+    let clear-writer = c16 .before .before .clear-writer in
     let set-inserter = c8 .before .before .before .before .before .before .set-inserter in
     let set-deleter = c8 .before .before .set-deleter in
     let set-content = c .before .before .before .before .before .before .set-content in
     let unlock = c .before .before .unlock in
-    inserted _ _ _ _ _ _ (open-place .ensures) (set-kind .ensures) (set-writer .ensures) (set-inserter .ensures)
+    inserted _ _ _ _ _ _ (open-place .ensures) (set-kind .ensures) (clear-writer .ensures) (set-inserter .ensures)
     (set-deleter .ensures) (set-content .ensures) (unlock .ensures) (pre .2)
 
 pub insert-spec : {M : Type 1} → statement M
@@ -122,7 +122,7 @@ insert-spec =
     (tie.spec
     open-place-requires
     set-kind-requires
-    set-writer-requires
+    clear-writer-requires
     set-inserter-requires
     set-deleter-requires
     set-content-requires

@@ -9,10 +9,10 @@ use native.Mathlib.Nat.{add-assoc}
 use lib.ListN.{length, getD, take, drop}
 use lib.Dec.{eqb, ltb}
 use borrow.Author.Tests.{ltb-true, ltb-false, lt-ltb, le-ltb, eqb-true, eqb-false, eq-eqb, ne-eqb}
-use Rattle.protocol.specs.State.{Marked, inserted-by, deleted-by}
+use Rattle.protocol.specs.State.{Marked, inserted-by, deleted-by, unwritten}
 use Rattle.layout.specs.Lists.{tabulate, modify, insert}
 use Rattle.layout.specs.Flat.{second}
-use Rattle.layout.specs.Fields.{with-kind, with-writer, with-inserter, with-now, unlocked}
+use Rattle.layout.specs.Fields.{with-kind, with-update, with-inserter, with-now, unlocked}
 use Rattle.layout.specs.Layout.{state-size, count-at, entry-at, cell-at, word, count, slot, depth, number, cell, is-open, held, decode, Entry, entry}
 use Rattle.layout.specs.Layout.{nodes, no-entry, Sized, Layout, Left, Kept}
 use Rattle.layout.specs.Laws.Bytes.{Only, only-wider, only-then, only-word, put-word, word-put, word-high, Filled, part-at}
@@ -74,7 +74,7 @@ module _ (s s₁ s₂ s₃ s₄ : List ℕ) (n p k d m : ℕ) (h : Layout s) (c 
   no-size j b = sym (cell-byte s₁ k (4 + j) (omega arith)) ∙ rw (← add-assoc (cell-at k) 4 j) (f .bytes j b)
 
   sized : Sized (cell s₁ k)
-  sized = record { now = rw (no-size 0 (omega arith)) (omega arith); before = rw (no-size 1 (omega arith)) (omega arith) }
+  sized = record { now = rw (no-size 0 (omega arith)) (omega arith); saved = λ n. rw (no-size 1 (omega arith)) (omega arith) }
 
   long : length s₃ ≡ length s
   long = x .only .long ∙ g .only .long ∙ f .only .long
@@ -162,7 +162,6 @@ module _ (s s₁ s₂ s₃ s₄ : List ℕ) (n p k d m : ℕ) (h : Layout s) (c 
       record {
         node = new;
         number = refl;
-        before = rw (no-size 1 (omega arith));
         many = length-nodes s₄ ∙ counted ∙ omega (arith, length-nodes s);
         left = then-left (nodes s) (insert p (d, new)) (left-kept first-kept)
             (outline-left only (first-kept .layout) (n + 1) counted (omega arith) (omega arith) (back p n) from sizes (insert p (d, new) (nodes s₁)) list);
@@ -170,7 +169,7 @@ module _ (s s₁ s₂ s₃ s₄ : List ℕ) (n p k d m : ℕ) (h : Layout s) (c 
 
 -- the fields of the new node
 pub inserted : {s s₁ s₂ s₃ s₄ s₅ s₆ s₇ : List ℕ} (p d n kind t : ℕ) (b : List ℕ) → Opened s s₁ p d n →
-    Kept s₁ s₂ (modify p (second (with-kind kind)) (nodes s₁)) → Kept s₂ s₃ (modify p (second (with-writer 0)) (nodes s₂))
+    Kept s₁ s₂ (modify p (second (with-kind kind)) (nodes s₁)) → Kept s₂ s₃ (modify p (second (with-update unwritten)) (nodes s₂))
     → Kept s₃ s₄ (modify p (second (with-inserter t)) (nodes s₃)) →
     Kept s₄ s₅ (modify p (second (deleted-by 0)) (nodes s₄)) → Kept s₅ s₆ (modify p (second (with-now b)) (nodes s₅))
     → Kept s₆ s₇ (modify p (second unlocked) (nodes s₆)) →
@@ -183,6 +182,6 @@ inserted {s} {s₁} {s₂} {s₃} {s₄} {s₅} {s₆} {s₇} p d n kind t b o a
     step s₆ s₇ _ unlocked (step s₅ s₆ _ (with-now b)
     (step s₄ s₅ _ (deleted-by 0)
     (step s₃ s₄ _ (with-inserter t)
-    (step s₂ s₃ _ (with-writer 0) (step s₁ s₂ (d, o .node) (with-kind kind) (o .left) a₁) a₂) a₃) a₄) a₅) a₆
+    (step s₂ s₃ _ (with-update unwritten) (step s₁ s₂ (d, o .node) (with-kind kind) (o .left) a₁) a₂) a₃) a₄) a₅) a₆
     in
-    left-as _ _ (rw (o .number, o .before)) l
+    left-as _ _ (rw (o .number)) l

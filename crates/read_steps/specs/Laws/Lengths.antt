@@ -31,7 +31,7 @@ cells-of l (i ∷ places) (suc n) h f =
     length-append (cell (item l i .now .content)) (cells (map (λ a. (number-of a, a .now .content)) (map (item l) (take n places)))) ∙ rw (e, x) (omega arith)
 
 content-small : {s : List ℕ} → Layout s → (i : ℕ) → i < length (nodes s) → length (item (nodes s) i .now .content) ≤ 32
-content-small {s} h i l = size-small s i 0 (slot s i) refl h l (omega arith)
+content-small {s} h i l = size-small s i 0 (slot s i) refl h l refl
 
 pub length-cells : {s : List ℕ} (w : Subtree) → Layout s → Inside (nodes s) w
     → length (cells (map (λ a. (number-of a, a .now .content)) (nodes-of (nodes s) w))) ≡ 33 * (w .count)

@@ -4,7 +4,7 @@ use Prim.Native.Nat.{ℕ}
 use mathlib.Core.Bool.{Bool, true, false, cond}
 use mathlib.Core.List.{List}
 use Rattle.locks.specs.Modes.{Mode}
-use Rattle.protocol.specs.State.{Marked, written-by, deleted-by}
+use Rattle.protocol.specs.State.{Marked, written-by, deleted-by, writer-of}
 
 -- t wrote b, or did not
 module _ (t : ℕ) (b : List ℕ) (a : Marked) where
@@ -34,7 +34,7 @@ module _ (t : ℕ) (a : Marked) where
   deleted-inserter true = refl
   deleted-inserter false = refl
 
-  pub deleted-writer : (x : Bool) → cond x (deleted-by t a) a .writer ≡ a .writer
+  pub deleted-writer : (x : Bool) → writer-of (cond x (deleted-by t a) a .update) ≡ writer-of (a .update)
   deleted-writer true = refl
   deleted-writer false = refl
 

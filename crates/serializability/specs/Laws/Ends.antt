@@ -19,8 +19,8 @@ use Rattle.locks.specs.Laws.Excludes.{LW-clashes}
 use Rattle.commute.specs.Laws.Runs.{Entry, Run, run-one-end}
 use Rattle.commute.specs.Laws.Orders.{Distinct, permuted-has, permuted-distinct, permutation-back, to-front, distinct-head, distinct-tail, distinct-cons}
 use Rattle.commute.specs.Laws.Serial.{Serial, reorder, commit, emptied, in-emptied, forget, idle}
-use Rattle.protocol.specs.State.{nobody, State, Marked, Tree, seen-by, document-of, without, none-of, lasting, undone, commit-tree, abort-tree, closed}
-use Rattle.serializability.specs.Laws.Shown.{Place, Inside, path, numbers-of, plus, minus, commit-shown, abort-shown}
+use Rattle.protocol.specs.State.{nobody, State, Marked, Tree, seen-by, document-of, without, none-of, lasting, undone, commit-tree, abort-tree, closed, writer-of}
+use Rattle.serializability.specs.Laws.Shown.{Place, Inside, path, numbers-of, plus, minus, writer-without, commit-shown, abort-shown}
 use Rattle.serializability.specs.Laws.Numbers.{number-of, seen-as, in-part, part-in, part-distinct}
 use Rattle.serializability.specs.Laws.Marks.{Within, Guarded, Renames, Authored, Covered}
 use Rattle.serializability.specs.Laws.Standing.{Standing, Carried, standing-carried}
@@ -34,7 +34,7 @@ pub record Ending (t : ℕ) (stays : Marked → Bool) (g : Marked → Marked) : 
   -- the marks of t go, and no new ones come
   pub inserter : (a : Marked) (u : ℕ) → (u ≡ nobody → ⊥) → stays a ≡ true → eqb (g a .inserter) u ≡ true → (eqb (a .inserter) u ≡ true) × (u ≡ t → ⊥)
   pub deleter : (a : Marked) (u : ℕ) → (u ≡ nobody → ⊥) → stays a ≡ true → eqb (g a .deleter) u ≡ true → (eqb (a .deleter) u ≡ true) × (u ≡ t → ⊥)
-  pub writer : (a : Marked) (u : ℕ) → (u ≡ nobody → ⊥) → eqb (g a .writer) u ≡ true → (eqb (a .writer) u ≡ true) × (u ≡ t → ⊥)
+  pub writer : (a : Marked) (u : ℕ) → (u ≡ nobody → ⊥) → eqb (writer-of (g a .update)) u ≡ true → (eqb (writer-of (a .update)) u ≡ true) × (u ≡ t → ⊥)
   -- the others' stay
   pub inserter-stays : (a : Marked) (u : ℕ) → (u ≡ t → ⊥) → eqb (a .inserter) u ≡ true → eqb (g a .inserter) u ≡ true
   pub held-stays : (a : Marked) (u : ℕ) (m : Mode) → (u ≡ t → ⊥) → a .held u m ≡ true → g a .held u m ≡ true
@@ -102,7 +102,7 @@ module _ (c : Document) (log : ℕ → List Entry) (M : State) (g : Good c log M
           a : (s : Place) × Inside s f × (every stays (path s) ≡ true) × (r ≡ seen-as stays h s)
           a = in-part stays h f i
 
-          w : (eqb (a .0 .it .writer) u ≡ true) × (u ≡ t → ⊥)
+          w : (eqb (writer-of (a .0 .it .update)) u ≡ true) × (u ≡ t → ⊥)
           w = end .writer (a .0 .it) u nu (rw (a .3) at m)
 
           step : (eqb (a .0 .it .inserter) u ≡ true) ⊎ (Within (locks (U (number-of (a .0)) []) (numbers-of (a .0 .above))) (holds log u) ⊎ Renames (holds log) u (numbers-of (path (a .0))))
@@ -260,7 +260,7 @@ commit-ends t = record {
   cut = λ a e. rw (not-false (eqb (a .deleter) t) e) (or-true (eqb (a .inserter) t));
   inserter = λ a u nu s e. without-is t (a .inserter) u nu e;
   deleter = λ a u nu s e. other-mark (a .deleter) t u s e;
-  writer = λ a u nu e. without-is t (a .writer) u nu e;
+  writer = λ a u nu e. without-is t (writer-of (a .update)) u nu (rw (writer-without t (a .update)) at e);
   inserter-stays = λ a u ne e. without-keeps t (a .inserter) u ne e;
   held-stays = λ a u m ne e. none-keeps t a u m ne e;
 }
@@ -271,7 +271,7 @@ abort-ends t = record {
   cut = λ a e. rw (not-false (eqb (a .inserter) t) e);
   inserter = λ a u nu s e. other-mark (a .inserter) t u s e;
   deleter = λ a u nu s e. without-is t (a .deleter) u nu e;
-  writer = λ a u nu e. without-is t (a .writer) u nu e;
+  writer = λ a u nu e. without-is t (writer-of (a .update)) u nu (rw (writer-without t (a .update)) at e);
   inserter-stays = λ a u ne e. e;
   held-stays = λ a u m ne e. none-keeps t a u m ne e;
 }

@@ -16,7 +16,7 @@ use Rattle.locks.specs.Needs.{Lock, locks}
 use Rattle.locks.specs.Laws.Compatible.{node-locked}
 use Rattle.commute.specs.Laws.Lines.{Of, at-line, line-here}
 use Rattle.commute.specs.Laws.Runs.{Entry}
-use Rattle.protocol.specs.State.{nobody, State, Tree, deleted-in, done-by, shown, as-shown, document-of, held-document}
+use Rattle.protocol.specs.State.{nobody, State, Tree, deleted-in, done-by, shown, as-shown, document-of, held-document, writer-of}
 use Rattle.serializability.specs.Laws.Shown.{Place, Inside, path, numbers-of}
 use Rattle.serializability.specs.Laws.Numbers.{number-of, Distinct, one-place}
 use Rattle.serializability.specs.Laws.Marks.{Within, Renames}
@@ -72,7 +72,7 @@ module _ (c : Document) (log : ℕ → List Entry) (M : State) (g : Good c log M
   renamer-open u (q ∷ p) (inl w) = holder-open u (q, LUU) (w (q, LUU) (node-locked (UU q [] []) p LUU (List·Memᴰ·head refl)))
   renamer-open u (q ∷ p) (inr w) = renamer-open u p w
 
-  pub writer-open : (r : Place) → Inside r (M .tree) → (u : ℕ) → (u ≡ nobody → ⊥) → eqb (r .it .writer) u ≡ true → M .is-open u ≡ true
+  pub writer-open : (r : Place) → Inside r (M .tree) → (u : ℕ) → (u ≡ nobody → ⊥) → eqb (writer-of (r .it .update)) u ≡ true → M .is-open u ≡ true
   writer-open r i u nu h = go (g .covered .authored r i u nu h)
     where
       go : (eqb (r .it .inserter) u ≡ true) ⊎ (Within (locks (U (number-of r) []) (numbers-of (r .above))) (holds log u) ⊎ Renames (holds log) u (numbers-of (path r))) → M .is-open u ≡ true
@@ -88,12 +88,12 @@ module _ (c : Document) (log : ℕ → List Entry) (M : State) (g : Good c log M
       go true e = refl
       go false e = marker-open r i (r .it .inserter) (eqb-false _ nobody e) (rw (eq-eqb (r .it .inserter) (r .it .inserter) refl))
 
-  pub writer-done : (r : Place) → Inside r (M .tree) → done-by (M .is-open) (r .it .writer) ≡ true
-  writer-done r i = go (eqb (r .it .writer) nobody) refl
+  pub writer-done : (r : Place) → Inside r (M .tree) → done-by (M .is-open) (writer-of (r .it .update)) ≡ true
+  writer-done r i = go (eqb (writer-of (r .it .update)) nobody) refl
     where
-      go : (x : Bool) → eqb (r .it .writer) nobody ≡ x → (x || M .is-open (r .it .writer)) ≡ true
+      go : (x : Bool) → eqb (writer-of (r .it .update)) nobody ≡ x → (x || M .is-open (writer-of (r .it .update))) ≡ true
       go true e = refl
-      go false e = writer-open r i (r .it .writer) (eqb-false _ nobody e) (eq-eqb (r .it .writer) (r .it .writer) refl)
+      go false e = writer-open r i (writer-of (r .it .update)) (eqb-false _ nobody e) (eq-eqb (writer-of (r .it .update)) (writer-of (r .it .update)) refl)
 
   -- the held document is what the open transactions show
   pub held-shown : held-document M ≡ document-of (M .is-open) (M .tree)

@@ -13,7 +13,7 @@ use Rattle.tree.specs.Steps.{Step, T, C, R, U, D, I, TT, RR, UU, target, insert
 use Rattle.tree.specs.Laws.Rows.{Each, each-above}
 use Rattle.tree.specs.Laws.Put.{in-put, New}
 use Rattle.locks.specs.Needs.{Lock, locks, needs}
-use Rattle.protocol.specs.State.{nobody, Marked, Tree, numbered, number-held, seen-by, callers-document, written-by, deleted-by, inserted-by, granted-to, mark, mark-node, renamed, act, grant}
+use Rattle.protocol.specs.State.{nobody, Marked, Tree, numbered, number-held, seen-by, callers-document, written-by, deleted-by, inserted-by, granted-to, mark, mark-node, renamed, act, grant, writer-of}
 use Rattle.serializability.specs.Laws.Edited.{written-number, written-inserter, written-deleter, deleted-number, deleted-inserter, deleted-writer}
 use Rattle.serializability.specs.Laws.Shown.{Place, Inside, path, numbers-of}
 use Rattle.serializability.specs.Laws.Numbers.{number-of, marked-above, in-mark, marked-numbers, mark-distinct, put-distinct}
@@ -35,8 +35,8 @@ module _ (holds holds' : ℕ → List Lock) (more : (u : ℕ) → Within (holds 
     Deleted c r = (c r .deleter ≡ r .it .deleter) ⊎ ((c r .deleter ≡ t) × Within (locks (D (number-of r)) (numbers-of (r .above))) (holds' t))
 
     Written : (Place → Marked) → Place → Type 0
-    Written c r = (c r .writer ≡ r .it .writer)
-        ⊎ ((c r .writer ≡ t) × (Within (locks (U (number-of r) []) (numbers-of (r .above))) (holds' t) ⊎ Renames holds' t (numbers-of (path r))))
+    Written c r = (writer-of (c r .update) ≡ writer-of (r .it .update))
+        ⊎ ((writer-of (c r .update) ≡ t) × (Within (locks (U (number-of r) []) (numbers-of (r .above))) (holds' t) ⊎ Renames holds' t (numbers-of (path r))))
 
     mark-covered : (c : Place → Marked) → ((r : Place) → c r .now .number ≡ number-of r) → ((r : Place) → c r .inserter ≡ r .it .inserter)
         → ((r : Place) → Inside r f → Deleted c r) → ((r : Place) → Inside r f → Written c r) → Covered holds' (mark c f)
@@ -86,7 +86,7 @@ module _ (holds holds' : ℕ → List Lock) (more : (u : ℕ) → Within (holds 
             old (inr (inl x)) = inr (inl (λ l j. more u l (x l j)))
             old (inr (inr x)) = inr (inr (renames-more u (numbers-of (path s)) x))
 
-            case : eqb (c s .writer) u ≡ true → Written c s → Goal
+            case : eqb (writer-of (c s .update)) u ≡ true → Written c s → Goal
             case g (inl x) = old (cov .authored s (a .1) u nu (rw x at g))
             case g (inr x) = rw (← eqb-true t u (rw (x .0) at g)) (inr (x .1))
 
@@ -98,8 +98,8 @@ module _ (holds holds' : ℕ → List Lock) (more : (u : ℕ) → Within (holds 
     write-covered test b h = mark-covered _ (λ r. written-number t b (r .it) (test r)) (λ r. written-inserter t b (r .it) (test r)) (λ r i. inl (written-deleter t b (r .it) (test r))) (λ r i. writer r (test r) (h r i))
       where
         writer : (r : Place) (x : Bool) → (x ≡ true → Within (locks (U (number-of r) []) (numbers-of (r .above))) (holds' t) ⊎ Renames holds' t (numbers-of (path r)))
-            → (cond x (written-by t b (r .it)) (r .it) .writer ≡ r .it .writer)
-            ⊎ ((cond x (written-by t b (r .it)) (r .it) .writer ≡ t) × (Within (locks (U (number-of r) []) (numbers-of (r .above))) (holds' t) ⊎ Renames holds' t (numbers-of (path r))))
+            → (writer-of (cond x (written-by t b (r .it)) (r .it) .update) ≡ writer-of (r .it .update))
+            ⊎ ((writer-of (cond x (written-by t b (r .it)) (r .it) .update) ≡ t) × (Within (locks (U (number-of r) []) (numbers-of (r .above))) (holds' t) ⊎ Renames holds' t (numbers-of (path r))))
         writer r true k = inr (refl, k refl)
         writer r false k = inl refl
 

@@ -18,7 +18,7 @@ use Rattle.locks.specs.Needs.{Lock, need, locks, needs}
 use Rattle.locks.specs.Laws.Compatible.{Compatible, compatible-symmetric, All-locked, node-locked, clashing, excludes, off-node, off-parent, off-path}
 use Rattle.locks.specs.Laws.Excludes.{LW-excludes}
 use Rattle.commute.specs.Laws.Lines.{at-line}
-use Rattle.protocol.specs.State.{nobody, Marked, Tree, seen-by, callers-document}
+use Rattle.protocol.specs.State.{nobody, Marked, Tree, seen-by, callers-document, writer-of}
 use Rattle.serializability.specs.Laws.Shown.{Place, Inside, path, numbers-of, local}
 use Rattle.serializability.specs.Laws.Numbers.{number-of, Distinct, one-place}
 
@@ -46,7 +46,7 @@ module _ (holds : ℕ → List Lock) where
 
   -- who wrote the node inserted it, or holds the locks of its update, or those of UU on it or above
   abbrev pub Authored : Marked → List Marked → Type 0
-  Authored a p = (u : ℕ) → (u ≡ nobody → ⊥) → eqb (a .writer) u ≡ true
+  Authored a p = (u : ℕ) → (u ≡ nobody → ⊥) → eqb (writer-of (a .update)) u ≡ true
       → (eqb (a .inserter) u ≡ true) ⊎ (Within (locks (U (a .now .number) []) (numbers-of p)) (holds u) ⊎ Renames u (numbers-of (a ∷ p)))
 
   pub record Covered (f : Tree) : Type 0 where
@@ -159,11 +159,11 @@ module _ (holds : ℕ → List Lock) (f : Tree) (cov : Covered holds f) (t : ℕ
 
   -- where nobody else can have written, t wrote, or nobody
   writer-local : (r : Place) → Inside r f → own t (r .it) ≡ true → ((u : ℕ) → (u ≡ t → ⊥) → Renames holds u (numbers-of (path r)) → ⊥)
-      → ((u : ℕ) → (u ≡ t → ⊥) → Within (locks (U (number-of r) []) (numbers-of (r .above))) (holds u) → ⊥) → local t (r .it .writer) ≡ true
+      → ((u : ℕ) → (u ≡ t → ⊥) → Within (locks (U (number-of r) []) (numbers-of (r .above))) (holds u) → ⊥) → local t (writer-of (r .it .update)) ≡ true
   writer-local r i o x y = go (eqb u nobody) refl (eqb u t) refl
     where
       u : ℕ
-      u = r .it .writer
+      u = writer-of (r .it .update)
 
       case : (u ≡ nobody → ⊥) → (u ≡ t → ⊥)
           → (eqb (r .it .inserter) u ≡ true) ⊎ (Within (locks (U (number-of r) []) (numbers-of (r .above))) (holds u) ⊎ Renames holds u (numbers-of (path r))) → ⊥
@@ -188,7 +188,7 @@ module _ (holds : ℕ → List Lock) (f : Tree) (cov : Covered holds f) (t : ℕ
     renames-above u ne (q ∷ l) (inl w) h = true≢false (sym (h q (rw (eq-eqb q q refl))) ∙ no-LUU u ne q l w)
     renames-above u ne (q ∷ l) (inr w) h = renames-above u ne l w (λ x i. h x (rw (i, or-true (eqb q x))))
 
-    pub writer-node : clashing (need s .node) (LU ∷ []) ≡ true → (r : Place) → Inside r f → number-of r ≡ n₀ → local t (r .it .writer) ≡ true
+    pub writer-node : clashing (need s .node) (LU ∷ []) ≡ true → (r : Place) → Inside r f → number-of r ≡ n₀ → local t (writer-of (r .it .update)) ≡ true
     writer-node k r i e = writer-local r i (and-left _ _ (own-node r i e))
         (λ u ne w. renames-above u ne (numbers-of (path r)) w (λ q h. rw (e, above-is r i e) at h))
         (λ u ne w. true≢false (sym (eq-eqb (number-of r) n₀ e) ∙ off-node n₀ (need s .node) (locks s P) (node-locked s P) (U (number-of r) []) (numbers-of (r .above))
@@ -205,7 +205,7 @@ module _ (holds : ℕ → List Lock) (f : Tree) (cov : Covered holds f) (t : ℕ
           go true e i rest = renames-above u ne (numbers-of p) w (λ q j. rw (← above-is (row a p) (g .0 .1) (eqb-true (a .now .number) n₀ e), j) (or-true (eqb n₀ q)))
           go false e i rest = rest i
 
-      pub writer-subtree : (r : Place) → Inside r f → has n₀ (numbers-of (path r)) ≡ true → local t (r .it .writer) ≡ true
+      pub writer-subtree : (r : Place) → Inside r f → has n₀ (numbers-of (path r)) ≡ true → local t (writer-of (r .it .update)) ≡ true
       writer-subtree r i h = writer-local r i (and-left _ _ (own-subtree cd r i h))
           (λ u ne w. renames-below u ne (path r) w (known r i) h)
           (λ u ne w. true≢false (sym h ∙ off-path n₀ (need s .node) (locks s P) (node-locked s P) (U (number-of r) []) (numbers-of (r .above)) (compatible-within (locks s P) (holds u) _ (compat u ne) w) cu))

@@ -20,7 +20,7 @@ use Rattle.locks.specs.Laws.Compatible.{Locked, node-locked}
 use Rattle.commute.specs.Laws.Lines.{Of, of-lines, to-lines}
 use Rattle.commute.specs.Laws.Runs.{Entry, Run, run-append, run-one-end}
 use Rattle.commute.specs.Laws.Orders as orders
-use Rattle.protocol.specs.State.{nobody, State, Marked, Tree, transactions, done-by, shown, as-shown, document-of, held-document}
+use Rattle.protocol.specs.State.{nobody, State, Marked, Tree, transactions, done-by, shown, as-shown, document-of, held-document, writer-of, saved-of}
 use Rattle.protocol.specs.History.{inserted, pending-in}
 use Rattle.serializability.specs.Laws.WaitSet.{transaction-in}
 use Rattle.serializability.specs.Laws.Shown.{Place, Inside, path, numbers-of}
@@ -233,14 +233,14 @@ module _ (c : Document) (log : ℕ → List Entry) (M : State) (g : Good c log M
 
     -- nor does t show another content
     only-content : (t : ℕ) (r : Place) → Inside r f → as-shown (M .is-open) (r .it) ≡ as-shown none (r .it) → as-shown (only t) (r .it) .content ≡ as-shown none (r .it) .content
-    only-content t r i e = go (eqb (r .it .writer) nobody) refl (eqb t (r .it .writer)) refl (ap (λ (x : Node). x .content) e)
+    only-content t r i e = go (eqb (writer-of (r .it .update)) nobody) refl (eqb t (writer-of (r .it .update))) refl (ap (λ (x : Node). x .content) e)
       where
-        go : (x : Bool) → eqb (r .it .writer) nobody ≡ x → (y : Bool) → eqb t (r .it .writer) ≡ y
-            → cond (x || M .is-open (r .it .writer)) (r .it .now .content) (r .it .before) ≡ cond (x || false) (r .it .now .content) (r .it .before)
-            → cond (x || (y || false)) (r .it .now .content) (r .it .before) ≡ cond (x || false) (r .it .now .content) (r .it .before)
+        go : (x : Bool) → eqb (writer-of (r .it .update)) nobody ≡ x → (y : Bool) → eqb t (writer-of (r .it .update)) ≡ y
+            → cond (x || M .is-open (writer-of (r .it .update))) (r .it .now .content) (saved-of (r .it .update)) ≡ cond (x || false) (r .it .now .content) (saved-of (r .it .update))
+            → cond (x || (y || false)) (r .it .now .content) (saved-of (r .it .update)) ≡ cond (x || false) (r .it .now .content) (saved-of (r .it .update))
         go true p y q z = refl
         go false p false q z = refl
-        go false p true q z = rw (writer-open c log M g r i (r .it .writer) (eqb-false _ nobody p) (eq-eqb (r .it .writer) (r .it .writer) refl)) at z
+        go false p true q z = rw (writer-open c log M g r i (writer-of (r .it .update)) (eqb-false _ nobody p) (eq-eqb (writer-of (r .it .update)) (writer-of (r .it .update)) refl)) at z
 
     -- what t inserted and shows, all show: nobody else deleted it or a node above it
     all-shown : (t : ℕ) → (t ≡ nobody → ⊥) → M .is-open t ≡ true → (r : Place) → Inside r f → (m : Mode) → Locked (number-of r) m (holds log t) → shown (only t) (r .it) ≡ true → shown (M .is-open) (r .it) ≡ true

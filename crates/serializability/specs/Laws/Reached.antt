@@ -14,7 +14,7 @@ use Rattle.tree.specs.Laws.View.{view-agree}
 use Rattle.commute.specs.Laws.Runs.{Entry}
 use Rattle.commute.specs.Laws.Orders as orders
 use Rattle.commute.specs.Laws.Legal.{legal-run}
-use Rattle.protocol.specs.State.{nobody, State, Tree, is-transaction, transactions, done-by, shown, as-shown, document-of, held-document, committed-document, abort-tree, closed}
+use Rattle.protocol.specs.State.{nobody, State, Tree, is-transaction, transactions, done-by, shown, as-shown, document-of, held-document, committed-document, abort-tree, closed, writer-of, saved-of}
 use Rattle.protocol.specs.Calls.{Call, abort, unchanged, becomes, refused, next}
 use Rattle.protocol.specs.History.{state-after, Log}
 use Rattle.serializability.specs.Theorem.{reached, all-aborted, Reached}
@@ -70,8 +70,8 @@ module _ (c : Document) (log : ℕ → List Entry) (M : State) (g : Good c log M
       (λ r i e. ap₂ (λ x y. x && y)
       (same-done (r .it .inserter) (λ nu. marked-in-set r i (r .it .inserter) nu (rw (eq-eqb (r .it .inserter) (r .it .inserter) refl))))
       (same-deleted (r .it .deleter) (λ nu. marked-in-set r i (r .it .deleter) nu (rw (eq-eqb (r .it .deleter) (r .it .deleter) refl) (or-true (eqb (r .it .inserter) (r .it .deleter)))))))
-      (λ r i e. ap (λ x. with-content (r .it .now) (cond x (r .it .now .content) (r .it .before)))
-      (same-done (r .it .writer) (λ nu. in-set (r .it .writer) (g .numbered (r .it .writer) (writer-open c log M g r i (r .it .writer) nu (eq-eqb (r .it .writer) (r .it .writer) refl))))))
+      (λ r i e. ap (λ x. with-content (r .it .now) (cond x (r .it .now .content) (saved-of (r .it .update))))
+      (let u : ℕ = writer-of (r .it .update) in same-done u (λ nu. in-set u (g .numbered u (writer-open c log M g r i u nu (eq-eqb u u refl))))))
 
   pub set-legal : legal c ≡ true → legal (document-of S f) ≡ true
   set-legal h = rw set-shown (legal-run c (orders.logs log b) (document-of (λ u. has u b) f) h (g .serial b (some-distinct S) .run))

@@ -20,7 +20,7 @@ use Rattle.locks.specs.Laws.Excludes.{kth-child, new-child, children-kept, numb
 use Rattle.locks.specs.Laws.Excludes.{reads as reads-node, reads-below, renames-below, content-LUU, contents-LUU, content-kept, contents-kept}
 use Rattle.commute.specs.Laws.Lines.{at-line}
 use Rattle.commute.specs.Laws.Views.{shape, Shapes, Whole, Reach, itself, children, subtree, within, reach, reads, Views}
-use Rattle.protocol.specs.State.{nobody, Marked, Tree, number-held, seen-by, done-by, shown, as-shown, callers-document, document-of}
+use Rattle.protocol.specs.State.{nobody, Marked, Tree, number-held, seen-by, done-by, shown, as-shown, callers-document, document-of, writer-of}
 use Rattle.serializability.specs.Laws.Shown.{Place, Inside, path, numbers-of, local}
 use Rattle.serializability.specs.Laws.Numbers.{number-of, place-held}
 use Rattle.serializability.specs.Laws.Marks.{own, Covered, own-node, own-child, own-subtree, writer-node, writer-subtree}
@@ -109,8 +109,8 @@ module _ (t : ℕ) (nz : t ≡ nobody → ⊥) (S : ℕ → Bool) (st : S t ≡ 
   own-path [] h = refl
   own-path (a ∷ l) h = rw (own-shown a (and-left _ _ h), own-path l (and-right (own t a) _ h))
 
-  pub own-content : (a : Marked) → local t (a .writer) ≡ true → as-shown S a ≡ a .now
-  own-content a h = rw (local-done (a .writer) h)
+  pub own-content : (a : Marked) → local t (writer-of (a .update)) ≡ true → as-shown S a ≡ a .now
+  own-content a h = rw (local-done (writer-of (a .update)) h)
 
 -- a step of t on a node of its document, compatible with what the others hold, which inserts no number held
 module _ (holds : ℕ → List Lock) (f : Tree) (cov : Covered holds f) (t : ℕ) (nz : t ≡ nobody → ⊥) where
@@ -132,7 +132,7 @@ module _ (holds : ℕ → List Lock) (f : Tree) (cov : Covered holds f) (t : ℕ
 
   -- what the step reads nobody else wrote
   pub own-read : (s : Step) → here (target s) (callers-document t f) ≡ true → Compatible-step s → reads s ≡ true
-      → (r : Place) → Inside r f → places (reach s) (target s) r ≡ true → local t (r .it .writer) ≡ true
+      → (r : Place) → Inside r f → places (reach s) (target s) r ≡ true → local t (writer-of (r .it .update)) ≡ true
   own-read (T n) hs c z r i e = absurd (false≢true z)
   own-read (C n k) hs c z r i e = absurd (false≢true z)
   own-read (R n) hs c z r i e = writer-node holds f cov t (R n) hs c (content-LUU (reads-node n)) (content-kept (reads-node n)) r i (eqb-true _ n e)

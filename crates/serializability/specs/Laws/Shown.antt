@@ -15,7 +15,7 @@ use Rattle.tree.specs.Laws.Rows.{In, self, inner, later}
 use Rattle.tree.specs.Laws.View.{view-view, view-agree, view-amend}
 use Rattle.tree.specs.Laws.Put.{view-put, view-put-hidden}
 use Rattle.locks.specs.Needs.{Lock}
-use Rattle.protocol.specs.State.{nobody, Marked, Tree, numbered, seen-by, done-by, shown, as-shown, document-of, written-by, deleted-by, inserted-by, granted-to}
+use Rattle.protocol.specs.State.{nobody, Marked, Tree, numbered, seen-by, done-by, shown, as-shown, document-of, written-by, deleted-by, inserted-by, granted-to, writer-of, saved-of, Update, unwritten, update-without}
 use Rattle.protocol.specs.State.{without, lasting, undone, mark, mark-node, renamed, grant, commit-tree, abort-tree, tree-of}
 
 -- a node held, with the nodes above it
@@ -175,17 +175,17 @@ module _ (t : ℕ) (nz : t ≡ nobody → ⊥) (S : ℕ → Bool) where
 
   module _ (st : S t ≡ false) where
     -- t wrote over what was committed, or over its own
-    before-shown : (b : List ℕ) (a : Marked) → local t (a .writer) ≡ true → as-shown S (written-by t b a) ≡ as-shown S a
-    before-shown b a h = ap (with-content (a .now)) (rw (done-other t S nz st) (go (eqb (a .writer) 0) refl (eqb (a .writer) t) refl h))
+    before-shown : (b : List ℕ) (a : Marked) → local t (writer-of (a .update)) ≡ true → as-shown S (written-by t b a) ≡ as-shown S a
+    before-shown b a h = ap (with-content (a .now)) (rw (done-other t S nz st) (go (eqb (writer-of (a .update)) 0) refl (eqb (writer-of (a .update)) t) refl h))
       where
-        go : (x : Bool) → eqb (a .writer) 0 ≡ x → (y : Bool) → eqb (a .writer) t ≡ y → (x || y) ≡ true
-            → cond x (a .now .content) (a .before) ≡ cond (x || S (a .writer)) (a .now .content) (a .before)
+        go : (x : Bool) → eqb (writer-of (a .update)) 0 ≡ x → (y : Bool) → eqb (writer-of (a .update)) t ≡ y → (x || y) ≡ true
+            → cond x (a .now .content) (saved-of (a .update)) ≡ cond (x || S (writer-of (a .update))) (a .now .content) (saved-of (a .update))
         go true p y q i = refl
-        go false p true q i = rw (eqb-true (a .writer) t q, st)
+        go false p true q i = rw (eqb-true (writer-of (a .update)) t q, st)
         go false p false q i = absurd (false≢true i)
 
     -- t wrote where a test says so
-    pub write-hidden : (test : Place → Bool) (b : List ℕ) (f : Tree) → ((r : Place) → Inside r f → test r ≡ true → local t (r .it .writer) ≡ true)
+    pub write-hidden : (test : Place → Bool) (b : List ℕ) (f : Tree) → ((r : Place) → Inside r f → test r ≡ true → local t (writer-of (r .it .update)) ≡ true)
         → document-of S (mark (λ r. cond (test r) (written-by t b (r .it)) (r .it)) f) ≡ document-of S f
     unfolding document-of
     write-hidden test b f h = view-mark (shown S) (shown S) (as-shown S) (as-shown S) _ [] f (λ r i. sight (r .it) (test r)) (λ r i e. words (r .it) (test r) (h r i))
@@ -194,7 +194,7 @@ module _ (t : ℕ) (nz : t ≡ nobody → ⊥) (S : ℕ → Bool) where
         sight a true = refl
         sight a false = refl
 
-        words : (a : Marked) (x : Bool) → (x ≡ true → local t (a .writer) ≡ true) → as-shown S (cond x (written-by t b a) a) ≡ as-shown S a
+        words : (a : Marked) (x : Bool) → (x ≡ true → local t (writer-of (a .update)) ≡ true) → as-shown S (cond x (written-by t b a) a) ≡ as-shown S a
         words a true k = before-shown b a (k refl)
         words a false k = refl
 
@@ -231,6 +231,14 @@ plus t S u = eqb u t || S u
 abbrev pub minus : ℕ → (ℕ → Bool) → ℕ → Bool
 minus t S u = not (eqb u t) && S u
 
+-- the writer without t
+pub writer-without : (t : ℕ) (u : Update) → writer-of (update-without t u) ≡ without t (writer-of u)
+writer-without t u = go (eqb (writer-of u) t)
+  where
+    go : (x : Bool) → writer-of (cond x unwritten u) ≡ cond x nobody (writer-of u)
+    go true = refl
+    go false = refl
+
 module _ (t : ℕ) (nz : t ≡ nobody → ⊥) (S : ℕ → Bool) where
   lasting-done : (u : ℕ) → done-by S (without t u) ≡ done-by (plus t S) u
   lasting-done u = go (eqb u t) refl
@@ -242,8 +250,16 @@ module _ (t : ℕ) (nz : t ≡ nobody → ⊥) (S : ℕ → Bool) where
   -- after a commit a set shows what it showed with t
   pub commit-shown : (f : Tree) → document-of S (commit-tree t f) ≡ document-of (plus t S) f
   unfolding document-of commit-tree
-  commit-shown f = view-view (seen-by t) (lasting t) (shown S) (as-shown S) f ∙ view-same (shown (plus t S)) _ (as-shown (plus t S)) _ f sight (λ a e. rw (lasting-done (a .writer)))
+  commit-shown f = view-view (seen-by t) (lasting t) (shown S) (as-shown S) f ∙ view-same (shown (plus t S)) _ (as-shown (plus t S)) _ f sight (λ a e. ap (with-content (a .now)) (words a))
     where
+      words : (a : Marked) → as-shown S (lasting t a) .content ≡ as-shown (plus t S) a .content
+      words a = go (eqb (writer-of (a .update)) t)
+        where
+          go : (x : Bool) → cond (done-by S (writer-of (cond x unwritten (a .update)))) (a .now .content) (saved-of (cond x unwritten (a .update)))
+              ≡ cond (eqb (writer-of (a .update)) 0 || (x || S (writer-of (a .update)))) (a .now .content) (saved-of (a .update))
+          go true = rw (or-true (eqb (writer-of (a .update)) 0))
+          go false = refl
+
       sight : (a : Marked) → (seen-by t a && shown S (lasting t a)) ≡ shown (plus t S) a
       sight a = rw (lasting-done (a .inserter)) (go (eqb (a .deleter) t) refl)
         where
@@ -258,11 +274,12 @@ module _ (t : ℕ) (nz : t ≡ nobody → ⊥) (S : ℕ → Bool) where
   abort-shown f = view-view (λ a. not (eqb (a .inserter) t)) (undone t) (shown S) (as-shown S) f ∙ view-same (shown (minus t S)) _ (as-shown (minus t S)) _ f sight (λ a e. ap (with-content (a .now)) (words a))
     where
       words : (a : Marked) → as-shown S (undone t a) .content ≡ as-shown (minus t S) a .content
-      words a = go (eqb (a .writer) t) refl
+      words a = go (eqb (writer-of (a .update)) t) refl
         where
-          go : (x : Bool) → eqb (a .writer) t ≡ x
-              → cond (done-by S (cond x nobody (a .writer))) (cond x (a .before) (a .now .content)) (a .before) ≡ cond (eqb (a .writer) 0 || (not x && S (a .writer))) (a .now .content) (a .before)
-          go true x = rw (eqb-true (a .writer) t x, ne-eqb t 0 nz)
+          go : (x : Bool) → eqb (writer-of (a .update)) t ≡ x
+              → cond (done-by S (writer-of (cond x unwritten (a .update)))) (cond x (saved-of (a .update)) (a .now .content)) (saved-of (cond x unwritten (a .update)))
+              ≡ cond (eqb (writer-of (a .update)) 0 || (not x && S (writer-of (a .update)))) (a .now .content) (saved-of (a .update))
+          go true x = rw (eqb-true (writer-of (a .update)) t x, ne-eqb t 0 nz)
           go false x = refl
 
       sight : (a : Marked) → (not (eqb (a .inserter) t) && shown S (undone t a)) ≡ shown (minus t S) a

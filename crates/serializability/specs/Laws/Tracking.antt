@@ -19,7 +19,7 @@ use Rattle.commute.specs.Laws.Lines.{Unique}
 use Rattle.commute.specs.Laws.Runs.{Entry, Run, run-append}
 use Rattle.commute.specs.Laws.Orders.{Distinct, logs}
 use Rattle.commute.specs.Laws.Serial.{emptied}
-use Rattle.protocol.specs.State.{nobody, State, Marked, is-transaction, transactions, callers-document, unmarked, tree-of, start-state, opened, closed}
+use Rattle.protocol.specs.State.{nobody, State, Marked, is-transaction, transactions, callers-document, unmarked, tree-of, start-state, opened, closed, writer-of}
 use Rattle.protocol.specs.Lent.{Room}
 use Rattle.protocol.specs.Calls.{Call, start, load, begin, commit, abort, step, write, Input, unreadable, stands-for, loadable, Outcome, Next, unchanged, becomes, refused, judged, if-open, loaded, next}
 use Rattle.protocol.specs.History.{state-after, is-granted, value-of, Log, new-log, logged}
@@ -94,7 +94,7 @@ load-good d u o n = record {
     unmarked-by : (r : Place) → Inside r (tree-of d) → (v : ℕ) → (v ≡ nobody → ⊥) → (eqb (r .it .inserter) v || eqb (r .it .deleter) v) ≡ true → ⊥
     unmarked-by r i v nv h = true≢false (sym h ∙ rw (load-unmarked d r i .1, is-nobody v nv))
 
-    unwritten-by : (r : Place) → Inside r (tree-of d) → (v : ℕ) → (v ≡ nobody → ⊥) → eqb (r .it .writer) v ≡ true → ⊥
+    unwritten-by : (r : Place) → Inside r (tree-of d) → (v : ℕ) → (v ≡ nobody → ⊥) → eqb (writer-of (r .it .update)) v ≡ true → ⊥
     unwritten-by r i v nv h = true≢false (sym h ∙ rw (load-unmarked d r i .1) (is-nobody v nv))
 
 -- the log ------------------------------------------------------------------------------------

@@ -26,19 +26,19 @@ add-result-3 : tie.Need-add-result-3
 add-result-3 c = search needs
 
 add-result-4 : tie.Need-add-result-4
-add-result-4 c = let a = c .before .before in omega (arith, size-small _ (a .args .i) (a .args .o) _ (c .slot .ensures .0) (a .pre .0) (a .pre .1) (a .pre .2))
+add-result-4 c = let a = c .before .before in omega (arith, size-small _ (a .args .i) (a .args .o) _ (c .slot .ensures .0) (a .pre .0) (a .pre .1) (a .pre .3))
 
 shared-slice-read-result : tie.Need-shared-slice-read-result
 shared-slice-read-result c =
     let a = c .before .before .before in
     let slot = c .before .slot in
-    omega (arith, size-small _ (a .args .i) (a .args .o) _ (slot .ensures .0) (a .pre .0) (a .pre .1) (a .pre .2))
+    omega (arith, size-small _ (a .args .i) (a .args .o) _ (slot .ensures .0) (a .pre .0) (a .pre .1) (a .pre .3))
 
 returns : tie.Need-returns
 returns c =
     let a = c .before .before .before in
     let slot = c .before .slot in
-    byte-at _ (a .args .i) (a .args .o) _ (slot .ensures .0) (a .pre .0) (a .pre .1) (a .pre .2) (a .args .j) (a .pre .3)
+    byte-at _ (a .args .i) (a .args .o) _ (slot .ensures .0) (a .pre .0) (a .pre .1) (a .pre .3) (a .args .j) (a .pre .4)
 
 pub content-spec : {M : Type 1} → statement M
 content-spec =

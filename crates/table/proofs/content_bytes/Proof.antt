@@ -58,7 +58,7 @@ returns c =
     let z : at + n .result - at ≡ n .result = omega arith in
     rw z
     (part-is _ _ at (n .result) (n .ensures .0) (omega (arith, n .ensures .1, k .ensures .1, a .pre .0 .size, a .pre .2))
-    (byte-at _ (a .args .i) (a .args .o) _ (k .ensures .0) (a .pre .0) (a .pre .1) (a .pre .2)))
+    (byte-at _ (a .args .i) (a .args .o) _ (k .ensures .0) (a .pre .0) (a .pre .1) (a .pre .3)))
 
 pub content-bytes-spec : {M : Type 1} → statement M
 content-bytes-spec =

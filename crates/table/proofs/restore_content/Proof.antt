@@ -44,8 +44,9 @@ returns : tie.Need-returns
 returns c =
     let slot = c .before .before .before .before .before .slot in
     let copy-32 = c .before .before .copy-32 in
-    copied-kept _ _ _ 1 0 _ _ _ _ _ (slot .ensures .0) (copy-32 .ensures) (omega arith) (omega arith) (omega arith)
-    (omega arith) (search needs) (search needs) (search needs) (search needs)
+    let copied = copied-kept _ _ _ 1 0 _ _ _ _ _ (slot .ensures .0) (copy-32 .ensures) (omega arith) (omega arith) (omega arith)
+    (omega arith) (search needs) (search needs) (search needs) (search needs) in
+    copied .kept
 
 pub restore-content-spec : {M : Type 1} → statement M
 restore-content-spec =

@@ -3,6 +3,7 @@ use native.Mathlib.Omega.{arith}
 use lib.ListN.{length-set}
 use mathlib.Core.Path.{refl}
 use Rattle.layout.specs.Laws.Texts.{copied-kept}
+use Rattle.layout.specs.Laws.Written.{content-saved}
 use borrow.Author.Needs.{needs}
 use Rattle.table.proofs.save_content.Statement.{statement}
 use Rattle.table.proofs.save_content.Tie as tie
@@ -44,8 +45,8 @@ returns : tie.Need-returns
 returns c =
     let slot = c .before .before .before .before .before .slot in
     let copy-32 = c .before .before .copy-32 in
-    copied-kept _ _ _ 0 1 _ _ _ _ _ (slot .ensures .0) (copy-32 .ensures) (omega arith) (omega arith) (omega arith)
-    (omega arith) (search needs) (search needs) (search needs) (search needs)
+    content-saved _ _ _ (copied-kept _ _ _ 0 1 _ _ _ _ _ (slot .ensures .0) (copy-32 .ensures) (omega arith) (omega arith) (omega arith)
+    (omega arith) (search needs) (search needs) refl (search needs))
 
 pub save-content-spec : {M : Type 1} → statement M
 save-content-spec =

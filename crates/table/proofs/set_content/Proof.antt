@@ -44,8 +44,10 @@ returns : tie.Need-returns
 returns c =
     let slot = c .before .before .before .before .slot in
     let store = c .before .before .store in
-    stored-kept _ _ _ 0 _ _ _ _ _ _ _ (slot .ensures .0) (store .ensures) (omega arith) (omega arith) (search needs)
-    (search needs) (search needs) refl (search needs) (search needs) (λ j h. refl)
+    let args = c .before .before .before .before .before .before .before .before .args in
+    let content = stored-kept _ _ (args .i) 0 _ _ _ _ _ _ (args .b .now) (slot .ensures .0) (store .ensures) (omega arith) (omega arith) (search needs)
+    (search needs) (search needs) refl (search needs) (search needs) (λ j h. refl) in
+    content .kept
 
 pub set-content-spec : {M : Type 1} → statement M
 set-content-spec =

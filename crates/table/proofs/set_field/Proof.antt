@@ -23,7 +23,7 @@ same-length : tie.Need-same-length
 same-length c = search needs
 
 returns : tie.Need-returns
-returns c = field-kept _ _ _ _ _ (c .slot .ensures .0) (search needs) (search needs) (search needs)
+returns c = field-kept _ _ _ _ _ (c .slot .ensures .0) (search needs) (search needs) (search needs) (search needs)
 
 pub set-field-spec : {M : Type 1} → statement M
 set-field-spec =

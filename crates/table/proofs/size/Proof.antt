@@ -32,8 +32,8 @@ returns : tie.Need-returns
 returns c =
     let a = c .before .before .before in
     let slot = c .before .slot in
-    let e = size-at _ (a .args .i) (a .args .o) _ (slot .ensures .0) (a .pre .0) (a .pre .1) (a .pre .2) in
-    (e, rw e (size-small _ (a .args .i) (a .args .o) _ (slot .ensures .0) (a .pre .0) (a .pre .1) (a .pre .2)))
+    let e = size-at _ (a .args .i) (a .args .o) _ (slot .ensures .0) (a .pre .0) (a .pre .1) (a .pre .3) in
+    (e, rw e (size-small _ (a .args .i) (a .args .o) _ (slot .ensures .0) (a .pre .0) (a .pre .1) (a .pre .3)))
 
 pub size-spec : {M : Type 1} → statement M
 size-spec =

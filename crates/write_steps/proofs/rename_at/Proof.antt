@@ -38,7 +38,8 @@ rename-below-requires c κs =
     let g = c .before .before .before in
     let u = g .before .before .before .before .before .before .before .before in
     let b = rename-name _ _ (sym (u .rename-cause .ensures) ∙ g .before .before .before .before .before .before .before .if1 .left) in
-    (g .grant .ensures .layout, omega (arith, g .grant .ensures .many, u .before .before .before .before .pre .inside), name-short _ b)
+    let pre = u .before .before .before .before .pre in
+    (g .grant .ensures .layout, omega (arith, g .grant .ensures .many, pre .inside), name-short _ b, pre .low)
 
 cast-t22 : tie.Need-cast-t22
 cast-t22 c = search needs

@@ -43,6 +43,7 @@ write-requires c κs =
       omega (arith, g .grant .ensures .many, u .before .before .before .before .pre .inside),
       update-short _ _
           (sym (u .update-cause .ensures) ∙ g .before .before .before .before .before .before .before .if1 .left),
+      u .before .before .before .before .pre .low,
     )
 
 same-length-3 : tie.Need-same-length-3

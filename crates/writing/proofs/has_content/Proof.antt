@@ -30,7 +30,7 @@ loop-holds : tie.Need-loop-holds Inv-loop μ-loop
 loop-holds c = refl
 
 content-requires : tie.Need-content-requires Inv-loop μ-loop
-content-requires c κs = (search needs, search needs, search needs, omega (arith, c .before .before .before .size .ensures .0, c .before .before .if1 .left))
+content-requires c κs = (search needs, search needs, search needs, refl, omega (arith, c .before .before .before .size .ensures .0, c .before .before .if1 .left))
 
 shared-slice-read-if2 : tie.Need-shared-slice-read-if2 Inv-loop μ-loop
 shared-slice-read-if2 c = search needs

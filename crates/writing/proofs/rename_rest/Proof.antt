@@ -120,7 +120,7 @@ rename-requires c κs =
     let count = c8 .before .before .before .before .before .count in
     let l = c8 .before .before .loop in
     let test = c8 .before .loop-test in
-    (l .inv .1 .kept .layout, omega (arith, test .taken, count .ensures, l .inv .1 .kept .many), pre .2)
+    (l .inv .1 .kept .layout, omega (arith, test .taken, count .ensures, l .inv .1 .kept .many), pre .2, pre .3)
 
 add-hits : tie.Need-add-hits Inv-loop μ-loop
 add-hits c =
