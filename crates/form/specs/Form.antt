@@ -70,7 +70,8 @@ sizes-in-range c = leb (getD c 4 0) content-limit && (eqb (getD c 1 0) nobody ||
 unfoldable pub apart : ℕ → List ℕ → Bool
 apart limit l = every (λ k. ltb k limit) l && distinct l
 
--- long enough, the format mark, 1 to 1,024 nodes, slots that are a permutation of 0 to 1,023, sizes in range, rows of a tree, and no two of one number
+-- long enough, the format mark, 1 to 1,024 nodes, slots that are a permutation of 0 to 1,023, sizes in range, rows of a tree, and no two
+-- of one number
 unfoldable pub form : List ℕ → Bool
 form s =
     leb state-size (length s) && same (part s 0 8) format-mark && between 1 node-limit (count s)

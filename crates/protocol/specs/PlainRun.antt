@@ -1,4 +1,4 @@
--- The plain run and what is pending, by example: document 01, "The plain run" and "Pending". One table, one theorem.
+-- The plain run, what is pending and what write takes, by example: document 01, "The plain run" and "Steps". One table, one theorem.
 use Prim.Native.Nat.{ℕ}
 use Prim.Native.String.{String}
 use mathlib.Core.Path.{_≡_, refl}
@@ -16,7 +16,8 @@ use Rattle.locks.specs.Modes.{clash}
 use Rattle.locks.specs.Needs.{locks}
 use Rattle.protocol.specs.State.{nodes, callers-document, document-of, grant, commit-tree, abort-tree, tree-of}
 use Rattle.protocol.specs.Lent.{first-lent, second-lent}
-use Rattle.protocol.specs.Calls.{loadable, begin, commit, abort, write, granted, written, waits, wait-set, judged, next}
+use Rattle.protocol.specs.Calls.{loadable, start, begin, commit, abort, write}
+use Rattle.protocol.specs.Calls.{granted, written, waits, refused, wait-set, judged, next}
 use Rattle.protocol.specs.History.{history, state-after, log-after, plain, pending}
 use Rattle.protocol.specs.Examples.{Item, gives, is-pending, plain-is, does, played, from-E}
 
@@ -86,6 +87,27 @@ plain-runs =
     ∷ gives (commit 1) (granted done)
     ∷ gives (commit 2) (granted done)
     ∷ plain-is (E-with "7" ramp) ∷ []) ∷
+    -- a commit makes the own changes lasting, not another's
+    (does 2 (U 5 (bytes "7")) (granted done)
+    ∷ gives (commit 1) (granted done)
+    ∷ is-pending true
+    ∷ gives write (written tree-E)
+    ∷ gives (abort 2) (granted done)
+    ∷ gives write (written tree-E) ∷ []) ∷
+    -- a second U of a transaction does not save what the first wrote
+    (does 1 (U 5 (bytes "7")) (granted done)
+    ∷ does 1 (U 5 (bytes "8")) (granted done)
+    ∷ gives write (written tree-E)
+    ∷ gives (abort 1) (granted done)
+    ∷ does 2 (R 5) (granted (content-is (bytes "6"))) ∷ []) ∷
+    -- "first node 0 alone": a start ends what is open and forgets what was committed
+    (does 1 (U 5 (bytes "7")) (granted done)
+    ∷ gives (commit 1) (granted done)
+    ∷ does 2 (D 6) (granted done)
+    ∷ gives start (granted done)
+    ∷ plain-is node-0-alone
+    ∷ is-pending false
+    ∷ gives (commit 2) (refused 3) ∷ []) ∷
     []
 
 pub plain-runs-hold : map from-E plain-runs ≡ plain-runs

@@ -20,7 +20,8 @@ pub record OnlySaved (k : ℕ) (s s′ : List ℕ) : Type 0 where
   pub long : length s′ ≡ length s
   pub same : (j : ℕ) → (j ≡ cell-at k + 5 → ⊥) → (cell-at k + 38 ≤ j → cell-at k + 70 ≤ j) → getD s′ j 0 ≡ getD s j 0
 
-module _ {s s′ : List ℕ} (h : Layout s) (i : ℕ) (l : i < length (nodes s)) (d : OnlySaved (slot s i) s s′) (u : getD (cell s (slot s i)) 1 0 ≡ nobody) where
+module _ {s s′ : List ℕ} (h : Layout s) (i : ℕ) (l : i < length (nodes s)) (d : OnlySaved (slot s i) s s′)
+    (u : getD (cell s (slot s i)) 1 0 ≡ nobody) where
   k : ℕ
   k = slot s i
 
@@ -39,16 +40,19 @@ module _ {s s′ : List ℕ} (h : Layout s) (i : ℕ) (l : i < length (nodes s))
   byte : (j : ℕ) → j < 38 → (j ≡ 5 → ⊥) → getD (cell s′ k) j 0 ≡ getD (cell s k) j 0
   unfolding k
   byte j x ne =
-      sym (cell-byte s′ k j (omega arith)) ∙ d .same (cell-at k + j) (λ e. ne (omega arith)) (λ y. omega arith) ∙ cell-byte s k j (omega arith)
+      sym (cell-byte s′ k j (omega arith)) ∙ d .same (cell-at k + j) (λ e. ne (omega arith)) (λ y. omega arith)
+      ∙ cell-byte s k j (omega arith)
 
   content : take 32 (drop 6 (cell s′ k)) ≡ take 32 (drop 6 (cell s k))
   unfolding part
-  content = part-same (cell s k) (cell s′ k) 6 32 (length-cell s′ k (rw (d .long) (h .size)) in-range ∙ sym (length-cell s k (h .size) in-range))
+  content = part-same (cell s k) (cell s′ k) 6 32
+      (length-cell s′ k (rw (d .long) (h .size)) in-range ∙ sym (length-cell s k (h .size) in-range))
       (λ j x y. byte j (omega arith) (λ e. omega arith))
 
   kept : Kept s s′ (nodes s)
   unfolding decode k
-  kept = kept-as _ _ (modify-none i (second (λ a. a)) (nodes s) no-entry refl) (cell-kept one-cell h i refl (omega (arith, length-nodes s)) (λ a. a)
+  kept = kept-as _ _ (modify-none i (second (λ a. a)) (nodes s) no-entry refl)
+      (cell-kept one-cell h i refl (omega (arith, length-nodes s)) (λ a. a)
       (λ m g q z. rw (
         byte 0 (omega arith) (λ e. omega arith),
         byte 1 (omega arith) (λ e. omega arith),
@@ -64,8 +68,14 @@ module _ {s s′ : List ℕ} (h : Layout s) (i : ℕ) (l : i < length (nodes s))
       }))
 
 -- bytes that differ only there, in a cell whose writer is 0, hold the same state
-pub saved-free : {s s′ : List ℕ} {M : State} (i : ℕ) → i < length (nodes s) → getD (cell s (slot s i)) 1 0 ≡ nobody → OnlySaved (slot s i) s s′
-    → Holds s M → Holds s′ M
+pub saved-free : {s s′ : List ℕ} {M : State} (i : ℕ) → i < length (nodes s) → getD (cell s (slot s i)) 1 0 ≡ nobody
+    → OnlySaved (slot s i) s s′ → Holds s M → Holds s′ M
 saved-free i l u d h =
     let k = kept (h .layout) i l d u in
-    record { layout = k .layout; opens = k .opens ∙ h .opens; rows = k .nodes ∙ h .rows; unique = rw (k .nodes) (h .unique); valid = h .valid }
+    record {
+      layout = k .layout;
+      opens = k .opens ∙ h .opens;
+      rows = k .nodes ∙ h .rows;
+      unique = rw (k .nodes) (h .unique);
+      valid = h .valid;
+    }

@@ -1,4 +1,4 @@
--- Inputs with what the judgement says of them: one theorem over the whole table.
+-- Inputs with what the judgement says of them: a table, and one of inputs at the limits, with a theorem each. Tree E, written and read.
 use Prim.Native.String.{String}
 use Prim.Native.Nat.{ℕ, zero, suc, _+_, _≤_, _<_}
 use mathlib.Core.Path.{_≡_, refl, ap, ap₂, _∙_}
