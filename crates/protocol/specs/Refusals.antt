@@ -11,7 +11,8 @@ use Rattle.tree.specs.Forest.{nil, node, rows, amend, view, place, put}
 use Rattle.tree.specs.Content.{name-start, name-byte, text-byte, is-name, is-text, allowed, takes, attributes-first, children-rule}
 use Rattle.tree.specs.Content.{insert-at}
 use Rattle.tree.specs.Document.{Document, node-0-alone, lines, select, ruled, legal}
-use Rattle.tree.specs.Steps.{Step, T, C, R, U, D, I, TT, RR, UU, placed, done, child-is, content-is, numbers-are, cells-are}
+use Rattle.tree.specs.Steps.{Step, T, C, R, U, D, I, TT, RR, UU, placed}
+use Rattle.tree.specs.Steps.{done, child-is, none, content-is, numbers-are, cells-are, how-many}
 use Rattle.tree.specs.Examples.{tree-E}
 use Rattle.locks.specs.Modes.{clash}
 use Rattle.locks.specs.Needs.{locks}
@@ -94,6 +95,22 @@ refusals =
     ∷ gives (abort 2) (granted done)
     ∷ gives (begin 2) (granted done)
     ∷ does 2 (U 5 (bytes "8")) (granted done) ∷ []) ∷
+    -- 9 for either name of UU, even where nothing would be renamed; what has no element has none so named
+    (does 1 (UU 1 (bytes "") (bytes "x")) (refused 9)
+    ∷ does 1 (UU 1 (bytes "x") (bytes "6")) (refused 9)
+    ∷ does 1 (UU 5 (bytes "x") (bytes "y")) (granted (how-many 0))
+    -- "for C a k of 0 .. gives none"
+    ∷ does 1 (C 1 0) (granted none) ∷ []) ∷
+    -- a node that another open transaction inserted is not 7: a wait, after 8, 9 and 10
+    (does 2 (I 9 4 (bytes "x") 6 1) (granted done)
+    ∷ does 1 (R 9) (waits 2)
+    ∷ does 1 (I 8 2 (bytes "x") 9 1) (refused 8)
+    ∷ does 1 (U 9 (bytes "")) (refused 9)
+    ∷ does 1 (I 9 2 (bytes "x") 1 4) (refused 10) ∷ []) ∷
+    -- 11 goes by the children that the caller sees: a new root in place of the one that it deleted, and no second one
+    (does 1 (D 1) (granted done)
+    ∷ does 1 (I 8 2 (bytes "x") 0 1) (granted done)
+    ∷ does 1 (I 9 2 (bytes "x") 0 2) (refused 11) ∷ []) ∷
     -- 15 before 4, 5 and 6, which are given when nothing is open
     (gives (load (unreadable 4 0)) (refused 15)
     ∷ gives (commit 1) (granted done)
