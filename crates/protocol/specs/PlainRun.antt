@@ -11,7 +11,7 @@ use Rattle.tree.specs.Content.{name-start, name-byte, text-byte, is-name, is-te
 use Rattle.tree.specs.Content.{insert-at}
 use Rattle.tree.specs.Document.{Document, node-0-alone, lines, select, ruled, legal}
 use Rattle.tree.specs.Steps.{T, R, U, D, I, placed, done, kind-parent, content-is, plain-document}
-use Rattle.tree.specs.Examples.{tree-E}
+use Rattle.tree.specs.Examples.{a-node, tree-E}
 use Rattle.locks.specs.Modes.{clash}
 use Rattle.locks.specs.Needs.{locks}
 use Rattle.protocol.specs.State.{nodes, callers-document, document-of, grant, commit-tree, abort-tree, tree-of}
@@ -20,9 +20,6 @@ use Rattle.protocol.specs.Calls.{loadable, start, begin, commit, abort, 
 use Rattle.protocol.specs.Calls.{granted, written, waits, refused, wait-set, judged, next}
 use Rattle.protocol.specs.History.{history, state-after, log-after, plain, pending}
 use Rattle.protocol.specs.Examples.{Item, gives, is-pending, plain-is, does, played, from-E}
-
-abbrev a-node : ℕ → ℕ → String → Document → Document → Document
-a-node n kind content below following = node (record { number = n; kind = kind; content = bytes content }) below following
 
 -- E with another text 5, and with other nodes behind the element speed
 abbrev E-with : String → Document → Document

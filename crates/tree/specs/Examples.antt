@@ -11,7 +11,8 @@ use Rattle.tree.specs.Document.{Document, lines, select}
 use Rattle.tree.specs.Steps.{Step, T, C, R, U, D, I, TT, RR, UU, placed, Value, done, kind-parent, child-is, none, content-is, numbers-are}
 use Rattle.tree.specs.Steps.{cells-are, how-many, unfit, plain-answers}
 
-abbrev a-node : ℕ → ℕ → String → Document → Document → Document
+-- a node, what is below it, and what follows it
+abbrev pub a-node : ℕ → ℕ → String → Document → Document → Document
 a-node n kind content children following = node (record { number = n; kind = kind; content = bytes content }) children following
 
 -- <lift rope="2"><speed>6</speed><ramp/></lift>

@@ -3,11 +3,10 @@ use Prim.Native.Nat.{ℕ}
 use Prim.Native.String.{String}
 use mathlib.Core.Path.{_≡_, refl}
 use mathlib.Core.List.{List, [], _∷_, map}
-use Rattle.tree.specs.Text.{bytes}
-use Rattle.tree.specs.Forest.{nil, node, view}
+use Rattle.tree.specs.Forest.{nil, view}
 use Rattle.tree.specs.Content.{takes}
 use Rattle.tree.specs.Document.{Document, node-0-alone}
-use Rattle.tree.specs.Examples.{tree-E}
+use Rattle.tree.specs.Examples.{a-node, tree-E}
 use Rattle.protocol.specs.declared.Answer.{Answer}
 use Rattle.protocol.specs.declared.Answer.the-variants.{Count, Refused}
 use Rattle.form.specs.Form.{form}
@@ -16,9 +15,6 @@ use Rattle.xml.specs.Shape.{shape}
 use Rattle.xml.specs.Writing.{escaped, attributes, contents, write, repeats, neighbouring-texts, expressible}
 use Rattle.markup.specs.Rows.{may-stand, in-order, ordered}
 use Rattle.writer.specs.Contract.{writing, write-answer, Written}
-
-abbrev a-node : ℕ → ℕ → String → Document → Document → Document
-a-node n kind content below following = node (record { number = n; kind = kind; content = bytes content }) below following
 
 -- an element with two neighbours of a kind and a content in it
 abbrev twice : ℕ → String → Document
