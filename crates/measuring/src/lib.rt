@@ -1,4 +1,7 @@
 // The length of what writing the committed document gives, by one pass over its rows, and whether it can be written at all.
+mod names;
+
+use names::Names;
 ghost use mathlib.Core.Path.{_≡_};
 ghost use Prim.Native.Nat.{suc, _+_, _<_, _≤_};
 ghost use lib.ListN.{length, getD};
@@ -47,34 +50,6 @@ fn cost(s: &[u8], parent: usize, above: u8, previous: u8, p: usize, kind: u8) ->
     more + committed::escaped_size(s, p)
 }
 
-// Whether the node at the i-th place is an attribute behind one of its name.
-fn repeated(s: &[u8], places: &[u16; 1024], i: usize) -> bool
-    requires { ⌜ (Layout (now s)) × (Inside (nodes (now s)) (now places) (suc i)) ⌝ }
-    ensures { λ r. ⌜ r ≡ repeated (before-lines (nodes (now (s .entry))) (now (places .entry)) i) (line-at (nodes (now (s .entry))) (getD (now (places .entry)) i 0)) ⌝ }
-{
-    let p = places[i] as usize;
-    if table::kind(s, p) != 3 {
-        return false;
-    }
-    let d = table::depth(s, p);
-    let mut j = i;
-    while 0 < j {
-        j -= 1;
-        let q = places[j] as usize;
-        let e = table::depth(s, q);
-        if e < d {
-            return false;
-        }
-        if d < e {
-            continue;
-        }
-        if committed::same_content(s, q, p) {
-            return true;
-        }
-    }
-    false
-}
-
 // The length of what is written, or 0 where the document is not ordered or not expressible.
 pub fn measure(s: &[u8], places: &[u16; 1024], count: usize) -> usize
     requires { ⌜ (Layout (now s)) × (Listed (nodes (now s)) (now places) count) ⌝ }
@@ -88,6 +63,8 @@ pub fn measure(s: &[u8], places: &[u16; 1024], count: usize) -> usize
     path[0] = first;
     let mut kinds = [0u8; 1024];
     kinds[0] = table::kind(s, first as usize);
+    let mut names = [0u16; 1024];
+    let mut count_names: usize = 0;
     let mut top: usize = 0;
     let mut sum: usize = 39;
     let mut i: usize = 1;
@@ -100,15 +77,18 @@ pub fn measure(s: &[u8], places: &[u16; 1024], count: usize) -> usize
         if !markup::fits(above, before, kind) {
             return 0;
         }
-        if repeated(s, places, i) {
-            return 0;
+        match names::follow(s, &mut names, count_names, p, kind) {
+            Names::Repeated => return 0,
+            Names::Kept(n) => {
+                let parent = path[d - 1] as usize;
+                sum += cost(s, parent, above, before, p as usize, kind);
+                path[d] = p;
+                kinds[d] = kind;
+                count_names = n;
+                top = d;
+                i += 1;
+            }
         }
-        let parent = path[d - 1] as usize;
-        sum += cost(s, parent, above, before, p as usize, kind);
-        path[d] = p;
-        kinds[d] = kind;
-        top = d;
-        i += 1;
     }
     if 65536 < sum {
         return 0;

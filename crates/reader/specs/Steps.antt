@@ -34,12 +34,6 @@ pub record Run (t : ℕ → Bool) (s : List ℕ) (from to : ℕ) : Type 0 where
   pub ends : to ≡ from + span t (drop from s)
   pub inside : to ≤ length s
 
--- the bytes of a word that stand at an offset
-pub record Agreement (w s : List ℕ) (at n : ℕ) : Type 0 where
-  pub agrees : n ≡ agree w (drop at s)
-  pub inside : at + n ≤ length s
-  pub most : n ≤ length w
-
 -- a reference, by the word that is reached from an offset on
 pub data Refers (s : List ℕ) (at : ℕ) : Reach → Reference → Type 0 where
   refers : {b n : ℕ} {c : Cursor} → c .at ≡ at + n → c .at ≤ length s → Refers s at (got b n) (Byte b c)

@@ -5,7 +5,7 @@ use super::Part;
 use super::Read;
 use super::Tag;
 use super::is_name_start;
-use super::repeated;
+use super::names::enter;
 ghost use mathlib.Core.Path.{_≡_};
 ghost use Prim.Native.Nat.{_+_, _<_, _≤_};
 ghost use lib.ListN.{length, getD};
@@ -88,7 +88,7 @@ impl Cursor {
     pub fn attribute(
         self,
         s: &[u8],
-        names: &[usize; 1024],
+        names: &mut [usize; 1024],
         lo: usize,
         count: usize,
         nodes: usize,
@@ -105,7 +105,7 @@ impl Cursor {
         if to - at > 32 {
             return Read::Refused(5, at + 32);
         }
-        if repeated(s, names, lo, count, at, to) {
+        if !enter(s, names, lo, count, at, to) {
             return Read::Refused(4, to);
         }
         match end.equals(s) {
@@ -135,7 +135,6 @@ impl Cursor {
                     match c.attribute(s, names, lo, count, n) {
                         Read::Refused(x, j) => return Tag::Broken(x, j),
                         Read::Past(next, m) => {
-                            names[lo + count] = c.at;
                             count += 1;
                             i = next.at;
                             n = m;

@@ -38,41 +38,6 @@ module _ (t : ℕ → Bool) (s : List ℕ) (from i : ℕ) (r : Running t s from 
   unfolding Running
   run-end l h = record { ends = omega (arith, r, span-end t s i h); inside = l }
 
--- words: n bytes agree so far
-unfoldable pub Agreeing : List ℕ → List ℕ → ℕ → ℕ → Type 0
-Agreeing w s at n = agree w (drop at s) ≡ n + agree (drop n w) (drop (at + n) s)
-
-pub agree-start : (w s : List ℕ) (at : ℕ) → Agreeing w s at 0
-unfolding Agreeing
-agree-start w s at = let p : at + 0 ≡ at = omega arith in rw p (omega arith)
-
-module _ (w s : List ℕ) (at n : ℕ) (r : Agreeing w s at n) where
-  pub agree-turn : n < length w → at + n < length s → getD s (at + n) 0 ≡ getD w n 0 → Agreeing w s at (n + 1)
-  unfolding Agreeing agree
-  agree-turn h k e =
-      let p : at + (n + 1) ≡ suc (at + n) = omega arith in
-      let q : agree (drop n w) (drop (at + n) s) ≡ suc (agree (drop (suc n) w) (drop (suc (at + n)) s)) =
-      rw (drop-cons w n 0 h, drop-cons s (at + n) 0 k, eq-eqb (getD s (at + n) 0) (getD w n 0) e) in
-      rw (p, add-one n) (omega (arith, r))
-
-  pub agree-differ : n < length w → at + n < length s → (getD s (at + n) 0 ≡ getD w n 0 → ⊥) → Agreement w s at n
-  unfolding Agreeing agree
-  agree-differ h k e =
-      let q : agree (drop n w) (drop (at + n) s) ≡ 0 = rw (drop-cons w n 0 h, drop-cons s (at + n) 0 k, ne-eqb (getD s (at + n) 0) (getD w n 0) e) in
-      record { agrees = omega (arith, r); inside = omega arith; most = omega arith }
-
-  pub agree-short : n < length w → at + n ≤ length s → length s ≤ at + n → Agreement w s at n
-  unfolding Agreeing agree
-  agree-short h l k =
-      let q : agree (drop n w) (drop (at + n) s) ≡ 0 = rw (drop-cons w n 0 h, drop-of-length-le s k) in
-      record { agrees = omega (arith, r); inside = l; most = omega arith }
-
-  pub agree-whole : n ≤ length w → length w ≤ n → at + n ≤ length s → Agreement w s at n
-  unfolding Agreeing agree
-  agree-whole m h l =
-      let q : agree (drop n w) (drop (at + n) s) ≡ 0 = rw (drop-of-length-le w h) in
-      record { agrees = omega (arith, r); inside = l; most = m }
-
 -- an entity
 module _ (w s : List ℕ) (value at n : ℕ) (a : Agreement w s at n) where
   pub entity-whole : (c : Cursor) → n ≡ length w → c .at ≡ at + n → Refers s at (word-at w value (drop at s)) (Byte value c)
