@@ -6,15 +6,10 @@ mod start_tags;
 mod tokens;
 
 ghost use mathlib.Core.Path.{_≡_};
-ghost use Prim.Native.Nat.{_+_, _≤_};
-ghost use lib.ListN.{length, getD};
+ghost use lib.ListN.{getD};
 ghost use Rattle.tree.specs.Content.{name-start, name-byte};
-ghost use Rattle.tree.specs.Lists.{same};
-ghost use Rattle.xml.specs.Bytes.{blank, brackets, used};
-ghost use Rattle.xml.specs.Laws.Tokens.{name-at};
+ghost use Rattle.xml.specs.Bytes.{blank, brackets};
 ghost use Rattle.reader.specs.Classes.{plain, begins};
-ghost use Rattle.reader.specs.Steps.{Run, Agreement};
-ghost use Rattle.reader.specs.Elements.{stack, Placed};
 
 pub struct Cursor {
     pub at: usize,

@@ -1,14 +1,26 @@
 -- The loop that compares two byte strings.
 use Prim.Native.Nat.{ℕ, suc, _+_, _≤_, _<_}
 use mathlib.Core.Path.{_≡_}
-use mathlib.Core.List.{List}
+use mathlib.Core.Bool.{Bool, true, false, cond}
+use mathlib.Core.List.{List, [], _∷_}
 use native.Mathlib.Omega.{arith}
 use native.Mathlib.Numerals.{add-one}
+use lib.Dec.{eqb}
 use lib.ListN.{length, getD, drop, drop-of-length-le}
 use lib.Seq.{drop-cons}
 use borrow.Author.Tests.{eq-eqb, ne-eqb}
 use Rattle.xml.specs.Laws.Fixed.{agree}
 use Rattle.ordering.specs.Agreement.{Agreement}
+
+pub agree-most : (w l : List ℕ) → agree w l ≤ length l
+unfolding agree
+agree-most [] l = omega arith
+agree-most (x ∷ w) [] = omega arith
+agree-most (x ∷ w) (b ∷ l) = go (eqb b x) (agree-most w l)
+  where
+    go : (t : Bool) → agree w l ≤ length l → cond t (suc (agree w l)) 0 ≤ suc (length l)
+    go true h = omega arith
+    go false h = omega arith
 
 -- n bytes agree so far
 unfoldable pub Agreeing : List ℕ → List ℕ → ℕ → ℕ → Type 0

@@ -1,9 +1,9 @@
 -- A name is found among sorted ones by halving, and put among them.
 use Prim.Native.Nat.{ℕ, zero, suc, _+_, _≤_, _<_}
 use mathlib.Core.Path.{_≡_, refl, sym, ap, _∙_, subst}
-use mathlib.Core.Bool.{Bool, true, false, _||_, or-true}
+use mathlib.Core.Bool.{Bool, true, false, _||_, or-true, false≢true}
 use mathlib.Core.Logic.{_⊎_, inl, inr}
-use mathlib.Core.List.{List, _∷_}
+use mathlib.Core.List.{List, [], _∷_}
 use native.Mathlib.Omega.{arith}
 use native.Mathlib.Numerals.{add-one}
 use lib.Dec.{eqb, ltb}
@@ -15,6 +15,13 @@ use Rattle.xml.specs.Bytes.{used}
 use Rattle.ordering.specs.Order.{Precedes}
 use Rattle.ordering.specs.Sorted.{Increasing, Among, Lists, Between, Added}
 use Rattle.ordering.specs.Laws.Order.{precedes-through, precedes-none}
+
+pub lists-none : (name : ℕ → List ℕ) → Lists name 0 []
+unfolding used
+lists-none name = record { each-seen = λ i h. absurd (omega arith); has = λ w e. absurd (false≢true e) }
+
+pub increasing-none : (name : ℕ → List ℕ) → Increasing name 0
+increasing-none name = record { increasing = λ i j h k. absurd (omega arith) }
 
 pub between-start : (name : ℕ → List ℕ) (n : ℕ) (w : List ℕ) → Between name n 0 n w
 between-start name n w = record { below = λ i h. absurd (omega arith); above = λ i h k. absurd (omega arith) }

@@ -22,10 +22,11 @@ use Rattle.xml.specs.Laws.Fixed.{agree}
 use Rattle.reader.specs.declared.Cursor.{Cursor}
 use Rattle.reader.specs.declared.End.{End}
 use Rattle.reader.specs.declared.End.the-variants.{Behind, Mismatch}
-use Rattle.reader.specs.Steps.{Run, Agreement}
+use Rattle.ordering.specs.Agreement.{Agreement}
+use Rattle.reader.specs.Steps.{Run}
 use Rattle.reader.specs.Elements.{EndRead, end-behind, end-mismatch}
 use Rattle.reader.specs.Laws.Tags.{no-blank-here, no-opener, calm-closed}
-use Rattle.reader.specs.Laws.Attributes.{name-of, length-name}
+use Rattle.reader.specs.Laws.Names.{name-of, length-name}
 
 module _ (s : List ℕ) (n : Name) (ns : List Name) (m : ℕ) (l : m ≤ node-limit) where
   -- a byte of the name

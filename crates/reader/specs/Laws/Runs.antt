@@ -15,7 +15,8 @@ use Rattle.xml.specs.Laws.Fixed.{agree, word-at, entity-at}
 use Rattle.reader.specs.declared.Cursor.{Cursor}
 use Rattle.reader.specs.declared.Reference.{Reference}
 use Rattle.reader.specs.declared.Reference.the-variants.{Byte, NoEntity}
-use Rattle.reader.specs.Steps.{Run, Agreement, Refers, refers, no-entity}
+use Rattle.ordering.specs.Agreement.{Agreement}
+use Rattle.reader.specs.Steps.{Run, Refers, refers, no-entity}
 
 -- a run: i is where the loop stands, from where it began
 unfoldable pub Running : (ℕ → Bool) → List ℕ → ℕ → ℕ → Type 0

@@ -25,7 +25,10 @@ use Rattle.reader.specs.declared.Read.the-variants.{Past, Refused}
 use Rattle.reader.specs.declared.Tag.{Tag}
 use Rattle.reader.specs.declared.Tag.the-variants.{Opened, Emptied, Broken}
 use Rattle.reader.specs.Steps.{Run, TagRead, tag-open, tag-empty, tag-attribute, tag-wrong}
+use Rattle.ordering.specs.Sorted.{Lists}
+use Rattle.ordering.specs.Laws.Sorted.{lists-none}
 use Rattle.reader.specs.Elements.{stack, Placed, Attributed, AttributeRead, attribute-past, attribute-refused, Kept, Onward}
+use Rattle.reader.specs.Elements.{attribute-names, Entered, NamesRead, names-past, AttributeEnters}
 use Rattle.reader.specs.Elements.{AttributesRead, attributes-opened, attributes-emptied, attributes-broken, Named}
 use Rattle.reader.specs.Elements.{ElementRead, element-opened, element-emptied, element-broken}
 use Rattle.reader.specs.Laws.Attributes.{start-name}
@@ -36,10 +39,6 @@ stack-frame : (s os : List ℕ) (lo n k v : ℕ) → lo + n ≤ k → stack s (s
 unfolding stack
 stack-frame s os lo zero k v h = refl
 stack-frame s os lo (suc n) k v h = rw (getD-set-other os k (lo + n) v 0 (λ e. omega arith), stack-frame s os lo n k v (omega arith))
-
-pub stack-push : (s os : List ℕ) (lo n v : ℕ) → lo + n < length os → stack s (set os (lo + n) v) lo (n + 1) ≡ name-at s v ∷ stack s os lo n
-unfolding stack
-stack-push s os lo n v h = rw (add-one n, getD-set-same os (lo + n) v 0 h, stack-frame s os lo n (lo + n) v (omega arith))
 
 pub stack-same : (s os os′ : List ℕ) (n : ℕ) → Kept n os os′ → stack s os′ 0 n ≡ stack s os 0 n
 unfolding stack
@@ -68,46 +67,70 @@ placed-kept s os os′ n p k = record { placed = λ i h. rw (k .kept i h) (p .pl
 
 -- the loop over the attributes -------------------------------------------------------------------
 
+pub entered-past : {s os os′ : List ℕ} {lo count at nodes : ℕ} {c : Cursor} {m : ℕ} → AttributeEnters s os os′ lo count at nodes (Past c m) → Entered s os os′ lo count at
+entered-past y = go (y .names)
+  where
+    go : {s os os′ : List ℕ} {lo count at : ℕ} {c : Cursor} {m : ℕ} → NamesRead s os os′ lo count at (Past c m) → Entered s os os′ lo count at
+    go (names-past e) = e
+
+past-behind : {s : List ℕ} {seen : List Name} {at n m : ℕ} {d : Cursor} → AttributeRead s seen at n (Past d m)
+    → (at < d .at) × (d .at ≤ length s) × (n < m) × (m ≤ node-limit)
+past-behind (attribute-past a b e f u) = (a, b, e, f)
+
+-- the attributes so far lead here; the names that were seen are those from place lo on
 pub record AttributesTo (s os : List ℕ) (lo count at nodes i n : ℕ) : Type 0 where
-  pub comes : (m : Name) (ns : List Name) → Goes s (behind-part m ns []) nodes at (behind-part m ns (stack s os lo count)) n i
+  pub seen : List Name
+  pub lists : Lists (attribute-names s os lo) count seen
+  pub comes : (m : Name) (ns : List Name) → Goes s (behind-part m ns []) nodes at (behind-part m ns seen) n i
 
 pub attributes-start : (s os : List ℕ) (lo at nodes : ℕ) → AttributesTo s os lo 0 at nodes at nodes
-unfolding stack
-attributes-start s os lo at nodes = record { comes = λ m ns. goes-same s (behind-part m ns []) nodes at at refl }
+attributes-start s os lo at nodes = record {
+  seen = [];
+  lists = lists-none (attribute-names s os lo);
+  comes = λ m ns. goes-same s (behind-part m ns []) nodes at at refl;
+}
 
 module _ (s os : List ℕ) (lo count at nodes i n : ℕ) (t : AttributesTo s os lo count at nodes i n) (a : at ≤ i) (b : nodes ≤ n) (l : n ≤ node-limit) where
   pub attributes-wrong : {j : ℕ} → TagRead s behind-part i (Wrong j) → AttributesRead s at nodes (Broken 4 j)
-  attributes-wrong {j} (tag-wrong f) = attributes-broken {x = 4} {j = j} (λ m ns. t .comes m ns .back _ (f m ns (stack s os lo count) n l))
+  attributes-wrong {j} (tag-wrong f) = attributes-broken {x = 4} {j = j} (λ m ns. t .comes m ns .back _ (f m ns (t .seen) n l))
 
   pub attributes-open : {c : Cursor} → TagRead s behind-part i (Open c) → AttributesRead s at nodes (Opened c n)
   attributes-open {c} (tag-open d e g f) =
       attributes-opened {c = c} {m = n} (record { further = omega arith; inside = e; begins-here = g; more = b; few = l })
-      (λ m ns. goes-then (t .comes m ns) (f m ns (stack s os lo count) n l))
+      (λ m ns. goes-then (t .comes m ns) (f m ns (t .seen) n l))
 
   pub attributes-empty : {c : Cursor} → TagRead s behind-part i (Empty c) → AttributesRead s at nodes (Emptied c n)
   attributes-empty {c} (tag-empty d e g f) =
       attributes-emptied {c = c} {m = n} (record { further = omega arith; inside = e; begins-here = g; more = b; few = l })
-      (λ m ns. goes-then (t .comes m ns) (f m ns (stack s os lo count) n l))
+      (λ m ns. goes-then (t .comes m ns) (f m ns (t .seen) n l))
 
-  pub attributes-bad : {c : Cursor} {x j : ℕ} → TagRead s behind-part i (Attribute c) → AttributeRead s (stack s os lo count) (c .at) n (Refused x j)
-      → AttributesRead s at nodes (Broken x j)
-  attributes-bad {c} {x} {j} (tag-attribute d e g h f) (attribute-refused u) =
-      attributes-broken {x = x} {j = j} (λ m ns. t .comes m ns .back _ (f m ns (stack s os lo count) n l .back _ (u m ns)))
+  -- an attribute that is refused
+  refused : {c : Cursor} {x j : ℕ} → TagRead s behind-part i (Attribute c) → AttributeRead s (t .seen) (c .at) n (Refused x j) → AttributesRead s at nodes (Broken x j)
+  refused {c} {x} {j} (tag-attribute d e g h f) (attribute-refused u) =
+      attributes-broken {x = x} {j = j} (λ m ns. t .comes m ns .back _ (f m ns (t .seen) n l .back _ (u m ns)))
 
-  pub attributes-turn : {c d : Cursor} {m : ℕ} → TagRead s behind-part i (Attribute c) → AttributeRead s (stack s os lo count) (c .at) n (Past d m)
-      → lo + count < length os
-      → AttributesTo s (set os (lo + count) (c .at)) lo (count + 1) at nodes (d .at) m
-  attributes-turn {c} {d} {m} (tag-attribute p e g h f) (attribute-past q r w x u) z = record {
-    comes = λ nm ns.
-        rw (stack-push s os lo count (c .at) z) (goes-then (t .comes nm ns) (goes-then (f nm ns (stack s os lo count) n l) (u nm ns)));
+  -- one that is read
+  past : {c d : Cursor} {m : ℕ} {os′ : List ℕ} → TagRead s behind-part i (Attribute c) → AttributeRead s (t .seen) (c .at) n (Past d m)
+      → Lists (attribute-names s os′ lo) (count + 1) (name-at s (c .at) ∷ t .seen) → AttributesTo s os′ lo (count + 1) at nodes (d .at) m
+  past {c} {d} {m} (tag-attribute p e g h f) (attribute-past q r w x u) y = record {
+    seen = name-at s (c .at) ∷ t .seen;
+    lists = y;
+    comes = λ nm ns. goes-then (t .comes nm ns) (goes-then (f nm ns (t .seen) n l) (u nm ns));
   }
+
+  module _ {os′ : List ℕ} {c : Cursor} (z : TagRead s behind-part i (Attribute c)) where
+    pub attributes-bad : {x j : ℕ} → AttributeEnters s os os′ lo count (c .at) n (Refused x j) → AttributesRead s at nodes (Broken x j)
+    attributes-bad y = refused z (y .reads (t .seen) (t .lists))
+
+    module _ {d : Cursor} {m : ℕ} (y : AttributeEnters s os os′ lo count (c .at) n (Past d m)) where
+      pub attributes-turn : AttributesTo s os′ lo (count + 1) at nodes (d .at) m
+      attributes-turn = past z (y .reads (t .seen) (t .lists)) (entered-past y .added .lists (t .seen) (t .lists))
+
+      pub attribute-behind : (c .at < d .at) × (d .at ≤ length s) × (n < m) × (m ≤ node-limit)
+      attribute-behind = past-behind (y .reads (t .seen) (t .lists))
 
 pub attribute-here : {s : List ℕ} {i : ℕ} {c : Cursor} (n : ℕ) → n ≤ node-limit → TagRead s behind-part i (Attribute c) → Attributed s (c .at) n × (i ≤ c .at)
 attribute-here n l (tag-attribute d e g h f) = (record { inside = e; starts = h; begins-here = g; few = l }, d)
-
-pub attribute-behind : {s : List ℕ} {seen : List Name} {at n m : ℕ} {d : Cursor} → AttributeRead s seen at n (Past d m)
-    → (at < d .at) × (d .at ≤ length s) × (n < m) × (m ≤ node-limit)
-attribute-behind (attribute-past a b e f u) = (a, b, e, f)
 
 -- from the first byte of the name ------------------------------------------------------------------
 
