@@ -3,8 +3,7 @@ use ordering::Order;
 use ordering::Place;
 
 // How the content of the node at p lies to that of the node at q.
-fn order(s: &[u8], p: usize, q: usize) -> Order
-{
+fn order(s: &[u8], p: usize, q: usize) -> Order {
     let a = committed::content(s, p);
     let b = committed::content(s, q);
     let n = ordering::agreement(b, 0, a);
@@ -24,8 +23,7 @@ fn order(s: &[u8], p: usize, q: usize) -> Order
 }
 
 // Where the name of the node at p belongs among those of the first count places.
-fn place(s: &[u8], names: &[u16; 1024], count: usize, p: usize) -> Place
-{
+fn place(s: &[u8], names: &[u16; 1024], count: usize, p: usize) -> Place {
     let mut low: usize = 0;
     let mut high = count;
     while low < high {
@@ -40,8 +38,7 @@ fn place(s: &[u8], names: &[u16; 1024], count: usize, p: usize) -> Place
 }
 
 // The places from `at` on, up to `end`, one further.
-fn make_room(names: &mut [u16; 1024], at: usize, end: usize)
-{
+fn make_room(names: &mut [u16; 1024], at: usize, end: usize) {
     let mut i = end;
     while at < i {
         names[i] = names[i - 1];
@@ -55,8 +52,7 @@ pub enum Names {
     Kept(usize),
 }
 
-fn enter(s: &[u8], names: &mut [u16; 1024], count: usize, p: u16) -> Names
-{
+fn enter(s: &[u8], names: &mut [u16; 1024], count: usize, p: u16) -> Names {
     match place(s, names, count, p as usize) {
         Place::Taken => Names::Repeated,
         Place::Free(k) => {
@@ -68,8 +64,7 @@ fn enter(s: &[u8], names: &mut [u16; 1024], count: usize, p: u16) -> Names
 }
 
 // The names behind the node at p, of kind `kind`: an element has none yet, a text leaves them.
-pub fn follow(s: &[u8], names: &mut [u16; 1024], count: usize, p: u16, kind: u8) -> Names
-{
+pub fn follow(s: &[u8], names: &mut [u16; 1024], count: usize, p: u16, kind: u8) -> Names {
     if kind == 3 {
         return enter(s, names, count, p);
     }

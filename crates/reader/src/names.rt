@@ -38,14 +38,7 @@ fn order(s: &[u8], from: usize, to: usize, other: usize) -> Order
 }
 
 // Where a name belongs among the count names whose offsets stand from lo on.
-fn place(
-    s: &[u8],
-    names: &[usize; 1024],
-    lo: usize,
-    count: usize,
-    from: usize,
-    to: usize,
-) -> Place
+fn place(s: &[u8], names: &[usize; 1024], lo: usize, count: usize, from: usize, to: usize) -> Place
     requires { ⌜ (from ≤ to) × Run name-byte (now s) from to × (lo + count ≤ 1024) × Placed (now s) (now names) (lo + count) × Increasing (attribute-names (now s) (now names) lo) count ⌝ }
     ensures { λ r. ⌜ Belongs (attribute-names (now (s .entry)) (now (names .entry)) lo) count (name-at (now (s .entry)) from) r ⌝ }
 {

@@ -25,6 +25,16 @@ pub precedes-none : {a : List ℕ} → Precedes a a → ⊥
 precedes-none (smaller h) = omega arith
 precedes-none (later p) = precedes-none p
 
+module _ {a b : List ℕ} where
+  pub before-of : Ordered a b Before → Precedes a b
+  before-of (is-before p) = p
+
+  pub same-of : Ordered a b Same → a ≡ b
+  same-of (is-same e) = e
+
+  pub behind-of : Ordered a b Behind → Precedes b a
+  behind-of (is-behind p) = p
+
 -- the bytes at which two strings agree -----------------------------------------------------------
 
 ordered-cons : (x : ℕ) {a b : List ℕ} {r : Order} → Ordered a b r → Ordered (x ∷ a) (x ∷ b) r

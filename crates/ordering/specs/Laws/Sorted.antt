@@ -12,9 +12,13 @@ use Rattle.tree.specs.Lists.{same}
 use Rattle.tree.specs.Laws.Tests.{refuted, or-cases}
 use Rattle.tree.specs.Laws.Compare.{same-equal, same-self}
 use Rattle.xml.specs.Bytes.{used}
-use Rattle.ordering.specs.Order.{Precedes}
-use Rattle.ordering.specs.Sorted.{Increasing, Among, Lists, Between, Added}
-use Rattle.ordering.specs.Laws.Order.{precedes-through, precedes-none}
+use Rattle.ordering.specs.declared.Order.{Order}
+use Rattle.ordering.specs.declared.Order.the-variants.{Before, Same, Behind}
+use Rattle.ordering.specs.declared.Place.{Place}
+use Rattle.ordering.specs.declared.Place.the-variants.{Taken, Free}
+use Rattle.ordering.specs.Order.{Precedes, Ordered}
+use Rattle.ordering.specs.Sorted.{Increasing, Among, Lists, Between, Belongs, is-taken, is-free, Added}
+use Rattle.ordering.specs.Laws.Order.{precedes-through, precedes-none, before-of, same-of, behind-of}
 
 pub lists-none : (name : ℕ → List ℕ) → Lists name 0 []
 unfolding used
@@ -27,19 +31,42 @@ pub between-start : (name : ℕ → List ℕ) (n : ℕ) (w : List ℕ) → Betwe
 between-start name n w = record { below = λ i h. absurd (omega arith); above = λ i h k. absurd (omega arith) }
 
 module _ {name : ℕ → List ℕ} {n low high m : ℕ} {w : List ℕ} (s : Increasing name n) (b : Between name n low high w) (h : m < n) where
-  pub between-before : Precedes w (name m) → Between name n low m w
+  between-before : Precedes w (name m) → Between name n low m w
   between-before p = record { below = b .below; above = λ i k l. go i k l (eqb i m) refl }
     where
       go : (i : ℕ) → m ≤ i → i < n → (t : Bool) → eqb i m ≡ t → Precedes w (name i)
       go i k l true e = rw (eqb-true i m e) p
       go i k l false e = precedes-through p (s .increasing m i (omega (arith, eqb-false i m e)) l)
 
-  pub between-behind : Precedes (name m) w → Between name n (m + 1) high w
+  between-behind : Precedes (name m) w → Between name n (m + 1) high w
   between-behind p = record { below = λ i k. go i k (eqb i m) refl; above = b .above }
     where
       go : (i : ℕ) → i < m + 1 → (t : Bool) → eqb i m ≡ t → Precedes (name i) w
       go i k true e = rw (eqb-true i m e) p
       go i k false e = precedes-through (s .increasing i m (omega (arith, eqb-false i m e)) h) p
+
+  module _ {r : Order} (o : Ordered w (name m) r) where
+    pub turn-before : r ≡ Before → Between name n low m w
+    turn-before e = between-before (before-of (subst (Ordered w (name m)) e o))
+
+    pub turn-behind : r ≡ Behind → Between name n (m + 1) high w
+    turn-behind e = between-behind (behind-of (subst (Ordered w (name m)) e o))
+
+    pub turn-same : r ≡ Same → Belongs name n w Taken
+    turn-same e = is-taken (record { at = m; inside = h; is = sym (same-of (subst (Ordered w (name m)) e o)) })
+
+module _ {name : ℕ → List ℕ} {n : ℕ} {w : List ℕ} {r : Place} (b : Belongs name n w r) where
+  pub taken-of : r ≡ Taken → Among name n w
+  taken-of e = go (subst (Belongs name n w) e b)
+    where
+      go : Belongs name n w Taken → Among name n w
+      go (is-taken a) = a
+
+  pub free-of : {k : ℕ} → r ≡ Free k → (k ≤ n) × Between name n k k w
+  free-of {k} e = go (subst (Belongs name n w) e b)
+    where
+      go : Belongs name n w (Free k) → (k ≤ n) × Between name n k k w
+      go (is-free h x) = (h, x)
 
 -- what is found is seen, what is not found is not
 module _ {name : ℕ → List ℕ} {n : ℕ} {w : List ℕ} {seen : List (List ℕ)} (l : Lists name n seen) where

@@ -1,7 +1,7 @@
 -- Names compared with each other, and an attribute from its name to its value.
 use Prim.Native.Nat.{ℕ, zero, suc, _+_, _-_, _≤_, _<_}
 use mathlib.Core.Path.{_≡_, refl, sym, ap, ap₂, _∙_, subst}
-use mathlib.Core.Bool.{Bool, true, false, cond, not, _&&_, _||_, false≢true}
+use mathlib.Core.Bool.{Bool, true, false, cond, not, _&&_, _||_, false≢true, true≢false}
 use mathlib.Core.List.{List, [], _∷_}
 use native.Mathlib.Omega.{arith}
 use native.Mathlib.Numerals.{add-one}
@@ -30,8 +30,24 @@ use Rattle.reader.specs.declared.Equals.the-variants.{Quoted, NoQuote}
 use Rattle.reader.specs.declared.Read.{Read}
 use Rattle.reader.specs.declared.Read.the-variants.{Past, Refused}
 use Rattle.reader.specs.Steps.{Run, EqualsRead, quoted, no-quote, ContentRead, content-past, content-refused}
-use Rattle.reader.specs.Elements.{stack, Placed, Attributed, AttributeRead, attribute-past, attribute-refused}
+use Rattle.ordering.specs.Sorted.{Among}
+use Rattle.ordering.specs.Laws.Sorted.{among-seen}
+use Rattle.reader.specs.Elements.{Attributed, AttributeRead, attribute-past, attribute-refused, Kept, attribute-names, Entered}
+use Rattle.reader.specs.Elements.{EnterRead, is-entered, is-repeated, NamesRead, names-past, names-refused, AttributeEnters}
 use Rattle.reader.specs.Laws.Contents.{value-contents}
+
+module _ {s os os′ : List ℕ} {lo count at : ℕ} where
+  repeated-of : {b : Bool} → EnterRead s os os′ lo count at b → b ≡ false → Among (attribute-names s os lo) count (name-at s at)
+  repeated-of (is-repeated a) h = a
+  repeated-of (is-entered a) h = absurd (true≢false h)
+
+  entered-of : {b : Bool} → EnterRead s os os′ lo count at b → b ≡ true → Entered s os os′ lo count at
+  entered-of (is-repeated a) h = absurd (false≢true h)
+  entered-of (is-entered a) h = a
+
+  names-behind : Entered s os os′ lo count at → (y : Read) → NamesRead s os os′ lo count at y
+  names-behind e (Past c m) = names-past e
+  names-behind e (Refused x j) = names-refused
 
 -- an attribute ---------------------------------------------------------------------------------
 
@@ -60,7 +76,7 @@ module _ (s : List ℕ) (at nodes : ℕ) (x : Attributed s at nodes) where
       go true o = absurd (let p = offset-before s at o in omega (arith, p .0, p .1, x .begins-here))
       go false o = o
 
-  pub attribute-many : (seen : List Name) → nodes ≡ node-limit → AttributeRead s seen at nodes (Refused 6 at)
+  attribute-many : (seen : List Name) → nodes ≡ node-limit → AttributeRead s seen at nodes (Refused 6 at)
   unfolding births tail peak
   attribute-many seen l = attribute-refused {x = 6} {j = at} (λ n ns.
       stops-many s (in-tag n ns seen) nodes at (x .inside) (attribute-name n ns seen (b ∷ [])) (depth (n ∷ ns)) attribute-kind (byte b ∷ [])
@@ -76,7 +92,7 @@ module _ (s : List ℕ) (at nodes : ℕ) (x : Attributed s at nodes) where
         scan-born s (in-tag n ns seen) nodes at (x .inside) (attribute-name n ns seen (b ∷ [])) (depth (n ∷ ns)) attribute-kind (byte b ∷ [])
         (born-step n ns seen) refl room k h (omega arith)
 
-    pub attribute-long : (seen : List Name) → content-limit < to - at → AttributeRead s seen at nodes (Refused 5 (at + 32))
+    attribute-long : (seen : List Name) → content-limit < to - at → AttributeRead s seen at nodes (Refused 5 (at + 32))
     attribute-long seen h = attribute-refused {x = 5} {j = at + 32} (λ n ns. record {
       leads = λ k m. named n ns seen k m
           ∙ name-long s (attribute-name n ns seen) (nodes + 1) (naming n ns seen) (omega arith) at (x .inside) (start-name b (x .starts))
@@ -97,7 +113,7 @@ module _ (s : List ℕ) (at nodes : ℕ) (x : Attributed s at nodes) where
       ended : to < length s → name-byte (getD s to 0) ≡ false
       ended h = rw (r .ends) (span-behind name-byte s at (omega (arith, r .ends)))
 
-      pub attribute-repeated : (seen : List Name) → used seen (name-at s at) ≡ true → AttributeRead s seen at nodes (Refused 4 to)
+      attribute-repeated : (seen : List Name) → used seen (name-at s at) ≡ true → AttributeRead s seen at nodes (Refused 4 to)
       unfolding step
       attribute-repeated seen e = attribute-refused {x = 4} {j = to} (λ n ns. record { leads = λ k m. whole n ns seen k m ∙ go n ns (leb (length s) to) refl })
         where
@@ -120,11 +136,11 @@ module _ (s : List ℕ) (at nodes : ℕ) (x : Attributed s at nodes) where
           };
         }
 
-        pub attribute-unquoted : {j : ℕ} → EqualsRead s to (NoQuote j) → AttributeRead s seen at nodes (Refused 4 j)
+        attribute-unquoted : {j : ℕ} → EqualsRead s to (NoQuote j) → AttributeRead s seen at nodes (Refused 4 j)
         attribute-unquoted {j} (no-quote f) =
             attribute-refused {x = 4} {j = j} (λ n ns. to-sign n ns .back _ (f n ns (name-at s at ∷ seen) (nodes + 1) (omega arith)))
 
-        pub attribute-valued : {q : ℕ} {c : Cursor} {y : Read} → EqualsRead s to (Quoted q c) → ContentRead s q (c .at) (nodes + 1) y
+        attribute-valued : {q : ℕ} {c : Cursor} {y : Read} → EqualsRead s to (Quoted q c) → ContentRead s q (c .at) (nodes + 1) y
             → AttributeRead s seen at nodes y
         attribute-valued (quoted q a b d f) (content-past {c = c} {m = m} g h i j k u) =
             attribute-past {c = c} {m = m} (omega (arith, r .ends)) h (omega arith) k
@@ -134,6 +150,43 @@ module _ (s : List ℕ) (at nodes : ℕ) (x : Attributed s at nodes) where
             attribute-refused {x = x} {j = j}
             (λ n ns. to-sign n ns .back _
             (f n ns (name-at s at ∷ seen) (nodes + 1) (omega arith) .back _ (u _ _ _ _ (value-contents n ns (name-at s at ∷ seen) q))))
+
+-- with the names of the attributes before it, os before and os′ behind it
+module _ {s os : List ℕ} {lo count at nodes : ℕ} (x : Attributed s at nodes) where
+  pub enters-many : nodes ≡ node-limit → AttributeEnters s os os lo count at nodes (Refused 6 at)
+  enters-many h = record { reads = λ seen l. attribute-many s at nodes x seen h; names = names-refused; kept = record { as-long = refl; kept = λ i h. refl } }
+
+  module _ (room : nodes < node-limit) {to : ℕ} (r : Run name-byte s at to) where
+    pub enters-long : content-limit < to - at → AttributeEnters s os os lo count at nodes (Refused 5 (at + 32))
+    enters-long h = record {
+      reads = λ seen l. attribute-long s at nodes x room to r seen h;
+      names = names-refused;
+      kept = record { as-long = refl; kept = λ i h. refl };
+    }
+
+    module _ (short : to - at ≤ content-limit) {os′ : List ℕ} {b : Bool} (e : EnterRead s os os′ lo count at b) (k : Kept lo os os′) where
+      pub enters-repeated : b ≡ false → AttributeEnters s os os′ lo count at nodes (Refused 4 to)
+      enters-repeated h = record {
+        reads = λ seen l. attribute-repeated s at nodes x room to r short seen (among-seen l (repeated-of e h));
+        names = names-refused;
+        kept = k;
+      }
+
+      module _ (h : b ≡ true) where
+        pub enters-unquoted : {j : ℕ} → EqualsRead s to (NoQuote j) → AttributeEnters s os os′ lo count at nodes (Refused 4 j)
+        enters-unquoted q = record {
+          reads = λ seen l. attribute-unquoted s at nodes x room to r short seen (entered-of e h .added .unseen seen l) q;
+          names = names-refused;
+          kept = k;
+        }
+
+        pub enters-valued : {q : ℕ} {c : Cursor} {y : Read} → EqualsRead s to (Quoted q c) → ContentRead s q (c .at) (nodes + 1) y
+            → AttributeEnters s os os′ lo count at nodes y
+        enters-valued {y = y} q v = record {
+          reads = λ seen l. attribute-valued s at nodes x room to r short seen (entered-of e h .added .unseen seen l) q v;
+          names = names-behind (entered-of e h) y;
+          kept = k;
+        }
 
 pub quoted-inside : {s : List ℕ} {at q : ℕ} {c : Cursor} → EqualsRead s at (Quoted q c) → (1 ≤ c .at) × (c .at ≤ length s) × (c .at - 1 ≡ node-offset s (c .at))
 quoted-inside (quoted q a b d f) = (omega arith, b, sym d)
