@@ -1,14 +1,21 @@
 // The length of what writing the committed document gives, by one pass over its rows, and whether it can be written at all.
 mod names;
 
-use names::Names;
 ghost use mathlib.Core.Path.{_≡_};
-ghost use Prim.Native.Nat.{suc, _+_, _<_, _≤_};
-ghost use lib.ListN.{length, getD};
+ghost use Prim.Native.Nat.{_<_, _≤_};
+ghost use lib.ListN.{length};
 ghost use Rattle.layout.specs.Layout.{nodes, Layout};
-ghost use Rattle.markup.specs.Rows.{extra, cost, repeated, measured};
-ghost use Rattle.committed.specs.Lines.{label-at, line-at, lines, Inside, Listed};
-ghost use Rattle.measuring.specs.Walk.{before-lines, previous-kind};
+ghost use Rattle.markup.specs.Rows.{extra, cost, measured};
+ghost use Rattle.ordering.specs.Sorted.{Increasing};
+ghost use Rattle.committed.specs.Lines.{label-at, lines, Inside, Listed};
+ghost use Rattle.measuring.specs.Walk.{previous-kind};
+ghost use Rattle.measuring.specs.Names.{names-at, Admitted};
+
+// The names of attributes behind a node: how many are kept; or the node cannot be written where it is.
+pub enum Admission {
+    Refused,
+    Kept(usize),
+}
 
 // The kind of the previous sibling of a node at depth d, 0 for none; kinds has the kind of the last node at each depth up to top.
 pub fn previous(kinds: &[u8; 1024], top: usize, d: usize) -> u8
@@ -50,6 +57,25 @@ fn cost(s: &[u8], parent: usize, above: u8, previous: u8, p: usize, kind: u8) ->
     more + committed::escaped_size(s, p)
 }
 
+// The names behind the node at p, of kind `kind`, below a node of kind `above` and behind one of kind `before`, if it may be written there.
+fn admit(
+    s: &[u8],
+    names: &mut [u16; 1024],
+    kept: usize,
+    above: u8,
+    before: u8,
+    p: u16,
+    kind: u8,
+) -> Admission
+    requires { ⌜ (Layout (now s)) × (p < length (nodes (now s))) × (kept < 1024) × Inside (nodes (now s)) (now names) kept × Increasing (names-at (nodes (now s)) (now names)) kept × (kind ≡ label-at (nodes (now s)) p .kind) ⌝ }
+    ensures { λ r. ⌜ Admitted (nodes (now (s .entry))) (now (names .entry)) (now (names .exit)) kept above before p r ⌝ }
+{
+    if !markup::fits(above, before, kind) {
+        return Admission::Refused;
+    }
+    names::follow(s, names, kept, p, kind)
+}
+
 // The length of what is written, or 0 where the document is not ordered or not expressible.
 pub fn measure(s: &[u8], places: &[u16; 1024], count: usize) -> usize
     requires { ⌜ (Layout (now s)) × (Listed (nodes (now s)) (now places) count) ⌝ }
@@ -63,9 +89,9 @@ pub fn measure(s: &[u8], places: &[u16; 1024], count: usize) -> usize
     path[0] = first;
     let mut kinds = [0u8; 1024];
     kinds[0] = table::kind(s, first as usize);
-    let mut names = [0u16; 1024];
-    let mut count_names: usize = 0;
     let mut top: usize = 0;
+    let mut names = [0u16; 1024];
+    let mut kept: usize = 0;
     let mut sum: usize = 39;
     let mut i: usize = 1;
     while i < count {
@@ -74,18 +100,15 @@ pub fn measure(s: &[u8], places: &[u16; 1024], count: usize) -> usize
         let kind = table::kind(s, p as usize);
         let above = kinds[d - 1];
         let before = previous(&kinds, top, d);
-        if !markup::fits(above, before, kind) {
-            return 0;
-        }
-        match names::follow(s, &mut names, count_names, p, kind) {
-            Names::Repeated => return 0,
-            Names::Kept(n) => {
+        match admit(s, &mut names, kept, above, before, p, kind) {
+            Admission::Refused => return 0,
+            Admission::Kept(n) => {
                 let parent = path[d - 1] as usize;
                 sum += cost(s, parent, above, before, p as usize, kind);
                 path[d] = p;
                 kinds[d] = kind;
-                count_names = n;
                 top = d;
+                kept = n;
                 i += 1;
             }
         }

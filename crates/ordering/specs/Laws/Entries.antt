@@ -61,9 +61,11 @@ module _ {os os′ : List ℕ} {k n : ℕ} (v : ℕ) (x : Shifted os os′ k n) 
       go (suc i) h (side-behind q) = rw (new-further i q (omega arith)) (e i (omega arith))
 
 -- the name of the new entry is put among the others
-pub entry-added : (f : ℕ → List ℕ) {os os′ : List ℕ} (lo : ℕ) {k n : ℕ} (v : ℕ) → Shifted os os′ (lo + k) (lo + n) → k ≤ n → lo + n < length os
-    → Increasing (entries f os lo) n → Between (entries f os lo) n k k (f v) → Added (entries f os lo) (entries f (set os′ (lo + k) v) lo) n (f v)
+pub entry-added : (f : ℕ → List ℕ) {os os′ : List ℕ} (lo : ℕ) {at end k n : ℕ} (v : ℕ) → at ≡ lo + k → end ≡ lo + n → Shifted os os′ at end → k ≤ n
+    → lo + n < length os → Increasing (entries f os lo) n → Between (entries f os lo) n k k (f v)
+    → Added (entries f os lo) (entries f (set os′ at v) lo) n (f v)
 unfolding entries
-entry-added f {os} {os′} lo {k} {n} v x m l s b =
-    added s b m (λ i h. ap f (new-ahead v x (omega arith) l (lo + i) (omega arith))) (ap f (new-here v x (omega arith) l))
-    (λ i h j. let z : lo + suc i ≡ suc (lo + i) = omega arith in ap f (rw z (new-further v x (omega arith) l (lo + i) (omega arith) (omega arith))))
+entry-added f {os} {os′} lo {at} {end} {k} {n} v p q x m l s b =
+    added s b m (λ i h. ap f (new-ahead v x (omega arith) (omega arith) (lo + i) (omega arith)))
+    (rw (← p) (ap f (new-here v x (omega arith) (omega arith))))
+    (λ i h j. let z : lo + suc i ≡ suc (lo + i) = omega arith in ap f (rw z (new-further v x (omega arith) (omega arith) (lo + i) (omega arith) (omega arith))))

@@ -137,7 +137,7 @@ module _ {os os′ : List ℕ} {lo count k : ℕ} (at : ℕ) (x : Shifted os os�
       → Placed s os (lo + count) → at ≤ length s → EnterRead s os (set os′ (lo + k) at) lo count at true
   enter-new {s} i b p h = is-entered (record {
     placed = record { placed = each-entry at x (omega arith) l (λ o. o ≤ length s) (p .placed) h };
-    added = entry-added (name-at s) lo at x m l i b;
+    added = entry-added (name-at s) lo at refl refl x m l i b;
   })
 
   pub enter-kept : Kept lo os (set os′ (lo + k) at)
