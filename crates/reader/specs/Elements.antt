@@ -8,7 +8,7 @@ use Rattle.tree.specs.Content.{name-start}
 use Rattle.protocol.specs.Calls.{node-limit}
 use Rattle.xml.specs.Grammar.{Name}
 use Rattle.xml.specs.Reading.{node-offset}
-use Rattle.xml.specs.Laws.Automaton.{Config, behind-part, in-tag, tag-name, content, closed, end-name}
+use Rattle.xml.specs.Laws.Automaton.{behind-part, in-tag, tag-name, content, closed, end-name}
 use Rattle.xml.specs.Laws.Judge.{Verdict, bad}
 use Rattle.xml.specs.Laws.Scan.{scan-at}
 use Rattle.xml.specs.Laws.Goes.{Leads, Goes}

@@ -10,14 +10,14 @@ use Rattle.xml.specs.Bytes.{ampersand, brackets, Quote, mark}
 use Rattle.xml.specs.Grammar.{Name}
 use Rattle.xml.specs.Reading.{node-offset}
 use Rattle.xml.specs.Laws.Words.{Words, entities}
-use Rattle.xml.specs.Laws.Automaton.{behind-part, in-tag, before-equals, behind-slash, behind-quote, content, closed, tag-step}
-use Rattle.xml.specs.Laws.Automaton.{Config, Event, born, byte, stuck, move, to, step}
+use Rattle.xml.specs.Laws.Automaton.{behind-part, in-tag, before-equals, behind-quote, content, closed, tag-step}
+use Rattle.xml.specs.Laws.Automaton.{Config, born, byte, stuck, move, to, step}
 use Rattle.xml.specs.Laws.Phases.{phase, is-over, pending}
 use Rattle.xml.specs.Laws.Judge.{Verdict, bad}
 use Rattle.xml.specs.Laws.Scan.{scan-at}
 use Rattle.xml.specs.Laws.Goes.{Leads, Goes}
 use Rattle.xml.specs.Laws.Tokens.{span, Reach, got, lost, Wording}
-use Rattle.xml.specs.Laws.Fixed.{agree, entity-at}
+use Rattle.xml.specs.Laws.Fixed.{entity-at}
 use Rattle.reader.specs.Classes.{literal}
 use Rattle.reader.specs.declared.Cursor.{Cursor}
 use Rattle.reader.specs.declared.Reference.{Reference}

@@ -2,7 +2,7 @@
 use mathlib.Core.Path.{_≡_, refl, _∙_, subst}
 use Prim.Native.Nat.{ℕ, _+_, _≤_, _<_}
 use mathlib.Core.Bool.{false}
-use mathlib.Core.List.{List, _∷_}
+use mathlib.Core.List.{List}
 use native.Mathlib.Omega.{arith}
 use lib.ListN.{length, getD, set, length-set}
 use borrow.Author.Tests.{ne-eqb}
@@ -17,7 +17,7 @@ use Rattle.ordering.specs.Laws.Entries.{each-entry, entry-added}
 use Rattle.markup.specs.Rows.{Line, names-before, repeated}
 use Rattle.committed.specs.Lines.{label-at, Inside}
 use Rattle.measuring.specs.declared.Admission.{Admission}
-use Rattle.measuring.specs.declared.Admission.the-variants.{Refused, Kept}
+use Rattle.measuring.specs.declared.Admission.the-variants.{Kept}
 use Rattle.measuring.specs.Names.{tag-names, names-at, Entered, is-repeated, is-entered, Followed, is-again, is-followed}
 
 pub not-attribute : (pre : List Line) (x : Line) → (x .1 .kind ≡ 3 → ⊥) → false ≡ repeated pre x

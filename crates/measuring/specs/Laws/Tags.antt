@@ -1,14 +1,14 @@
 -- The attributes of an element stand behind its start tag: the names before one of them are those of the start tag opened last.
 use mathlib.Core.Path.{_≡_, refl, sym, ap, _∙_}
-use Prim.Native.Nat.{ℕ, zero, suc, _+_, _-_, _≤_, _<_}
-use mathlib.Core.Bool.{Bool, true, false, cond, not, _&&_, _||_, and-false, false≢true}
+use Prim.Native.Nat.{ℕ, suc, _-_, _≤_, _<_}
+use mathlib.Core.Bool.{Bool, true, false, cond, _&&_, and-false, false≢true}
 use mathlib.Core.List.{List, [], _∷_}
 use native.Mathlib.Omega.{arith}
 use lib.ListN.{length, getD, set}
 use lib.Seq.{getD-set-same, getD-set-other}
 use lib.Dec.{eqb}
 use borrow.Author.Tests.{eqb-true, eqb-false, eq-eqb, ne-eqb, lt-ltb, le-ltb}
-use Rattle.tree.specs.Content.{between, takes, element-kind, attribute-kind, text-kind}
+use Rattle.tree.specs.Content.{takes, element-kind, attribute-kind, text-kind}
 use Rattle.tree.specs.Laws.Tests.{and-left, and-right, or-cases}
 use mathlib.Core.Logic.{_⊎_, inl, inr}
 use Rattle.xml.specs.Shape.{Label}

@@ -1,31 +1,25 @@
 -- Names compared with each other, and an attribute from its name to its value.
-use Prim.Native.Nat.{ℕ, zero, suc, _+_, _-_, _≤_, _<_}
-use mathlib.Core.Path.{_≡_, refl, sym, ap, ap₂, _∙_, subst}
-use mathlib.Core.Bool.{Bool, true, false, cond, not, _&&_, _||_, false≢true, true≢false}
+use Prim.Native.Nat.{ℕ, _+_, _-_, _≤_, _<_}
+use mathlib.Core.Path.{_≡_, refl, sym, _∙_}
+use mathlib.Core.Bool.{Bool, true, false, false≢true, true≢false}
 use mathlib.Core.List.{List, [], _∷_}
 use native.Mathlib.Omega.{arith}
-use native.Mathlib.Numerals.{add-one}
-use lib.Dec.{eqb, leb, eqb·zero-suc, eqb·suc-suc}
-use lib.ListN.{length, getD, take, drop, length-drop}
-use lib.Seq.{length-take-le, getD-drop}
-use borrow.Author.Tests.{leb-true, leb-false, eq-eqb, ne-eqb, eqb-true}
-use Rattle.tree.specs.Lists.{same, every}
+use lib.Dec.{leb}
+use lib.ListN.{length, getD, drop}
+use borrow.Author.Tests.{leb-true, leb-false}
 use Rattle.tree.specs.Content.{content-limit, attribute-kind, name-start, name-byte}
 use Rattle.protocol.specs.Calls.{node-limit}
-use Rattle.xml.specs.Bytes.{used, blank, Quote, mark}
+use Rattle.xml.specs.Bytes.{used}
 use Rattle.xml.specs.Grammar.{Name}
 use Rattle.xml.specs.Reading.{opener, node-offset}
-use Rattle.xml.specs.Laws.Automaton.{Config, behind-part, in-tag, before-equals, attribute-name, behind-quote, Event, born, byte, depth, stuck, move, to, step}
+use Rattle.xml.specs.Laws.Automaton.{in-tag, before-equals, attribute-name, born, byte, depth, move, to, step}
 use Rattle.xml.specs.Laws.Counts.{births, tail, peak}
-use Rattle.xml.specs.Laws.Phases.{phase, is-over, pending}
-use Rattle.xml.specs.Laws.Judge.{Verdict, bad, byte-before}
+use Rattle.xml.specs.Laws.Judge.{bad, byte-before}
 use Rattle.xml.specs.Laws.Verdicts.{offset-before}
 use Rattle.xml.specs.Laws.Scan.{scan-at, scan-end, scan-stuck, scan-alike}
-use Rattle.xml.specs.Laws.Goes.{Leads, Goes, goes-then, scan-born, stops-many}
-use Rattle.xml.specs.Laws.Tokens.{span, span-length, span-behind, name-at, Naming, name-short, name-long}
-use Rattle.xml.specs.Laws.Fixed.{agree}
+use Rattle.xml.specs.Laws.Goes.{Goes, goes-then, scan-born, stops-many}
+use Rattle.xml.specs.Laws.Tokens.{span, span-behind, name-at, Naming, name-short, name-long}
 use Rattle.reader.specs.declared.Cursor.{Cursor}
-use Rattle.reader.specs.declared.Equals.{Equals}
 use Rattle.reader.specs.declared.Equals.the-variants.{Quoted, NoQuote}
 use Rattle.reader.specs.declared.Read.{Read}
 use Rattle.reader.specs.declared.Read.the-variants.{Past, Refused}

@@ -1,6 +1,6 @@
 -- An end tag, compared with the name of its element.
-use Prim.Native.Nat.{ℕ, zero, suc, _+_, _-_, _≤_, _<_}
-use mathlib.Core.Path.{_≡_, refl, sym, ap, _∙_, subst}
+use Prim.Native.Nat.{ℕ, suc, _+_, _-_, _≤_, _<_}
+use mathlib.Core.Path.{_≡_, refl, sym, ap, _∙_}
 use mathlib.Core.Bool.{Bool, true, false, cond}
 use mathlib.Core.List.{List, [], _∷_}
 use native.Mathlib.Omega.{arith}
@@ -13,14 +13,12 @@ use Rattle.tree.specs.Content.{name-byte}
 use Rattle.protocol.specs.Calls.{node-limit}
 use Rattle.xml.specs.Bytes.{blank, greater-than}
 use Rattle.xml.specs.Grammar.{Name}
-use Rattle.xml.specs.Laws.Automaton.{Config, end-name, closed, stuck, to, step}
-use Rattle.xml.specs.Laws.Phases.{phase, pending}
+use Rattle.xml.specs.Laws.Automaton.{end-name, closed, to, step}
 use Rattle.xml.specs.Laws.Judge.{bad}
 use Rattle.xml.specs.Laws.Goes.{Leads, Goes, goes-then, goes-same, goes-step, stops-end, stops-stuck}
 use Rattle.xml.specs.Laws.Tokens.{name-at, goes-blanks}
 use Rattle.xml.specs.Laws.Fixed.{agree}
 use Rattle.reader.specs.declared.Cursor.{Cursor}
-use Rattle.reader.specs.declared.End.{End}
 use Rattle.reader.specs.declared.End.the-variants.{Behind, Mismatch}
 use Rattle.ordering.specs.Agreement.{Agreement}
 use Rattle.reader.specs.Steps.{Run}

@@ -1,6 +1,6 @@
 -- Names in the input compared with each other.
-use Prim.Native.Nat.{ℕ, zero, suc, _+_, _-_, _≤_, _<_}
-use mathlib.Core.Path.{_≡_, refl, sym, ap, _∙_, subst}
+use Prim.Native.Nat.{ℕ, suc, _+_, _-_, _≤_, _<_}
+use mathlib.Core.Path.{_≡_, refl, sym, ap, _∙_}
 use mathlib.Core.Bool.{Bool, true, false, cond, _&&_, false≢true}
 use mathlib.Core.List.{List, [], _∷_}
 use native.Mathlib.Omega.{arith}
@@ -10,10 +10,8 @@ use lib.Seq.{length-take-le, getD-drop, getD-take, getD-set-other}
 use borrow.Author.Tests.{eqb-true, ltb-true, ltb-false, leb-true, leb-false}
 use Rattle.tree.specs.Lists.{every}
 use Rattle.tree.specs.Content.{name-start, name-byte}
-use Rattle.xml.specs.Grammar.{Name}
 use Rattle.xml.specs.Laws.Tokens.{span, span-length, span-byte, span-behind, name-at}
 use Rattle.xml.specs.Laws.Fixed.{agree}
-use Rattle.ordering.specs.declared.Order.{Order}
 use Rattle.ordering.specs.declared.Order.the-variants.{Before, Same, Behind}
 use Rattle.ordering.specs.Agreement.{Agreement}
 use Rattle.ordering.specs.Order.{Ordered}

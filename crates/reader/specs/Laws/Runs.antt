@@ -1,16 +1,15 @@
 -- The loops over runs of bytes and over words.
-use Prim.Native.Nat.{ℕ, zero, suc, _+_, _-_, _≤_, _<_}
-use mathlib.Core.Path.{_≡_, refl, sym, ap, _∙_, subst}
-use mathlib.Core.Bool.{Bool, true, false, cond, not}
-use mathlib.Core.List.{List, [], _∷_}
+use Prim.Native.Nat.{ℕ, _+_, _-_, _≤_, _<_}
+use mathlib.Core.Path.{_≡_, refl, _∙_}
+use mathlib.Core.Bool.{Bool, true, false}
+use mathlib.Core.List.{List}
 use native.Mathlib.Omega.{arith}
 use native.Mathlib.Numerals.{add-one}
-use lib.Dec.{eqb}
-use lib.ListN.{length, getD, drop, length-drop, drop-of-length-le}
-use lib.Seq.{drop-cons, getD-drop}
+use lib.ListN.{length, getD, drop}
+use lib.Seq.{getD-drop}
 use Rattle.xml.specs.Bytes.{amp, apos, gt, lt, quot}
 use borrow.Author.Tests.{eq-eqb, ne-eqb}
-use Rattle.xml.specs.Laws.Tokens.{span, span-end, span-stop, span-go, span-length, Reach, got, lost}
+use Rattle.xml.specs.Laws.Tokens.{span, span-end, span-stop, span-go}
 use Rattle.xml.specs.Laws.Fixed.{agree, word-at, entity-at}
 use Rattle.reader.specs.declared.Cursor.{Cursor}
 use Rattle.reader.specs.declared.Reference.{Reference}

@@ -1,44 +1,35 @@
 -- Start tags: names kept as offsets, the loop over the attributes, the tag from the first byte of its name.
 use Prim.Native.Nat.{ℕ, zero, suc, _+_, _-_, _≤_, _<_}
-use mathlib.Core.Path.{_≡_, refl, sym, ap, _∙_, subst}
+use mathlib.Core.Path.{_≡_, refl, _∙_, subst}
 use mathlib.Core.Bool.{Bool, true, false}
 use mathlib.Core.List.{List, [], _∷_}
 use native.Mathlib.Omega.{arith}
-use native.Mathlib.Numerals.{add-one}
 use lib.Dec.{eqb}
 use lib.ListN.{length, getD, set, drop, length-set}
 use lib.Seq.{getD-set-same, getD-set-other}
 use borrow.Author.Tests.{eqb-true, eqb-false}
-use Rattle.tree.specs.Content.{content-limit, name-start, name-byte}
+use Rattle.tree.specs.Content.{content-limit, name-byte}
 use Rattle.protocol.specs.Calls.{node-limit}
 use Rattle.xml.specs.Grammar.{Name}
-use Rattle.xml.specs.Laws.Automaton.{Config, behind-part, in-tag, tag-name, content, closed, step}
-use Rattle.xml.specs.Laws.Judge.{Verdict, bad}
+use Rattle.xml.specs.Laws.Automaton.{behind-part, tag-name, step}
 use Rattle.xml.specs.Laws.Scan.{scan-at, scan-alike}
-use Rattle.xml.specs.Laws.Goes.{Leads, Goes, goes-then, goes-same}
+use Rattle.xml.specs.Laws.Goes.{Goes, goes-then, goes-same}
 use Rattle.xml.specs.Laws.Tokens.{span, span-behind, name-at, Naming, name-short, name-long}
 use Rattle.reader.specs.declared.Cursor.{Cursor}
-use Rattle.reader.specs.declared.Part.{Part}
 use Rattle.reader.specs.declared.Part.the-variants.{Open, Empty, Attribute, Wrong}
-use Rattle.reader.specs.declared.Read.{Read}
 use Rattle.reader.specs.declared.Read.the-variants.{Past, Refused}
 use Rattle.reader.specs.declared.Tag.{Tag}
 use Rattle.reader.specs.declared.Tag.the-variants.{Opened, Emptied, Broken}
 use Rattle.reader.specs.Steps.{Run, TagRead, tag-open, tag-empty, tag-attribute, tag-wrong}
 use Rattle.ordering.specs.Sorted.{Lists}
 use Rattle.ordering.specs.Laws.Sorted.{lists-none}
-use Rattle.reader.specs.Elements.{stack, Placed, Attributed, AttributeRead, attribute-past, attribute-refused, Kept, Onward}
+use Rattle.reader.specs.Elements.{stack, Placed, Attributed, AttributeRead, attribute-past, attribute-refused, Kept}
 use Rattle.reader.specs.Elements.{attribute-names, Entered, NamesRead, names-past, AttributeEnters}
 use Rattle.reader.specs.Elements.{AttributesRead, attributes-opened, attributes-emptied, attributes-broken, Named}
 use Rattle.reader.specs.Elements.{ElementRead, element-opened, element-emptied, element-broken}
 use Rattle.reader.specs.Laws.Attributes.{start-name}
 
 -- offsets --------------------------------------------------------------------------------------
-
-stack-frame : (s os : List ℕ) (lo n k v : ℕ) → lo + n ≤ k → stack s (set os k v) lo n ≡ stack s os lo n
-unfolding stack
-stack-frame s os lo zero k v h = refl
-stack-frame s os lo (suc n) k v h = rw (getD-set-other os k (lo + n) v 0 (λ e. omega arith), stack-frame s os lo n k v (omega arith))
 
 pub stack-same : (s os os′ : List ℕ) (n : ℕ) → Kept n os os′ → stack s os′ 0 n ≡ stack s os 0 n
 unfolding stack

@@ -1,9 +1,7 @@
 use borrow.Author.Needs.{needs}
 use native.Mathlib.Omega.{arith}
 use mathlib.Core.Path.{_≡_}
-use Prim.Native.Nat.{_+_, _-_, _/_, _≤_, _<_}
-use native.Mathlib.Omega.{arith}
-use borrow.Author.Needs.{needs}
+use Prim.Native.Nat.{_+_, _-_, _/_, _≤_}
 use Rattle.layout.specs.Layout.{nodes}
 use Rattle.ordering.specs.Sorted.{Between, is-free}
 use Rattle.ordering.specs.Laws.Sorted.{between-start, turn-before, turn-behind, turn-same}
@@ -12,9 +10,6 @@ use Rattle.measuring.specs.Names.{names-at}
 use Rattle.measuring.specs.Laws.Names.{ordered-at}
 use Rattle.measuring.proofs.names.place.Statement.{statement}
 use Rattle.measuring.proofs.names.place.Tie as tie
-use Rattle.measuring.proofs.names.place.Reads as reads
-use Rattle.measuring.proofs.names.place.Lts as lts
-use Rattle.measuring.proofs.names.order.Reads as order-reads
 
 abbrev Inv-loop : tie.InvT-loop
 Inv-loop s names count p low₀ high₀ low high = (low ≤ high) × (high ≤ count) × Between (names-at (nodes s) names) count low high (label-at (nodes s) p .content)
@@ -22,69 +17,79 @@ Inv-loop s names count p low₀ high₀ low high = (low ≤ high) × (high ≤ c
 abbrev μ-loop : tie.MeasureT-loop
 μ-loop s names count p low₀ high₀ low high = high - low
 
--- src/names.rt:45:5
 loop-holds : tie.Need-loop-holds Inv-loop μ-loop
 loop-holds c = (search needs, search needs, between-start _ _ _)
 
--- src/names.rt:46:23
 add-middle : tie.Need-add-middle Inv-loop μ-loop
 add-middle c = search needs
 
--- src/names.rt:47:21
 mul-other : tie.Need-mul-other Inv-loop μ-loop
 mul-other c = omega (arith, c .before .before .before .pre .2 .room)
 
--- src/names.rt:47:21
 element-copy-out-other : tie.Need-element-copy-out-other Inv-loop μ-loop
 element-copy-out-other c = omega (arith, c .before .before .before .pre .2 .room)
 
--- src/names.rt:47:21
 cast-other : tie.Need-cast-other Inv-loop μ-loop
-cast-other c = let m = (c .before .before .loop .low + c .before .before .loop .high) / 2 in omega (arith, c .before .before .before .before .pre .2 .inside m (search needs), c .before .before .before .before .pre .0 .many, c .before .before .before .before .pre .0 .room)
+cast-other c =
+    let c2 = c .before .before in
+    let c4 = c2 .before .before in
+    let m = (c2 .loop .low + c2 .loop .high) / 2 in
+    omega (arith, c4 .pre .2 .inside m (search needs), c4 .pre .0 .many, c4 .pre .0 .room)
 
--- src/names.rt:48:15
 order-requires : tie.Need-order-requires Inv-loop μ-loop
-order-requires c κs = (c .before .before .before .before .pre .0, c .before .before .before .before .pre .1, c .before .before .before .before .pre .2 .inside _ (search needs))
+order-requires c κs =
+    let c4 = c .before .before .before .before in
+    (c4 .pre .0, c4 .pre .1, c4 .pre .2 .inside _ (search needs))
 
--- src/names.rt:49:28
 enum-told : tie.Need-enum-told Inv-loop μ-loop
 enum-told c = search needs
 
--- src/names.rt:49:28
 returns : tie.Need-returns Inv-loop μ-loop
-returns c = turn-same (c .before .before .before .before .before .before .before .pre .3) (c .before .before .before .before .before .loop .inv .2) (search needs) (ordered-at _ _ _ (c .before .before .order .ensures)) (c .enum-told .given .1)
+returns c =
+    let c2 = c .before .before in
+    let c5 = c2 .before .before .before in
+    let c7 = c5 .before .before in
+    turn-same (c7 .pre .3) (c5 .loop .inv .2) (search needs) (ordered-at _ _ _ (c2 .order .ensures)) (c .enum-told .given .1)
 
--- src/names.rt:51:17
 enum-told-2 : tie.Need-enum-told-2 Inv-loop μ-loop
 enum-told-2 c = search needs
 
--- src/names.rt:45:5
 loop-less : tie.Need-loop-less Inv-loop μ-loop
 loop-less c = omega arith
 
--- src/names.rt:45:5
 loop-again : tie.Need-loop-again Inv-loop μ-loop
-loop-again c = (search needs, search needs, turn-before (c .before .before .before .before .before .before .before .pre .3) (c .before .before .before .before .before .loop .inv .2) (search needs) (ordered-at _ _ _ (c .before .before .order .ensures)) (c .enum-told2 .given .1))
+loop-again c =
+    let c2 = c .before .before in
+    let c5 = c2 .before .before .before in
+    let c7 = c5 .before .before in (
+      search needs,
+      search needs,
+      turn-before (c7 .pre .3) (c5 .loop .inv .2) (search needs) (ordered-at _ _ _ (c2 .order .ensures)) (c .enum-told2 .given .1),
+    )
 
--- src/names.rt:55:23
 enum-told-3 : tie.Need-enum-told-3 Inv-loop μ-loop
 enum-told-3 c = search needs
 
--- src/names.rt:55:23
 add-low : tie.Need-add-low Inv-loop μ-loop
 add-low c = search needs
 
--- src/names.rt:45:5
 loop-less-2 : tie.Need-loop-less-2 Inv-loop μ-loop
 loop-less-2 c = omega arith
 
--- src/names.rt:45:5
 loop-again-2 : tie.Need-loop-again-2 Inv-loop μ-loop
-loop-again-2 c = (search needs, search needs, turn-behind (c .before .before .before .before .before .before .before .pre .3) (c .before .before .before .before .before .loop .inv .2) (search needs) (ordered-at _ _ _ (c .before .before .order .ensures)) (c .enum-told3 .given .1))
+loop-again-2 c =
+    let c2 = c .before .before in
+    let c5 = c2 .before .before .before in
+    let c7 = c5 .before .before in (
+      search needs,
+      search needs,
+      turn-behind (c7 .pre .3) (c5 .loop .inv .2) (search needs) (ordered-at _ _ _ (c2 .order .ensures)) (c .enum-told3 .given .1),
+    )
 
--- src/names.rt:39:1
 returns-2 : tie.Need-returns-2 Inv-loop μ-loop
-returns-2 c = let e : c .before .loop .low ≡ c .before .loop .high = omega arith in is-free {k = c .before .loop .low} (search needs) (rw (← e) at (c .before .loop .inv .2))
+returns-2 c =
+    let e : c .before .loop .low ≡ c .before .loop .high = omega arith in
+    is-free {k = c .before .loop .low} (search needs) (rw (← e) at (c .before .loop .inv .2))
 
 pub place-spec : {M : Type 1} → statement M
 place-spec =

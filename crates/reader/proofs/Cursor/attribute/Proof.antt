@@ -1,6 +1,5 @@
 use Rattle.reader.specs.Laws.Attributes.{enters-many, enters-long, enters-repeated, enters-unquoted, enters-valued, quoted-inside}
 use borrow.Author.Tests.{not-true, not-false}
-use native.Mathlib.Omega.{arith}
 use Rattle.reader.specs.declared.Equals.{Equals}
 use Rattle.reader.specs.Steps.{EqualsRead}
 use mathlib.Core.Path.{subst}

@@ -1,14 +1,9 @@
 use borrow.Author.Needs.{needs}
 use native.Mathlib.Omega.{arith}
-use mathlib.Core.Path.{_≡_, sym, ap, _∙_}
-use Prim.Native.Nat.{_+_, _-_, _≤_, _<_}
-use native.Mathlib.Omega.{arith}
-use borrow.Author.Needs.{needs}
+use Prim.Native.Nat.{_≤_}
 use Rattle.ordering.specs.Laws.Entries.{Shifting, shift-start, shift-turn, shift-end}
 use Rattle.reader.proofs.names.make_room.Statement.{statement}
 use Rattle.reader.proofs.names.make_room.Tie as tie
-use Rattle.reader.proofs.names.make_room.Reads as reads
-use Rattle.reader.proofs.names.make_room.Lts as lts
 
 abbrev Inv-loop : tie.InvT-loop
 Inv-loop names₀ at end i₀ names i = (at ≤ i) × (i ≤ end) × Shifting names₀ names end i
@@ -16,43 +11,42 @@ Inv-loop names₀ at end i₀ names i = (at ≤ i) × (i ≤ end) × Shifting na
 abbrev μ-loop : tie.MeasureT-loop
 μ-loop names₀ at end i₀ names i = i
 
--- src/names.rt:78:5
 loop-holds : tie.Need-loop-holds Inv-loop μ-loop
 loop-holds c = (search needs, search needs, shift-start _ _)
 
--- src/names.rt:79:26
 sub-names : tie.Need-sub-names Inv-loop μ-loop
 sub-names c = search needs
 
--- src/names.rt:79:20
 mul-names : tie.Need-mul-names Inv-loop μ-loop
 mul-names c = search needs
 
--- src/names.rt:79:20
 element-copy-out-names : tie.Need-element-copy-out-names Inv-loop μ-loop
 element-copy-out-names c = search needs
 
--- src/names.rt:79:9
 mul-names-2 : tie.Need-mul-names-2 Inv-loop μ-loop
 mul-names-2 c = search needs
 
--- src/names.rt:79:9
 element-write-names : tie.Need-element-write-names Inv-loop μ-loop
-element-write-names c = omega (arith, c .before .before .before .pre .1, c .before .before .before .pre .2, c .before .before .loop .inv .2 .as-long)
+element-write-names c =
+    let c2 = c .before .before in
+    let c3 = c2 .before in
+    omega (arith, c3 .pre .1, c3 .pre .2, c2 .loop .inv .2 .as-long)
 
--- src/names.rt:80:9
 sub-i : tie.Need-sub-i Inv-loop μ-loop
 sub-i c = search needs
 
--- src/names.rt:78:5
 loop-less : tie.Need-loop-less Inv-loop μ-loop
 loop-less c = search needs
 
--- src/names.rt:78:5
 loop-again : tie.Need-loop-again Inv-loop μ-loop
-loop-again c = (search needs, search needs, shift-turn (c .before .before .loop .inv .2) (search needs) (omega (arith, c .before .before .before .pre .1, c .before .before .before .pre .2, c .before .before .loop .inv .2 .as-long)))
+loop-again c =
+    let c2 = c .before .before in
+    let c3 = c2 .before in (
+      search needs,
+      search needs,
+      shift-turn (c2 .loop .inv .2) (search needs) (omega (arith, c3 .pre .1, c3 .pre .2, c2 .loop .inv .2 .as-long)),
+    )
 
--- src/names.rt:73:1
 returns : tie.Need-returns Inv-loop μ-loop
 returns c = shift-end (c .before .loop .inv .2) (omega arith)
 
