@@ -28,15 +28,18 @@ names-at l os = entries (λ p. label-at l p .content) os 0
 -- the name of the node at p is put among the first n, os before and os′ behind it, unless it is one of them
 pub data Entered (l : List Entry) (os os′ : List ℕ) (n p : ℕ) : Admission → Type 0 where
   is-repeated : Among (names-at l os) n (label-at l p .content) → Entered l os os′ n p Refused
-  is-entered : {m : ℕ} → m ≡ n + 1 → Inside l os′ m → Added (names-at l os) (names-at l os′) n (label-at l p .content) → Entered l os os′ n p (Kept m)
+  is-entered : {m : ℕ} → m ≡ n + 1 → Inside l os′ m
+      → Added (names-at l os) (names-at l os′) n (label-at l p .content) → Entered l os os′ n p (Kept m)
 
 -- the first m names behind the node at p, where the first n stand before it
 pub record Follows (l : List Entry) (os os′ : List ℕ) (n p m : ℕ) : Type 0 where
   pub few : m ≤ n + 1
   pub inside : Inside l os′ m
   pub sorted : Increasing (names-at l os′) m
-  pub lists : (d : ℕ) → 1 ≤ d → (pre : List Line) → Lists (names-at l os) n (tag-names pre) → Lists (names-at l os′) m (tag-names ((d, label-at l p) ∷ pre))
-  pub unseen : label-at l p .kind ≡ attribute-kind → (pre : List Line) → Lists (names-at l os) n (tag-names pre) → used (tag-names pre) (label-at l p .content) ≡ false
+  pub lists : (d : ℕ) → 1 ≤ d → (pre : List Line) → Lists (names-at l os) n (tag-names pre)
+      → Lists (names-at l os′) m (tag-names ((d, label-at l p) ∷ pre))
+  pub unseen : label-at l p .kind ≡ attribute-kind → (pre : List Line) → Lists (names-at l os) n (tag-names pre)
+      → used (tag-names pre) (label-at l p .content) ≡ false
 
 -- behind the node at p
 pub data Followed (l : List Entry) (os os′ : List ℕ) (n p : ℕ) : Admission → Type 0 where

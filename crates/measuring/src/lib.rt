@@ -67,7 +67,8 @@ fn admit(
     p: u16,
     kind: u8,
 ) -> Admission
-    requires { ⌜ (Layout (now s)) × (p < length (nodes (now s))) × (kept < 1024) × Inside (nodes (now s)) (now names) kept × Increasing (names-at (nodes (now s)) (now names)) kept × (kind ≡ label-at (nodes (now s)) p .kind) ⌝ }
+    requires { ⌜ (Layout (now s)) × (p < length (nodes (now s))) × (kept < 1024) × Inside (nodes (now s)) (now names) kept
+        × Increasing (names-at (nodes (now s)) (now names)) kept × (kind ≡ label-at (nodes (now s)) p .kind) ⌝ }
     ensures { λ r. ⌜ Admitted (nodes (now (s .entry))) (now (names .entry)) (now (names .exit)) kept above before p r ⌝ }
 {
     if !markup::fits(above, before, kind) {

@@ -39,7 +39,8 @@ fn order(s: &[u8], from: usize, to: usize, other: usize) -> Order
 
 // Where a name belongs among the count names whose offsets stand from lo on.
 fn place(s: &[u8], names: &[usize; 1024], lo: usize, count: usize, from: usize, to: usize) -> Place
-    requires { ⌜ (from ≤ to) × Run name-byte (now s) from to × (lo + count ≤ 1024) × Placed (now s) (now names) (lo + count) × Increasing (attribute-names (now s) (now names) lo) count ⌝ }
+    requires { ⌜ (from ≤ to) × Run name-byte (now s) from to × (lo + count ≤ 1024) × Placed (now s) (now names) (lo + count)
+        × Increasing (attribute-names (now s) (now names) lo) count ⌝ }
     ensures { λ r. ⌜ Belongs (attribute-names (now (s .entry)) (now (names .entry)) lo) count (name-at (now (s .entry)) from) r ⌝ }
 {
     let mut low: usize = 0;
@@ -83,8 +84,10 @@ pub fn enter(
     from: usize,
     to: usize,
 ) -> bool
-    requires { ⌜ (from ≤ to) × Run name-byte (now s) from to × (lo + count < 1024) × Placed (now s) (now names) (lo + count) × Increasing (attribute-names (now s) (now names) lo) count × (length (now names) ≡ 1024) ⌝ }
-    ensures { λ r. ⌜ EnterRead (now (s .entry)) (now (names .entry)) (now (names .exit)) lo count from r × Kept lo (now (names .entry)) (now (names .exit)) ⌝ }
+    requires { ⌜ (from ≤ to) × Run name-byte (now s) from to × (lo + count < 1024) × Placed (now s) (now names) (lo + count)
+        × Increasing (attribute-names (now s) (now names) lo) count × (length (now names) ≡ 1024) ⌝ }
+    ensures { λ r. ⌜ EnterRead (now (s .entry)) (now (names .entry)) (now (names .exit)) lo count from r
+        × Kept lo (now (names .entry)) (now (names .exit)) ⌝ }
 {
     match place(s, names, lo, count, from, to) {
         Place::Taken => false,

@@ -11,7 +11,8 @@ ghost use Prim.Native.Nat.{_+_, _<_, _≤_};
 ghost use lib.ListN.{length, getD};
 ghost use Rattle.ordering.specs.Sorted.{Increasing};
 ghost use Rattle.reader.specs.Steps.{EqualsRead, PartRead, SlashRead};
-ghost use Rattle.reader.specs.Elements.{Placed, Attributed, Kept, attribute-names, AttributeEnters, AttributesRead, Named, ElementRead};
+ghost use Rattle.reader.specs.Elements.{Placed, Attributed, Kept, attribute-names, AttributeEnters};
+ghost use Rattle.reader.specs.Elements.{AttributesRead, Named, ElementRead};
 
 impl Cursor {
     // From behind the name of an attribute to behind its opening quote.
@@ -94,7 +95,8 @@ impl Cursor {
         count: usize,
         nodes: usize,
     ) -> Read
-        requires { ⌜ Attributed (now s) (self .at) nodes × (lo + count + 1 ≤ nodes) × Placed (now s) (now names) (lo + count) × Increasing (attribute-names (now s) (now names) lo) count × (length (now names) ≡ 1024) ⌝ }
+        requires { ⌜ Attributed (now s) (self .at) nodes × (lo + count + 1 ≤ nodes) × Placed (now s) (now names) (lo + count)
+            × Increasing (attribute-names (now s) (now names) lo) count × (length (now names) ≡ 1024) ⌝ }
         ensures { λ r. ⌜ AttributeEnters (now (s .entry)) (now (names .entry)) (now (names .exit)) lo count (self .at) nodes r ⌝ }
     {
         let at = self.at;

@@ -22,12 +22,14 @@ use Rattle.measuring.specs.declared.Admission.{Admission}
 use Rattle.measuring.specs.declared.Admission.the-variants.{Refused, Kept}
 use Rattle.measuring.specs.Walk.{open-labels, before-lines, previous-kind, Walk}
 use Rattle.measuring.specs.Names.{tag-names, names-at, Follows, Followed, is-again, is-followed, Admitted, is-unfit, is-fit}
-use Rattle.measuring.specs.Laws.Walk.{parent-is, opened-is, previous-is, walk-start, walk-below, walk-steps, walk-deep, walk-kind, walk-on}
+use Rattle.measuring.specs.Laws.Walk.{parent-is, opened-is, previous-is}
+use Rattle.measuring.specs.Laws.Walk.{walk-start, walk-below, walk-steps, walk-deep, walk-kind, walk-on}
 use Rattle.measuring.specs.Laws.Tags.{Tagged, tagged-start, tagged-names, tagged-on}
 use Rattle.measuring.specs.Laws.Names.{not-attribute, is-attribute, inside-none}
 
 -- before the i-th row; the names of the attributes of the start tag opened last are the first `kept` ones
-pub record Measuring (l : List Entry) (places : List ℕ) (count : ℕ) (path kinds : List ℕ) (top : ℕ) (names : List ℕ) (kept i sum : ℕ) : Type 0 where
+pub record Measuring (l : List Entry) (places : List ℕ) (count : ℕ) (path kinds : List ℕ) (top : ℕ) (names : List ℕ) (kept i sum : ℕ)
+    : Type 0 where
   pub walk : Walk l places path kinds top i
   pub behind : i ≤ count
   pub small : sum ≤ 39 + 256 * i
@@ -120,7 +122,8 @@ module _ {l : List Entry} {places path kinds names : List ℕ} {count top kept i
           is-attribute (before-lines l places i) (d, label-at l p) e
           ∙ ap (λ (ns : List (List ℕ)). used ns (label-at l p .content)) (tagged-names (v .tags) low deep (label-at l p) fits-here e)
 
-      again : label-at l p .kind ≡ attribute-kind → Among (names-at l names) kept (label-at l p .content) → 0 ≡ measured (lines l places count)
+      again : label-at l p .kind ≡ attribute-kind → Among (names-at l names) kept (label-at l p .content)
+          → 0 ≡ measured (lines l places count)
       unfolding judge
       again e x = sym (v .whole ∙ rw (row, parent-label, sibling, fits-is, f, seen-before e ∙ among-seen (v .lists) x))
 
@@ -184,5 +187,6 @@ module _ {l : List Entry} {places path kinds names : List ℕ} {count top kept i
               → Measuring l places count (set path d p) (set kinds d b) d names′ m (i + 1) (sum + n)
           under f (is-followed w) = on f w g small
 
-          go : Admitted l names names′ kept a k p (Kept m) → Measuring l places count (set path d p) (set kinds d b) d names′ m (i + 1) (sum + n)
+          go : Admitted l names names′ kept a k p (Kept m)
+              → Measuring l places count (set path d p) (set kinds d b) d names′ m (i + 1) (sum + n)
           go (is-fit f x) = under f x

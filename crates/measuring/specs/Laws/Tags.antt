@@ -77,11 +77,14 @@ tagged-start kinds a = record {
 
 module _ {kinds : List ℕ} {top : ℕ} {pre : List Line} (t : Tagged kinds top pre) {d : ℕ} (low : 1 ≤ d) (deep : d ≤ suc top)
     (a : Label) (f : fits (getD kinds (d - 1) 0) (previous-kind kinds top d) (a .kind) ≡ true) where
+  taken : takes (getD kinds (d - 1) 0) (a .kind) ≡ true
+  taken = fits-takes (getD kinds (d - 1) 0) (previous-kind kinds top d) (a .kind) f
+
   -- the names before an attribute
   pub tagged-names : a .kind ≡ attribute-kind → names-before d pre ≡ tag-names pre
   tagged-names e =
       let z : suc (d - 1) ≡ d = omega arith in
-      let p : getD kinds (d - 1) 0 ≡ element-kind = takes-attribute (getD kinds (d - 1) 0) (rw e at (fits-takes (getD kinds (d - 1) 0) (previous-kind kinds top d) (a .kind) f)) in
+      let p : getD kinds (d - 1) 0 ≡ element-kind = takes-attribute (getD kinds (d - 1) 0) (rw e at taken) in
       rw z at (t .names (d - 1) (omega arith) p (rw z (fits-first (getD kinds (d - 1) 0) (previous-kind kinds top d) (a .kind) f p e)))
 
   not-first : eqb d 0 ≡ false
@@ -104,7 +107,7 @@ module _ {kinds : List ℕ} {top : ℕ} {pre : List Line} (t : Tagged kinds top 
         go true e =
             let z : suc j ≡ d = eqb-true (suc j) d e in
             let y : d - 1 ≡ j = omega arith in
-            rw (other j (λ w. omega arith), z, own) (rw y at (fits-takes (getD kinds (d - 1) 0) (previous-kind kinds top d) (a .kind) f))
+            rw (other j (λ w. omega arith), z, own) (rw y at taken)
         go false e =
             let z : suc j ≡ d → ⊥ = eqb-false (suc j) d e in
             rw (other j (λ w. omega arith), other (suc j) z) (t .chain j (omega (arith, z)))
@@ -138,7 +141,7 @@ module _ {kinds : List ℕ} {top : ℕ} {pre : List Line} (t : Tagged kinds top 
           where
             next : (e : ℕ) → suc e ≡ d → in-start-tag (a .kind) ≡ true → (eqb (a .kind) 0 ≡ true) ⊎ (eqb (a .kind) attribute-kind ≡ true)
                 → names-before (suc e) ((d, a) ∷ pre) ≡ tag-names ((d, a) ∷ pre)
-            next e z v (inl n) = absurd (takes-none (getD kinds (d - 1) 0) (rw (eqb-true (a .kind) 0 n) at (fits-takes (getD kinds (d - 1) 0) (previous-kind kinds top d) (a .kind) f)))
+            next e z v (inl n) = absurd (takes-none (getD kinds (d - 1) 0) (rw (eqb-true (a .kind) 0 n) at taken))
             next e z v (inr n) =
                 rw (z, le-ltb d d (omega arith), eq-eqb d d refl, not-first, n)
                 (ap (λ (ns : List (List ℕ)). a .content ∷ ns) (tagged-names (eqb-true (a .kind) attribute-kind n)))
@@ -147,6 +150,8 @@ module _ {kinds : List ℕ} {top : ℕ} {pre : List Line} (t : Tagged kinds top 
             let z : suc e ≡ d → ⊥ = eqb-false (suc e) d ey in
             let h : suc e < d = omega (arith, y, z) in
             let v : in-start-tag (getD kinds′ (suc e) 0) ≡ true = rw (← later-child kinds′ d (suc e) (omega arith)) at i in
-            let w : in-start-tag (previous-kind kinds top (suc e)) ≡ true = rw (← later-child kinds top (suc e) (omega arith), ← other (suc e) z) v in
+            let w : in-start-tag (previous-kind kinds top (suc e)) ≡ true =
+            rw (← later-child kinds top (suc e) (omega arith), ← other (suc e) z) v in
             let q : a .kind ≡ text-kind = leaf (suc e) h v in
-            rw (le-ltb d (suc e) (omega arith), ne-eqb d (suc e) (λ r. omega arith), not-first, q) (t .names e (omega arith) (sym (other e y) ∙ k) w)
+            rw (le-ltb d (suc e) (omega arith), ne-eqb d (suc e) (λ r. omega arith), not-first, q)
+            (t .names e (omega arith) (sym (other e y) ∙ k) w)

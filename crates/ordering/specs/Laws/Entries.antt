@@ -11,6 +11,9 @@ use borrow.Author.Tests.{eqb-true, eqb-false}
 use Rattle.ordering.specs.Sorted.{entries, Increasing, Between, Shifted, Added}
 use Rattle.ordering.specs.Laws.Sorted.{Side, side, side-before, side-here, side-behind, added}
 
+pub shift-none : (os : List ℕ) (k : ℕ) → Shifted os os k k
+shift-none os k = record { as-long = refl; ahead = λ i h. refl; further = λ i h j. absurd (omega arith) }
+
 -- the loop that shifts: those from place i on stand further, those before it as they were
 pub record Shifting (os os′ : List ℕ) (end i : ℕ) : Type 0 where
   pub as-long : length os′ ≡ length os
@@ -61,11 +64,12 @@ module _ {os os′ : List ℕ} {k n : ℕ} (v : ℕ) (x : Shifted os os′ k n) 
       go (suc i) h (side-behind q) = rw (new-further i q (omega arith)) (e i (omega arith))
 
 -- the name of the new entry is put among the others
-pub entry-added : (f : ℕ → List ℕ) {os os′ : List ℕ} (lo : ℕ) {at end k n : ℕ} (v : ℕ) → at ≡ lo + k → end ≡ lo + n → Shifted os os′ at end → k ≤ n
-    → lo + n < length os → Increasing (entries f os lo) n → Between (entries f os lo) n k k (f v)
+pub entry-added : (f : ℕ → List ℕ) {os os′ : List ℕ} (lo : ℕ) {at end k n : ℕ} (v : ℕ) → at ≡ lo + k → end ≡ lo + n
+    → Shifted os os′ at end → k ≤ n → lo + n < length os → Increasing (entries f os lo) n → Between (entries f os lo) n k k (f v)
     → Added (entries f os lo) (entries f (set os′ at v) lo) n (f v)
 unfolding entries
 entry-added f {os} {os′} lo {at} {end} {k} {n} v p q x m l s b =
     added s b m (λ i h. ap f (new-ahead v x (omega arith) (omega arith) (lo + i) (omega arith)))
     (rw (← p) (ap f (new-here v x (omega arith) (omega arith))))
-    (λ i h j. let z : lo + suc i ≡ suc (lo + i) = omega arith in ap f (rw z (new-further v x (omega arith) (omega arith) (lo + i) (omega arith) (omega arith))))
+    (λ i h j. let z : lo + suc i ≡ suc (lo + i) = omega arith in
+    ap f (rw z (new-further v x (omega arith) (omega arith) (lo + i) (omega arith) (omega arith))))

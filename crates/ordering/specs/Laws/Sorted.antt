@@ -110,7 +110,8 @@ module _ {name name′ : ℕ → List ℕ} {n k : ℕ} {w : List ℕ} (s : Incre
   added-sorted : (i j : ℕ) → i < j → j < n + 1 → Side k i → Side k j → Precedes (name′ i) (name′ j)
   added-sorted i j h l (side-before p) (side-before q) = rw (ahead i p, ahead j q) (s .increasing i j h (omega arith))
   added-sorted i j h l (side-before p) side-here = rw (ahead i p, here) (b .below i p)
-  added-sorted i (suc j) h l (side-before p) (side-behind q) = rw (ahead i p, further j q (omega arith)) (s .increasing i j (omega arith) (omega arith))
+  added-sorted i (suc j) h l (side-before p) (side-behind q) =
+      rw (ahead i p, further j q (omega arith)) (s .increasing i j (omega arith) (omega arith))
   added-sorted i j h l side-here (side-before q) = absurd (omega arith)
   added-sorted i j h l side-here side-here = absurd (omega arith)
   added-sorted i (suc j) h l side-here (side-behind q) = rw (here, further j q (omega arith)) (b .above j q (omega arith))
@@ -131,7 +132,11 @@ module _ {name name′ : ℕ → List ℕ} {n k : ℕ} {w : List ℕ} (s : Incre
       where
         go : (t : Bool) → ltb (a .at) k ≡ t → Among name′ (n + 1) v
         go true e = record { at = a .at; inside = omega (arith, a .inside); is = ahead (a .at) (ltb-true (a .at) k e) ∙ a .is }
-        go false e = record { at = suc (a .at); inside = omega (arith, a .inside); is = further (a .at) (ltb-false (a .at) k e) (a .inside) ∙ a .is }
+        go false e = record {
+          at = suc (a .at);
+          inside = omega (arith, a .inside);
+          is = further (a .at) (ltb-false (a .at) k e) (a .inside) ∙ a .is;
+        }
 
     added-has : (v : List ℕ) → used (w ∷ seen) v ≡ true → Among name′ (n + 1) v
     unfolding used

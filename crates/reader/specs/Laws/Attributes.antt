@@ -148,7 +148,11 @@ module _ (s : List ℕ) (at nodes : ℕ) (x : Attributed s at nodes) where
 -- with the names of the attributes before it, os before and os′ behind it
 module _ {s os : List ℕ} {lo count at nodes : ℕ} (x : Attributed s at nodes) where
   pub enters-many : nodes ≡ node-limit → AttributeEnters s os os lo count at nodes (Refused 6 at)
-  enters-many h = record { reads = λ seen l. attribute-many s at nodes x seen h; names = names-refused; kept = record { as-long = refl; kept = λ i h. refl } }
+  enters-many h = record {
+    reads = λ seen l. attribute-many s at nodes x seen h;
+    names = names-refused;
+    kept = record { as-long = refl; kept = λ i h. refl };
+  }
 
   module _ (room : nodes < node-limit) {to : ℕ} (r : Run name-byte s at to) where
     pub enters-long : content-limit < to - at → AttributeEnters s os os lo count at nodes (Refused 5 (at + 32))

@@ -65,7 +65,8 @@ agree-name (x ∷ w) (b ∷ l) h = go (name-byte x) refl h (name-byte b) refl (e
 module _ (s : List ℕ) (from to other n : ℕ) (a : Run name-byte s from to) (g : Agreement (take (to - from) (drop from s)) s other n) where
   agrees-to : n ≡ agree (name-at s from) (name-at s other)
   unfolding name-at
-  agrees-to = g .agrees ∙ ap (λ (x : List ℕ). agree x (drop other s)) (name-of s from to a) ∙ sym (agree-name (name-at s from) (drop other s) (run-names (drop from s)))
+  agrees-to = g .agrees ∙ ap (λ (x : List ℕ). agree x (drop other s)) (name-of s from to a)
+      ∙ sym (agree-name (name-at s from) (drop other s) (run-names (drop from s)))
 
   length-there : length (name-at s other) ≡ span name-byte (drop other s)
   unfolding name-at
@@ -88,7 +89,8 @@ module _ (s : List ℕ) (from to other n : ℕ) (a : Run name-byte s from to) (g
 
       go : (t : Bool) → ltb n (span name-byte (drop other s)) ≡ t → n < length (name-at s other)
       go true l = omega (arith, ltb-true n (span name-byte (drop other s)) l, length-there)
-      go false l = absurd (behind (omega (arith, ltb-false n (span name-byte (drop other s)) l, length-there, m)) (leb (length s) (other + n)) refl)
+      go false l =
+          absurd (behind (omega (arith, ltb-false n (span name-byte (drop other s)) l, length-there, m)) (leb (length s) (other + n)) refl)
 
   ends-there : name-byte (getD s (other + n) 0) ≡ false → length (name-at s other) ≤ n
   ends-there e = go (ltb n (span name-byte (drop other s))) refl
@@ -108,7 +110,8 @@ module _ (s : List ℕ) (from to other n : ℕ) (a : Run name-byte s from to) (g
     left = omega (arith, h, length-here, agree-most-left)
       where
         agree-most-left : n ≤ to - from
-        agree-most-left = omega (arith, g .most, length-take-le (to - from) (drop from s) (omega (arith, a .ends, span-length name-byte (drop from s))))
+        agree-most-left =
+            omega (arith, g .most, length-take-le (to - from) (drop from s) (omega (arith, a .ends, span-length name-byte (drop from s))))
 
     pub name-shorter : name-byte (getD s (other + n) 0) ≡ false → Ordered (name-at s from) (name-at s other) Behind
     name-shorter e = order-longer (name-at s from) (name-at s other) agrees-to left (ends-there e)
@@ -116,11 +119,13 @@ module _ (s : List ℕ) (from to other n : ℕ) (a : Run name-byte s from to) (g
     module _ (e : name-byte (getD s (other + n) 0) ≡ true) where
       byte-here : getD (name-at s from) n 0 ≡ getD s (from + n) 0
       unfolding name-at
-      byte-here = getD-take (span name-byte (drop from s)) (drop from s) n 0 (omega (arith, left, length-here, a .ends)) ∙ getD-drop from s n 0
+      byte-here =
+          getD-take (span name-byte (drop from s)) (drop from s) n 0 (omega (arith, left, length-here, a .ends)) ∙ getD-drop from s n 0
 
       byte-there : getD (name-at s other) n 0 ≡ getD s (other + n) 0
       unfolding name-at
-      byte-there = getD-take (span name-byte (drop other s)) (drop other s) n 0 (omega (arith, goes-on e, length-there)) ∙ getD-drop other s n 0
+      byte-there =
+          getD-take (span name-byte (drop other s)) (drop other s) n 0 (omega (arith, goes-on e, length-there)) ∙ getD-drop other s n 0
 
       pub name-smaller : getD s (from + n) 0 < getD s (other + n) 0 → Ordered (name-at s from) (name-at s other) Before
       name-smaller l = order-smaller (name-at s from) (name-at s other) agrees-to left (goes-on e) (omega (arith, l, byte-here, byte-there))
@@ -130,7 +135,8 @@ module _ (s : List ℕ) (from to other n : ℕ) (a : Run name-byte s from to) (g
 
 -- a name put among the others ------------------------------------------------------------------
 
-module _ {os os′ : List ℕ} {lo count k : ℕ} (at : ℕ) (x : Shifted os os′ (lo + k) (lo + count)) (m : k ≤ count) (l : lo + count < length os) where
+module _ {os os′ : List ℕ} {lo count k : ℕ} (at : ℕ) (x : Shifted os os′ (lo + k) (lo + count)) (m : k ≤ count)
+    (l : lo + count < length os) where
   pub enter-new : {s : List ℕ} → Increasing (attribute-names s os lo) count → Between (attribute-names s os lo) count k k (name-at s at)
       → Placed s os (lo + count) → at ≤ length s → EnterRead s os (set os′ (lo + k) at) lo count at true
   enter-new {s} i b p h = is-entered (record {

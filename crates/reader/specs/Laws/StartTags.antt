@@ -16,7 +16,9 @@ use Rattle.xml.specs.Laws.Scan.{scan-at, scan-alike}
 use Rattle.xml.specs.Laws.Goes.{Goes, goes-then, goes-same}
 use Rattle.xml.specs.Laws.Tokens.{span, span-behind, name-at, Naming, name-short, name-long}
 use Rattle.reader.specs.declared.Cursor.{Cursor}
+use Rattle.reader.specs.declared.Part.{Part}
 use Rattle.reader.specs.declared.Part.the-variants.{Open, Empty, Attribute, Wrong}
+use Rattle.reader.specs.declared.Read.{Read}
 use Rattle.reader.specs.declared.Read.the-variants.{Past, Refused}
 use Rattle.reader.specs.declared.Tag.{Tag}
 use Rattle.reader.specs.declared.Tag.the-variants.{Opened, Emptied, Broken}
@@ -58,15 +60,13 @@ placed-kept s os os′ n p k = record { placed = λ i h. rw (k .kept i h) (p .pl
 
 -- the loop over the attributes -------------------------------------------------------------------
 
-pub entered-past : {s os os′ : List ℕ} {lo count at nodes : ℕ} {c : Cursor} {m : ℕ} → AttributeEnters s os os′ lo count at nodes (Past c m) → Entered s os os′ lo count at
-entered-past y = go (y .names)
+pub attribute-here : {s : List ℕ} {i : ℕ} {r : Part} {c : Cursor} (n : ℕ) → n ≤ node-limit → TagRead s behind-part i r → r ≡ Attribute c
+    → Attributed s (c .at) n × (i ≤ c .at)
+attribute-here {s} {i} n l z ez = go n l (subst (TagRead s behind-part i) ez z)
   where
-    go : {s os os′ : List ℕ} {lo count at : ℕ} {c : Cursor} {m : ℕ} → NamesRead s os os′ lo count at (Past c m) → Entered s os os′ lo count at
-    go (names-past e) = e
-
-past-behind : {s : List ℕ} {seen : List Name} {at n m : ℕ} {d : Cursor} → AttributeRead s seen at n (Past d m)
-    → (at < d .at) × (d .at ≤ length s) × (n < m) × (m ≤ node-limit)
-past-behind (attribute-past a b e f u) = (a, b, e, f)
+    go : {s : List ℕ} {i : ℕ} {c : Cursor} (n : ℕ) → n ≤ node-limit → TagRead s behind-part i (Attribute c)
+        → Attributed s (c .at) n × (i ≤ c .at)
+    go n l (tag-attribute d e g h f) = (record { inside = e; starts = h; begins-here = g; few = l }, d)
 
 -- the attributes so far lead here; the names that were seen are those from place lo on
 pub record AttributesTo (s os : List ℕ) (lo count at nodes i n : ℕ) : Type 0 where
@@ -96,7 +96,8 @@ module _ (s os : List ℕ) (lo count at nodes i n : ℕ) (t : AttributesTo s os 
       (λ m ns. goes-then (t .comes m ns) (f m ns (t .seen) n l))
 
   -- an attribute that is refused
-  refused : {c : Cursor} {x j : ℕ} → TagRead s behind-part i (Attribute c) → AttributeRead s (t .seen) (c .at) n (Refused x j) → AttributesRead s at nodes (Broken x j)
+  refused : {c : Cursor} {x j : ℕ} → TagRead s behind-part i (Attribute c) → AttributeRead s (t .seen) (c .at) n (Refused x j)
+      → AttributesRead s at nodes (Broken x j)
   refused {c} {x} {j} (tag-attribute d e g h f) (attribute-refused u) =
       attributes-broken {x = x} {j = j} (λ m ns. t .comes m ns .back _ (f m ns (t .seen) n l .back _ (u m ns)))
 
@@ -109,19 +110,34 @@ module _ (s os : List ℕ) (lo count at nodes i n : ℕ) (t : AttributesTo s os 
     comes = λ nm ns. goes-then (t .comes nm ns) (goes-then (f nm ns (t .seen) n l) (u nm ns));
   }
 
-  module _ {os′ : List ℕ} {c : Cursor} (z : TagRead s behind-part i (Attribute c)) where
-    pub attributes-bad : {x j : ℕ} → AttributeEnters s os os′ lo count (c .at) n (Refused x j) → AttributesRead s at nodes (Broken x j)
-    attributes-bad y = refused z (y .reads (t .seen) (t .lists))
+  -- an attribute at c, and what is read of it
+  module _ {os′ : List ℕ} {r : Part} {c : Cursor} {q : Read} (z : TagRead s behind-part i r) (ez : r ≡ Attribute c)
+      (y : AttributeEnters s os os′ lo count (c .at) n q) where
+    found : TagRead s behind-part i (Attribute c)
+    found = subst (TagRead s behind-part i) ez z
 
-    module _ {d : Cursor} {m : ℕ} (y : AttributeEnters s os os′ lo count (c .at) n (Past d m)) where
+    reads : {q′ : Read} → q ≡ q′ → AttributeRead s (t .seen) (c .at) n q′
+    reads e = subst (AttributeRead s (t .seen) (c .at) n) e (y .reads (t .seen) (t .lists))
+
+    pub attributes-bad : {x j : ℕ} → q ≡ Refused x j → AttributesRead s at nodes (Broken x j)
+    attributes-bad e = refused found (reads e)
+
+    module _ {d : Cursor} {m : ℕ} (e : q ≡ Past d m) where
+      pub attribute-entered : Entered s os os′ lo count (c .at)
+      attribute-entered = go (subst (NamesRead s os os′ lo count (c .at)) e (y .names))
+        where
+          go : NamesRead s os os′ lo count (c .at) (Past d m) → Entered s os os′ lo count (c .at)
+          go (names-past x) = x
+
       pub attributes-turn : AttributesTo s os′ lo (count + 1) at nodes (d .at) m
-      attributes-turn = past z (y .reads (t .seen) (t .lists)) (entered-past y .added .lists (t .seen) (t .lists))
+      attributes-turn = past found (reads e) (attribute-entered .added .lists (t .seen) (t .lists))
 
-      pub attribute-behind : (c .at < d .at) × (d .at ≤ length s) × (n < m) × (m ≤ node-limit)
-      attribute-behind = past-behind (y .reads (t .seen) (t .lists))
-
-pub attribute-here : {s : List ℕ} {i : ℕ} {c : Cursor} (n : ℕ) → n ≤ node-limit → TagRead s behind-part i (Attribute c) → Attributed s (c .at) n × (i ≤ c .at)
-attribute-here n l (tag-attribute d e g h f) = (record { inside = e; starts = h; begins-here = g; few = l }, d)
+      pub attribute-behind : (i ≤ c .at) × (c .at < d .at) × (d .at ≤ length s) × (n < m) × (m ≤ node-limit)
+      attribute-behind = go (reads e)
+        where
+          go : AttributeRead s (t .seen) (c .at) n (Past d m)
+              → (i ≤ c .at) × (c .at < d .at) × (d .at ≤ length s) × (n < m) × (m ≤ node-limit)
+          go (attribute-past a b g h u) = (attribute-here n l z ez .1, a, b, g, h)
 
 -- from the first byte of the name ------------------------------------------------------------------
 

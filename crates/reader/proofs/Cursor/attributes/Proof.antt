@@ -13,7 +13,7 @@ use Rattle.ordering.specs.Laws.Sorted.{increasing-none}
 use Rattle.reader.specs.Elements.{Placed, Kept, attribute-names, AttributeEnters}
 use Rattle.reader.specs.Laws.StartTags.{AttributesTo, attributes-start, attributes-wrong, attributes-open, attributes-empty}
 use Rattle.reader.specs.Laws.StartTags.{attributes-bad, attributes-turn}
-use Rattle.reader.specs.Laws.StartTags.{attribute-here, attribute-behind, entered-past, kept-same, kept-less}
+use Rattle.reader.specs.Laws.StartTags.{attribute-here, attribute-behind, attribute-entered, kept-same, kept-less}
 use Rattle.reader.proofs.Cursor.attributes.Statement.{statement}
 use Rattle.reader.proofs.Cursor.attributes.Tie as tie
 
@@ -87,12 +87,9 @@ enum-known-c-3 c = search needs
 
 attribute-requires : tie.Need-attribute-requires Inv-loop μ-loop
 attribute-requires c κs =
-    let args = c .before .before .before .before .before .before .before .args in
-    let loop = c .before .before .before .before .before .loop in
-    let part = c .before .before .before .before .part in
-    let c3 = c .before .before .c3 in
-    let found = subst (λ (r : Part). TagRead (args .s .now) behind-part (loop .i) r) (c3 .given .1) (part .ensures) in (
-      attribute-here _ (loop .inv .3) found .0,
+    let c5 = c .before .before .before .before .before in
+    let loop = c5 .loop in (
+      attribute-here _ (loop .inv .3) (c .before .before .before .before .part .ensures) (c .before .before .c3 .given .1) .0,
       search needs,
       loop .inv .5,
       loop .inv .9,
@@ -106,14 +103,12 @@ returns-4 : tie.Need-returns-4 Inv-loop μ-loop
 returns-4 c =
     let c3 = c .before .before .before in
     let c6 = c3 .before .before .before in
-    let c9 = c6 .before .before .before in
-    let args = c9 .before .before .args in
-    let loop = c9 .loop in
-    let found = subst (λ (r : Part). TagRead (args .s .now) behind-part (loop .i) r) (c6 .c3 .given .1) (c6 .before .before .part .ensures) in
-    let read = subst (λ (r : Read). AttributeEnters (args .s .now) (loop .names) (c3 .attribute .last .1 .1 .0) (args .lo) (loop .count) (c6 .c3 .given .0 .0 .at) (loop .n) r)
-    (c .before .x .given .1) (c3 .attribute .ensures) in (
-      attributes-bad _ _ _ _ _ _ _ _ (loop .inv .7) (loop .inv .0) (loop .inv .2) (loop .inv .3) found read,
-      kept-less _ _ _ _ _ (loop .inv .6) (read .kept) (omega arith),
+    let c8 = c6 .before .before in
+    let inv = c8 .before .loop .inv in
+    let read = c3 .attribute .ensures in (
+      attributes-bad _ _ _ _ _ _ _ _ (inv .7) (inv .0) (inv .2) (inv .3) (c8 .part .ensures)
+          (c6 .c3 .given .1) read (c .before .x .given .1),
+      kept-less _ _ _ _ _ (inv .6) (read .kept) (omega arith),
     )
 
 enum-known-next : tie.Need-enum-known-next Inv-loop μ-loop
@@ -126,38 +121,33 @@ loop-less : tie.Need-loop-less Inv-loop μ-loop
 loop-less c =
     let c3 = c .before .before .before in
     let c6 = c3 .before .before .before in
-    let c9 = c6 .before .before .before in
-    let args = c9 .before .before .args in
-    let loop = c9 .loop in
-    let found = subst (λ (r : Part). TagRead (args .s .now) behind-part (loop .i) r) (c6 .c3 .given .1) (c6 .before .before .part .ensures) in
-    let read = subst (λ (r : Read). AttributeEnters (args .s .now) (loop .names) (c3 .attribute .last .1 .1 .0) (args .lo) (loop .count) (c6 .c3 .given .0 .0 .at) (loop .n) r)
-    (c .before .next .given .1) (c3 .attribute .ensures) in
-    let p = attribute-here _ (loop .inv .3) found in
-    let a = attribute-behind _ _ _ _ _ _ _ _ (loop .inv .7) (loop .inv .0) (loop .inv .2) (loop .inv .3) found read in
-    omega (arith, p .1, a .0, a .1)
+    let c8 = c6 .before .before in
+    let inv = c8 .before .loop .inv in
+    let a = attribute-behind _ _ _ _ _ _ _ _ (inv .7) (inv .0) (inv .2) (inv .3) (c8 .part .ensures) (c6 .c3 .given .1)
+    (c3 .attribute .ensures) (c .before .next .given .1) in
+    omega (arith, a .0, a .1, a .2)
 
 loop-again : tie.Need-loop-again Inv-loop μ-loop
 loop-again c =
     let c3 = c .before .before .before in
     let c6 = c3 .before .before .before in
-    let c9 = c6 .before .before .before in
-    let args = c9 .before .before .args in
-    let loop = c9 .loop in
-    let found = subst (λ (r : Part). TagRead (args .s .now) behind-part (loop .i) r) (c6 .c3 .given .1) (c6 .before .before .part .ensures) in
-    let read = subst (λ (r : Read). AttributeEnters (args .s .now) (loop .names) (c3 .attribute .last .1 .1 .0) (args .lo) (loop .count) (c6 .c3 .given .0 .0 .at) (loop .n) r)
-    (c .before .next .given .1) (c3 .attribute .ensures) in
-    let p = attribute-here _ (loop .inv .3) found in
-    let a = attribute-behind _ _ _ _ _ _ _ _ (loop .inv .7) (loop .inv .0) (loop .inv .2) (loop .inv .3) found read in
-    let e = entered-past read in (
-      omega (arith, p .1, a .0),
-      a .1,
-      omega (arith, a .2),
-      a .3,
-      omega (arith, a .2),
+    let c8 = c6 .before .before in
+    let inv = c8 .before .loop .inv in
+    let part = c8 .part .ensures in
+    let read = c3 .attribute .ensures in
+    let here = c6 .c3 .given .1 in
+    let next = c .before .next .given .1 in
+    let a = attribute-behind _ _ _ _ _ _ _ _ (inv .7) (inv .0) (inv .2) (inv .3) part here read next in
+    let e = attribute-entered _ _ _ _ _ _ _ _ (inv .7) (inv .0) (inv .2) (inv .3) part here read next in (
+      omega (arith, a .0, a .1),
+      a .2,
+      omega (arith, a .3),
+      a .4,
+      omega (arith, a .3),
       placed-at _ _ _ _ (omega arith) (e .placed),
-      kept-less _ _ _ _ _ (loop .inv .6) (read .kept) (omega arith),
-      attributes-turn _ _ _ _ _ _ _ _ (loop .inv .7) (loop .inv .0) (loop .inv .2) (loop .inv .3) found read,
-      read .kept .as-long ∙ loop .inv .8,
+      kept-less _ _ _ _ _ (inv .6) (read .kept) (omega arith),
+      attributes-turn _ _ _ _ _ _ _ _ (inv .7) (inv .0) (inv .2) (inv .3) part here read next,
+      read .kept .as-long ∙ inv .8,
       e .added .sorted,
     )
 

@@ -10,7 +10,8 @@ use Rattle.reader.proofs.names.place.Statement.{statement}
 use Rattle.reader.proofs.names.place.Tie as tie
 
 abbrev Inv-loop : tie.InvT-loop
-Inv-loop s names lo count from to low₀ high₀ low high = (low ≤ high) × (high ≤ count) × Between (attribute-names s names lo) count low high (name-at s from)
+Inv-loop s names lo count from to low₀ high₀ low high =
+    (low ≤ high) × (high ≤ count) × Between (attribute-names s names lo) count low high (name-at s from)
 
 abbrev μ-loop : tie.MeasureT-loop
 μ-loop s names lo count from to low₀ high₀ low high = high - low
