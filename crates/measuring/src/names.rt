@@ -40,7 +40,8 @@ fn place(s: &[u8], names: &[u16; 1024], count: usize, end: usize, p: usize) -> P
     requires { ⌜ (Layout (now s)) × (p < length (nodes (now s))) × Inside (nodes (now s)) (now names) count
         × Increasing (names-at (nodes (now s)) (now names)) count × (end ≤ count)
         × Between (names-at (nodes (now s)) (now names)) count 0 end (label-at (nodes (now s)) p .content) ⌝ }
-    ensures { λ r. ⌜ Belongs (names-at (nodes (now (s .entry))) (now (names .entry))) count (label-at (nodes (now (s .entry))) p .content) r ⌝ }
+    ensures { λ r. ⌜ Belongs (names-at (nodes (now (s .entry))) (now (names .entry))) count
+        (label-at (nodes (now (s .entry))) p .content) r ⌝ }
 {
     let mut low: usize = 0;
     let mut high = end;

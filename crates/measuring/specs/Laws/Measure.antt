@@ -161,7 +161,8 @@ module _ {l : List Entry} {places path kinds names : List ℕ} {count top kept i
               )
               (ap (λ (x : Line). judge (open-labels l (set path d p) (suc d)) 0 (x ∷ before-lines l places i) (sum + n) (drop (suc i) (lines l places count))) same-line);
           tags = rw (add-one i, ← same-line, eb)
-              (tagged-on (v .tags) low deep (label-at l p) fits-here (omega (arith, depth-is, walk-deep c (v .walk) h, v .walk .of-kinds .long)));
+              (tagged-on (v .tags) low deep (label-at l p) fits-here
+              (omega (arith, depth-is, walk-deep c (v .walk) h, v .walk .of-kinds .long)));
           fewer = omega (arith, v .fewer, w .few);
           inside = w .inside;
           sorted = w .sorted;

@@ -56,7 +56,8 @@ module _ {l : List Entry} {os os′ : List ℕ} {n k : ℕ} (p : ℕ) (x : Shift
       (entry-added (λ o. label-at l o .content) 0 p (omega arith) (omega arith) x m (omega (arith, v .long)) i b)
 
 -- the first name
-pub entered-first : {l : List Entry} {os : List ℕ} {n : ℕ} (p : ℕ) → n ≡ 0 → Inside l os n → p < length l → Entered l os (set os 0 p) n p (Kept 1)
+pub entered-first : {l : List Entry} {os : List ℕ} {n : ℕ} (p : ℕ) → n ≡ 0 → Inside l os n → p < length l
+    → Entered l os (set os 0 p) n p (Kept 1)
 entered-first {l} {os} p e v q =
     subst (λ (m : ℕ). Entered l os (set os 0 p) m p (Kept 1)) (sym e)
     (entered p (shift-none os 0) (omega arith) (omega arith) (subst (Inside l os) e v) (increasing-none (names-at l os))

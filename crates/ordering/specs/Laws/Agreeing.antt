@@ -42,7 +42,8 @@ module _ (w s : List ℕ) (at n : ℕ) (r : Agreeing w s at n) where
   pub agree-differ : n < length w → at + n < length s → (getD s (at + n) 0 ≡ getD w n 0 → ⊥) → Agreement w s at n
   unfolding Agreeing agree
   agree-differ h k e =
-      let q : agree (drop n w) (drop (at + n) s) ≡ 0 = rw (drop-cons w n 0 h, drop-cons s (at + n) 0 k, ne-eqb (getD s (at + n) 0) (getD w n 0) e) in
+      let q : agree (drop n w) (drop (at + n) s) ≡ 0 =
+      rw (drop-cons w n 0 h, drop-cons s (at + n) 0 k, ne-eqb (getD s (at + n) 0) (getD w n 0) e) in
       record { agrees = omega (arith, r); inside = omega arith; most = omega arith }
 
   pub agree-short : n < length w → at + n ≤ length s → length s ≤ at + n → Agreement w s at n

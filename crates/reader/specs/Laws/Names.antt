@@ -39,7 +39,8 @@ name-of s from to r = let p : to - from ≡ span name-byte (drop from s) = omega
 
 pub length-name : (s : List ℕ) (from to : ℕ) → Run name-byte s from to → length (name-at s from) ≡ to - from
 unfolding name-at
-length-name s from to r = length-take-le (span name-byte (drop from s)) (drop from s) (span-length name-byte (drop from s)) ∙ omega (arith, r .ends)
+length-name s from to r =
+    length-take-le (span name-byte (drop from s)) (drop from s) (span-length name-byte (drop from s)) ∙ omega (arith, r .ends)
 
 -- behind the end no name goes on
 beyond : (s : List ℕ) (i : ℕ) → length s ≤ i → name-byte (getD s i 0) ≡ false

@@ -28,7 +28,8 @@ returns-2 c =
     let c3 = c2 .before in
     let c4 = c3 .before in
     ordered-by (c4 .content .ensures .0) (c3 .content2 .ensures .0)
-    (order-shorter _ _ (c2 .agreement .ensures .agrees) (omega (arith, c .before .if1 .taken)) (omega (arith, c .if2 .left, c2 .agreement .ensures .inside)))
+    (order-shorter _ _ (c2 .agreement .ensures .agrees)
+    (omega (arith, c .before .if1 .taken)) (omega (arith, c .if2 .left, c2 .agreement .ensures .inside)))
 
 returns-3 : tie.Need-returns-3
 returns-3 c =
@@ -36,7 +37,8 @@ returns-3 c =
     let c3 = c2 .before in
     let c4 = c3 .before in
     ordered-by (c4 .content .ensures .0) (c3 .content2 .ensures .0)
-    (order-longer _ _ (c2 .agreement .ensures .agrees) (omega (arith, c .before .if1 .left, c2 .agreement .ensures .most)) (omega (arith, c .if3 .taken)))
+    (order-longer _ _ (c2 .agreement .ensures .agrees)
+    (omega (arith, c .before .if1 .left, c2 .agreement .ensures .most)) (omega (arith, c .if3 .taken)))
 
 shared-slice-read-if4 : tie.Need-shared-slice-read-if4
 shared-slice-read-if4 c = search needs
@@ -64,7 +66,8 @@ returns-5 c =
     let c7 = c6 .before in
     let n = c5 .agreement .ensures in
     ordered-by (c7 .content .ensures .0) (c6 .content2 .ensures .0)
-    (order-greater _ _ (n .agrees) (omega (arith, c4 .if1 .left, n .most)) (omega (arith, c3 .if3 .left, n .inside)) (omega (arith, c .if4 .left)))
+    (order-greater _ _ (n .agrees)
+    (omega (arith, c4 .if1 .left, n .most)) (omega (arith, c3 .if3 .left, n .inside)) (omega (arith, c .if4 .left)))
 
 pub order-spec : {M : Type 1} → statement M
 order-spec =

@@ -46,7 +46,9 @@ sub-begin c =
     let c4 = c .before .before .before .before in
     let c9 = c4 .before .before .before .before .before in
     let args = c9 .before .before .before .args in
-    quoted-inside (subst (λ (r : Equals). EqualsRead (args .s .now) (c9 .name .result .at) r) (c .before .before .q .given .1) (c4 .equals .ensures)) .0
+    let read = subst (λ (r : Equals). EqualsRead (args .s .now) (c9 .name .result .at) r) (c .before .before .q .given .1)
+    (c4 .equals .ensures) in
+    quoted-inside read .0
 
 add-content : tie.Need-add-content
 add-content c = search needs
@@ -56,7 +58,9 @@ content-requires c κs =
     let c4 = c .before .before .before .before in
     let c9 = c4 .before .before .before .before .before in
     let args = c9 .before .before .before .args in
-    let x = quoted-inside (subst (λ (r : Equals). EqualsRead (args .s .now) (c9 .name .result .at) r) (c .before .before .q .given .1) (c4 .equals .ensures)) in
+    let read = subst (λ (r : Equals). EqualsRead (args .s .now) (c9 .name .result .at) r) (c .before .before .q .given .1)
+    (c4 .equals .ensures) in
+    let x = quoted-inside read in
     (x .1, search needs, x .2)
 
 returns-4 : tie.Need-returns-4
@@ -77,7 +81,8 @@ returns-5 c =
     let args = c10 .before .before .before .args in
     enters-valued (c10 .before .before .before .pre .0) (search needs) (c10 .name .ensures) (c7 .before .before .if2 .left)
     (c7 .enter .ensures .0) (c7 .enter .ensures .1) (not-false _ (c5 .before .if3 .left))
-    (subst (λ (r : Equals). EqualsRead (args .s .now) (c10 .name .result .at) r) (c .before .before .before .q .given .1) (c5 .equals .ensures)) (c .content .ensures)
+    (subst (λ (r : Equals). EqualsRead (args .s .now) (c10 .name .result .at) r) (c .before .before .before .q .given .1)
+    (c5 .equals .ensures)) (c .content .ensures)
 
 pub attribute-spec : {M : Type 1} → statement M
 attribute-spec =

@@ -63,7 +63,8 @@ returns-2 c =
     let c8 = c .before .before .before .before .before .before .before .before in
     let f = free-of (c .before .before .before .before .before .place .ensures) (c .before .before .before .k .given .1) in
     let x = c .make-room .ensures in (
-      enter-new _ x (f .0) (omega (arith, c8 .pre .2, c8 .pre .5)) (c8 .pre .4) (f .1) (c8 .pre .3) (omega (arith, c8 .pre .0, c8 .pre .1 .inside)),
+      enter-new _ x (f .0) (omega (arith, c8 .pre .2, c8 .pre .5)) (c8 .pre .4) (f .1) (c8 .pre .3)
+          (omega (arith, c8 .pre .0, c8 .pre .1 .inside)),
       enter-kept _ x (f .0) (omega (arith, c8 .pre .2, c8 .pre .5)),
     )
 
