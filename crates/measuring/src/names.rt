@@ -4,11 +4,11 @@ use super::Admission;
 use ordering::Order;
 use ordering::Place;
 ghost use mathlib.Core.Path.{_≡_};
-ghost use Prim.Native.Nat.{_-_, _<_, _≤_};
+ghost use Prim.Native.Nat.{_<_, _≤_};
 ghost use lib.ListN.{length};
 ghost use Rattle.layout.specs.Layout.{nodes, Layout};
 ghost use Rattle.ordering.specs.Order.{Ordered};
-ghost use Rattle.ordering.specs.Sorted.{Increasing, Between, Belongs, Shifted};
+ghost use Rattle.ordering.specs.Sorted.{Increasing, Belongs, Shifted};
 ghost use Rattle.committed.specs.Lines.{label-at, Inside};
 ghost use Rattle.measuring.specs.Names.{names-at, Entered, Followed};
 
@@ -35,16 +35,15 @@ fn order(s: &[u8], p: usize, q: usize) -> Order
     Order::Behind
 }
 
-// Where the name of the node at p belongs among the first count names; it comes before those from `end` on.
-fn place(s: &[u8], names: &[u16; 1024], count: usize, end: usize, p: usize) -> Place
+// Where the name of the node at p belongs among the first count names.
+fn place(s: &[u8], names: &[u16; 1024], count: usize, p: usize) -> Place
     requires { ⌜ (Layout (now s)) × (p < length (nodes (now s))) × Inside (nodes (now s)) (now names) count
-        × Increasing (names-at (nodes (now s)) (now names)) count × (end ≤ count)
-        × Between (names-at (nodes (now s)) (now names)) count 0 end (label-at (nodes (now s)) p .content) ⌝ }
+        × Increasing (names-at (nodes (now s)) (now names)) count ⌝ }
     ensures { λ r. ⌜ Belongs (names-at (nodes (now (s .entry))) (now (names .entry))) count
         (label-at (nodes (now (s .entry))) p .content) r ⌝ }
 {
     let mut low: usize = 0;
-    let mut high = end;
+    let mut high = count;
     while low < high {
         let middle = (low + high) / 2;
         let other = names[middle] as usize;
@@ -75,39 +74,17 @@ fn make_room(names: &mut [u16; 1024], at: usize, end: usize)
     }
 }
 
-// The name of the node at p put among the first count names, unless it is one of them; it comes before the last.
-fn insert(s: &[u8], names: &mut [u16; 1024], count: usize, p: u16) -> Admission
-    requires { ⌜ (Layout (now s)) × (p < length (nodes (now s))) × (count < 1024) × Inside (nodes (now s)) (now names) count
-        × Increasing (names-at (nodes (now s)) (now names)) count × (1 ≤ count)
-        × Between (names-at (nodes (now s)) (now names)) count 0 (count - 1) (label-at (nodes (now s)) p .content) ⌝ }
-    ensures { λ r. ⌜ Entered (nodes (now (s .entry))) (now (names .entry)) (now (names .exit)) count p r ⌝ }
-{
-    match place(s, names, count, count - 1, p as usize) {
-        Place::Taken => Admission::Refused,
-        Place::Free(k) => {
-            make_room(names, k, count);
-            names[k] = p;
-            Admission::Kept(count + 1)
-        }
-    }
-}
-
-// The same, wherever it comes. The first of an element, and one behind the last, are the most frequent.
+// The name of the node at p put among the first count names, unless it is one of them.
 fn enter(s: &[u8], names: &mut [u16; 1024], count: usize, p: u16) -> Admission
     requires { ⌜ (Layout (now s)) × (p < length (nodes (now s))) × (count < 1024) × Inside (nodes (now s)) (now names) count
         × Increasing (names-at (nodes (now s)) (now names)) count ⌝ }
     ensures { λ r. ⌜ Entered (nodes (now (s .entry))) (now (names .entry)) (now (names .exit)) count p r ⌝ }
 {
-    if count == 0 {
-        names[0] = p;
-        return Admission::Kept(1);
-    }
-    let last = names[count - 1] as usize;
-    match order(s, p as usize, last) {
-        Order::Same => Admission::Refused,
-        Order::Before => insert(s, names, count, p),
-        Order::Behind => {
-            names[count] = p;
+    match place(s, names, count, p as usize) {
+        Place::Taken => Admission::Refused,
+        Place::Free(k) => {
+            make_room(names, k, count);
+            names[k] = p;
             Admission::Kept(count + 1)
         }
     }

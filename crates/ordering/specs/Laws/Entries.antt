@@ -11,9 +11,6 @@ use borrow.Author.Tests.{eqb-true, eqb-false}
 use Rattle.ordering.specs.Sorted.{entries, Increasing, Between, Shifted, Added}
 use Rattle.ordering.specs.Laws.Sorted.{Side, side, side-before, side-here, side-behind, added}
 
-pub shift-none : (os : List ℕ) (k : ℕ) → Shifted os os k k
-shift-none os k = record { as-long = refl; ahead = λ i h. refl; further = λ i h j. absurd (omega arith) }
-
 -- the loop that shifts: those from place i on stand further, those before it as they were
 pub record Shifting (os os′ : List ℕ) (end i : ℕ) : Type 0 where
   pub as-long : length os′ ≡ length os

@@ -4,7 +4,7 @@ use mathlib.Core.Path.{_≡_}
 use Prim.Native.Nat.{_+_, _-_, _/_, _≤_}
 use Rattle.layout.specs.Layout.{nodes}
 use Rattle.ordering.specs.Sorted.{Between, is-free}
-use Rattle.ordering.specs.Laws.Sorted.{turn-before, turn-behind, turn-same}
+use Rattle.ordering.specs.Laws.Sorted.{between-start, turn-before, turn-behind, turn-same}
 use Rattle.committed.specs.Lines.{label-at}
 use Rattle.measuring.specs.Names.{names-at}
 use Rattle.measuring.specs.Laws.Names.{ordered-at}
@@ -12,14 +12,14 @@ use Rattle.measuring.proofs.names.place.Statement.{statement}
 use Rattle.measuring.proofs.names.place.Tie as tie
 
 abbrev Inv-loop : tie.InvT-loop
-Inv-loop s names count end p low₀ high₀ low high =
+Inv-loop s names count p low₀ high₀ low high =
     (low ≤ high) × (high ≤ count) × Between (names-at (nodes s) names) count low high (label-at (nodes s) p .content)
 
 abbrev μ-loop : tie.MeasureT-loop
-μ-loop s names count end p low₀ high₀ low high = high - low
+μ-loop s names count p low₀ high₀ low high = high - low
 
 loop-holds : tie.Need-loop-holds Inv-loop μ-loop
-loop-holds c = (search needs, search needs, c .before .pre .5)
+loop-holds c = (search needs, search needs, between-start _ _ _)
 
 add-middle : tie.Need-add-middle Inv-loop μ-loop
 add-middle c = search needs
