@@ -125,6 +125,17 @@ static void print_document(const char *name, const char *xml, size_t length)
     print_row("write", name, times.written, times.write, 0, times.libxml2_write);
 }
 
+/* One element with as many attributes as it can have. The names agree in their first 28 bytes and come in no order. */
+static size_t attribute_document(char *out)
+{
+    enum { ATTRIBUTES = 1022, STEP = 389 }; /* no common divisor */
+    char *at = out + sprintf(out, "<?xml version=\"1.0\" encoding=\"UTF-8\"?>\n<drive");
+    for (unsigned i = 0; i < ATTRIBUTES; i++)
+        at += sprintf(at, " speed-of-the-drive-interval-%04u=\"\"", i * STEP % ATTRIBUTES);
+    at += sprintf(at, "/>");
+    return (size_t)(at - out);
+}
+
 void time_xml(const char *settings_path)
 {
     static char xml[NOODLEFEN_XML_BYTES];
@@ -143,6 +154,7 @@ void time_xml(const char *settings_path)
         print_document(name, xml, tree_document(xml, sizes[i]));
     }
     print_document("64 KB input", xml, long_document(xml));
+    print_document("1022 attributes", xml, attribute_document(xml));
     FILE *file = fopen(settings_path, "rb");
     if (file != NULL) {
         size_t length = fread(xml, 1, sizeof xml, file);

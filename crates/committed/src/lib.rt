@@ -1,9 +1,8 @@
 // The committed document in the lent bytes: the places of its nodes, and their contents.
 ghost use mathlib.Core.Path.{_≡_};
-ghost use mathlib.Core.Bool.{_&&_, true};
-ghost use Prim.Native.Nat.{_*_, _<_, _≤_};
+ghost use mathlib.Core.Bool.{true};
+ghost use Prim.Native.Nat.{_<_, _≤_};
 ghost use lib.ListN.{length};
-ghost use Rattle.tree.specs.Lists.{same};
 ghost use Rattle.xml.specs.Writing.{escaped};
 ghost use Rattle.layout.specs.Layout.{nodes, Layout};
 ghost use Rattle.layout.specs.Fields.{has-text, text};
@@ -90,25 +89,4 @@ pub fn escaped_size(s: &[u8], p: usize) -> usize
     ensures { λ r. ⌜ (r ≡ length (escaped (label-at (nodes (now (s .entry))) p .content))) × (r ≤ 192) ⌝ }
 {
     escaping::escaped_length(content(s, p)) as usize
-}
-
-// Whether the nodes at p and q have the same committed content.
-pub fn same_content(s: &[u8], p: usize, q: usize) -> bool
-    requires { ⌜ (Layout (now s)) × (p < length (nodes (now s))) × (q < length (nodes (now s))) ⌝ }
-    ensures { λ r. ⌜ r ≡ same (label-at (nodes (now (s .entry))) p .content) (label-at (nodes (now (s .entry))) q .content) ⌝ }
-{
-    let v = version(s, p);
-    let w = version(s, q);
-    let n = table::size(s, p, v);
-    if table::size(s, q, w) != n {
-        return false;
-    }
-    let mut j: usize = 0;
-    while j < n {
-        if table::content(s, q, w, j) != table::content(s, p, v, j) {
-            return false;
-        }
-        j += 1;
-    }
-    true
 }

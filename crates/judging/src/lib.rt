@@ -76,7 +76,7 @@ fn root_element(c: Cursor, s: &[u8]) -> Judged
 fn declared(s: &[u8], word: &[u8]) -> Prolog
     ensures { λ r. ⌜ DeclaredRead (now (s .entry)) (word-at (now (word .entry)) 0 (now (s .entry))) r ⌝ }
 {
-    let n = reader::agreement(s, 0, word);
+    let n = ordering::agreement(s, 0, word);
     if n == word.len() {
         let behind = Cursor { at: n };
         return behind.root(s);

@@ -1,4 +1,5 @@
 pub mod Walk
 pub mod Costs
+pub mod Tags
 pub mod Names
 pub mod Measure

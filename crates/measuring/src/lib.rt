@@ -1,11 +1,21 @@
 // The length of what writing the committed document gives, by one pass over its rows, and whether it can be written at all.
+mod names;
+
 ghost use mathlib.Core.Path.{_≡_};
-ghost use Prim.Native.Nat.{suc, _+_, _<_, _≤_};
-ghost use lib.ListN.{length, getD};
+ghost use Prim.Native.Nat.{_<_, _≤_};
+ghost use lib.ListN.{length};
 ghost use Rattle.layout.specs.Layout.{nodes, Layout};
-ghost use Rattle.markup.specs.Rows.{extra, cost, repeated, measured};
-ghost use Rattle.committed.specs.Lines.{label-at, line-at, lines, Inside, Listed};
-ghost use Rattle.measuring.specs.Walk.{before-lines, previous-kind};
+ghost use Rattle.markup.specs.Rows.{extra, cost, measured};
+ghost use Rattle.ordering.specs.Sorted.{Increasing};
+ghost use Rattle.committed.specs.Lines.{label-at, lines, Inside, Listed};
+ghost use Rattle.measuring.specs.Walk.{previous-kind};
+ghost use Rattle.measuring.specs.Names.{names-at, Admitted};
+
+// The names of attributes behind a node: how many are kept; or the node cannot be written where it is.
+pub enum Admission {
+    Refused,
+    Kept(usize),
+}
 
 // The kind of the previous sibling of a node at depth d, 0 for none; kinds has the kind of the last node at each depth up to top.
 pub fn previous(kinds: &[u8; 1024], top: usize, d: usize) -> u8
@@ -47,32 +57,24 @@ fn cost(s: &[u8], parent: usize, above: u8, previous: u8, p: usize, kind: u8) ->
     more + committed::escaped_size(s, p)
 }
 
-// Whether the node at the i-th place is an attribute behind one of its name.
-fn repeated(s: &[u8], places: &[u16; 1024], i: usize) -> bool
-    requires { ⌜ (Layout (now s)) × (Inside (nodes (now s)) (now places) (suc i)) ⌝ }
-    ensures { λ r. ⌜ r ≡ repeated (before-lines (nodes (now (s .entry))) (now (places .entry)) i) (line-at (nodes (now (s .entry))) (getD (now (places .entry)) i 0)) ⌝ }
+// The names behind the node at p, of kind `kind`, below a node of kind `above` and behind one of kind `before`, if it may be written there.
+fn admit(
+    s: &[u8],
+    names: &mut [u16; 1024],
+    kept: usize,
+    above: u8,
+    before: u8,
+    p: u16,
+    kind: u8,
+) -> Admission
+    requires { ⌜ (Layout (now s)) × (p < length (nodes (now s))) × (kept < 1024) × Inside (nodes (now s)) (now names) kept
+        × Increasing (names-at (nodes (now s)) (now names)) kept × (kind ≡ label-at (nodes (now s)) p .kind) ⌝ }
+    ensures { λ r. ⌜ Admitted (nodes (now (s .entry))) (now (names .entry)) (now (names .exit)) kept above before p r ⌝ }
 {
-    let p = places[i] as usize;
-    if table::kind(s, p) != 3 {
-        return false;
+    if !markup::fits(above, before, kind) {
+        return Admission::Refused;
     }
-    let d = table::depth(s, p);
-    let mut j = i;
-    while 0 < j {
-        j -= 1;
-        let q = places[j] as usize;
-        let e = table::depth(s, q);
-        if e < d {
-            return false;
-        }
-        if d < e {
-            continue;
-        }
-        if committed::same_content(s, q, p) {
-            return true;
-        }
-    }
-    false
+    names::follow(s, names, kept, p, kind)
 }
 
 // The length of what is written, or 0 where the document is not ordered or not expressible.
@@ -89,6 +91,8 @@ pub fn measure(s: &[u8], places: &[u16; 1024], count: usize) -> usize
     let mut kinds = [0u8; 1024];
     kinds[0] = table::kind(s, first as usize);
     let mut top: usize = 0;
+    let mut names = [0u16; 1024];
+    let mut kept: usize = 0;
     let mut sum: usize = 39;
     let mut i: usize = 1;
     while i < count {
@@ -97,18 +101,18 @@ pub fn measure(s: &[u8], places: &[u16; 1024], count: usize) -> usize
         let kind = table::kind(s, p as usize);
         let above = kinds[d - 1];
         let before = previous(&kinds, top, d);
-        if !markup::fits(above, before, kind) {
-            return 0;
+        match admit(s, &mut names, kept, above, before, p, kind) {
+            Admission::Refused => return 0,
+            Admission::Kept(n) => {
+                let parent = path[d - 1] as usize;
+                sum += cost(s, parent, above, before, p as usize, kind);
+                path[d] = p;
+                kinds[d] = kind;
+                top = d;
+                kept = n;
+                i += 1;
+            }
         }
-        if repeated(s, places, i) {
-            return 0;
-        }
-        let parent = path[d - 1] as usize;
-        sum += cost(s, parent, above, before, p as usize, kind);
-        path[d] = p;
-        kinds[d] = kind;
-        top = d;
-        i += 1;
     }
     if 65536 < sum {
         return 0;

@@ -1,12 +1,11 @@
 -- The plain run, what is pending and what write takes, by example: document 01, "The plain run" and "Steps". One table, one theorem.
-use Prim.Native.Nat.{ℕ}
 use Prim.Native.String.{String}
 use mathlib.Core.Path.{_≡_, refl}
 use mathlib.Core.Bool.{true, false}
 use mathlib.Core.List.{List, [], _∷_, map}
 use Rattle.tree.specs.Text.{bytes}
 use Rattle.tree.specs.Lists.{keep}
-use Rattle.tree.specs.Forest.{nil, node, rows, amend, view, place, put}
+use Rattle.tree.specs.Forest.{nil, rows, amend, view, place, put}
 use Rattle.tree.specs.Content.{name-start, name-byte, text-byte, is-name, is-text, allowed, takes, attributes-first, children-rule}
 use Rattle.tree.specs.Content.{insert-at}
 use Rattle.tree.specs.Document.{Document, node-0-alone, lines, select, ruled, legal}

@@ -8,11 +8,12 @@ use Rattle.tree.specs.Content.{name-start}
 use Rattle.protocol.specs.Calls.{node-limit}
 use Rattle.xml.specs.Grammar.{Name}
 use Rattle.xml.specs.Reading.{node-offset}
-use Rattle.xml.specs.Laws.Automaton.{Config, behind-part, in-tag, tag-name, content, closed, end-name}
+use Rattle.xml.specs.Laws.Automaton.{behind-part, in-tag, tag-name, content, closed, end-name}
 use Rattle.xml.specs.Laws.Judge.{Verdict, bad}
 use Rattle.xml.specs.Laws.Scan.{scan-at}
 use Rattle.xml.specs.Laws.Goes.{Leads, Goes}
 use Rattle.xml.specs.Laws.Tokens.{name-at}
+use Rattle.ordering.specs.Sorted.{entries, Among, Lists, Added}
 use Rattle.reader.specs.declared.Cursor.{Cursor}
 use Rattle.reader.specs.declared.End.{End}
 use Rattle.reader.specs.declared.End.the-variants.{Behind, Mismatch}
@@ -48,6 +49,31 @@ pub data AttributeRead (s : List ℕ) (seen : List Name) (at nodes : ℕ) : Read
 pub record Kept (n : ℕ) (os os′ : List ℕ) : Type 0 where
   pub as-long : length os′ ≡ length os
   pub kept : (i : ℕ) → i < n → getD os′ i 0 ≡ getD os i 0
+
+-- the names of attributes, by the offsets from place lo on
+abbrev pub attribute-names : List ℕ → List ℕ → ℕ → ℕ → Name
+attribute-names s os lo = entries (name-at s) os lo
+
+-- the name at an offset is put among the count names from place lo on, os before and os′ behind it
+pub record Entered (s os os′ : List ℕ) (lo count at : ℕ) : Type 0 where
+  pub placed : Placed s os′ (lo + count + 1)
+  pub added : Added (attribute-names s os lo) (attribute-names s os′ lo) count (name-at s at)
+
+-- where it is none of them
+pub data EnterRead (s os os′ : List ℕ) (lo count at : ℕ) : Bool → Type 0 where
+  is-entered : Entered s os os′ lo count at → EnterRead s os os′ lo count at true
+  is-repeated : Among (attribute-names s os lo) count (name-at s at) → EnterRead s os os′ lo count at false
+
+-- behind an attribute
+pub data NamesRead (s os os′ : List ℕ) (lo count at : ℕ) : Read → Type 0 where
+  names-past : {c : Cursor} {m : ℕ} → Entered s os os′ lo count at → NamesRead s os os′ lo count at (Past c m)
+  names-refused : {x j : ℕ} → NamesRead s os os′ lo count at (Refused x j)
+
+-- an attribute behind those whose names stand from place lo on
+pub record AttributeEnters (s os os′ : List ℕ) (lo count at nodes : ℕ) (r : Read) : Type 0 where
+  pub reads : (seen : List Name) → Lists (attribute-names s os lo) count seen → AttributeRead s seen at nodes r
+  pub names : NamesRead s os os′ lo count at r
+  pub kept : Kept lo os os′
 
 -- a cursor behind a part of the input, where a node could begin, with the number of nodes
 pub record Onward (s : List ℕ) (at nodes : ℕ) (c : Cursor) (m : ℕ) : Type 0 where

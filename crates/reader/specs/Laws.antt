@@ -3,6 +3,7 @@ pub mod Runs
 pub mod Characters
 pub mod Contents
 pub mod Tags
+pub mod Names
 pub mod Attributes
 pub mod StartTags
 pub mod EndTags

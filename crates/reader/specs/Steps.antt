@@ -10,14 +10,14 @@ use Rattle.xml.specs.Bytes.{ampersand, brackets, Quote, mark}
 use Rattle.xml.specs.Grammar.{Name}
 use Rattle.xml.specs.Reading.{node-offset}
 use Rattle.xml.specs.Laws.Words.{Words, entities}
-use Rattle.xml.specs.Laws.Automaton.{behind-part, in-tag, before-equals, behind-slash, behind-quote, content, closed, tag-step}
-use Rattle.xml.specs.Laws.Automaton.{Config, Event, born, byte, stuck, move, to, step}
+use Rattle.xml.specs.Laws.Automaton.{behind-part, in-tag, before-equals, behind-quote, content, closed, tag-step}
+use Rattle.xml.specs.Laws.Automaton.{Config, born, byte, stuck, move, to, step}
 use Rattle.xml.specs.Laws.Phases.{phase, is-over, pending}
 use Rattle.xml.specs.Laws.Judge.{Verdict, bad}
 use Rattle.xml.specs.Laws.Scan.{scan-at}
 use Rattle.xml.specs.Laws.Goes.{Leads, Goes}
 use Rattle.xml.specs.Laws.Tokens.{span, Reach, got, lost, Wording}
-use Rattle.xml.specs.Laws.Fixed.{agree, entity-at}
+use Rattle.xml.specs.Laws.Fixed.{entity-at}
 use Rattle.reader.specs.Classes.{literal}
 use Rattle.reader.specs.declared.Cursor.{Cursor}
 use Rattle.reader.specs.declared.Reference.{Reference}
@@ -33,12 +33,6 @@ use Rattle.reader.specs.declared.Read.the-variants.{Past, Refused}
 pub record Run (t : ℕ → Bool) (s : List ℕ) (from to : ℕ) : Type 0 where
   pub ends : to ≡ from + span t (drop from s)
   pub inside : to ≤ length s
-
--- the bytes of a word that stand at an offset
-pub record Agreement (w s : List ℕ) (at n : ℕ) : Type 0 where
-  pub agrees : n ≡ agree w (drop at s)
-  pub inside : at + n ≤ length s
-  pub most : n ≤ length w
 
 -- a reference, by the word that is reached from an offset on
 pub data Refers (s : List ℕ) (at : ℕ) : Reach → Reference → Type 0 where

@@ -5,7 +5,6 @@ use super::End;
 use super::Prolog;
 use super::Read;
 use super::Tag;
-use super::agreement;
 use super::is_name_start;
 ghost use mathlib.Core.Path.{_≡_};
 ghost use Prim.Native.Nat.{_<_, _≤_};
@@ -27,7 +26,7 @@ impl Cursor {
         let end = start.name(s);
         let to = end.at;
         let word = &s[from..to];
-        let n = agreement(s, at, word);
+        let n = ordering::agreement(s, at, word);
         if n != to - from {
             return End::Mismatch(at + n);
         }

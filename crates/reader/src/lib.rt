@@ -1,19 +1,15 @@
 // Reads an input by its parts: a cursor by value, whose methods hand the new place back.
 mod children;
 mod contents;
+mod names;
 mod start_tags;
 mod tokens;
 
 ghost use mathlib.Core.Path.{_≡_};
-ghost use Prim.Native.Nat.{_+_, _≤_};
-ghost use lib.ListN.{length, getD};
+ghost use lib.ListN.{getD};
 ghost use Rattle.tree.specs.Content.{name-start, name-byte};
-ghost use Rattle.tree.specs.Lists.{same};
-ghost use Rattle.xml.specs.Bytes.{blank, brackets, used};
-ghost use Rattle.xml.specs.Laws.Tokens.{name-at};
+ghost use Rattle.xml.specs.Bytes.{blank, brackets};
 ghost use Rattle.reader.specs.Classes.{plain, begins};
-ghost use Rattle.reader.specs.Steps.{Run, Agreement};
-ghost use Rattle.reader.specs.Elements.{stack, Placed};
 
 pub struct Cursor {
     pub at: usize,
@@ -139,24 +135,6 @@ pub fn peek(s: &[u8], at: usize) -> u8
     if at < s.len() { s[at] } else { 0 }
 }
 
-// How many bytes of a word stand in the input from an offset on.
-pub fn agreement(s: &[u8], at: usize, word: &[u8]) -> usize
-    requires { ⌜ at ≤ length (now s) ⌝ }
-    ensures { λ r. ⌜ Agreement (now (word .entry)) (now (s .entry)) at r ⌝ }
-{
-    let mut n: usize = 0;
-    while n < word.len() {
-        if at + n >= s.len() {
-            return n;
-        }
-        if s[at + n] != word[n] {
-            return n;
-        }
-        n += 1;
-    }
-    n
-}
-
 // Whether a byte may begin a character of a value or a text that ends with stop, k bytes ] just before it.
 fn may_stand(b: u8, stop: u8, k: usize) -> bool
     ensures { λ r. ⌜ r ≡ begins stop k b ⌝ }
@@ -186,41 +164,4 @@ fn brackets_after(k: usize, b: u8) -> usize
         return 2;
     }
     0
-}
-
-// Whether the name at an offset is the one that stands between two others.
-fn same_name(s: &[u8], from: usize, to: usize, other: usize) -> bool
-    requires { ⌜ (from ≤ to) × (other ≤ length (now s)) × Run name-byte (now s) from to ⌝ }
-    ensures { λ r. ⌜ r ≡ same (name-at (now (s .entry)) other) (name-at (now (s .entry)) from) ⌝ }
-{
-    let word = &s[from..to];
-    let n = agreement(s, other, word);
-    if n != to - from {
-        return false;
-    }
-    let next = peek(s, other + n);
-    !is_name_byte(next)
-}
-
-// Whether a name is among the count names whose offsets stand from lo on.
-fn repeated(
-    s: &[u8],
-    names: &[usize; 1024],
-    lo: usize,
-    count: usize,
-    from: usize,
-    to: usize,
-) -> bool
-    requires { ⌜ (from ≤ to) × Run name-byte (now s) from to × (lo + count ≤ 1024) × Placed (now s) (now names) (lo + count) ⌝ }
-    ensures { λ r. ⌜ r ≡ used (stack (now (s .entry)) (now (names .entry)) lo count) (name-at (now (s .entry)) from) ⌝ }
-{
-    let mut i = count;
-    while 0 < i {
-        i -= 1;
-        let other = names[lo + i];
-        if same_name(s, from, to, other) {
-            return true;
-        }
-    }
-    false
 }

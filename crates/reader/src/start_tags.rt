@@ -5,12 +5,14 @@ use super::Part;
 use super::Read;
 use super::Tag;
 use super::is_name_start;
-use super::repeated;
+use super::names::enter;
 ghost use mathlib.Core.Path.{_≡_};
 ghost use Prim.Native.Nat.{_+_, _<_, _≤_};
 ghost use lib.ListN.{length, getD};
+ghost use Rattle.ordering.specs.Sorted.{Increasing};
 ghost use Rattle.reader.specs.Steps.{EqualsRead, PartRead, SlashRead};
-ghost use Rattle.reader.specs.Elements.{stack, Placed, Attributed, AttributeRead, Kept, AttributesRead, Named, ElementRead};
+ghost use Rattle.reader.specs.Elements.{Placed, Attributed, Kept, attribute-names, AttributeEnters};
+ghost use Rattle.reader.specs.Elements.{AttributesRead, Named, ElementRead};
 
 impl Cursor {
     // From behind the name of an attribute to behind its opening quote.
@@ -84,17 +86,18 @@ impl Cursor {
         Part::Empty(Cursor { at: at + 1 })
     }
 
-    // An attribute from the first byte of its name to behind its value; the names of those before it stand from lo on.
+    // An attribute from the first byte of its name to behind its value; its name is put among those before it, which stand from lo on.
     pub fn attribute(
         self,
         s: &[u8],
-        names: &[usize; 1024],
+        names: &mut [usize; 1024],
         lo: usize,
         count: usize,
         nodes: usize,
     ) -> Read
-        requires { ⌜ Attributed (now s) (self .at) nodes × (lo + count ≤ 1024) × Placed (now s) (now names) (lo + count) ⌝ }
-        ensures { λ r. ⌜ AttributeRead (now (s .entry)) (stack (now (s .entry)) (now (names .entry)) lo count) (self .at) nodes r ⌝ }
+        requires { ⌜ Attributed (now s) (self .at) nodes × (lo + count + 1 ≤ nodes) × Placed (now s) (now names) (lo + count)
+            × Increasing (attribute-names (now s) (now names) lo) count × (length (now names) ≡ 1024) ⌝ }
+        ensures { λ r. ⌜ AttributeEnters (now (s .entry)) (now (names .entry)) (now (names .exit)) lo count (self .at) nodes r ⌝ }
     {
         let at = self.at;
         if nodes == 1024 {
@@ -105,7 +108,7 @@ impl Cursor {
         if to - at > 32 {
             return Read::Refused(5, at + 32);
         }
-        if repeated(s, names, lo, count, at, to) {
+        if !enter(s, names, lo, count, at, to) {
             return Read::Refused(4, to);
         }
         match end.equals(s) {
@@ -135,7 +138,6 @@ impl Cursor {
                     match c.attribute(s, names, lo, count, n) {
                         Read::Refused(x, j) => return Tag::Broken(x, j),
                         Read::Past(next, m) => {
-                            names[lo + count] = c.at;
                             count += 1;
                             i = next.at;
                             n = m;

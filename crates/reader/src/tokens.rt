@@ -1,7 +1,6 @@
 // Blanks, names and references.
 use super::Cursor;
 use super::Reference;
-use super::agreement;
 use super::is_blank;
 use super::is_name_byte;
 use super::peek;
@@ -51,7 +50,7 @@ impl Cursor {
         ensures { λ r. ⌜ Refers (now (s .entry)) (self .at) (word-at (now (word .entry)) value (drop (self .at) (now (s .entry)))) r ⌝ }
     {
         let at = self.at;
-        let n = agreement(s, at, word);
+        let n = ordering::agreement(s, at, word);
         if n == word.len() {
             return Reference::Byte(value, Cursor { at: at + n });
         }

@@ -10,6 +10,7 @@ use borrow.Author.Tests.{le-leb, leb-true, lt-ltb, ltb-true, eqb-true, eqb-false
 use Rattle.tree.specs.Lists.{every, has, distinct, same}
 use Rattle.tree.specs.Content.{between, content-limit}
 use Rattle.tree.specs.Laws.Tests.{and-left, and-right, or-left, or-right}
+use Rattle.tree.specs.Laws.Compare.{same-equal, same-self}
 use Rattle.protocol.specs.State.{nobody, Marked, Tree, State}
 use Rattle.protocol.specs.Calls.{node-limit}
 use Rattle.layout.specs.Lists.{tabulate}
@@ -70,18 +71,6 @@ tabulate-distinct zero f h = refl
 tabulate-distinct (suc n) f h =
     rw (tabulate-has (f 0) n (λ k. f (suc k)) (λ i k e. let z : suc i ≡ 0 = h (suc i) 0 (omega arith) (omega arith) e in omega arith))
     (tabulate-distinct n (λ k. f (suc k)) (λ i j a b e. let z : suc i ≡ suc j = h (suc i) (suc j) (omega arith) (omega arith) e in omega arith))
-
--- strings of bytes ------------------------------------------------------------------------------------
-
-same-eq : (l k : List ℕ) → same l k ≡ true → l ≡ k
-same-eq [] [] h = refl
-same-eq [] (y ∷ k) h = absurd (false≢true h)
-same-eq (x ∷ l) [] h = absurd (false≢true h)
-same-eq (x ∷ l) (y ∷ k) h = rw (eqb-true x y (and-left (eqb x y) _ h), same-eq l k (and-right (eqb x y) _ h))
-
-same-self : (l : List ℕ) → same l l ≡ true
-same-self [] = refl
-same-self (x ∷ l) = rw (eq-eqb x x refl) (same-self l)
 
 -- sizes -----------------------------------------------------------------------------------------------
 
@@ -149,7 +138,7 @@ pub form-layout : {s : List ℕ} → form s ≡ true → Layout s
 unfolding slots cells apart
 form-layout {s} h = let p = form-parts h in record {
   size = leb-true state-size (length s) (p .size);
-  mark = same-eq (part s 0 8) format-mark (p .mark);
+  mark = same-equal (part s 0 8) format-mark (p .mark);
   some = between-low 1 node-limit (count s) (p .count);
   room = between-high 1 node-limit (count s) (p .count);
   many = length-nodes s;

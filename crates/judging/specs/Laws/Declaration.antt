@@ -22,7 +22,7 @@ use Rattle.xml.specs.Laws.Fixed.{word-at, agree, declaration-at, declarations-a
 use Rattle.reader.specs.declared.Cursor.{Cursor}
 use Rattle.reader.specs.declared.Prolog.{Prolog}
 use Rattle.reader.specs.declared.Prolog.the-variants.{Root, NoRoot}
-use Rattle.reader.specs.Steps.{Agreement}
+use Rattle.ordering.specs.Agreement.{Agreement}
 use Rattle.reader.specs.Prolog.{RootRead, root-at, no-root}
 use Rattle.judging.specs.Judged.{DeclaredRead, behind-it, short-of-it}
 

@@ -1,18 +1,24 @@
--- The loop that looks for an attribute of the same name before one.
-use mathlib.Core.Path.{_≡_, sym, ap, _∙_}
-use Prim.Native.Nat.{ℕ, suc, _-_, _≤_, _<_}
-use mathlib.Core.Bool.{Bool, true, false, _||_}
-use mathlib.Core.List.{List, _∷_}
+-- Names of attributes: which rows have one, and those that are kept behind a node.
+use mathlib.Core.Path.{_≡_, refl, _∙_, subst}
+use Prim.Native.Nat.{ℕ, _+_, _≤_, _<_}
+use mathlib.Core.Bool.{false}
+use mathlib.Core.List.{List}
 use native.Mathlib.Omega.{arith}
-use lib.ListN.{getD}
-use borrow.Author.Tests.{eq-eqb, ne-eqb, lt-ltb, le-ltb}
-use Rattle.tree.specs.Lists.{same}
+use lib.ListN.{length, getD, set, length-set}
+use borrow.Author.Tests.{ne-eqb}
+use Rattle.tree.specs.Content.{attribute-kind, text-kind}
 use Rattle.xml.specs.Bytes.{used}
 use Rattle.layout.specs.Layout.{Entry}
-use Rattle.lookup.specs.Places.{depth}
+use Rattle.ordering.specs.declared.Order.{Order}
+use Rattle.ordering.specs.Order.{Ordered}
+use Rattle.ordering.specs.Sorted.{entries, Increasing, Between, Shifted}
+use Rattle.ordering.specs.Laws.Sorted.{lists-none, increasing-none}
+use Rattle.ordering.specs.Laws.Entries.{each-entry, entry-added}
 use Rattle.markup.specs.Rows.{Line, names-before, repeated}
-use Rattle.committed.specs.Lines.{label-at, line-at}
-use Rattle.measuring.specs.Walk.{before-lines}
+use Rattle.committed.specs.Lines.{label-at, Inside}
+use Rattle.measuring.specs.declared.Admission.{Admission}
+use Rattle.measuring.specs.declared.Admission.the-variants.{Kept}
+use Rattle.measuring.specs.Names.{tag-names, names-at, Entered, is-repeated, is-entered, Followed, is-again, is-followed}
 
 pub not-attribute : (pre : List Line) (x : Line) → (x .1 .kind ≡ 3 → ⊥) → false ≡ repeated pre x
 unfolding repeated
@@ -22,39 +28,64 @@ pub is-attribute : (pre : List Line) (x : Line) → x .1 .kind ≡ 3 → repeate
 unfolding repeated
 is-attribute pre x e = rw e
 
--- r is whether the name a stands before; the rows before the j-th are still to be looked at
-module _ (l : List Entry) (places : List ℕ) (r : Bool) (d : ℕ) (a : List ℕ) where
-  abbrev pub Looking : ℕ → Type 0
-  Looking j = r ≡ used (names-before d (before-lines l places j)) a
+-- the names behind a node -----------------------------------------------------------------------------
 
-  pub looking-none : Looking 0 → false ≡ r
-  unfolding names-before before-lines used
-  looking-none e = sym e
+pub inside-none : {l : List Entry} {os : List ℕ} → length os ≡ 1024 → Inside l os 0
+inside-none h = record { long = h; room = omega arith; inside = λ j k. absurd (omega arith) }
 
-  -- the row before the j-th
-  module _ (j : ℕ) (h : 0 < j) (v : Looking j) where
-    abbrev p : ℕ
-    p = getD places (j - 1) 0
+-- contents compared are names compared
+pub ordered-by : {a b x y : List ℕ} {r : Order} → a ≡ x → b ≡ y → Ordered a b r → Ordered x y r
+ordered-by e f o = rw (← e, ← f) o
 
-    next : before-lines l places j ≡ line-at l p ∷ before-lines l places (j - 1)
-    unfolding before-lines
-    next = let z : j ≡ suc (j - 1) = omega arith in ap (before-lines l places) z
+pub ordered-at : (l : List Entry) (os : List ℕ) (m : ℕ) {w : List ℕ} {r : Order}
+    → Ordered w (label-at l (getD os m 0) .content) r → Ordered w (names-at l os m) r
+unfolding entries
+ordered-at l os m {w} {r} o = let z : m ≡ 0 + m = omega arith in subst (λ (i : ℕ). Ordered w (label-at l (getD os i 0) .content) r) z o
 
-    pub looking-out : depth l p < d → false ≡ r
-    unfolding names-before used
-    looking-out k = sym (v ∙ rw (next, lt-ltb (depth l p) d k))
+-- a name put at place k
+module _ {l : List Entry} {os os′ : List ℕ} {n k : ℕ} (p : ℕ) (x : Shifted os os′ k n) (m : k ≤ n) (h : n < 1024) (v : Inside l os n) where
+  pub entered : Increasing (names-at l os) n → Between (names-at l os) n k k (label-at l p .content) → p < length l
+      → Entered l os (set os′ k p) n p (Kept (n + 1))
+  entered i b q = is-entered refl
+      (record {
+        long = length-set os′ k p ∙ x .as-long ∙ v .long;
+        room = omega arith;
+        inside = each-entry p x m (omega (arith, v .long)) (λ o. o < length l) (v .inside) q;
+      })
+      (entry-added (λ o. label-at l o .content) 0 p (omega arith) (omega arith) x m (omega (arith, v .long)) i b)
 
-    pub looking-past : d < depth l p → Looking (j - 1)
-    unfolding names-before
-    looking-past k = v ∙ rw (next, le-ltb (depth l p) d (omega arith), ne-eqb (depth l p) d (λ e. omega arith))
+module _ {l : List Entry} {os : List ℕ} {n p : ℕ} where
+  pub follow-attribute : {os′ : List ℕ} {r : Admission} → label-at l p .kind ≡ attribute-kind → Entered l os os′ n p r
+      → Followed l os os′ n p r
+  unfolding tag-names
+  follow-attribute e (is-repeated a) = is-again e a
+  follow-attribute e (is-entered {m = m} z i a) = is-followed {m = m} (record {
+    few = omega (arith, z);
+    inside = i;
+    sorted = rw z (a .sorted);
+    lists = λ d h pre x. rw (z, ne-eqb d 0 (λ y. omega arith), e) (a .lists (tag-names pre) x);
+    unseen = λ k pre x. a .unseen (tag-names pre) x;
+  })
 
-    module _ (k : d ≤ depth l p) (m : depth l p ≤ d) where
-      turn : r ≡ (same (label-at l p .content) a || used (names-before d (before-lines l places (j - 1))) a)
-      unfolding names-before used
-      turn = v ∙ rw (next, le-ltb (depth l p) d k, eq-eqb (depth l p) d (omega arith))
+  module _ (v : Inside l os n) (i : Increasing (names-at l os) n) where
+    pub follow-text : label-at l p .kind ≡ text-kind → Followed l os os n p (Kept n)
+    unfolding tag-names
+    follow-text e = is-followed {m = n} (record {
+      few = omega arith;
+      inside = v;
+      sorted = i;
+      lists = λ d h pre x. rw (ne-eqb d 0 (λ y. omega arith), e) x;
+      unseen = λ k pre x. absurd (omega (arith, e, k));
+    })
 
-      pub looking-found : same (label-at l p .content) a ≡ true → true ≡ r
-      looking-found e = sym (turn ∙ rw e)
-
-      pub looking-on : same (label-at l p .content) a ≡ false → Looking (j - 1)
-      looking-on e = turn ∙ rw e
+    pub follow-other : (label-at l p .kind ≡ attribute-kind → ⊥) → (label-at l p .kind ≡ text-kind → ⊥) → Followed l os os n p (Kept 0)
+    unfolding tag-names
+    follow-other h k = is-followed {m = 0} (record {
+      few = omega arith;
+      inside = inside-none (v .long);
+      sorted = increasing-none (names-at l os);
+      lists = λ d low pre x.
+          rw (ne-eqb d 0 (λ y. omega arith), ne-eqb (label-at l p .kind) attribute-kind h, ne-eqb (label-at l p .kind) text-kind k)
+          (lists-none (names-at l os));
+      unseen = λ e pre x. absurd (h e);
+    })

@@ -1,128 +1,47 @@
 -- Names compared with each other, and an attribute from its name to its value.
-use Prim.Native.Nat.{ℕ, zero, suc, _+_, _-_, _≤_, _<_}
-use mathlib.Core.Path.{_≡_, refl, sym, ap, ap₂, _∙_, subst}
-use mathlib.Core.Bool.{Bool, true, false, cond, not, _&&_, _||_, false≢true}
+use Prim.Native.Nat.{ℕ, _+_, _-_, _≤_, _<_}
+use mathlib.Core.Path.{_≡_, refl, sym, _∙_}
+use mathlib.Core.Bool.{Bool, true, false, false≢true, true≢false}
 use mathlib.Core.List.{List, [], _∷_}
 use native.Mathlib.Omega.{arith}
-use native.Mathlib.Numerals.{add-one}
-use lib.Dec.{eqb, leb, eqb·zero-suc, eqb·suc-suc}
-use lib.ListN.{length, getD, take, drop, length-drop}
-use lib.Seq.{length-take-le, getD-drop}
-use borrow.Author.Tests.{leb-true, leb-false, eq-eqb, ne-eqb, eqb-true}
-use Rattle.tree.specs.Lists.{same, every}
+use lib.Dec.{leb}
+use lib.ListN.{length, getD, drop}
+use borrow.Author.Tests.{leb-true, leb-false}
 use Rattle.tree.specs.Content.{content-limit, attribute-kind, name-start, name-byte}
 use Rattle.protocol.specs.Calls.{node-limit}
-use Rattle.xml.specs.Bytes.{used, blank, Quote, mark}
+use Rattle.xml.specs.Bytes.{used}
 use Rattle.xml.specs.Grammar.{Name}
 use Rattle.xml.specs.Reading.{opener, node-offset}
-use Rattle.xml.specs.Laws.Automaton.{Config, behind-part, in-tag, before-equals, attribute-name, behind-quote, Event, born, byte, depth, stuck, move, to, step}
+use Rattle.xml.specs.Laws.Automaton.{in-tag, before-equals, attribute-name, born, byte, depth, move, to, step}
 use Rattle.xml.specs.Laws.Counts.{births, tail, peak}
-use Rattle.xml.specs.Laws.Phases.{phase, is-over, pending}
-use Rattle.xml.specs.Laws.Judge.{Verdict, bad, byte-before}
+use Rattle.xml.specs.Laws.Judge.{bad, byte-before}
 use Rattle.xml.specs.Laws.Verdicts.{offset-before}
 use Rattle.xml.specs.Laws.Scan.{scan-at, scan-end, scan-stuck, scan-alike}
-use Rattle.xml.specs.Laws.Goes.{Leads, Goes, goes-then, scan-born, stops-many}
-use Rattle.xml.specs.Laws.Tokens.{span, span-length, span-behind, name-at, Naming, name-short, name-long}
-use Rattle.xml.specs.Laws.Fixed.{agree}
+use Rattle.xml.specs.Laws.Goes.{Goes, goes-then, scan-born, stops-many}
+use Rattle.xml.specs.Laws.Tokens.{span, span-behind, name-at, Naming, name-short, name-long}
 use Rattle.reader.specs.declared.Cursor.{Cursor}
-use Rattle.reader.specs.declared.Equals.{Equals}
 use Rattle.reader.specs.declared.Equals.the-variants.{Quoted, NoQuote}
 use Rattle.reader.specs.declared.Read.{Read}
 use Rattle.reader.specs.declared.Read.the-variants.{Past, Refused}
-use Rattle.reader.specs.Steps.{Run, Agreement, EqualsRead, quoted, no-quote, ContentRead, content-past, content-refused}
-use Rattle.reader.specs.Elements.{stack, Placed, Attributed, AttributeRead, attribute-past, attribute-refused}
+use Rattle.reader.specs.Steps.{Run, EqualsRead, quoted, no-quote, ContentRead, content-past, content-refused}
+use Rattle.ordering.specs.Sorted.{Among}
+use Rattle.ordering.specs.Laws.Sorted.{among-seen}
+use Rattle.reader.specs.Elements.{Attributed, AttributeRead, attribute-past, attribute-refused, Kept, attribute-names, Entered}
+use Rattle.reader.specs.Elements.{EnterRead, is-entered, is-repeated, NamesRead, names-past, names-refused, AttributeEnters}
 use Rattle.reader.specs.Laws.Contents.{value-contents}
 
--- names --------------------------------------------------------------------------------------
+module _ {s os os′ : List ℕ} {lo count at : ℕ} where
+  repeated-of : {b : Bool} → EnterRead s os os′ lo count at b → b ≡ false → Among (attribute-names s os lo) count (name-at s at)
+  repeated-of (is-repeated a) h = a
+  repeated-of (is-entered a) h = absurd (true≢false h)
 
--- the name at the beginning of l is w: all of w stands there, and no further byte of a name behind it
-same-run : (w l : List ℕ) → every name-byte w ≡ true
-    → same (take (span name-byte l) l) w ≡ (eqb (agree w l) (length w) && not (name-byte (getD l (length w) 0)))
-unfolding agree span name-byte name-start
-same-run [] [] h = refl
-same-run [] (b ∷ l) h = go (name-byte b)
-  where
-    go : (t : Bool) → same (take (cond t (suc (span name-byte l)) 0) (b ∷ l)) [] ≡ (true && not t)
-    go true = refl
-    go false = refl
-same-run (x ∷ w) [] h = rw (eqb·zero-suc (length w))
-same-run (x ∷ w) (b ∷ l) h = go (name-byte x) refl h (name-byte b) refl (eqb b x) refl (same-run w l)
-  where
-    behind : Bool
-    behind = not (name-byte (getD l (length w) 0))
+  entered-of : {b : Bool} → EnterRead s os os′ lo count at b → b ≡ true → Entered s os os′ lo count at
+  entered-of (is-repeated a) h = absurd (false≢true h)
+  entered-of (is-entered a) h = a
 
-    go : (u : Bool) → name-byte x ≡ u → (u && every name-byte w) ≡ true → (t : Bool) → name-byte b ≡ t → (e : Bool) → eqb b x ≡ e
-        → (every name-byte w ≡ true → same (take (span name-byte l) l) w ≡ (eqb (agree w l) (length w) && behind))
-        → same (take (cond t (suc (span name-byte l)) 0) (b ∷ l)) (x ∷ w) ≡ (eqb (cond e (suc (agree w l)) 0) (suc (length w)) && behind)
-    go false p h t q e r f = absurd (false≢true h)
-    go true p h true q true r f = rw (r, eqb·suc-suc (agree w l) (length w)) (f h)
-    go true p h true q false r f = rw (r, eqb·zero-suc (length w))
-    go true p h false q true r f = absurd (false≢true (sym q ∙ ap name-byte (eqb-true b x r) ∙ p))
-    go true p h false q false r f = rw (eqb·zero-suc (length w))
-
-run-names : (l : List ℕ) → every name-byte (take (span name-byte l) l) ≡ true
-unfolding span
-run-names [] = refl
-run-names (b ∷ l) = go (name-byte b) refl (run-names l)
-  where
-    go : (t : Bool) → name-byte b ≡ t → every name-byte (take (span name-byte l) l) ≡ true
-        → every name-byte (take (cond t (suc (span name-byte l)) 0) (b ∷ l)) ≡ true
-    go true e h = rw (e, h)
-    go false e h = refl
-
--- the bytes of a name
-pub name-of : (s : List ℕ) (from to : ℕ) → Run name-byte s from to → take (to - from) (drop from s) ≡ name-at s from
-unfolding name-at
-name-of s from to r = let p : to - from ≡ span name-byte (drop from s) = omega (arith, r .ends) in rw p
-
-pub length-name : (s : List ℕ) (from to : ℕ) → Run name-byte s from to → length (name-at s from) ≡ to - from
-unfolding name-at
-length-name s from to r = length-take-le (span name-byte (drop from s)) (drop from s) (span-length name-byte (drop from s)) ∙ omega (arith, r .ends)
-
-module _ (s : List ℕ) (from to other n : ℕ) (a : Run name-byte s from to) (g : Agreement (take (to - from) (drop from s)) s other n) where
-  agrees-to : n ≡ agree (name-at s from) (drop other s)
-  agrees-to = g .agrees ∙ ap (λ (x : List ℕ). agree x (drop other s)) (name-of s from to a)
-
-  compared : same (name-at s other) (name-at s from) ≡ (eqb n (to - from) && not (name-byte (getD s (other + (to - from)) 0)))
-  unfolding name-at
-  compared =
-      let w = name-at s from in
-      let r = same-run w (drop other s) (run-names (drop from s)) in
-      r ∙ ap₂ (λ (x y : ℕ). eqb x y && not (name-byte (getD (drop other s) y 0))) (sym agrees-to) (length-name s from to a)
-      ∙ ap (λ (x : ℕ). eqb n (to - from) && not (name-byte x)) (getD-drop other s (to - from) 0)
-
-  pub names-differ : (n ≡ to - from → ⊥) → false ≡ same (name-at s other) (name-at s from)
-  names-differ h = sym (compared ∙ rw (ne-eqb n (to - from) h))
-
-  pub names-agree : n ≡ to - from → not (name-byte (getD s (other + n) 0)) ≡ same (name-at s other) (name-at s from)
-  names-agree h = rw h (sym (compared ∙ rw (eq-eqb n (to - from) h)))
-
--- a name among those seen: i are left to compare
-unfoldable pub Comparing : List ℕ → List ℕ → ℕ → ℕ → Name → ℕ → Type 0
-Comparing s os lo count w i = used (stack s os lo count) w ≡ used (stack s os lo i) w
-
-pub compare-start : (s os : List ℕ) (lo count : ℕ) (w : Name) → Comparing s os lo count w count
-unfolding Comparing
-compare-start s os lo count w = refl
-
-compare-step : (s os : List ℕ) (lo : ℕ) (w : Name) (i : ℕ) → 0 < i
-    → used (stack s os lo i) w ≡ (same (name-at s (getD os (lo + (i - 1)) 0)) w || used (stack s os lo (i - 1)) w)
-unfolding stack used
-compare-step s os lo w zero h = absurd (omega arith)
-compare-step s os lo w (suc i) h = let p : suc i - 1 ≡ i = omega arith in rw p
-
-module _ (s os : List ℕ) (lo count : ℕ) (w : Name) (i : ℕ) (c : Comparing s os lo count w i) where
-  pub compare-found : 0 < i → same (name-at s (getD os (lo + (i - 1)) 0)) w ≡ true → true ≡ used (stack s os lo count) w
-  unfolding Comparing
-  compare-found h e = sym (c ∙ compare-step s os lo w i h ∙ rw e)
-
-  pub compare-turn : 0 < i → same (name-at s (getD os (lo + (i - 1)) 0)) w ≡ false → Comparing s os lo count w (i - 1)
-  unfolding Comparing
-  compare-turn h e = c ∙ compare-step s os lo w i h ∙ rw e
-
-  pub compare-none : (0 < i → ⊥) → false ≡ used (stack s os lo count) w
-  unfolding Comparing stack used
-  compare-none h = let p : i ≡ 0 = omega arith in sym (c ∙ rw p)
+  names-behind : Entered s os os′ lo count at → (y : Read) → NamesRead s os os′ lo count at y
+  names-behind e (Past c m) = names-past e
+  names-behind e (Refused x j) = names-refused
 
 -- an attribute ---------------------------------------------------------------------------------
 
@@ -151,7 +70,7 @@ module _ (s : List ℕ) (at nodes : ℕ) (x : Attributed s at nodes) where
       go true o = absurd (let p = offset-before s at o in omega (arith, p .0, p .1, x .begins-here))
       go false o = o
 
-  pub attribute-many : (seen : List Name) → nodes ≡ node-limit → AttributeRead s seen at nodes (Refused 6 at)
+  attribute-many : (seen : List Name) → nodes ≡ node-limit → AttributeRead s seen at nodes (Refused 6 at)
   unfolding births tail peak
   attribute-many seen l = attribute-refused {x = 6} {j = at} (λ n ns.
       stops-many s (in-tag n ns seen) nodes at (x .inside) (attribute-name n ns seen (b ∷ [])) (depth (n ∷ ns)) attribute-kind (byte b ∷ [])
@@ -167,7 +86,7 @@ module _ (s : List ℕ) (at nodes : ℕ) (x : Attributed s at nodes) where
         scan-born s (in-tag n ns seen) nodes at (x .inside) (attribute-name n ns seen (b ∷ [])) (depth (n ∷ ns)) attribute-kind (byte b ∷ [])
         (born-step n ns seen) refl room k h (omega arith)
 
-    pub attribute-long : (seen : List Name) → content-limit < to - at → AttributeRead s seen at nodes (Refused 5 (at + 32))
+    attribute-long : (seen : List Name) → content-limit < to - at → AttributeRead s seen at nodes (Refused 5 (at + 32))
     attribute-long seen h = attribute-refused {x = 5} {j = at + 32} (λ n ns. record {
       leads = λ k m. named n ns seen k m
           ∙ name-long s (attribute-name n ns seen) (nodes + 1) (naming n ns seen) (omega arith) at (x .inside) (start-name b (x .starts))
@@ -188,7 +107,7 @@ module _ (s : List ℕ) (at nodes : ℕ) (x : Attributed s at nodes) where
       ended : to < length s → name-byte (getD s to 0) ≡ false
       ended h = rw (r .ends) (span-behind name-byte s at (omega (arith, r .ends)))
 
-      pub attribute-repeated : (seen : List Name) → used seen (name-at s at) ≡ true → AttributeRead s seen at nodes (Refused 4 to)
+      attribute-repeated : (seen : List Name) → used seen (name-at s at) ≡ true → AttributeRead s seen at nodes (Refused 4 to)
       unfolding step
       attribute-repeated seen e = attribute-refused {x = 4} {j = to} (λ n ns. record { leads = λ k m. whole n ns seen k m ∙ go n ns (leb (length s) to) refl })
         where
@@ -211,11 +130,11 @@ module _ (s : List ℕ) (at nodes : ℕ) (x : Attributed s at nodes) where
           };
         }
 
-        pub attribute-unquoted : {j : ℕ} → EqualsRead s to (NoQuote j) → AttributeRead s seen at nodes (Refused 4 j)
+        attribute-unquoted : {j : ℕ} → EqualsRead s to (NoQuote j) → AttributeRead s seen at nodes (Refused 4 j)
         attribute-unquoted {j} (no-quote f) =
             attribute-refused {x = 4} {j = j} (λ n ns. to-sign n ns .back _ (f n ns (name-at s at ∷ seen) (nodes + 1) (omega arith)))
 
-        pub attribute-valued : {q : ℕ} {c : Cursor} {y : Read} → EqualsRead s to (Quoted q c) → ContentRead s q (c .at) (nodes + 1) y
+        attribute-valued : {q : ℕ} {c : Cursor} {y : Read} → EqualsRead s to (Quoted q c) → ContentRead s q (c .at) (nodes + 1) y
             → AttributeRead s seen at nodes y
         attribute-valued (quoted q a b d f) (content-past {c = c} {m = m} g h i j k u) =
             attribute-past {c = c} {m = m} (omega (arith, r .ends)) h (omega arith) k
@@ -225,6 +144,47 @@ module _ (s : List ℕ) (at nodes : ℕ) (x : Attributed s at nodes) where
             attribute-refused {x = x} {j = j}
             (λ n ns. to-sign n ns .back _
             (f n ns (name-at s at ∷ seen) (nodes + 1) (omega arith) .back _ (u _ _ _ _ (value-contents n ns (name-at s at ∷ seen) q))))
+
+-- with the names of the attributes before it, os before and os′ behind it
+module _ {s os : List ℕ} {lo count at nodes : ℕ} (x : Attributed s at nodes) where
+  pub enters-many : nodes ≡ node-limit → AttributeEnters s os os lo count at nodes (Refused 6 at)
+  enters-many h = record {
+    reads = λ seen l. attribute-many s at nodes x seen h;
+    names = names-refused;
+    kept = record { as-long = refl; kept = λ i h. refl };
+  }
+
+  module _ (room : nodes < node-limit) {to : ℕ} (r : Run name-byte s at to) where
+    pub enters-long : content-limit < to - at → AttributeEnters s os os lo count at nodes (Refused 5 (at + 32))
+    enters-long h = record {
+      reads = λ seen l. attribute-long s at nodes x room to r seen h;
+      names = names-refused;
+      kept = record { as-long = refl; kept = λ i h. refl };
+    }
+
+    module _ (short : to - at ≤ content-limit) {os′ : List ℕ} {b : Bool} (e : EnterRead s os os′ lo count at b) (k : Kept lo os os′) where
+      pub enters-repeated : b ≡ false → AttributeEnters s os os′ lo count at nodes (Refused 4 to)
+      enters-repeated h = record {
+        reads = λ seen l. attribute-repeated s at nodes x room to r short seen (among-seen l (repeated-of e h));
+        names = names-refused;
+        kept = k;
+      }
+
+      module _ (h : b ≡ true) where
+        pub enters-unquoted : {j : ℕ} → EqualsRead s to (NoQuote j) → AttributeEnters s os os′ lo count at nodes (Refused 4 j)
+        enters-unquoted q = record {
+          reads = λ seen l. attribute-unquoted s at nodes x room to r short seen (entered-of e h .added .unseen seen l) q;
+          names = names-refused;
+          kept = k;
+        }
+
+        pub enters-valued : {q : ℕ} {c : Cursor} {y : Read} → EqualsRead s to (Quoted q c) → ContentRead s q (c .at) (nodes + 1) y
+            → AttributeEnters s os os′ lo count at nodes y
+        enters-valued {y = y} q v = record {
+          reads = λ seen l. attribute-valued s at nodes x room to r short seen (entered-of e h .added .unseen seen l) q v;
+          names = names-behind (entered-of e h) y;
+          kept = k;
+        }
 
 pub quoted-inside : {s : List ℕ} {at q : ℕ} {c : Cursor} → EqualsRead s at (Quoted q c) → (1 ≤ c .at) × (c .at ≤ length s) × (c .at - 1 ≡ node-offset s (c .at))
 quoted-inside (quoted q a b d f) = (omega arith, b, sym d)

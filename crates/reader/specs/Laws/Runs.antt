@@ -1,21 +1,21 @@
 -- The loops over runs of bytes and over words.
-use Prim.Native.Nat.{ℕ, zero, suc, _+_, _-_, _≤_, _<_}
-use mathlib.Core.Path.{_≡_, refl, sym, ap, _∙_, subst}
-use mathlib.Core.Bool.{Bool, true, false, cond, not}
-use mathlib.Core.List.{List, [], _∷_}
+use Prim.Native.Nat.{ℕ, _+_, _-_, _≤_, _<_}
+use mathlib.Core.Path.{_≡_, refl, _∙_}
+use mathlib.Core.Bool.{Bool, true, false}
+use mathlib.Core.List.{List}
 use native.Mathlib.Omega.{arith}
 use native.Mathlib.Numerals.{add-one}
-use lib.Dec.{eqb}
-use lib.ListN.{length, getD, drop, length-drop, drop-of-length-le}
-use lib.Seq.{drop-cons, getD-drop}
+use lib.ListN.{length, getD, drop}
+use lib.Seq.{getD-drop}
 use Rattle.xml.specs.Bytes.{amp, apos, gt, lt, quot}
 use borrow.Author.Tests.{eq-eqb, ne-eqb}
-use Rattle.xml.specs.Laws.Tokens.{span, span-end, span-stop, span-go, span-length, Reach, got, lost}
+use Rattle.xml.specs.Laws.Tokens.{span, span-end, span-stop, span-go}
 use Rattle.xml.specs.Laws.Fixed.{agree, word-at, entity-at}
 use Rattle.reader.specs.declared.Cursor.{Cursor}
 use Rattle.reader.specs.declared.Reference.{Reference}
 use Rattle.reader.specs.declared.Reference.the-variants.{Byte, NoEntity}
-use Rattle.reader.specs.Steps.{Run, Agreement, Refers, refers, no-entity}
+use Rattle.ordering.specs.Agreement.{Agreement}
+use Rattle.reader.specs.Steps.{Run, Refers, refers, no-entity}
 
 -- a run: i is where the loop stands, from where it began
 unfoldable pub Running : (ℕ → Bool) → List ℕ → ℕ → ℕ → Type 0
@@ -37,41 +37,6 @@ module _ (t : ℕ → Bool) (s : List ℕ) (from i : ℕ) (r : Running t s from 
   pub run-end : i ≤ length s → length s ≤ i → Run t s from i
   unfolding Running
   run-end l h = record { ends = omega (arith, r, span-end t s i h); inside = l }
-
--- words: n bytes agree so far
-unfoldable pub Agreeing : List ℕ → List ℕ → ℕ → ℕ → Type 0
-Agreeing w s at n = agree w (drop at s) ≡ n + agree (drop n w) (drop (at + n) s)
-
-pub agree-start : (w s : List ℕ) (at : ℕ) → Agreeing w s at 0
-unfolding Agreeing
-agree-start w s at = let p : at + 0 ≡ at = omega arith in rw p (omega arith)
-
-module _ (w s : List ℕ) (at n : ℕ) (r : Agreeing w s at n) where
-  pub agree-turn : n < length w → at + n < length s → getD s (at + n) 0 ≡ getD w n 0 → Agreeing w s at (n + 1)
-  unfolding Agreeing agree
-  agree-turn h k e =
-      let p : at + (n + 1) ≡ suc (at + n) = omega arith in
-      let q : agree (drop n w) (drop (at + n) s) ≡ suc (agree (drop (suc n) w) (drop (suc (at + n)) s)) =
-      rw (drop-cons w n 0 h, drop-cons s (at + n) 0 k, eq-eqb (getD s (at + n) 0) (getD w n 0) e) in
-      rw (p, add-one n) (omega (arith, r))
-
-  pub agree-differ : n < length w → at + n < length s → (getD s (at + n) 0 ≡ getD w n 0 → ⊥) → Agreement w s at n
-  unfolding Agreeing agree
-  agree-differ h k e =
-      let q : agree (drop n w) (drop (at + n) s) ≡ 0 = rw (drop-cons w n 0 h, drop-cons s (at + n) 0 k, ne-eqb (getD s (at + n) 0) (getD w n 0) e) in
-      record { agrees = omega (arith, r); inside = omega arith; most = omega arith }
-
-  pub agree-short : n < length w → at + n ≤ length s → length s ≤ at + n → Agreement w s at n
-  unfolding Agreeing agree
-  agree-short h l k =
-      let q : agree (drop n w) (drop (at + n) s) ≡ 0 = rw (drop-cons w n 0 h, drop-of-length-le s k) in
-      record { agrees = omega (arith, r); inside = l; most = omega arith }
-
-  pub agree-whole : n ≤ length w → length w ≤ n → at + n ≤ length s → Agreement w s at n
-  unfolding Agreeing agree
-  agree-whole m h l =
-      let q : agree (drop n w) (drop (at + n) s) ≡ 0 = rw (drop-of-length-le w h) in
-      record { agrees = omega (arith, r); inside = l; most = m }
 
 -- an entity
 module _ (w s : List ℕ) (value at n : ℕ) (a : Agreement w s at n) where

@@ -1,21 +1,19 @@
 -- Start tags: names kept as offsets, the loop over the attributes, the tag from the first byte of its name.
 use Prim.Native.Nat.{ℕ, zero, suc, _+_, _-_, _≤_, _<_}
-use mathlib.Core.Path.{_≡_, refl, sym, ap, _∙_, subst}
+use mathlib.Core.Path.{_≡_, refl, _∙_, subst}
 use mathlib.Core.Bool.{Bool, true, false}
 use mathlib.Core.List.{List, [], _∷_}
 use native.Mathlib.Omega.{arith}
-use native.Mathlib.Numerals.{add-one}
 use lib.Dec.{eqb}
 use lib.ListN.{length, getD, set, drop, length-set}
 use lib.Seq.{getD-set-same, getD-set-other}
 use borrow.Author.Tests.{eqb-true, eqb-false}
-use Rattle.tree.specs.Content.{content-limit, name-start, name-byte}
+use Rattle.tree.specs.Content.{content-limit, name-byte}
 use Rattle.protocol.specs.Calls.{node-limit}
 use Rattle.xml.specs.Grammar.{Name}
-use Rattle.xml.specs.Laws.Automaton.{Config, behind-part, in-tag, tag-name, content, closed, step}
-use Rattle.xml.specs.Laws.Judge.{Verdict, bad}
+use Rattle.xml.specs.Laws.Automaton.{behind-part, tag-name, step}
 use Rattle.xml.specs.Laws.Scan.{scan-at, scan-alike}
-use Rattle.xml.specs.Laws.Goes.{Leads, Goes, goes-then, goes-same}
+use Rattle.xml.specs.Laws.Goes.{Goes, goes-then, goes-same}
 use Rattle.xml.specs.Laws.Tokens.{span, span-behind, name-at, Naming, name-short, name-long}
 use Rattle.reader.specs.declared.Cursor.{Cursor}
 use Rattle.reader.specs.declared.Part.{Part}
@@ -25,21 +23,15 @@ use Rattle.reader.specs.declared.Read.the-variants.{Past, Refused}
 use Rattle.reader.specs.declared.Tag.{Tag}
 use Rattle.reader.specs.declared.Tag.the-variants.{Opened, Emptied, Broken}
 use Rattle.reader.specs.Steps.{Run, TagRead, tag-open, tag-empty, tag-attribute, tag-wrong}
-use Rattle.reader.specs.Elements.{stack, Placed, Attributed, AttributeRead, attribute-past, attribute-refused, Kept, Onward}
+use Rattle.ordering.specs.Sorted.{Lists}
+use Rattle.ordering.specs.Laws.Sorted.{lists-none}
+use Rattle.reader.specs.Elements.{stack, Placed, Attributed, AttributeRead, attribute-past, attribute-refused, Kept}
+use Rattle.reader.specs.Elements.{attribute-names, Entered, NamesRead, names-past, AttributeEnters}
 use Rattle.reader.specs.Elements.{AttributesRead, attributes-opened, attributes-emptied, attributes-broken, Named}
 use Rattle.reader.specs.Elements.{ElementRead, element-opened, element-emptied, element-broken}
 use Rattle.reader.specs.Laws.Attributes.{start-name}
 
 -- offsets --------------------------------------------------------------------------------------
-
-stack-frame : (s os : List ℕ) (lo n k v : ℕ) → lo + n ≤ k → stack s (set os k v) lo n ≡ stack s os lo n
-unfolding stack
-stack-frame s os lo zero k v h = refl
-stack-frame s os lo (suc n) k v h = rw (getD-set-other os k (lo + n) v 0 (λ e. omega arith), stack-frame s os lo n k v (omega arith))
-
-pub stack-push : (s os : List ℕ) (lo n v : ℕ) → lo + n < length os → stack s (set os (lo + n) v) lo (n + 1) ≡ name-at s v ∷ stack s os lo n
-unfolding stack
-stack-push s os lo n v h = rw (add-one n, getD-set-same os (lo + n) v 0 h, stack-frame s os lo n (lo + n) v (omega arith))
 
 pub stack-same : (s os os′ : List ℕ) (n : ℕ) → Kept n os os′ → stack s os′ 0 n ≡ stack s os 0 n
 unfolding stack
@@ -68,46 +60,84 @@ placed-kept s os os′ n p k = record { placed = λ i h. rw (k .kept i h) (p .pl
 
 -- the loop over the attributes -------------------------------------------------------------------
 
+pub attribute-here : {s : List ℕ} {i : ℕ} {r : Part} {c : Cursor} (n : ℕ) → n ≤ node-limit → TagRead s behind-part i r → r ≡ Attribute c
+    → Attributed s (c .at) n × (i ≤ c .at)
+attribute-here {s} {i} n l z ez = go n l (subst (TagRead s behind-part i) ez z)
+  where
+    go : {s : List ℕ} {i : ℕ} {c : Cursor} (n : ℕ) → n ≤ node-limit → TagRead s behind-part i (Attribute c)
+        → Attributed s (c .at) n × (i ≤ c .at)
+    go n l (tag-attribute d e g h f) = (record { inside = e; starts = h; begins-here = g; few = l }, d)
+
+-- the attributes so far lead here; the names that were seen are those from place lo on
 pub record AttributesTo (s os : List ℕ) (lo count at nodes i n : ℕ) : Type 0 where
-  pub comes : (m : Name) (ns : List Name) → Goes s (behind-part m ns []) nodes at (behind-part m ns (stack s os lo count)) n i
+  pub seen : List Name
+  pub lists : Lists (attribute-names s os lo) count seen
+  pub comes : (m : Name) (ns : List Name) → Goes s (behind-part m ns []) nodes at (behind-part m ns seen) n i
 
 pub attributes-start : (s os : List ℕ) (lo at nodes : ℕ) → AttributesTo s os lo 0 at nodes at nodes
-unfolding stack
-attributes-start s os lo at nodes = record { comes = λ m ns. goes-same s (behind-part m ns []) nodes at at refl }
+attributes-start s os lo at nodes = record {
+  seen = [];
+  lists = lists-none (attribute-names s os lo);
+  comes = λ m ns. goes-same s (behind-part m ns []) nodes at at refl;
+}
 
 module _ (s os : List ℕ) (lo count at nodes i n : ℕ) (t : AttributesTo s os lo count at nodes i n) (a : at ≤ i) (b : nodes ≤ n) (l : n ≤ node-limit) where
   pub attributes-wrong : {j : ℕ} → TagRead s behind-part i (Wrong j) → AttributesRead s at nodes (Broken 4 j)
-  attributes-wrong {j} (tag-wrong f) = attributes-broken {x = 4} {j = j} (λ m ns. t .comes m ns .back _ (f m ns (stack s os lo count) n l))
+  attributes-wrong {j} (tag-wrong f) = attributes-broken {x = 4} {j = j} (λ m ns. t .comes m ns .back _ (f m ns (t .seen) n l))
 
   pub attributes-open : {c : Cursor} → TagRead s behind-part i (Open c) → AttributesRead s at nodes (Opened c n)
   attributes-open {c} (tag-open d e g f) =
       attributes-opened {c = c} {m = n} (record { further = omega arith; inside = e; begins-here = g; more = b; few = l })
-      (λ m ns. goes-then (t .comes m ns) (f m ns (stack s os lo count) n l))
+      (λ m ns. goes-then (t .comes m ns) (f m ns (t .seen) n l))
 
   pub attributes-empty : {c : Cursor} → TagRead s behind-part i (Empty c) → AttributesRead s at nodes (Emptied c n)
   attributes-empty {c} (tag-empty d e g f) =
       attributes-emptied {c = c} {m = n} (record { further = omega arith; inside = e; begins-here = g; more = b; few = l })
-      (λ m ns. goes-then (t .comes m ns) (f m ns (stack s os lo count) n l))
+      (λ m ns. goes-then (t .comes m ns) (f m ns (t .seen) n l))
 
-  pub attributes-bad : {c : Cursor} {x j : ℕ} → TagRead s behind-part i (Attribute c) → AttributeRead s (stack s os lo count) (c .at) n (Refused x j)
+  -- an attribute that is refused
+  refused : {c : Cursor} {x j : ℕ} → TagRead s behind-part i (Attribute c) → AttributeRead s (t .seen) (c .at) n (Refused x j)
       → AttributesRead s at nodes (Broken x j)
-  attributes-bad {c} {x} {j} (tag-attribute d e g h f) (attribute-refused u) =
-      attributes-broken {x = x} {j = j} (λ m ns. t .comes m ns .back _ (f m ns (stack s os lo count) n l .back _ (u m ns)))
+  refused {c} {x} {j} (tag-attribute d e g h f) (attribute-refused u) =
+      attributes-broken {x = x} {j = j} (λ m ns. t .comes m ns .back _ (f m ns (t .seen) n l .back _ (u m ns)))
 
-  pub attributes-turn : {c d : Cursor} {m : ℕ} → TagRead s behind-part i (Attribute c) → AttributeRead s (stack s os lo count) (c .at) n (Past d m)
-      → lo + count < length os
-      → AttributesTo s (set os (lo + count) (c .at)) lo (count + 1) at nodes (d .at) m
-  attributes-turn {c} {d} {m} (tag-attribute p e g h f) (attribute-past q r w x u) z = record {
-    comes = λ nm ns.
-        rw (stack-push s os lo count (c .at) z) (goes-then (t .comes nm ns) (goes-then (f nm ns (stack s os lo count) n l) (u nm ns)));
+  -- one that is read
+  past : {c d : Cursor} {m : ℕ} {os′ : List ℕ} → TagRead s behind-part i (Attribute c) → AttributeRead s (t .seen) (c .at) n (Past d m)
+      → Lists (attribute-names s os′ lo) (count + 1) (name-at s (c .at) ∷ t .seen) → AttributesTo s os′ lo (count + 1) at nodes (d .at) m
+  past {c} {d} {m} (tag-attribute p e g h f) (attribute-past q r w x u) y = record {
+    seen = name-at s (c .at) ∷ t .seen;
+    lists = y;
+    comes = λ nm ns. goes-then (t .comes nm ns) (goes-then (f nm ns (t .seen) n l) (u nm ns));
   }
 
-pub attribute-here : {s : List ℕ} {i : ℕ} {c : Cursor} (n : ℕ) → n ≤ node-limit → TagRead s behind-part i (Attribute c) → Attributed s (c .at) n × (i ≤ c .at)
-attribute-here n l (tag-attribute d e g h f) = (record { inside = e; starts = h; begins-here = g; few = l }, d)
+  -- an attribute at c, and what is read of it
+  module _ {os′ : List ℕ} {r : Part} {c : Cursor} {q : Read} (z : TagRead s behind-part i r) (ez : r ≡ Attribute c)
+      (y : AttributeEnters s os os′ lo count (c .at) n q) where
+    found : TagRead s behind-part i (Attribute c)
+    found = subst (TagRead s behind-part i) ez z
 
-pub attribute-behind : {s : List ℕ} {seen : List Name} {at n m : ℕ} {d : Cursor} → AttributeRead s seen at n (Past d m)
-    → (at < d .at) × (d .at ≤ length s) × (n < m) × (m ≤ node-limit)
-attribute-behind (attribute-past a b e f u) = (a, b, e, f)
+    reads : {q′ : Read} → q ≡ q′ → AttributeRead s (t .seen) (c .at) n q′
+    reads e = subst (AttributeRead s (t .seen) (c .at) n) e (y .reads (t .seen) (t .lists))
+
+    pub attributes-bad : {x j : ℕ} → q ≡ Refused x j → AttributesRead s at nodes (Broken x j)
+    attributes-bad e = refused found (reads e)
+
+    module _ {d : Cursor} {m : ℕ} (e : q ≡ Past d m) where
+      pub attribute-entered : Entered s os os′ lo count (c .at)
+      attribute-entered = go (subst (NamesRead s os os′ lo count (c .at)) e (y .names))
+        where
+          go : NamesRead s os os′ lo count (c .at) (Past d m) → Entered s os os′ lo count (c .at)
+          go (names-past x) = x
+
+      pub attributes-turn : AttributesTo s os′ lo (count + 1) at nodes (d .at) m
+      attributes-turn = past found (reads e) (attribute-entered .added .lists (t .seen) (t .lists))
+
+      pub attribute-behind : (i ≤ c .at) × (c .at < d .at) × (d .at ≤ length s) × (n < m) × (m ≤ node-limit)
+      attribute-behind = go (reads e)
+        where
+          go : AttributeRead s (t .seen) (c .at) n (Past d m)
+              → (i ≤ c .at) × (c .at < d .at) × (d .at ≤ length s) × (n < m) × (m ≤ node-limit)
+          go (attribute-past a b g h u) = (attribute-here n l z ez .1, a, b, g, h)
 
 -- from the first byte of the name ------------------------------------------------------------------
 

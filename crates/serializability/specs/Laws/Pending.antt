@@ -1,5 +1,5 @@
 -- The held document is the committed one exactly if nothing is pending.
-use mathlib.Core.Path.{_≡_, refl, sym, ap, ap₂, _∙_}
+use mathlib.Core.Path.{_≡_, refl, sym, ap, _∙_}
 use Prim.Native.Nat.{ℕ}
 use mathlib.Core.Bool.{Bool, true, false, cond, not, _&&_, _||_, false≢true, true≢false, or-true, and-false}
 use mathlib.Core.List.{List, [], _∷_, map, append-nil, List·Memᴰ, List·Memᴰ·head, List·Memᴰ·tail, List·Memᴰ·not-nil, Memᴰ·append-left, Memᴰ·append-right, List·Memᴰ·append-cases}
@@ -11,6 +11,7 @@ use Rattle.tree.specs.Forest.{row}
 use Rattle.tree.specs.Document.{Node, Document, Line, lines, here, at}
 use Rattle.tree.specs.Steps.{Step, D, inserts, with-content}
 use Rattle.tree.specs.Laws.Tests.{and-left, and-right, or-left, or-right, refuted}
+use Rattle.tree.specs.Laws.Compare.{same-equal, same-self}
 use Rattle.tree.specs.Laws.Lists.{any-at, at-any, has-in, in-has, in-keep, keep-in, map-self}
 use Rattle.tree.specs.Laws.Distinct.{distinct-keep}
 use Rattle.tree.specs.Laws.Rows.{Each, each-above}
@@ -32,16 +33,6 @@ use Rattle.serializability.specs.Laws.Ends.{logs-compatible, document-sa
 use Rattle.serializability.specs.Laws.Held.{visible, line-in, place-of, line-of-place, place-here, here-visible, marker-open, writer-open, inserter-done, held-shown}
 
 -- strings of bytes --------------------------------------------------------------------------
-
-same-equal : (b b' : List ℕ) → same b b' ≡ true → b ≡ b'
-same-equal [] [] h = refl
-same-equal [] (y ∷ b') h = absurd (false≢true h)
-same-equal (x ∷ b) [] h = absurd (false≢true h)
-same-equal (x ∷ b) (y ∷ b') h = ap₂ (λ (z : ℕ) (l : List ℕ). z ∷ l) (eqb-true x y (and-left _ _ h)) (same-equal b b' (and-right (eqb x y) _ h))
-
-same-self : (b : List ℕ) → same b b ≡ true
-same-self [] = refl
-same-self (x ∷ b) = rw (eq-eqb x x refl) (same-self b)
 
 equal-same : (b b' : List ℕ) → b ≡ b' → same b b' ≡ true
 equal-same b b' e = rw e (same-self b')

@@ -1,15 +1,26 @@
--- Two lists compared by a loop, element by element.
+-- Equal strings of bytes, and two compared by a loop.
 use mathlib.Core.Path.{_≡_, refl, sym, ap, _∙_}
 use Prim.Native.Nat.{ℕ, suc, _+_, _≤_, _<_}
-use mathlib.Core.Bool.{true, false, _&&_, and-false}
+use mathlib.Core.Bool.{true, false, _&&_, and-false, false≢true}
 use mathlib.Core.List.{List, [], _∷_}
 use native.Mathlib.Omega.{arith}
 use native.Mathlib.Numerals.{add-one}
 use lib.ListN.{length, getD, drop, drop-of-length-le}
 use lib.Seq.{drop-cons}
 use lib.Dec.{eqb}
-use borrow.Author.Tests.{eq-eqb, ne-eqb}
+use borrow.Author.Tests.{eq-eqb, ne-eqb, eqb-true}
 use Rattle.tree.specs.Lists.{same}
+use Rattle.tree.specs.Laws.Tests.{and-left, and-right}
+
+pub same-equal : (a c : List ℕ) → same a c ≡ true → a ≡ c
+same-equal [] [] h = refl
+same-equal [] (y ∷ c) h = absurd (false≢true h)
+same-equal (x ∷ a) [] h = absurd (false≢true h)
+same-equal (x ∷ a) (y ∷ c) h = rw (eqb-true x y (and-left (eqb x y) _ h), same-equal a c (and-right (eqb x y) _ h))
+
+pub same-self : (a : List ℕ) → same a a ≡ true
+same-self [] = refl
+same-self (x ∷ a) = rw (eq-eqb x x refl) (same-self a)
 
 -- other lengths
 pub same-long : (a c : List ℕ) → (length c ≡ length a → ⊥) → same a c ≡ false

@@ -1,13 +1,14 @@
-use Rattle.reader.specs.Laws.Attributes.{attribute-many, attribute-long, attribute-repeated, attribute-unquoted, attribute-valued, quoted-inside}
+use Rattle.reader.specs.Laws.Attributes.{enters-many, enters-long, enters-repeated, enters-unquoted, enters-valued, quoted-inside}
+use borrow.Author.Tests.{not-true, not-false}
 use Rattle.reader.specs.declared.Equals.{Equals}
 use Rattle.reader.specs.Steps.{EqualsRead}
-use mathlib.Core.Path.{sym, _∙_, subst}
+use mathlib.Core.Path.{subst}
 use borrow.Author.Needs.{needs}
 use Rattle.reader.proofs.Cursor.attribute.Statement.{statement}
 use Rattle.reader.proofs.Cursor.attribute.Tie as tie
 
 returns : tie.Need-returns
-returns c = attribute-many _ _ _ (c .before .before .pre .0) _ (c .if1 .taken)
+returns c = enters-many (c .before .before .pre .0) (c .if1 .taken)
 
 name-requires : tie.Need-name-requires
 name-requires c κs = search needs
@@ -19,17 +20,17 @@ add-t16 : tie.Need-add-t16
 add-t16 c = search needs
 
 returns-2 : tie.Need-returns-2
-returns-2 c = attribute-long _ _ _ (c .before .before .before .before .pre .0) (search needs) _ (c .before .name .ensures) _ (c .if2 .taken)
+returns-2 c = enters-long (c .before .before .before .before .pre .0) (search needs) (c .before .name .ensures) (c .if2 .taken)
 
-repeated-requires : tie.Need-repeated-requires
-repeated-requires c κs = search needs
+enter-requires : tie.Need-enter-requires
+enter-requires c κs = search needs
 
 returns-3 : tie.Need-returns-3
 returns-3 c =
-    let pre = c .before .before .before .before .before .before .pre in
-    let name = c .before .before .before .name in
-    let if2 = c .before .before .if2 in
-    attribute-repeated _ _ _ (pre .0) (search needs) _ (name .ensures) (if2 .left) _ (sym (c .before .repeated .ensures) ∙ c .if3 .taken)
+    let c4 = c .before .before .before .before in
+    let enter = c .before .enter in
+    enters-repeated (c4 .before .before .before .pre .0) (search needs) (c4 .name .ensures) (c .before .before .before .if2 .left)
+    (enter .ensures .0) (enter .ensures .1) (not-true _ (c .if3 .taken))
 
 equals-requires : tie.Need-equals-requires
 equals-requires c κs = search needs
@@ -42,48 +43,46 @@ enum-known-q c = search needs
 
 sub-begin : tie.Need-sub-begin
 sub-begin c =
-    let args = c .before .before .before .before .before .before .before .before .before .before .before .args in
-    let name = c .before .before .before .before .before .before .before .before .name in
-    let equals = c .before .before .before .before .equals in
-    let q = c .before .before .q in
-    quoted-inside (subst (λ (r : Equals). EqualsRead (args .s .now) (name .result .at) r) (q .given .1) (equals .ensures)) .0
+    let c4 = c .before .before .before .before in
+    let c9 = c4 .before .before .before .before .before in
+    let args = c9 .before .before .before .args in
+    let read = subst (λ (r : Equals). EqualsRead (args .s .now) (c9 .name .result .at) r) (c .before .before .q .given .1)
+    (c4 .equals .ensures) in
+    quoted-inside read .0
 
 add-content : tie.Need-add-content
 add-content c = search needs
 
 content-requires : tie.Need-content-requires
 content-requires c κs =
-    let args = c .before .before .before .before .before .before .before .before .before .before .before .args in
-    let name = c .before .before .before .before .before .before .before .before .name in
-    let equals = c .before .before .before .before .equals in
-    let q = c .before .before .q in
-    let x = quoted-inside (subst (λ (r : Equals). EqualsRead (args .s .now) (name .result .at) r) (q .given .1) (equals .ensures)) in
+    let c4 = c .before .before .before .before in
+    let c9 = c4 .before .before .before .before .before in
+    let args = c9 .before .before .before .args in
+    let read = subst (λ (r : Equals). EqualsRead (args .s .now) (c9 .name .result .at) r) (c .before .before .q .given .1)
+    (c4 .equals .ensures) in
+    let x = quoted-inside read in
     (x .1, search needs, x .2)
 
 returns-4 : tie.Need-returns-4
 returns-4 c =
-    let pre = c .before .before .before .before .before .before .before .before .before .before .pre in
-    let args = c .before .before .before .before .before .before .before .before .before .before .args in
-    let name = c .before .before .before .before .before .before .before .name in
-    let if2 = c .before .before .before .before .before .before .if2 in
-    let repeated = c .before .before .before .before .before .repeated in
-    let if3 = c .before .before .before .before .if3 in
-    let equals = c .before .before .before .equals in
-    attribute-unquoted _ _ _ (pre .0) (search needs) _ (name .ensures) (if2 .left) _ (sym (repeated .ensures) ∙ if3 .left)
-    (subst (λ (r : Equals). EqualsRead (args .s .now) (name .result .at) r) (c .before .j .given .1) (equals .ensures))
+    let c3 = c .before .before .before in
+    let c5 = c3 .before .before in
+    let c8 = c5 .before .before .before in
+    let args = c8 .before .before .before .args in
+    enters-unquoted (c8 .before .before .before .pre .0) (search needs) (c8 .name .ensures) (c5 .before .before .if2 .left)
+    (c5 .enter .ensures .0) (c5 .enter .ensures .1) (not-false _ (c3 .before .if3 .left))
+    (subst (λ (r : Equals). EqualsRead (args .s .now) (c8 .name .result .at) r) (c .before .j .given .1) (c3 .equals .ensures))
 
 returns-5 : tie.Need-returns-5
 returns-5 c =
-    let pre = c .before .before .before .before .before .before .before .before .before .before .before .before .pre in
-    let args = c .before .before .before .before .before .before .before .before .before .before .before .before .args in
-    let name = c .before .before .before .before .before .before .before .before .before .name in
-    let if2 = c .before .before .before .before .before .before .before .before .if2 in
-    let repeated = c .before .before .before .before .before .before .before .repeated in
-    let if3 = c .before .before .before .before .before .before .if3 in
-    let equals = c .before .before .before .before .before .equals in
-    let q = c .before .before .before .q in
-    attribute-valued _ _ _ (pre .0) (search needs) _ (name .ensures) (if2 .left) _ (sym (repeated .ensures) ∙ if3 .left)
-    (subst (λ (r : Equals). EqualsRead (args .s .now) (name .result .at) r) (q .given .1) (equals .ensures)) (c .content .ensures)
+    let c5 = c .before .before .before .before .before in
+    let c7 = c5 .before .before in
+    let c10 = c7 .before .before .before in
+    let args = c10 .before .before .before .args in
+    enters-valued (c10 .before .before .before .pre .0) (search needs) (c10 .name .ensures) (c7 .before .before .if2 .left)
+    (c7 .enter .ensures .0) (c7 .enter .ensures .1) (not-false _ (c5 .before .if3 .left))
+    (subst (λ (r : Equals). EqualsRead (args .s .now) (c10 .name .result .at) r) (c .before .before .before .q .given .1)
+    (c5 .equals .ensures)) (c .content .ensures)
 
 pub attribute-spec : {M : Type 1} → statement M
 attribute-spec =
@@ -94,7 +93,7 @@ attribute-spec =
     sub-if2
     add-t16
     returns-2
-    repeated-requires
+    enter-requires
     returns-3
     equals-requires
     enum-known-j

@@ -1,6 +1,6 @@
 use Rattle.reader.specs.Laws.StartTags.{placed-at}
 use Prim.Native.Nat.{_+_, _-_, _≤_}
-use mathlib.Core.Path.{_≡_, subst}
+use mathlib.Core.Path.{_≡_, _∙_, subst}
 use native.Mathlib.Omega.{arith}
 use borrow.Author.Needs.{needs}
 use lib.ListN.{length}
@@ -8,17 +8,19 @@ use Rattle.xml.specs.Laws.Automaton.{behind-part}
 use Rattle.reader.specs.declared.Part.{Part}
 use Rattle.reader.specs.declared.Read.{Read}
 use Rattle.reader.specs.Steps.{TagRead}
-use Rattle.reader.specs.Elements.{stack, Placed, Kept, AttributeRead}
+use Rattle.ordering.specs.Sorted.{Increasing}
+use Rattle.ordering.specs.Laws.Sorted.{increasing-none}
+use Rattle.reader.specs.Elements.{Placed, Kept, attribute-names, AttributeEnters}
 use Rattle.reader.specs.Laws.StartTags.{AttributesTo, attributes-start, attributes-wrong, attributes-open, attributes-empty}
 use Rattle.reader.specs.Laws.StartTags.{attributes-bad, attributes-turn}
-use Rattle.reader.specs.Laws.StartTags.{attribute-here, attribute-behind, kept-same, kept-set, placed-push}
+use Rattle.reader.specs.Laws.StartTags.{attribute-here, attribute-behind, attribute-entered, kept-same, kept-less}
 use Rattle.reader.proofs.Cursor.attributes.Statement.{statement}
 use Rattle.reader.proofs.Cursor.attributes.Tie as tie
 
 abbrev Inv-loop : tie.InvT-loop
 Inv-loop s names₀ lo nodes i₀ count₀ n₀ names i count n =
     (i₀ ≤ i) × (i ≤ length s) × (nodes ≤ n) × (n ≤ 1024) × (lo + count + 1 ≤ n) × Placed s names (lo + count) × Kept lo names₀ names
-    × AttributesTo s names lo count i₀ nodes i n × (length names ≡ 1024)
+    × AttributesTo s names lo count i₀ nodes i n × (length names ≡ 1024) × Increasing (attribute-names s names lo) count
 
 abbrev μ-loop : tie.MeasureT-loop
 μ-loop s names₀ lo nodes i₀ count₀ n₀ names i count n = length s - i
@@ -35,6 +37,7 @@ loop-holds c =
       kept-same _ _,
       attributes-start _ _ _ _ _,
       pre .4,
+      increasing-none _,
     )
 
 part-requires : tie.Need-part-requires Inv-loop μ-loop
@@ -84,14 +87,13 @@ enum-known-c-3 c = search needs
 
 attribute-requires : tie.Need-attribute-requires Inv-loop μ-loop
 attribute-requires c κs =
-    let args = c .before .before .before .before .before .before .before .args in
-    let loop = c .before .before .before .before .before .loop in
-    let part = c .before .before .before .before .part in
-    let c3 = c .before .before .c3 in
-    let found = subst (λ (r : Part). TagRead (args .s .now) behind-part (loop .i) r) (c3 .given .1) (part .ensures) in (
-      attribute-here _ (loop .inv .3) found .0,
+    let c5 = c .before .before .before .before .before in
+    let loop = c5 .loop in (
+      attribute-here _ (loop .inv .3) (c .before .before .before .before .part .ensures) (c .before .before .c3 .given .1) .0,
       search needs,
       loop .inv .5,
+      loop .inv .9,
+      loop .inv .8,
     )
 
 enum-known-x : tie.Need-enum-known-x Inv-loop μ-loop
@@ -99,76 +101,54 @@ enum-known-x c = search needs
 
 returns-4 : tie.Need-returns-4 Inv-loop μ-loop
 returns-4 c =
-    let c8 = c .before .before .before .before .before .before .before .before in
-    let args = c8 .before .before .before .args in
-    let loop = c8 .before .loop in
-    let part = c8 .part in
-    let c3 = c .before .before .before .before .before .before .c3 in
-    let attribute = c .before .before .before .attribute in
-    let x = c .before .x in
-    let found = subst (λ (r : Part). TagRead (args .s .now) behind-part (loop .i) r) (c3 .given .1) (part .ensures) in
-    let open-names = stack (args .s .now) (loop .names) (args .lo) (loop .count) in
-    let from = c3 .given .0 .0 .at in
-    let read = subst (λ (r : Read). AttributeRead (args .s .now) open-names from (loop .n) r) (x .given .1) (attribute .ensures) in (
-      attributes-bad _ _ _ _ _ _ _ _ (loop .inv .7) (loop .inv .0) (loop .inv .2) (loop .inv .3) found read,
-      loop .inv .6,
+    let c3 = c .before .before .before in
+    let c6 = c3 .before .before .before in
+    let c8 = c6 .before .before in
+    let inv = c8 .before .loop .inv in
+    let read = c3 .attribute .ensures in (
+      attributes-bad _ _ _ _ _ _ _ _ (inv .7) (inv .0) (inv .2) (inv .3) (c8 .part .ensures)
+          (c6 .c3 .given .1) read (c .before .x .given .1),
+      kept-less _ _ _ _ _ (inv .6) (read .kept) (omega arith),
     )
 
 enum-known-next : tie.Need-enum-known-next Inv-loop μ-loop
 enum-known-next c = search needs
-
-add-names : tie.Need-add-names Inv-loop μ-loop
-add-names c = search needs
-
-mul-names : tie.Need-mul-names Inv-loop μ-loop
-mul-names c = search needs
-
-element-write-names : tie.Need-element-write-names Inv-loop μ-loop
-element-write-names c = search needs
 
 add-count : tie.Need-add-count Inv-loop μ-loop
 add-count c = search needs
 
 loop-less : tie.Need-loop-less Inv-loop μ-loop
 loop-less c =
-    let c8 = c .before .before .before .before .before .before .before .before in
-    let args = c8 .before .before .before .args in
-    let loop = c8 .before .loop in
-    let part = c8 .part in
-    let c3 = c .before .before .before .before .before .before .c3 in
-    let attribute = c .before .before .before .attribute in
-    let next = c .before .next in
-    let found = subst (λ (r : Part). TagRead (args .s .now) behind-part (loop .i) r) (c3 .given .1) (part .ensures) in
-    let open-names = stack (args .s .now) (loop .names) (args .lo) (loop .count) in
-    let from = c3 .given .0 .0 .at in
-    let read = subst (λ (r : Read). AttributeRead (args .s .now) open-names from (loop .n) r) (next .given .1) (attribute .ensures) in
-    let p = attribute-here _ (loop .inv .3) found in
-    let a = attribute-behind read in
-    omega (arith, p .1, a .0, a .1)
+    let c3 = c .before .before .before in
+    let c6 = c3 .before .before .before in
+    let c8 = c6 .before .before in
+    let inv = c8 .before .loop .inv in
+    let a = attribute-behind _ _ _ _ _ _ _ _ (inv .7) (inv .0) (inv .2) (inv .3) (c8 .part .ensures) (c6 .c3 .given .1)
+    (c3 .attribute .ensures) (c .before .next .given .1) in
+    omega (arith, a .0, a .1, a .2)
 
 loop-again : tie.Need-loop-again Inv-loop μ-loop
 loop-again c =
-    let c8 = c .before .before .before .before .before .before .before .before in
-    let args = c8 .before .before .before .args in
-    let loop = c8 .before .loop in
-    let part = c8 .part in
-    let c3 = c .before .before .before .before .before .before .c3 in
-    let attribute = c .before .before .before .attribute in
-    let next = c .before .next in
-    let x = subst (λ (r : Part). TagRead (args .s .now) behind-part (loop .i) r) (c3 .given .1) (part .ensures) in
-    let p = attribute-here _ (loop .inv .3) x in
-    let z = subst (λ (r : Read). AttributeRead (args .s .now) (stack (args .s .now) (loop .names) (args .lo) (loop .count))
-    (c3 .given .0 .0 .at) (loop .n) r) (next .given .1) (attribute .ensures) in
-    let a = attribute-behind z in (
-      omega (arith, p .1, a .0),
-      a .1,
-      omega (arith, a .2),
-      a .3,
-      omega (arith, a .2),
-      placed-at _ _ _ _ (omega arith) (placed-push _ _ _ _ (loop .inv .5) (omega (arith, p .0 .inside)) (search needs)),
-      kept-set _ _ _ _ _ (loop .inv .6) (omega arith),
-      attributes-turn _ _ _ _ _ _ _ _ (loop .inv .7) (loop .inv .0) (loop .inv .2) (loop .inv .3) x z (search needs),
-      search (needs, loop .inv .8),
+    let c3 = c .before .before .before in
+    let c6 = c3 .before .before .before in
+    let c8 = c6 .before .before in
+    let inv = c8 .before .loop .inv in
+    let part = c8 .part .ensures in
+    let read = c3 .attribute .ensures in
+    let here = c6 .c3 .given .1 in
+    let next = c .before .next .given .1 in
+    let a = attribute-behind _ _ _ _ _ _ _ _ (inv .7) (inv .0) (inv .2) (inv .3) part here read next in
+    let e = attribute-entered _ _ _ _ _ _ _ _ (inv .7) (inv .0) (inv .2) (inv .3) part here read next in (
+      omega (arith, a .0, a .1),
+      a .2,
+      omega (arith, a .3),
+      a .4,
+      omega (arith, a .3),
+      placed-at _ _ _ _ (omega arith) (e .placed),
+      kept-less _ _ _ _ _ (inv .6) (read .kept) (omega arith),
+      attributes-turn _ _ _ _ _ _ _ _ (inv .7) (inv .0) (inv .2) (inv .3) part here read next,
+      read .kept .as-long ∙ inv .8,
+      e .added .sorted,
     )
 
 pub attributes-spec : {M : Type 1} → statement M
@@ -190,9 +170,6 @@ attributes-spec =
     enum-known-x
     returns-4
     enum-known-next
-    add-names
-    mul-names
-    element-write-names
     add-count
     loop-less
     loop-again)

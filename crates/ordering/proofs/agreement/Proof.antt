@@ -1,9 +1,9 @@
 use borrow.Author.Needs.{needs}
 use Prim.Native.Nat.{_+_, _-_, _≤_}
 use lib.ListN.{length}
-use Rattle.reader.specs.Laws.Runs.{Agreeing, agree-start, agree-turn, agree-differ, agree-short, agree-whole}
-use Rattle.reader.proofs.agreement.Statement.{statement}
-use Rattle.reader.proofs.agreement.Tie as tie
+use Rattle.ordering.specs.Laws.Agreeing.{Agreeing, agree-start, agree-turn, agree-differ, agree-short, agree-whole}
+use Rattle.ordering.proofs.agreement.Statement.{statement}
+use Rattle.ordering.proofs.agreement.Tie as tie
 
 abbrev Inv-loop : tie.InvT-loop
 Inv-loop s at word n₀ n = (n ≤ length word) × (at + n ≤ length s) × Agreeing word s at n

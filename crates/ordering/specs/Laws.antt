@@ -1,0 +1,4 @@
+pub mod Agreeing
+pub mod Order
+pub mod Sorted
+pub mod Entries

@@ -1,0 +1,4 @@
+pub mod Agreement
+pub mod Order
+pub mod Sorted
+pub mod Laws

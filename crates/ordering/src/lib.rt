@@ -1,0 +1,35 @@
+// Byte strings compared: how far two agree, and which comes first in their order.
+ghost use Prim.Native.Nat.{_≤_};
+ghost use lib.ListN.{length};
+ghost use Rattle.ordering.specs.Agreement.{Agreement};
+
+// How a byte string lies to another in the order of their first difference; one that begins the other comes first.
+pub enum Order {
+    Before,
+    Same,
+    Behind,
+}
+
+// Where a name belongs among sorted ones, or that it is one of them.
+pub enum Place {
+    Taken,
+    Free(usize),
+}
+
+// How many bytes of a word stand in the input from an offset on.
+pub fn agreement(s: &[u8], at: usize, word: &[u8]) -> usize
+    requires { ⌜ at ≤ length (now s) ⌝ }
+    ensures { λ r. ⌜ Agreement (now (word .entry)) (now (s .entry)) at r ⌝ }
+{
+    let mut n: usize = 0;
+    while n < word.len() {
+        if at + n >= s.len() {
+            return n;
+        }
+        if s[at + n] != word[n] {
+            return n;
+        }
+        n += 1;
+    }
+    n
+}
