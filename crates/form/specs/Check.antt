@@ -8,7 +8,7 @@ use lib.Dec.{eqb, leb, ltb}
 use Rattle.tree.specs.Lists.{every, same}
 use Rattle.tree.specs.Content.{document-kind, between}
 use Rattle.locks.specs.Modes.{no-mode}
-use Rattle.locks.specs.Words.{bit}
+use Rattle.locks.specs.Modes.{bit}
 use Rattle.protocol.specs.State.{nobody, Marked}
 use Rattle.protocol.specs.Calls.{node-limit}
 use Rattle.layout.specs.Lists.{tabulate}

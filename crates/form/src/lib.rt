@@ -3,7 +3,7 @@ ghost use mathlib.Core.Path.{_≡_};
 ghost use Prim.Native.Nat.{ℕ, _+_, _*_, _^_, _<_, _≤_};
 ghost use lib.ListN.{length, getD};
 ghost use Rattle.tree.specs.Lists.{same};
-ghost use Rattle.locks.specs.Words.{bit};
+ghost use Rattle.locks.specs.Modes.{bit};
 ghost use Rattle.layout.specs.Layout.{state-size, count, cell, part};
 ghost use Rattle.form.specs.Form.{sizes-in-range, apart, form};
 ghost use Rattle.layout.specs.Laws.Bytes.{Filled};

@@ -7,7 +7,7 @@ use lib.Dec.{eqb}
 use lib.ListN.{length, getD, take, drop}
 use Rattle.tree.specs.Text.{bytes}
 use Rattle.locks.specs.Modes.{ModeSet, no-mode, in-word}
-use Rattle.locks.specs.Words.{bit}
+use Rattle.locks.specs.Modes.{bit}
 use Rattle.protocol.specs.State.{nobody, is-transaction, Update, unwritten, wrote, Marked, unmarked}
 use Rattle.layout.specs.Lists.{tabulate}
 

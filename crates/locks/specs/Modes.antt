@@ -72,6 +72,10 @@ union p q a = p a || q a
 abbrev pub against : ModeSet → Mode → Bool
 against p a = any (λ b. p b && clash a b) modes
 
+-- bit i of a word
+abbrev pub bit : ℕ → ℕ → Bool
+bit w i = eqb (w / 2 ^ i % 2) 1
+
 -- the set that a 16-bit word stands for: bit i is the mode at place i of the table
 abbrev pub in-word : ℕ → ModeSet
-in-word w a = eqb (w / 2 ^ index a % 2) 1
+in-word w a = bit w (index a)

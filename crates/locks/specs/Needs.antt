@@ -16,13 +16,21 @@ pub record Need : Type 0 where
 abbrev on-above : Mode → Mode → Need
 on-above a b = record { node = a ∷ []; parent = b ∷ []; above = b ∷ []; new = [] }
 
+-- "those of C(n, k)", which I takes too
+abbrev need-C : Need
+need-C = on-above LC LT
+
+-- the modes of two needs together
+abbrev both : Need → Need → Need
+both v w = record { node = v .node ++ w .node; parent = v .parent ++ w .parent; above = v .above ++ w .above; new = v .new ++ w .new }
+
 abbrev pub need : Step → Need
 need (T n) = on-above LT LT
-need (C n k) = on-above LC LT
+need (C n k) = need-C
 need (R n) = on-above LR LIR
 need (U n b) = on-above LU LIU
 need (D n) = record { node = LW ∷ []; parent = LICW ∷ []; above = LIW ∷ []; new = [] }
-need (I m kind b n k) = record { node = LC ∷ LICW ∷ []; parent = LT ∷ LIW ∷ []; above = LT ∷ LIW ∷ []; new = LW ∷ [] }
+need (I m kind b n k) = both need-C (record { node = LICW ∷ []; parent = LIW ∷ []; above = LIW ∷ []; new = LW ∷ [] })
 need (TT n) = on-above LTT LT
 need (RR n) = on-above LRR LIR
 need (UU n a b) = on-above LUU LIU

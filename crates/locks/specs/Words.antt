@@ -6,7 +6,7 @@ use lib.ListN.{getD}
 use lib.Dec.{eqb}
 use Rattle.tree.specs.Lists.{any}
 use Rattle.tree.specs.Steps.{Step, T, C, R, U, D, I, TT, RR, UU}
-use Rattle.locks.specs.Modes.{Mode, modes, index, clash, in-word}
+use Rattle.locks.specs.Modes.{Mode, modes, index, clash, bit, in-word}
 use Rattle.locks.specs.Needs.{Need, need}
 use Rattle.locks.specs.declared.NeedWords.{NeedWords}
 use Rattle.locks.specs.declared.StepName.{StepName}
@@ -18,10 +18,6 @@ clash-table = map (λ a. map (clash a) modes) modes
 
 unfoldable pub clash-at : ℕ → ℕ → Bool
 clash-at a b = getD (getD clash-table a []) b false
-
--- bit i of a word
-unfoldable pub bit : ℕ → ℕ → Bool
-bit w i = eqb (w / 2 ^ i % 2) 1
 
 -- the word of n bits whose bit i is q (u + i)
 unfoldable pub word : (ℕ → Bool) → ℕ → ℕ → ℕ

@@ -3,7 +3,8 @@ ghost use mathlib.Core.Path.{_≡_};
 ghost use mathlib.Core.Bool.{cond, _&&_};
 ghost use Prim.Native.Nat.{_+_, _*_, _^_, _<_};
 ghost use lib.Bits.{bitOr};
-ghost use Rattle.locks.specs.Words.{clash-at, bit, in-common, meets, mask-of, need-words};
+ghost use Rattle.locks.specs.Words.{clash-at, in-common, meets, mask-of, need-words};
+ghost use Rattle.locks.specs.Modes.{bit};
 
 // The signs of the table: a clash or none.
 const YES: bool = true;

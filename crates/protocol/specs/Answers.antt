@@ -3,13 +3,13 @@ use Prim.Native.Nat.{ℕ, _+_, _*_, _^_}
 use mathlib.Core.List.{List}
 use lib.ListN.{length}
 use Rattle.tree.specs.Document.{Document}
-use Rattle.tree.specs.Steps.{Value, done, kind-parent, child-is, none, content-is, numbers-are, cells-are, how-many, unfit}
+use Rattle.tree.specs.Steps.{Value, done, kind-parent, child-is, none, content-is, numbers-are, cells-are, how-many}
 use Rattle.protocol.specs.Lent.{filled, first-lent, second-lent}
 use Rattle.protocol.specs.Calls.{Outcome, granted, written, waits, refused, refused-at}
 use Rattle.protocol.specs.declared.Answer.{Answer}
 use Rattle.protocol.specs.declared.Answer.the-variants.{Done, Node, Child, NoChild, Count, Waits, Refused, RefusedAt}
 
--- the paper's values for a granted call (a step is never granted with `unfit`)
+-- the paper's values for a granted call
 unfoldable pub granted-answer : Value → Answer
 granted-answer done = Done
 granted-answer (kind-parent kind parent) = Node kind parent
@@ -19,7 +19,6 @@ granted-answer (content-is b) = Count (length b)
 granted-answer (numbers-are l) = Count (length l)
 granted-answer (cells-are l) = Count (length l)
 granted-answer (how-many n) = Count n
-granted-answer unfit = Done
 
 -- the paper's numbers and values for each outcome; `writing` says what writing a document answers
 unfoldable pub answer-of : (Document → Answer) → Outcome → Answer

@@ -7,13 +7,15 @@ use lib.ListN.{length}
 use lib.Dec.{eqb, leb}
 use Rattle.tree.specs.Lists.{any}
 use Rattle.tree.specs.Document.{Document, lines, numbers, legal}
-use Rattle.tree.specs.Steps.{Step, Value, done, how-many, misfit, misplaced, inserts, answer}
+use Rattle.tree.specs.Steps.{Step, Value, done, how-many, unknown, wrong-kind, wrong-content, misplaced, inserts, answer}
 use Rattle.locks.specs.Modes.{against}
 use Rattle.locks.specs.Needs.{Lock, needs}
 use Rattle.protocol.specs.State.{is-transaction, transactions, Marked, Tree, State, nodes, numbered, number-held, callers-document}
 use Rattle.protocol.specs.State.{committed-document, act, grant, commit-tree, abort-tree, tree-of}
 use Rattle.protocol.specs.State.{start-state, with-tree, opened, closed}
 use Rattle.protocol.specs.Lent.{Room, has-room}
+use Rattle.protocol.specs.Causes.{not-a-transaction, already-open, not-open, no-such-node, unfit-kind, unfit-content, held-number}
+use Rattle.protocol.specs.Causes.{unfit-place, full-table, short-buffer, open-at-load}
 
 -- "at most 1,024 nodes are held"
 abbrev pub node-limit : ℕ
@@ -23,14 +25,14 @@ abbrev pub ascending-from : ℕ → List ℕ → Bool
 ascending-from i [] = true
 ascending-from i (n ∷ ns) = eqb n i && ascending-from (i + 1) ns
 
--- what an input can stand for: a tree by the rules, within the limit, numbered in document order from 0
-unfoldable pub loadable : Document → Bool
-loadable d = legal d && leb (length (lines d)) node-limit && ascending-from 0 (numbers (lines d))
+-- what an input can stand for: a tree by the rules, of at most `limit` nodes, numbered in document order from 0
+unfoldable pub loadable : ℕ → Document → Bool
+loadable limit d = legal d && leb (length (lines d)) limit && ascending-from 0 (numbers (lines d))
 
 -- load's input: refused by cause 4, 5 or 6 at a byte offset, or standing for a document
 pub data Input : Type 0 where
   unreadable : (cause offset : ℕ) → Input
-  stands-for : (d : Document) → loadable d ≡ true → Input
+  stands-for : (d : Document) → loadable node-limit d ≡ true → Input
 
 pub data Call : Type 0 where
   start : Call
@@ -49,15 +51,35 @@ pub data Outcome : Type 0 where
   refused : (cause : ℕ) → Outcome
   refused-at : (cause offset : ℕ) → Outcome
 
+-- a step that was granted, with its answer
+pub record Taken : Type 0 where
+  pub step : Step
+  pub value : Value
+
+-- what a call returns, the steps that were granted in it, in order, and the state that it leaves
 pub record Next : Type 0 where
   pub outcome : Outcome
+  pub steps : List Taken
   pub state : State
 
 abbrev pub unchanged : Outcome → State → Next
-unchanged o M = record { outcome = o; state = M }
+unchanged o M = record { outcome = o; steps = []; state = M }
 
+-- a granted call that is no step, and a granted step
 abbrev pub becomes : Value → State → Next
-becomes v M = record { outcome = granted v; state = M }
+becomes v M = record { outcome = granted v; steps = []; state = M }
+
+abbrev pub takes-step : Step → Value → State → Next
+takes-step s v M = record { outcome = granted v; steps = record { step = s; value = v } ∷ []; state = M }
+
+-- a cause of refusal, or a wait, and whether it applies
+abbrev pub Check : Type 0
+Check = Outcome × Bool
+
+-- the first check that applies is what the call returns, and nothing is changed; where none applies, n
+abbrev pub checked : List Check → State → Next → Next
+checked [] M n = n
+checked (c ∷ cs) M n = cond (c .1) (unchanged (c .0) M) (checked cs M n)
 
 -- waiting ------------------------------------------------------------------------------
 
@@ -67,7 +89,7 @@ clashes ls u a = any (λ l. numbered (l .0) a && against (a .held u) (l .1)) ls
 
 -- another open transaction, which holds such a mode on some node
 abbrev pub blocks : ℕ → List Lock → State → ℕ → Bool
-blocks t ls M u = M .is-open u && not (eqb u t) && any (clashes ls u) (nodes (M .tree))
+blocks t ls M u = M .header .is-open u && not (eqb u t) && any (clashes ls u) (nodes (M .tree))
 
 abbrev pub sum-of-bits : (ℕ → Bool) → List ℕ → ℕ
 sum-of-bits q [] = 0
@@ -79,24 +101,37 @@ wait-set t ls M = sum-of-bits (blocks t ls M) transactions
 
 -- steps --------------------------------------------------------------------------------
 
--- cause 12: the step inserts a node, and 1,024 are held
-abbrev pub table-full : Step → Tree → Bool
-table-full s f = any (λ m. leb node-limit (length (nodes f))) (inserts s)
+-- cause 10: a number that the step inserts is held
+abbrev pub number-taken : Step → Tree → Bool
+number-taken s f = any (λ m. number-held m f) (inserts s)
 
--- d is the caller's document: 7, 8, 9, 10, wait, 11, 12, 13
+-- cause 12: the step inserts a node, and as many as the limit are held
+abbrev pub table-full : ℕ → Step → Tree → Bool
+table-full limit s f = any (λ m. leb limit (length (nodes f))) (inserts s)
+
+-- the wait: for those who hold a mode that clashes with a lock of the step
+abbrev pub wait-check : ℕ → List Lock → State → Check
+wait-check t ls M = (waits (wait-set t ls M), not (eqb (wait-set t ls M) 0))
+
+-- of a step of t, in the paper's order: 7, 8, 9, 10, wait, 11, 12, 13; d is the caller's document
+abbrev pub step-checks : ℕ → Step → Room → State → Document → List Check
+step-checks t s room M d =
+    (refused no-such-node, unknown s d)
+    ∷ (refused unfit-kind, wrong-kind s d)
+    ∷ (refused unfit-content, wrong-content s d)
+    ∷ (refused held-number, number-taken s (M .tree))
+    ∷ wait-check t (needs s d) M
+    ∷ (refused unfit-place, misplaced s d)
+    ∷ (refused full-table, table-full node-limit s (M .tree))
+    ∷ (refused short-buffer, not (has-room (answer s d) room)) ∷ []
+
 unfoldable pub judged : ℕ → Step → Room → State → Document → Next
 judged t s room M d =
-    cond (not (eqb (misfit s d) 0)) (unchanged (refused (misfit s d)) M)
-    (cond (any (λ m. number-held m (M .tree)) (inserts s)) (unchanged (refused 10) M)
-    (cond (not (eqb (wait-set t (needs s d) M) 0)) (unchanged (waits (wait-set t (needs s d) M)) M)
-    (cond (misplaced s d) (unchanged (refused 11) M)
-    (cond (table-full s (M .tree)) (unchanged (refused 12) M)
-    (cond (not (has-room (answer s d) room)) (unchanged (refused 13) M)
-    (becomes (answer s d) (with-tree M (grant t (needs s d) (act t s (M .tree))))))))))
+    checked (step-checks t s room M d) M (takes-step s (answer s d) (with-tree M (grant t (needs s d) (act t s (M .tree)))))
 
 -- a call of a transaction: 1, then 3
 abbrev pub if-open : ℕ → State → Next → Next
-if-open t M next = cond (not (is-transaction t)) (unchanged (refused 1) M) (cond (not (M .is-open t)) (unchanged (refused 3) M) next)
+if-open t M n = checked ((refused not-a-transaction, not (is-transaction t)) ∷ (refused not-open, not (M .header .is-open t)) ∷ []) M n
 
 -- calls --------------------------------------------------------------------------------
 
@@ -108,9 +143,10 @@ loaded (stands-for d h) M = becomes (how-many (length (lines d))) (with-tree M (
 unfoldable pub next : Call → State → Next
 next start M = becomes done start-state
 -- 15 before all that the input says
-next (load input) M = cond (any (M .is-open) transactions) (unchanged (refused 15) M) (loaded input M)
+next (load input) M = checked ((refused open-at-load, any (M .header .is-open) transactions) ∷ []) M (loaded input M)
 next (begin t) M =
-    cond (not (is-transaction t)) (unchanged (refused 1) M) (cond (M .is-open t) (unchanged (refused 2) M) (becomes done (opened t M)))
+    checked ((refused not-a-transaction, not (is-transaction t)) ∷ (refused already-open, M .header .is-open t) ∷ []) M
+    (becomes done (opened t M))
 next (commit t) M = if-open t M (becomes done (closed t (commit-tree t (M .tree)) M))
 next (abort t) M = if-open t M (becomes done (closed t (abort-tree t (M .tree)) M))
 next (step t s room) M = if-open t M (judged t s room M (callers-document t (M .tree)))

@@ -14,11 +14,11 @@ use Rattle.locks.specs.Modes.{clash}
 use Rattle.locks.specs.Needs.{locks}
 use Rattle.protocol.specs.State.{State, start-state, nodes, callers-document, document-of, grant, commit-tree, abort-tree, tree-of}
 use Rattle.protocol.specs.Lent.{first-lent, second-lent}
-use Rattle.protocol.specs.Calls.{loadable, stands-for, Call, start, load, begin, abort, step, Outcome, granted, waits, refused, wait-set, judged, next}
+use Rattle.protocol.specs.Calls.{node-limit, loadable, stands-for, Call, start, load, begin, abort, step, Outcome, granted, waits, refused, wait-set, judged, next}
 use Rattle.protocol.specs.Answers.{lent-after}
-use Rattle.protocol.specs.History.{Event, history, state-after, log-after, plain, pending}
+use Rattle.protocol.specs.History.{Event, event, history, state-after, log-after, plain, pending}
 
-pub E-loadable : loadable tree-E ≡ true
+pub E-loadable : loadable node-limit tree-E ≡ true
 unfolding tree-E loadable legal ruled lines rows name-start name-byte text-byte is-name is-text allowed takes attributes-first children-rule
 E-loadable = refl
 
@@ -43,10 +43,10 @@ opening = start ∷ load (stands-for tree-E E-loadable) ∷ begin 1 ∷ begin 2 
 unfoldable pub played : State → List Event → List Item → List Item
 played M h [] = []
 played M h (gives c o ∷ l) =
-    gives c (next c M .outcome) ∷ played (next c M .state) (h ++ (record { call = c; outcome = next c M .outcome } ∷ [])) l
+    gives c (next c M .outcome) ∷ played (next c M .state) (h ++ (event c M ∷ [])) l
 played M h (fills c o b b′ ∷ l) =
     fills c (next c M .outcome) b (lent-after first-lent (next c M .outcome) b)
-    ∷ played (next c M .state) (h ++ (record { call = c; outcome = next c M .outcome } ∷ [])) l
+    ∷ played (next c M .state) (h ++ (event c M ∷ [])) l
 played M h (is-pending b ∷ l) = is-pending (pending h) ∷ played M h l
 played M h (plain-is d ∷ l) = plain-is (plain h) ∷ played M h l
 

@@ -1,23 +1,29 @@
 -- Lists of calls, the plain run that they are compared with, and what is pending: document 01, "The plain run" and "Steps".
 use Prim.Native.Nat.{ℕ}
 use mathlib.Core.Bool.{Bool, true, false, cond, not, _&&_, _||_}
-use mathlib.Core.List.{List, [], _∷_, _++_}
+use mathlib.Core.List.{List, [], _∷_, _++_, map}
 use lib.Dec.{eqb}
-use Rattle.tree.specs.Lists.{any, same}
+use Rattle.tree.specs.Lists.{any, same, joined}
 use Rattle.tree.specs.Document.{Document, lines, here, at, node-0-alone}
-use Rattle.tree.specs.Steps.{Step, Value, unfit, inserts, plain-document, plain-answers}
+use Rattle.tree.specs.Steps.{Step, Value, PlainAnswer, inserts, plain-document, plain-answers}
 use Rattle.protocol.specs.State.{State, transactions}
-use Rattle.protocol.specs.Calls.{Call, start, load, begin, commit, abort, step, write, unreadable, stands-for, Outcome, granted, written, waits, refused, refused-at, next}
+use Rattle.protocol.specs.Calls.{Call, start, load, begin, commit, abort, step, write, unreadable, stands-for}
+use Rattle.protocol.specs.Calls.{Outcome, granted, written, waits, refused, refused-at, Taken, next}
 
--- a call with its outcome
+-- a call with its outcome and the steps that were granted in it
 pub record Event : Type 0 where
   pub call : Call
   pub outcome : Outcome
+  pub steps : List Taken
+
+-- the call c in the state M
+abbrev pub event : Call → State → Event
+event c M = record { call = c; outcome = next c M .outcome; steps = next c M .steps }
 
 -- calls, the first made first: what was called and answered, and the state left
 unfoldable pub history : State → List Call → List Event
 history M [] = []
-history M (c ∷ cs) = record { call = c; outcome = next c M .outcome } ∷ history (next c M .state) cs
+history M (c ∷ cs) = event c M ∷ history (next c M .state) cs
 
 unfoldable pub state-after : State → List Call → State
 state-after M [] = M
@@ -30,56 +36,56 @@ is-granted (waits w) = false
 is-granted (refused c) = false
 is-granted (refused-at c o) = false
 
-abbrev pub value-of : Outcome → Value
-value-of (granted v) = v
-value-of (written d) = unfit
-value-of (waits w) = unfit
-value-of (refused c) = unfit
-value-of (refused-at c o) = unfit
-
--- a log of the calls since the last granted start or load: the document at first, the entries of the committed transactions, in commit
--- order and each one's in call order, and those of each open one so far. A granted step has one entry, made of the step and its answer
+-- a log of the calls since the last granted start or load: the document at first, the entries of each committed transaction, in commit
+-- order and each one's in call order, and those of each open one so far. A granted step has one entry
 pub record Log (E : Type 0) : Type 0 where
   pub first : Document
-  pub committed : List E
+  pub committed : List (List E)
   pub open-log : ℕ → List E
 
 abbrev pub new-log : {E : Type 0} → Document → Log E
 new-log d = record { first = d; committed = []; open-log = λ u. [] }
 
+-- the entries of transaction t are l
 abbrev pub with-log : {E : Type 0} → ℕ → List E → (ℕ → List E) → ℕ → List E
 with-log t l log u = cond (eqb u t) l (log u)
 
--- a granted call; one that is not granted changes nothing
-abbrev pub logged : {E : Type 0} → (Step → Value → E) → Call → Value → Log E → Log E
-logged entry start v L = new-log node-0-alone
-logged entry (load (unreadable cause offset)) v L = L
-logged entry (load (stands-for d h)) v L = new-log d
-logged entry (begin t) v L = record { first = L .first; committed = L .committed; open-log = with-log t [] (L .open-log) }
-logged entry (commit t) v L = record { first = L .first; committed = L .committed ++ L .open-log t; open-log = with-log t [] (L .open-log) }
-logged entry (abort t) v L = record { first = L .first; committed = L .committed; open-log = with-log t [] (L .open-log) }
-logged entry (step t s room) v L =
-    record { first = L .first; committed = L .committed; open-log = with-log t (L .open-log t ++ (entry s v ∷ [])) (L .open-log) }
-logged entry write v L = L
+abbrev pub with-entries : {E : Type 0} → ℕ → List E → Log E → Log E
+with-entries t l L = record { first = L .first; committed = L .committed; open-log = with-log t l (L .open-log) }
 
-unfoldable pub log-after : {E : Type 0} → (Step → Value → E) → Log E → List Event → Log E
+-- t committed: its entries behind those of the transactions committed before
+abbrev pub with-commit : {E : Type 0} → ℕ → Log E → Log E
+with-commit t L = record { first = L .first; committed = L .committed ++ (L .open-log t ∷ []); open-log = with-log t [] (L .open-log) }
+
+-- the log after a call: whether it was granted, and the entries of the steps that were granted in it
+abbrev pub logged : {E : Type 0} → Call → Bool → List E → Log E → Log E
+logged start g es L = cond g (new-log node-0-alone) L
+logged (load (unreadable cause offset)) g es L = L
+logged (load (stands-for d h)) g es L = cond g (new-log d) L
+logged (begin t) g es L = cond g (with-entries t [] L) L
+logged (commit t) g es L = cond g (with-commit t L) L
+logged (abort t) g es L = cond g (with-entries t [] L) L
+logged (step t s room) g es L = with-entries t (L .open-log t ++ es) L
+logged write g es L = L
+
+unfoldable pub log-after : {E : Type 0} → (Taken → E) → Log E → List Event → Log E
 log-after entry L [] = L
-log-after entry L (e ∷ es) = log-after entry (cond (is-granted (e .outcome)) (logged entry (e .call) (value-of (e .outcome)) L) L) es
+log-after entry L (e ∷ es) = log-after entry (logged (e .call) (is-granted (e .outcome)) (map entry (e .steps)) L) es
 
 -- the plain run is fed the arguments of the calls, and of their answers only which were granted: a step's entry is the step
 abbrev pub fed : List Event → Log Step
-fed h = log-after (λ s v. s) (new-log node-0-alone) h
+fed h = log-after (λ x. x .step) (new-log node-0-alone) h
+
+-- the answers that the steps had: a step's entry is its answer
+abbrev pub answered : List Event → Log Value
+answered h = log-after (λ x. x .value) (new-log node-0-alone) h
 
 -- the plain run's document, and its answers to the granted steps of committed transactions
 unfoldable pub plain : List Event → Document
-plain h = plain-document (fed h .first) (fed h .committed)
+plain h = plain-document (fed h .first) (joined (fed h .committed))
 
-unfoldable pub plain-run-answers : List Event → List Value
-plain-run-answers h = plain-answers (fed h .first) (fed h .committed)
-
--- the answers that those steps had, in the same order: a step's entry is its answer
-unfoldable pub answers-given : List Event → List Value
-answers-given h = log-after (λ s v. v) (new-log node-0-alone) h .committed
+unfoldable pub plain-run-answers : List Event → List PlainAnswer
+plain-run-answers h = plain-answers (fed h .first) (joined (fed h .committed))
 
 -- pending --------------------------------------------------------------------------------
 

@@ -5,7 +5,7 @@ use mathlib.Core.List.{List, [], _∷_, _++_, map}
 use lib.ListN.{length, replicate, drop}
 use lib.Dec.{leb}
 use Rattle.tree.specs.Content.{content-limit}
-use Rattle.tree.specs.Steps.{Value, done, kind-parent, child-is, none, content-is, numbers-are, cells-are, how-many, unfit}
+use Rattle.tree.specs.Steps.{Value, done, kind-parent, child-is, none, content-is, numbers-are, cells-are, how-many}
 
 -- "low byte first": a node number takes two bytes
 abbrev pub number-bytes : ℕ → List ℕ
@@ -33,7 +33,6 @@ first-lent (content-is b) = b
 first-lent (numbers-are l) = list-bytes l
 first-lent (cells-are l) = list-bytes (map (λ c. c .0) l)
 first-lent (how-many n) = []
-first-lent unfit = []
 
 -- the cells of RR
 unfoldable pub second-lent : Value → List ℕ
@@ -45,7 +44,6 @@ second-lent (content-is b) = []
 second-lent (numbers-are l) = []
 second-lent (cells-are l) = cells l
 second-lent (how-many n) = []
-second-lent unfit = []
 
 -- the lengths of the lent buffers; 0 where a step has none
 pub record Room : Type 0 where

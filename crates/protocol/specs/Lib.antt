@@ -1,3 +1,4 @@
+pub mod Causes
 pub mod State
 pub mod Lent
 pub mod Calls

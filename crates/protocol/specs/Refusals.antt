@@ -18,7 +18,7 @@ use Rattle.locks.specs.Modes.{clash}
 use Rattle.locks.specs.Needs.{locks}
 use Rattle.protocol.specs.State.{start-state, nodes, callers-document, document-of, grant, commit-tree, abort-tree, tree-of}
 use Rattle.protocol.specs.Lent.{first-lent, second-lent}
-use Rattle.protocol.specs.Calls.{loadable, unreadable, stands-for, Call, start, load, begin, commit, abort, step}
+use Rattle.protocol.specs.Calls.{node-limit, loadable, unreadable, stands-for, Call, start, load, begin, commit, abort, step}
 use Rattle.protocol.specs.Calls.{Outcome, granted, waits, refused, refused-at, wait-set, judged, next}
 use Rattle.protocol.specs.Answers.{lent-after}
 use Rattle.protocol.specs.History.{history, state-after}
@@ -130,7 +130,7 @@ elements i (suc n) below = node (record { number = i; kind = 2; content = bytes 
 unfoldable pub full : Document
 full = node (record { number = 0; kind = 1; content = [] }) (elements 1 1 (elements 2 1022 nil)) nil
 
-pub full-loadable : loadable full ≡ true
+pub full-loadable : loadable node-limit full ≡ true
 unfolding full loadable legal ruled lines rows name-start name-byte text-byte is-name is-text allowed takes attributes-first children-rule
 full-loadable = refl
 

@@ -45,11 +45,31 @@ pub record Marked : Type 0 where
   pub deleter : ℕ
   pub held : ℕ → ModeSet
 
+-- a node held with one field changed: all other changes are made of these, so that a further field passes through them
+abbrev pub with-now : Node → Marked → Marked
+with-now x a = record { now = x; update = a .update; inserter = a .inserter; deleter = a .deleter; held = a .held }
+
+abbrev pub with-update : Update → Marked → Marked
+with-update x a = record { now = a .now; update = x; inserter = a .inserter; deleter = a .deleter; held = a .held }
+
+abbrev pub with-inserter : ℕ → Marked → Marked
+with-inserter x a = record { now = a .now; update = a .update; inserter = x; deleter = a .deleter; held = a .held }
+
+abbrev pub with-deleter : ℕ → Marked → Marked
+with-deleter x a = record { now = a .now; update = a .update; inserter = a .inserter; deleter = x; held = a .held }
+
+abbrev pub with-held : (ℕ → ModeSet) → Marked → Marked
+with-held x a = record { now = a .now; update = a .update; inserter = a .inserter; deleter = a .deleter; held = x }
+
 abbrev pub Tree : Type 0
 Tree = Forest Marked
 
-pub record State : Type 0 where
+-- what is not per node: which transactions are open
+pub record Header : Type 0 where
   pub is-open : ℕ → Bool
+
+pub record State : Type 0 where
+  pub header : Header
   pub tree : Tree
 
 -- all nodes held, in document order
@@ -78,7 +98,7 @@ deleted-in S a = not (eqb (a .deleter) nobody) && S (a .deleter)
 
 -- "the tree in the lent state without nodes that open transactions deleted"
 unfoldable pub held-document : State → Document
-held-document M = view (λ a. not (deleted-in (M .is-open) a)) (λ a. a .now) (M .tree)
+held-document M = view (λ a. not (deleted-in (M .header .is-open) a)) (λ a. a .now) (M .tree)
 
 -- a set of transactions shows what they did, and nothing of what the others did
 abbrev pub done-by : (ℕ → Bool) → ℕ → Bool
@@ -105,22 +125,16 @@ committed-content a = cond (eqb (writer-of (a .update)) nobody) (a .now .content
 
 -- t wrote b; the committed content is saved
 abbrev pub written-by : ℕ → List ℕ → Marked → Marked
-written-by t b a = record {
-  now = with-content (a .now) b;
-  update = wrote t (committed-content a);
-  inserter = a .inserter;
-  deleter = a .deleter;
-  held = a .held;
-}
+written-by t b a = with-update (wrote t (committed-content a)) (with-now (with-content (a .now) b) a)
 
 abbrev pub deleted-by : ℕ → Marked → Marked
-deleted-by t a = record { now = a .now; update = a .update; inserter = a .inserter; deleter = t; held = a .held }
+deleted-by t a = with-deleter t a
 
 abbrev pub unmarked : Node → Marked
 unmarked a = record { now = a; update = unwritten; inserter = nobody; deleter = nobody; held = λ u. no-mode }
 
 abbrev pub inserted-by : ℕ → Node → Marked
-inserted-by t a = record { now = a; update = unwritten; inserter = t; deleter = nobody; held = λ u. no-mode }
+inserted-by t a = with-inserter t (unmarked a)
 
 -- t is granted the locks that are on this node
 abbrev pub modes-on : List Lock → ℕ → ModeSet
@@ -128,13 +142,7 @@ modes-on [] n = no-mode
 modes-on (l ∷ ls) n = cond (eqb (l .0) n) (union (among (l .1 ∷ [])) (modes-on ls n)) (modes-on ls n)
 
 abbrev pub granted-to : ℕ → List Lock → Marked → Marked
-granted-to t ls a = record {
-  now = a .now;
-  update = a .update;
-  inserter = a .inserter;
-  deleter = a .deleter;
-  held = λ u. cond (eqb u t) (union (a .held u) (modes-on ls (a .now .number))) (a .held u);
-}
+granted-to t ls a = with-held (λ u. cond (eqb u t) (union (a .held u) (modes-on ls (a .now .number))) (a .held u)) a
 
 abbrev pub none-of : ℕ → (ℕ → ModeSet) → ℕ → ModeSet
 none-of t h u = cond (eqb u t) no-mode (h u)
@@ -147,25 +155,22 @@ without t u = cond (eqb u t) nobody u
 abbrev pub update-without : ℕ → Update → Update
 update-without t u = cond (eqb (writer-of u) t) unwritten u
 
+-- the locks of t go
+abbrev pub released : ℕ → Marked → Marked
+released t a = with-held (none-of t (a .held)) a
+
 -- "commit makes changes lasting"
 abbrev pub lasting : ℕ → Marked → Marked
-lasting t a = record {
-  now = a .now;
-  update = update-without t (a .update);
-  inserter = without t (a .inserter);
-  deleter = a .deleter;
-  held = none-of t (a .held);
-}
+lasting t a = released t (with-update (update-without t (a .update)) (with-inserter (without t (a .inserter)) a))
+
+-- the content without what t wrote
+abbrev pub content-without : ℕ → Marked → List ℕ
+content-without t a = cond (eqb (writer-of (a .update)) t) (saved-of (a .update)) (a .now .content)
 
 -- "abort removes them"
 abbrev pub undone : ℕ → Marked → Marked
-undone t a = record {
-  now = with-content (a .now) (cond (eqb (writer-of (a .update)) t) (saved-of (a .update)) (a .now .content));
-  update = update-without t (a .update);
-  inserter = a .inserter;
-  deleter = without t (a .deleter);
-  held = none-of t (a .held);
-}
+undone t a = released t (with-now (with-content (a .now) (content-without t a))
+    (with-update (update-without t (a .update)) (with-deleter (without t (a .deleter)) a)))
 
 -- edits of the tree ------------------------------------------------------------------
 
@@ -211,15 +216,26 @@ tree-of d = view (λ a. true) unmarked d
 
 -- states -----------------------------------------------------------------------------
 
--- "node 0 alone and nothing is open"
-abbrev pub start-state : State
-start-state = record { is-open = λ u. false; tree = tree-of node-0-alone }
+-- a state with another header, or with another tree
+abbrev pub with-header : Header → State → State
+with-header h M = record { header = h; tree = M .tree }
 
 abbrev pub with-tree : State → Tree → State
-with-tree M f = record { is-open = M .is-open; tree = f }
+with-tree M f = record { header = M .header; tree = f }
+
+-- a header with other open transactions
+abbrev pub with-open : (ℕ → Bool) → Header → Header
+with-open f h = record { is-open = f }
+
+-- "node 0 alone and nothing is open"
+abbrev pub start-header : Header
+start-header = record { is-open = λ u. false }
+
+abbrev pub start-state : State
+start-state = record { header = start-header; tree = tree-of node-0-alone }
 
 abbrev pub opened : ℕ → State → State
-opened t M = record { is-open = λ u. eqb u t || M .is-open u; tree = M .tree }
+opened t M = with-header (with-open (λ u. eqb u t || M .header .is-open u) (M .header)) M
 
 abbrev pub closed : ℕ → Tree → State → State
-closed t f M = record { is-open = λ u. not (eqb u t) && M .is-open u; tree = f }
+closed t f M = with-tree (with-header (with-open (λ u. not (eqb u t) && M .header .is-open u) (M .header)) M) f

@@ -2,6 +2,8 @@
 ghost use mathlib.Core.Path.{_≡_};
 ghost use Rattle.protocol.specs.Answers.{code-of};
 
+pub mod causes;
+
 // The outcomes of the calls.
 pub enum Answer {
     // start, begin, commit, abort, U, D and I granted

@@ -9,7 +9,7 @@ use Rattle.tree.specs.Lists.{has, distinct}
 use Rattle.tree.specs.Document.{Document, here, legal, node-0-alone}
 use Rattle.tree.specs.Steps.{Step, Value, unfit, target, plain-document, plain-answers}
 use Rattle.locks.specs.Modes.{Mode}
-use Rattle.locks.specs.Words.{bit}
+use Rattle.locks.specs.Modes.{bit}
 use Rattle.locks.specs.Needs.{Lock, needs}
 use Rattle.protocol.specs.State.{State, start-state, Marked, is-transaction, transactions, nodes}
 use Rattle.protocol.specs.State.{callers-document, held-document, document-of, committed-document}

@@ -1,6 +1,6 @@
 -- The nine steps on a plain document: document 01, "Steps" and "The plain run". Locks, the number of nodes and room in buffers play no part.
 use Prim.Native.Nat.{ℕ, zero, suc}
-use mathlib.Core.Bool.{Bool, true, false, cond, not, _&&_}
+use mathlib.Core.Bool.{Bool, true, false, cond, not, _&&_, _||_}
 use mathlib.Core.List.{List, [], _∷_, map}
 use lib.ListN.{length}
 use lib.Dec.{eqb, leb}
@@ -49,17 +49,37 @@ inserts (UU n a b) = []
 abbrev pub is-document : Line → Bool
 is-document r = eqb (r .it .kind) document-kind
 
--- causes 7, 8 and 9, in this order, by their numbers in "Refused calls"; 0 where none of them applies
-abbrev pub misfit : Step → Document → ℕ
-misfit (T n) d = cond (here n d) 0 7
-misfit (C n k) d = cond (here n d) 0 7
-misfit (R n) d = cond (here n d) (cond (is-document (at n d)) 8 0) 7
-misfit (U n b) d = cond (here n d) (cond (is-document (at n d)) 8 (cond (allowed (at n d .it .kind) b) 0 9)) 7
-misfit (D n) d = cond (here n d) (cond (is-document (at n d)) 8 0) 7
-misfit (I m kind b n k) d = cond (here n d) (cond (takes (at n d .it .kind) kind) (cond (allowed kind b) 0 9) 8) 7
-misfit (TT n) d = cond (here n d) 0 7
-misfit (RR n) d = cond (here n d) 0 7
-misfit (UU n a b) d = cond (here n d) (cond (is-name a && is-name b) 0 9) 7
+-- cause 7: "no node so numbered"
+abbrev pub unknown : Step → Document → Bool
+unknown s d = not (here (target s) d)
+
+-- cause 8: "R, U or D on the document; I where the parent's kind never takes such a child, or the kind is not 2 to 4"
+abbrev pub wrong-kind : Step → Document → Bool
+wrong-kind (T n) d = false
+wrong-kind (C n k) d = false
+wrong-kind (R n) d = is-document (at n d)
+wrong-kind (U n b) d = is-document (at n d)
+wrong-kind (D n) d = is-document (at n d)
+wrong-kind (I m kind b n k) d = not (takes (at n d .it .kind) kind)
+wrong-kind (TT n) d = false
+wrong-kind (RR n) d = false
+wrong-kind (UU n a b) d = false
+
+-- cause 9: "content or name not allowed"
+abbrev pub wrong-content : Step → Document → Bool
+wrong-content (T n) d = false
+wrong-content (C n k) d = false
+wrong-content (R n) d = false
+wrong-content (U n b) d = not (allowed (at n d .it .kind) b)
+wrong-content (D n) d = false
+wrong-content (I m kind b n k) d = not (allowed kind b)
+wrong-content (TT n) d = false
+wrong-content (RR n) d = false
+wrong-content (UU n a b) d = not (is-name a && is-name b)
+
+-- "a number there already"
+abbrev pub number-there : Step → Document → Bool
+number-there s d = any (λ m. here m d) (inserts s)
 
 -- k is a place among these children, and the children rule holds with the new one there
 unfoldable pub placed : ℕ → ℕ → ℕ → List ℕ → Bool
@@ -77,13 +97,13 @@ misplaced (TT n) d = false
 misplaced (RR n) d = false
 misplaced (UU n a b) d = false
 
--- the plain rules allow the step
+-- the plain rules allow the step: none of "a node not there, a number there already, a kind or place against the tree's rules"
 abbrev pub fits : Step → Document → Bool
-fits s d = eqb (misfit s d) 0 && not (any (λ m. here m d) (inserts s)) && not (misplaced s d)
+fits s d = not (unknown s d || wrong-kind s d || wrong-content s d || number-there s d || misplaced s d)
 
 -- answers ------------------------------------------------------------------------
 
--- the column "Answer", with what is written to lent buffers; `unfit` is the plain run's answer to a step that it does not allow
+-- the column "Answer", with what is written to lent buffers
 pub data Value : Type 0 where
   done : Value
   kind-parent : (kind parent : ℕ) → Value
@@ -93,7 +113,6 @@ pub data Value : Type 0 where
   numbers-are : (list : List ℕ) → Value
   cells-are : (list : List (ℕ × List ℕ)) → Value
   how-many : (count : ℕ) → Value
-  unfit : Value
 
 abbrev pub kth : ℕ → List Line → Value
 kth k [] = none
@@ -150,9 +169,14 @@ after (UU n a b) d = rewrite (λ r. under n r && named a r) b d
 
 -- the plain run ----------------------------------------------------------------------
 
--- a step that the plain rules do not allow changes nothing and answers unfit
-abbrev pub plain-answer : Step → Document → Value
-plain-answer s d = cond (fits s d) (answer s d) unfit
+-- the plain run's answer to a step: a value, or "unfit" where the plain rules do not allow the step
+pub data PlainAnswer : Type 0 where
+  plain-value : (value : Value) → PlainAnswer
+  unfit : PlainAnswer
+
+-- "a step it doesn't allow .. changes nothing and answers unfit"
+abbrev pub plain-answer : Step → Document → PlainAnswer
+plain-answer s d = cond (fits s d) (plain-value (answer s d)) unfit
 
 abbrev pub plain-after : Step → Document → Document
 plain-after s d = cond (fits s d) (after s d) d
@@ -162,6 +186,6 @@ unfoldable pub plain-document : Document → List Step → Document
 plain-document d [] = d
 plain-document d (s ∷ ss) = plain-document (plain-after s d) ss
 
-unfoldable pub plain-answers : Document → List Step → List Value
+unfoldable pub plain-answers : Document → List Step → List PlainAnswer
 plain-answers d [] = []
 plain-answers d (s ∷ ss) = plain-answer s d ∷ plain-answers (plain-after s d) ss

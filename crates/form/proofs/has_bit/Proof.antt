@@ -1,5 +1,5 @@
 use native.Mathlib.Omega.{arith}
-use Rattle.locks.specs.Words.{bit}
+use Rattle.locks.specs.Modes.{bit}
 use mathlib.Core.Path.{refl}
 use borrow.Author.Needs.{needs}
 use Rattle.form.proofs.has_bit.Statement.{statement}
@@ -9,7 +9,6 @@ shr-result : tie.Need-shr-result
 shr-result c = search needs
 
 returns : tie.Need-returns
-unfolding bit
 returns c = refl
 
 pub has-bit-spec : {M : Type 1} → statement M

@@ -13,7 +13,7 @@ use lib.Dec.{eqb, ltb}
 use borrow.Author.Tests.{eqb-true, eqb-false, eq-eqb, ne-eqb, ltb-true, lt-ltb, le-ltb}
 use Rattle.tree.specs.Lists.{every, has, distinct}
 use Rattle.tree.specs.Laws.Tests.{and-left, and-right}
-use Rattle.locks.specs.Words.{bit}
+use Rattle.locks.specs.Modes.{bit}
 use Rattle.layout.specs.Layout.{entry-at, word}
 use Rattle.layout.specs.Laws.Lists.{length-tabulate, getD-tabulate}
 use Rattle.layout.specs.Laws.Bits.{bit-xor}
@@ -62,7 +62,7 @@ apart-distinct limit ws h = rw h
 -- the map of bits ----------------------------------------------------------------------------------
 
 pub met-none : (seen : List ℕ) → ((i : ℕ) → getD seen i 0 ≡ 0) → (k : ℕ) → met seen k ≡ false
-unfolding met bit
+unfolding met
 met-none seen h k = rw (h (k % 1024), zero-div (2 ^ (k / 1024)))
 
 met-more : (seen : List ℕ) (w : ℕ) → length seen ≡ 1024 → met seen w ≡ false

@@ -12,7 +12,7 @@ use borrow.Author.Tests.{eq-eqb, ne-eqb, lt-ltb, le-ltb, ltb-true, ltb-false, le
 use Rattle.tree.specs.Forest.{nil, node, view}
 use Rattle.tree.specs.Document.{Node, node-0-alone}
 use Rattle.locks.specs.Modes.{ModeSet, no-mode, in-word}
-use Rattle.locks.specs.Words.{bit}
+use Rattle.locks.specs.Modes.{bit}
 use Rattle.protocol.specs.State.{is-transaction, Marked, unmarked, tree-of, start-state}
 use Rattle.layout.specs.Lists.{tabulate}
 use Rattle.layout.specs.Flat.{flat}
@@ -87,7 +87,7 @@ module _ (s : List ℕ) (l : state-size ≤ length s) (b : (j : ℕ) → j < sta
   count-is = word-is 10 (omega arith) ∙ rw (byte-header 10 (omega arith) (omega arith), byte-header 11 (omega arith) (omega arith))
 
   open-is : is-open s ≡ (λ t. false)
-  unfolding is-open bit
+  unfolding is-open
   open-is =
       fun-ext (λ t. rw (
         word-is 8 (omega arith),

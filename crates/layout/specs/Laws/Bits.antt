@@ -8,7 +8,7 @@ use lib.Pow.{pow-lt, pow-pos, pow-add, shl-shr}
 use lib.Bits.{bitXor, differ, xor-shr, xor-step}
 use lib.Dec.{eqb, ltb}
 use borrow.Author.Tests.{eqb-true, eqb-false, ltb-true, ltb-false}
-use Rattle.locks.specs.Words.{bit}
+use Rattle.locks.specs.Modes.{bit}
 
 -- a power of two has one bit
 pub bit-power : (m n : ℕ) → 2 ^ m / 2 ^ n % 2 ≡ cond (eqb m n) 1 0
@@ -36,7 +36,6 @@ xor-digit a b n =
 
 -- bit m turned over
 pub bit-xor : (w m n : ℕ) → bit (bitXor w (2 ^ m)) n ≡ cond (eqb m n) (not (bit w m)) (bit w n)
-unfolding bit
 bit-xor w m n = rw (xor-digit w (2 ^ m) n, bit-power m n) (go (eqb m n) refl)
   where
     turned : (x : ℕ) → x < 2 → eqb (differ x 1) 1 ≡ not (eqb x 1)

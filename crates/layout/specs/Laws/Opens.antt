@@ -8,7 +8,7 @@ use lib.ListN.{length, getD, drop}
 use lib.Bits.{bitXor}
 use lib.Dec.{eqb}
 use borrow.Author.Tests.{eqb-true, eqb-false, eq-eqb, ne-eqb}
-use Rattle.locks.specs.Words.{bit}
+use Rattle.locks.specs.Modes.{bit}
 use Rattle.protocol.specs.State.{is-transaction}
 use Rattle.layout.specs.Layout.{state-size, open-at, entry-at, cell-at, lock-at, word, part, count, slot, depth, number, cell, is-open, held}
 use Rattle.layout.specs.Layout.{decode, Entry, entry, nodes, Sized, Layout, Left}

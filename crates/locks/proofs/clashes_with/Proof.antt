@@ -2,7 +2,8 @@ use borrow.Author.Needs.{needs}
 use Prim.Native.Nat.{_-_, _≤_}
 use mathlib.Core.Path.{_≡_, sym, _∙_}
 use mathlib.Core.Bool.{_&&_}
-use Rattle.locks.specs.Words.{clash-at, bit, some-place, meets}
+use Rattle.locks.specs.Words.{clash-at, some-place, meets}
+use Rattle.locks.specs.Modes.{bit}
 use Rattle.locks.specs.Laws.Words.{place-found, place-passed, place-none}
 use Rattle.locks.proofs.clashes_with.Statement.{statement}
 use Rattle.locks.proofs.clashes_with.Tie as tie

@@ -1,4 +1,4 @@
-use Rattle.locks.specs.Words.{bit}
+use Rattle.locks.specs.Modes.{bit}
 use borrow.Author.Needs.{needs}
 use Rattle.locks.proofs.has.Statement.{statement}
 use Rattle.locks.proofs.has.Tie as tie
@@ -7,7 +7,6 @@ shr-result : tie.Need-shr-result
 shr-result c = search needs
 
 returns : tie.Need-returns
-unfolding bit
 returns c = search needs
 
 pub has-spec : {M : Type 1} → statement M

@@ -8,7 +8,8 @@ use lib.Bits.{bitAnd, and-shr, and-step, and-le-r}
 use lib.Dec.{eqb}
 use borrow.Author.Tests.{eqb-true, eqb-false, eq-eqb, ne-eqb}
 use Rattle.locks.specs.Modes.{in-word}
-use Rattle.locks.specs.Words.{bit, some-place, meets, mask-of, in-common}
+use Rattle.locks.specs.Words.{some-place, meets, mask-of, in-common}
+use Rattle.locks.specs.Modes.{bit}
 use Rattle.locks.specs.Laws.Words.{word-small}
 
 -- the bits of what both have
@@ -24,7 +25,6 @@ bits-and x y h k = go (eqb x 1) refl (eqb y 1) refl
     go false e b f = ne-eqb (min x y) 1 (λ (m : min x y ≡ 1). let p = eqb-false x 1 e in omega arith)
 
 pub bit-and : (v w i : ℕ) → bit (bitAnd v w) i ≡ (bit v i && bit w i)
-unfolding bit
 bit-and v w i =
     let x = v / 2 ^ i in
     let y = w / 2 ^ i in
@@ -34,7 +34,6 @@ bit-and v w i =
 
 -- a number is 0 exactly if it has no bit
 bit-next : (x i : ℕ) → bit x (suc i) ≡ bit (x / 2) i
-unfolding bit
 bit-next x i = rw (pow-succ' 2 i, ← div-div-eq-div-mul x 2 (2 ^ i))
 
 places-next : (x n i : ℕ) → some-place (bit x) n (suc i) ≡ some-place (bit (x / 2)) n i
@@ -43,7 +42,6 @@ places-next x zero i = refl
 places-next x (suc n) i = rw (bit-next x i, places-next x n (suc i))
 
 bit-first : (x : ℕ) → bit x 0 ≡ eqb (x % 2) 1
-unfolding bit
 bit-first x = let e : x / 2 ^ 0 ≡ x = omega arith in rw e
 
 pub no-bit : (n x : ℕ) → x < 2 ^ n → not (eqb x 0) ≡ some-place (bit x) n 0
@@ -59,7 +57,7 @@ no-bit (suc n) x h =
     go false e false f = let q = eqb-false (x / 2) 0 f in ap not (ne-eqb x 0 (λ (z : x ≡ 0). q (omega arith)))
 
 pub and-common : (v w : ℕ) → w < 4096 → not (eqb (bitAnd v w) 0) ≡ in-common v w
-unfolding some-place bit in-common
+unfolding some-place in-common
 and-common v w h = no-bit 12 (bitAnd v w) (lt-of-le-of-lt (and-le-r v w) h) ∙ same
   where
     same : some-place (bit (bitAnd v w)) 12 0 ≡ in-common v w

@@ -15,7 +15,8 @@ use Rattle.tree.specs.Steps.{Step, T, C, R, U, D, I, TT, RR, UU}
 use Rattle.locks.specs.Modes.{Mode, LT, LC, LR, LU, LW, LTT, LRR, LUU, LIR, LIU, LIW, LICW, modes, index, clash, ModeSet, among, union, against, in-word}
 use Rattle.locks.specs.Needs.{Need, need}
 use Rattle.locks.specs.Laws.Clash.{every-mode}
-use Rattle.locks.specs.Words.{clash-table, clash-at, bit, word, some-place, meets, mask-of, word-of}
+use Rattle.locks.specs.Words.{clash-table, clash-at, word, some-place, meets, mask-of, word-of}
+use Rattle.locks.specs.Modes.{bit}
 
 -- what holds at each place of the table holds for each mode
 pub at-index : {X : Type 0} (f : Mode → X) (d : X) (a : Mode) → getD (map f modes) (index a) d ≡ f a
@@ -67,7 +68,7 @@ half true w = omega arith
 half false w = omega arith
 
 pub word-bit : (q : ℕ → Bool) (n u i : ℕ) → i < n → bit (word q n u) i ≡ q (u + i)
-unfolding bit word
+unfolding word
 word-bit q zero u i h = absurd (omega arith)
 word-bit q (suc n) u zero h = let e : u ≡ u + 0 = omega arith in bit-zero (q u) (word q n (suc u)) ∙ ap q e
 word-bit q (suc n) u (suc i) h =
@@ -76,7 +77,7 @@ word-bit q (suc n) u (suc i) h =
     (word-bit q n (suc u) i (omega arith) ∙ ap q e)
 
 pub in-mask : (w : ℕ) (a : Mode) → in-word (mask-of w) a ≡ against (in-word w) a
-unfolding mask-of bit meets some-place
+unfolding mask-of meets some-place
 in-mask w a = word-bit (meets w) 12 0 (index a) (index-below a) ∙ ap (meets w) (z (index a)) ∙ any-same
   where
     z : (n : ℕ) → 0 + n ≡ n

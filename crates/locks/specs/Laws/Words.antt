@@ -7,7 +7,8 @@ use native.Mathlib.Nat.{pow-succ', lt-of-lt-of-le}
 use native.Mathlib.Numerals.{add-one}
 use lib.Pow.{pow-mono}
 use lib.Dec.{eqb}
-use Rattle.locks.specs.Words.{clash-at, bit, word, some-place, meets, mask-of}
+use Rattle.locks.specs.Words.{clash-at, word, some-place, meets, mask-of}
+use Rattle.locks.specs.Modes.{bit}
 
 -- going up through places
 module _ (q : ℕ → Bool) (n i : ℕ) (h : i < n) where

@@ -12,7 +12,8 @@ use Rattle.tree.specs.Lists.{any}
 use Rattle.tree.specs.Laws.Tests.{or-left, or-right}
 use Rattle.tree.specs.Laws.Lists.{any-same}
 use Rattle.locks.specs.Modes.{Mode, LT, LC, LR, LU, LW, LTT, LRR, LUU, LIR, LIU, LIW, LICW, modes, index, clash, ModeSet, same-mode, among, against, in-word}
-use Rattle.locks.specs.Words.{bit, word, some-place, meets, mask-of, word-of}
+use Rattle.locks.specs.Words.{word, some-place, meets, mask-of, word-of}
+use Rattle.locks.specs.Modes.{bit}
 use Rattle.locks.specs.Laws.Words.{word-below}
 use Rattle.locks.specs.Laws.Sets.{in-mask}
 use Rattle.locks.specs.Laws.Clash.{clash-symmetric}
@@ -83,7 +84,6 @@ no-place q (suc n) i h zero k = let e : i + 0 ≡ i = omega arith in rw e (or-le
 no-place q (suc n) i h (suc j) k = let e : i + suc j ≡ suc i + j = omega arith in rw e (no-place q n (suc i) (or-right (q i) _ h) j (omega arith))
 
 no-bit : (n x : ℕ) → x < 2 ^ n → ((i : ℕ) → i < n → bit x i ≡ false) → x ≡ 0
-unfolding bit
 no-bit zero x h k = omega arith
 no-bit (suc n) x h k =
     let e : x / 2 ^ 0 % 2 ≡ 1 → ⊥ = eqb-false (x / 2 ^ 0 % 2) 1 (k 0 (omega arith)) in
@@ -96,7 +96,7 @@ no-bit (suc n) x h k =
 
 -- a set of modes is empty exactly if its word is 0
 pub word-empty : (x : ℕ) → x < 4096 → any (in-word x) modes ≡ not (eqb x 0)
-unfolding bit some-place
+unfolding some-place
 word-empty x h = go (eqb x 0) refl
   where
     some : (x ≡ 0 → ⊥) → (b : Bool) → some-place (bit x) 12 0 ≡ b → some-place (bit x) 12 0 ≡ true

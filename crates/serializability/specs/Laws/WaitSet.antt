@@ -10,7 +10,8 @@ use borrow.Author.Tests.{eqb-true, eqb-false, leb-true}
 use Rattle.tree.specs.Laws.Tests.{and-left, and-right}
 use Rattle.protocol.specs.State.{transactions, is-transaction}
 use Rattle.protocol.specs.Calls.{sum-of-bits}
-use Rattle.locks.specs.Words.{bit, word}
+use Rattle.locks.specs.Words.{word}
+use Rattle.locks.specs.Modes.{bit}
 use Rattle.locks.specs.Laws.Words.{word-small}
 use Rattle.locks.specs.Laws.Sets.{word-bit}
 
@@ -52,7 +53,6 @@ sum-bound q = rw (sum-word q) (word-small q 16 1)
 
 -- the empty set: nobody passes
 pub sum-empty : (q : ℕ → Bool) → sum-of-bits q transactions ≡ 0 → (u : ℕ) → is-transaction u ≡ true → q u ≡ false
-unfolding bit
 sum-empty q e u h = sym (sum-bit q u h) ∙ rw e (none (2 ^ (u - 1)))
   where
     none : (c : ℕ) → eqb (0 / c % 2) 1 ≡ false

@@ -1,5 +1,5 @@
 use Rattle.layout.specs.Layout.{is-open}
-use Rattle.locks.specs.Words.{bit}
+use Rattle.locks.specs.Modes.{bit}
 use Rattle.layout.specs.Laws.Locks.{is-transaction-of}
 use native.Mathlib.Omega.{arith}
 use borrow.Author.Needs.{needs}
@@ -19,7 +19,7 @@ shr-result : tie.Need-shr-result
 shr-result c = search needs
 
 returns : tie.Need-returns
-unfolding is-open bit
+unfolding is-open
 returns c = rw (is-transaction-of _ (c .before .before .pre .1) (c .before .before .pre .2), ← c .word .ensures)
 
 pub is-open-spec : {M : Type 1} → statement M

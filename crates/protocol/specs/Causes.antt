@@ -1,0 +1,69 @@
+-- The causes of a refusal, by their numbers: document 01, "Refused calls". src/causes.rt has the same names for the code.
+use Prim.Native.Nat.{ℕ}
+use mathlib.Core.List.{List, [], _∷_}
+
+-- transaction number not 1 to 16
+abbrev pub not-a-transaction : ℕ
+not-a-transaction = 1
+
+-- begin of an open transaction
+abbrev pub already-open : ℕ
+already-open = 2
+
+-- other call, transaction not open
+abbrev pub not-open : ℕ
+not-open = 3
+
+-- load: not of the grammar
+abbrev pub not-of-grammar : ℕ
+not-of-grammar = 4
+
+-- load: a 33rd content byte
+abbrev pub long-content : ℕ
+long-content = 5
+
+-- load: a 1,025th node
+abbrev pub many-nodes : ℕ
+many-nodes = 6
+
+-- no node so numbered, or the caller deleted it or an ancestor
+abbrev pub no-such-node : ℕ
+no-such-node = 7
+
+-- R, U or D on the document; I where the parent's kind never takes such a child, or the kind is not 2 to 4
+abbrev pub unfit-kind : ℕ
+unfit-kind = 8
+
+-- content or name not allowed
+abbrev pub unfit-content : ℕ
+unfit-content = 9
+
+-- I: number held by any node
+abbrev pub held-number : ℕ
+held-number = 10
+
+-- I: k is 0 or past children + 1, or the children rule would break
+abbrev pub unfit-place : ℕ
+unfit-place = 11
+
+-- I: 1,024 nodes held
+abbrev pub full-table : ℕ
+full-table = 12
+
+-- lent buffer too short for the answer; state bytes too short or not of the form
+abbrev pub short-buffer : ℕ
+short-buffer = 13
+
+-- write: not expressible
+abbrev pub not-expressible : ℕ
+not-expressible = 14
+
+-- load while a transaction is open
+abbrev pub open-at-load : ℕ
+open-at-load = 15
+
+-- all that a call can be refused by
+abbrev pub causes : List ℕ
+causes =
+    not-a-transaction ∷ already-open ∷ not-open ∷ not-of-grammar ∷ long-content ∷ many-nodes ∷ no-such-node ∷ unfit-kind ∷ unfit-content
+    ∷ held-number ∷ unfit-place ∷ full-table ∷ short-buffer ∷ not-expressible ∷ open-at-load ∷ []

@@ -1,0 +1,31 @@
+// The causes of a refusal, by their numbers: document 01, "Refused calls". specs/Causes.antt has the same names.
+
+pub const NOT_A_TRANSACTION: u8 = 1;
+
+pub const ALREADY_OPEN: u8 = 2;
+
+pub const NOT_OPEN: u8 = 3;
+
+pub const NOT_OF_GRAMMAR: u8 = 4;
+
+pub const LONG_CONTENT: u8 = 5;
+
+pub const MANY_NODES: u8 = 6;
+
+pub const NO_SUCH_NODE: u8 = 7;
+
+pub const UNFIT_KIND: u8 = 8;
+
+pub const UNFIT_CONTENT: u8 = 9;
+
+pub const HELD_NUMBER: u8 = 10;
+
+pub const UNFIT_PLACE: u8 = 11;
+
+pub const FULL_TABLE: u8 = 12;
+
+pub const SHORT_BUFFER: u8 = 13;
+
+pub const NOT_EXPRESSIBLE: u8 = 14;
+
+pub const OPEN_AT_LOAD: u8 = 15;
