@@ -9,7 +9,7 @@ use Rattle.tree.specs.Lists.{any}
 use Rattle.tree.specs.Steps.{Step, T, C, R, U, D, I, TT, RR, UU, is-named}
 use Rattle.locks.specs.Modes.{Mode, ModeSet, union, among}
 use Rattle.locks.specs.Needs.{Need, need, Lock}
-use Rattle.protocol.specs.State.{Marked, numbered, seen-by, written-by, deleted-by, inserted-by, granted-to}
+use Rattle.protocol.specs.State.{Marked, numbered, seen-by, written-by, deleted-by, inserted-by, granted-to, with-held}
 use Rattle.layout.specs.Lists.{modify, insert}
 use Rattle.layout.specs.Flat.{second}
 use Rattle.layout.specs.Layout.{Entry, no-entry}

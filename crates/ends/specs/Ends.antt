@@ -6,14 +6,14 @@ use mathlib.Core.List.{List, [], _∷_, map}
 use lib.ListN.{length, getD, drop}
 use lib.Dec.{eqb}
 use Rattle.tree.specs.Document.{Document}
-use Rattle.protocol.specs.State.{nobody, writer-of, saved-of, Marked, State}
+use Rattle.protocol.specs.State.{nobody, writer-of, saved-of, Marked, State, with-open}
 use Rattle.protocol.specs.Calls.{start, next}
 use Rattle.protocol.specs.Answers.{answer-of}
 use Rattle.protocol.specs.declared.Answer.{Answer}
 use Rattle.protocol.specs.declared.Answer.the-variants.{Refused}
-use Rattle.layout.specs.Fields.{field, with-field, with-now}
+use Rattle.layout.specs.Fields.{field, with-field, with-bytes}
 use Rattle.layout.specs.Flat.{second, prune}
-use Rattle.layout.specs.Layout.{state-size, is-open, Entry, nodes, Left}
+use Rattle.layout.specs.Layout.{state-size, is-open, Entry, nodes, Left, header}
 use Rattle.form.specs.Form.{Holds}
 use Rattle.form.specs.Start.{start-byte}
 
@@ -33,7 +33,7 @@ without-mark o t a = cond (eqb (field o a) t) (with-field o nobody a) a
 
 -- the saved content again where t wrote the node
 abbrev pub rewritten : ℕ → Marked → Marked
-rewritten t a = with-now (cond (eqb (writer-of (a .update)) t) (saved-of (a .update)) (a .now .content)) a
+rewritten t a = with-bytes (cond (eqb (writer-of (a .update)) t) (saved-of (a .update)) (a .now .content)) a
 
 -- a commit: what t wrote and inserted is everybody's
 abbrev pub lasting-marks : ℕ → Marked → Marked
@@ -51,7 +51,7 @@ map-first (suc i) g (x ∷ l) = g x ∷ map-first i g l
 
 -- what closing t leaves: these nodes, and the others open as they were
 abbrev pub Closed : ℕ → List ℕ → List ℕ → List Entry → Type 0
-Closed t s s′ ns = Left s s′ (λ u. not (eqb u t) && is-open s u) ns
+Closed t s s′ ns = Left s s′ (with-open (λ u. not (eqb u t) && is-open s u) (header s)) ns
 
 -- what an end of t leaves: the nodes that are shown, each by g, and t closed
 abbrev pub Ended : (Marked → Bool) → (Marked → Marked) → ℕ → List ℕ → List ℕ → Type 0

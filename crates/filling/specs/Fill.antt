@@ -11,7 +11,7 @@ use Rattle.tree.specs.Document.{node-0-alone}
 use Rattle.protocol.specs.State.{unmarked, tree-of}
 use Rattle.protocol.specs.Calls.{node-limit}
 use Rattle.layout.specs.Flat.{flat}
-use Rattle.layout.specs.Layout.{state-size, is-open, Entry, nodes, Layout, Left}
+use Rattle.layout.specs.Layout.{state-size, is-open, Entry, nodes, Layout, Left, header}
 use Rattle.xml.specs.Bytes.{ampersand, slash, equals-sign, greater-than, Quote, mark}
 use Rattle.xml.specs.Shape.{Label, Shape, element, attribute, text, size, longest, document}
 use Rattle.xml.specs.Grammar.{Name, Blanks, Named, Entity, Value, behind, inside, Part, Root, Spells}
@@ -137,11 +137,11 @@ pub record Filling (place : ℕ → List ℕ → List Row → Type 0) (x s : Lis
 pub record Same (s s′ : List ℕ) : Type 0 where
   pub long : length s′ ≡ length s
   pub behind : drop state-size s′ ≡ drop state-size s
-  pub opens : is-open s′ ≡ is-open s
+  pub header : header s′ ≡ header s
 
 -- these rows were put behind the last
 abbrev pub Put : List ℕ → List ℕ → List Row → Type 0
-Put s s′ l = Left s s′ (is-open s) (with-rows s l)
+Put s s′ l = Left s s′ (header s) (with-rows s l)
 
 -- n bytes of the buffer b are what the characters from `at` on stand for, and c is behind them
 pub record Decodes (x : List ℕ) (stop at : ℕ) (b : List ℕ) (n : ℕ) (c : Cursor) : Type 0 where

@@ -12,7 +12,7 @@ use Rattle.protocol.specs.State.{nobody, Marked, Tree, State, writer-of}
 use Rattle.protocol.specs.Calls.{node-limit}
 use Rattle.layout.specs.Lists.{tabulate}
 use Rattle.layout.specs.Flat.{flat}
-use Rattle.layout.specs.Layout.{state-size, format-mark, part, count, slot, cell, is-open, Entry, nodes, Layout}
+use Rattle.layout.specs.Layout.{state-size, format-mark, part, count, slot, cell, is-open, Entry, nodes, Layout, header}
 use Rattle.lookup.specs.Places.{unique}
 
 -- nodes --------------------------------------------------------------------------------
@@ -82,7 +82,7 @@ form s =
 -- the bytes hold the state M
 pub record Holds (s : List ℕ) (M : State) : Type 0 where
   pub layout : Layout s
-  pub opens : is-open s ≡ M .is-open
+  pub header : header s ≡ M .header
   pub rows : nodes s ≡ flat 0 (M .tree)
   pub unique : unique (nodes s) ≡ true
   pub valid : valid-tree (M .tree) ≡ true

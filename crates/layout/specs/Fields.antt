@@ -7,7 +7,9 @@ use lib.ListN.{getD}
 use lib.Dec.{eqb}
 use Rattle.tree.specs.Steps.{with-content}
 use Rattle.locks.specs.Modes.{no-mode, in-word}
-use Rattle.protocol.specs.State.{nobody, Update, unwritten, wrote, writer-of, saved-of, Marked, committed-content, none-of}
+use Rattle.tree.specs.Document.{Node}
+use Rattle.protocol.specs.State.{nobody, unwritten, wrote, writer-of, saved-of, Marked, committed-content}
+use Rattle.protocol.specs.State.{with-now, with-update, with-inserter, with-deleter, with-held}
 use Rattle.layout.specs.Layout.{slot, cell, stored, update-of, nodes, no-entry, Kept}
 use Rattle.layout.specs.Lists.{modify}
 use Rattle.layout.specs.Flat.{second}
@@ -22,29 +24,17 @@ storable zero v = true
 storable (suc zero) v = eqb v nobody
 storable (suc (suc o)) v = true
 
+-- the kind as it is in the node
+abbrev pub of-kind : ℕ → Node → Node
+of-kind v x = record { number = x .number; kind = v; content = x .content }
+
 abbrev pub with-field : ℕ → ℕ → Marked → Marked
-with-field o v a = record {
-  now = record { number = a .now .number; kind = cond (eqb o 0) v (a .now .kind); content = a .now .content };
-  update = cond (eqb o 1) unwritten (a .update);
-  inserter = cond (eqb o 2) v (a .inserter);
-  deleter = cond (eqb o 3) v (a .deleter);
-  held = a .held;
-}
+with-field o v a =
+    with-now (of-kind (cond (eqb o 0) v (a .now .kind)) (a .now)) (with-update (cond (eqb o 1) unwritten (a .update))
+    (with-inserter (cond (eqb o 2) v (a .inserter)) (with-deleter (cond (eqb o 3) v (a .deleter)) a)))
 
 abbrev pub with-kind : ℕ → Marked → Marked
-with-kind v a = record {
-  now = record { number = a .now .number; kind = v; content = a .now .content };
-  update = a .update;
-  inserter = a .inserter;
-  deleter = a .deleter;
-  held = a .held;
-}
-
-abbrev pub with-update : Update → Marked → Marked
-with-update u a = record { now = a .now; update = u; inserter = a .inserter; deleter = a .deleter; held = a .held }
-
-abbrev pub with-inserter : ℕ → Marked → Marked
-with-inserter v a = record { now = a .now; update = a .update; inserter = v; deleter = a .deleter; held = a .held }
+with-kind v a = with-now (of-kind v (a .now)) a
 
 -- the bytes of the cell of the node at place i that are its saved content if somebody wrote, and their number
 unfoldable pub saved-bytes : List ℕ → ℕ → List ℕ
@@ -63,23 +53,20 @@ abbrev pub text : ℕ → Marked → List ℕ
 text o a = cond (eqb o 0) (a .now .content) (saved-of (a .update))
 
 abbrev pub with-text : ℕ → List ℕ → Marked → Marked
-with-text o b a = record {
-  now = with-content (a .now) (cond (eqb o 0) b (a .now .content));
-  update = cond (eqb o 0) (a .update) (update-of (writer-of (a .update)) b);
-  inserter = a .inserter;
-  deleter = a .deleter;
-  held = a .held;
-}
+with-text o b a =
+    with-now (with-content (a .now) (cond (eqb o 0) b (a .now .content)))
+    (with-update (cond (eqb o 0) (a .update) (update-of (writer-of (a .update)) b)) a)
 
-abbrev pub with-now : List ℕ → Marked → Marked
-with-now b a = record { now = with-content (a .now) b; update = a .update; inserter = a .inserter; deleter = a .deleter; held = a .held }
+-- the content now
+abbrev pub with-bytes : List ℕ → Marked → Marked
+with-bytes b a = with-now (with-content (a .now) b) a
 
 -- the content now saved where somebody wrote, and the other way round
 abbrev pub with-saved : Marked → Marked
 with-saved a = with-update (update-of (writer-of (a .update)) (a .now .content)) a
 
 abbrev pub restored : Marked → Marked
-restored a = with-now (saved-of (a .update)) a
+restored a = with-bytes (saved-of (a .update)) a
 
 -- what saving the content of the node at place i leaves; its saved bytes are looked at when a writer is stored
 pub record Saved (s s′ : List ℕ) (i : ℕ) : Type 0 where
@@ -93,18 +80,8 @@ marked-written t a = with-update (wrote t (committed-content a)) a
 
 -- transaction t holds the modes of a word
 abbrev pub with-modes : ℕ → ℕ → Marked → Marked
-with-modes t w a = record {
-  now = a .now;
-  update = a .update;
-  inserter = a .inserter;
-  deleter = a .deleter;
-  held = λ u. cond (eqb u t) (in-word w) (a .held u);
-}
-
--- transaction t holds nothing
-abbrev pub released : ℕ → Marked → Marked
-released t a = record { now = a .now; update = a .update; inserter = a .inserter; deleter = a .deleter; held = none-of t (a .held) }
+with-modes t w a = with-held (λ u. cond (eqb u t) (in-word w) (a .held u)) a
 
 -- nobody holds anything
 abbrev pub unlocked : Marked → Marked
-unlocked a = record { now = a .now; update = a .update; inserter = a .inserter; deleter = a .deleter; held = λ u. no-mode }
+unlocked a = with-held (λ u. no-mode) a

@@ -8,7 +8,7 @@ use lib.ListN.{length, getD, take, drop}
 use Rattle.tree.specs.Text.{bytes}
 use Rattle.locks.specs.Modes.{ModeSet, no-mode, in-word}
 use Rattle.locks.specs.Modes.{bit}
-use Rattle.protocol.specs.State.{nobody, is-transaction, Update, unwritten, wrote, Marked, unmarked}
+use Rattle.protocol.specs.State.{nobody, is-transaction, Update, unwritten, wrote, Marked, unmarked, Header}
 use Rattle.layout.specs.Lists.{tabulate}
 
 -- offsets ----------------------------------------------------------------------------
@@ -68,6 +68,10 @@ cell s k = part s (cell-at k) 70
 unfoldable pub is-open : List ℕ → ℕ → Bool
 is-open s t = cond (is-transaction t) (bit (word s open-at) (t - 1)) false
 
+-- what is not per node
+abbrev pub header : List ℕ → Header
+header s = record { is-open = is-open s }
+
 -- the modes that a transaction was granted on the node of a slot
 unfoldable pub held : List ℕ → ℕ → ℕ → ModeSet
 held s k t = cond (is-transaction t) (in-word (word s (lock-at t k))) no-mode
@@ -123,19 +127,19 @@ pub record Layout (s : List ℕ) : Type 0 where
   pub apart : (i j : ℕ) → i < 1024 → j < 1024 → slot s i ≡ slot s j → i ≡ j
   pub sizes : (i : ℕ) → i < count s → Sized (cell s (slot s i))
 
--- what a change leaves: the layout, the length and the bytes behind the state as they were, these open transactions, these nodes
-pub record Left (s s′ : List ℕ) (flags : ℕ → Bool) (ns : List Entry) : Type 0 where
+-- what a change leaves: the layout, the length and the bytes behind the state as they were, this header, these nodes
+pub record Left (s s′ : List ℕ) (h : Header) (ns : List Entry) : Type 0 where
   pub layout : Layout s′
   pub long : length s′ ≡ length s
   pub behind : drop state-size s′ ≡ drop state-size s
-  pub opens : is-open s′ ≡ flags
+  pub header : header s′ ≡ h
   pub nodes : nodes s′ ≡ ns
 
--- the same where as many nodes are left and the same transactions are open
+-- the same where as many nodes are left and the header is as it was
 pub record Kept (s s′ : List ℕ) (ns : List Entry) : Type 0 where
   pub layout : Layout s′
   pub long : length s′ ≡ length s
   pub behind : drop state-size s′ ≡ drop state-size s
-  pub opens : is-open s′ ≡ is-open s
+  pub header : header s′ ≡ header s
   pub many : length (nodes s′) ≡ length (nodes s)
   pub nodes : nodes s′ ≡ ns

@@ -9,7 +9,7 @@ ghost use Rattle.tree.specs.Document.{node-0-alone};
 ghost use Rattle.protocol.specs.State.{transactions, tree-of};
 ghost use Rattle.protocol.specs.Calls.{Input, load};
 ghost use Rattle.layout.specs.Flat.{flat};
-ghost use Rattle.layout.specs.Layout.{is-open, Layout, Left};
+ghost use Rattle.layout.specs.Layout.{is-open, Layout, Left, header};
 ghost use Rattle.xml.specs.Reading.{ReadsAs};
 ghost use Rattle.form.specs.Form.{form};
 ghost use Rattle.engine.specs.Contract.{Performed};
@@ -33,7 +33,7 @@ fn any_open(s: &[u8]) -> bool
 // The document node is held alone: empty, and without marks and locks.
 fn empty(s: &mut [u8])
     requires { ⌜ form (now s) ≡ true ⌝ }
-    ensures { λ r. ⌜ Left (now (s .entry)) (now (s .exit)) (is-open (now (s .entry))) (flat 0 (tree-of node-0-alone)) ⌝ }
+    ensures { λ r. ⌜ Left (now (s .entry)) (now (s .exit)) (header (now (s .entry))) (flat 0 (tree-of node-0-alone)) ⌝ }
 {
     outline::cut(s, 1);
     table::clear_writer(s, 0);

@@ -7,42 +7,19 @@ use lib.ListN.{length}
 use lib.Dec.{eqb, ltb, leb}
 use Rattle.tree.specs.Lists.{any, keep}
 use Rattle.tree.specs.Forest.{row}
-use Rattle.tree.specs.Content.{document-kind, is-name, allowed, takes}
-use Rattle.tree.specs.Document.{Node, here, at}
-use Rattle.tree.specs.Steps.{Step, T, C, R, U, D, I, TT, RR, UU, target, inserts, misfit, misplaced, placed, answer, parent, is-named}
+use Rattle.tree.specs.Document.{child, select, here, at, kinds}
+use Rattle.tree.specs.Steps.{Step, T, C, R, U, D, I, TT, RR, UU, target, inserts, kind-at, wrong-kind-on, wrong-content-on, misplaced-on}
+use Rattle.tree.specs.Steps.{answer, parent, is-named}
 use Rattle.tree.specs.Steps.{Value, done, kind-parent, child-is, none, content-is, numbers-are, cells-are, how-many}
 use Rattle.locks.specs.Modes.{Mode, against}
 use Rattle.locks.specs.Needs.{Need, need, locks, needs}
 use Rattle.locks.specs.Words.{word}
 use Rattle.protocol.specs.State.{Marked, State, number-held, callers-document, with-tree, act, grant}
 use Rattle.protocol.specs.Lent.{Room, has-room}
-use Rattle.protocol.specs.Calls.{node-limit, wait-set, table-full, Next, unchanged, becomes, refused, waits}
+use Rattle.protocol.specs.Causes.{unfit-kind, unfit-content, held-number, unfit-place, full-table, short-buffer}
+use Rattle.protocol.specs.Calls.{node-limit, wait-set, number-taken, table-full, Next, checked, takes-step, refused, waits}
 use Rattle.layout.specs.Layout.{Entry}
 use Rattle.lookup.specs.Places.{item, number-of, place-of, ups, numbers-above, children, subtree}
-
--- causes 8 and 9 of a step on this node; 0 where neither applies
-abbrev pub misfit-on : Step → Node → ℕ
-misfit-on (T n) a = 0
-misfit-on (C n k) a = 0
-misfit-on (R n) a = cond (eqb (a .kind) document-kind) 8 0
-misfit-on (U n b) a = cond (eqb (a .kind) document-kind) 8 (cond (allowed (a .kind) b) 0 9)
-misfit-on (D n) a = cond (eqb (a .kind) document-kind) 8 0
-misfit-on (I m kind b n k) a = cond (takes (a .kind) kind) (cond (allowed kind b) 0 9) 8
-misfit-on (TT n) a = 0
-misfit-on (RR n) a = 0
-misfit-on (UU n a b) x = cond (is-name a && is-name b) 0 9
-
--- cause 11 of a step on a node of this kind, with these children that the caller sees
-abbrev pub misplaced-on : Step → ℕ → List Marked → Bool
-misplaced-on (T n) kind cs = false
-misplaced-on (C n k) kind cs = false
-misplaced-on (R n) kind cs = false
-misplaced-on (U n b) kind cs = false
-misplaced-on (D n) kind cs = false
-misplaced-on (I m new b n k) kind cs = not (placed kind new k (map (λ c. c .now .kind) cs))
-misplaced-on (TT n) kind cs = false
-misplaced-on (RR n) kind cs = false
-misplaced-on (UU n a b) kind cs = false
 
 -- the k-th of these children, k from 1
 unfoldable pub kth-child : ℕ → List Marked → Value
@@ -82,6 +59,19 @@ blocks-at t w is-open way u = is-open u && not (eqb u t) && blocks-way (w .node)
 unfoldable pub wait-word : ℕ → Need → (ℕ → Bool) → List Marked → ℕ
 wait-word t w is-open way = word (λ i. blocks-at t w is-open way (suc i)) 16 0
 
+-- causes 10 and 12 ---------------------------------------------------------------------
+
+abbrev pub kind-of : Marked → ℕ
+kind-of a = a .now .kind
+
+-- some place has a number that the step inserts
+abbrev pub taken-in : Step → List Entry → Bool
+taken-in s l = any (λ m. ltb (place-of m l) (length l)) (inserts s)
+
+-- the step inserts a node, and as many as the limit are held
+abbrev pub full-in : Step → List Entry → Bool
+full-in s l = any (λ m. leb node-limit (length l)) (inserts s)
+
 -- the record ---------------------------------------------------------------------------
 
 -- a step of t whose node stands at place p of the rows l of the state's tree, seen by t
@@ -89,25 +79,27 @@ pub record Found (l : List Entry) (t : ℕ) (s : Step) (M : State) (p : ℕ) : T
   pub is-here : here (target s) (callers-document t (M .tree)) ≡ true
   pub line : at (target s) (callers-document t (M .tree)) ≡ row (item l p .now) (numbers-above l p)
   pub lock-list : needs s (callers-document t (M .tree)) ≡ locks s (numbers-above l p)
-  -- causes 7, 8, 9
-  pub misfits : misfit s (callers-document t (M .tree)) ≡ misfit-on s (item l p .now)
+  -- causes 8 and 9
+  pub kind : kind-at s (callers-document t (M .tree)) ≡ item l p .now .kind
   -- cause 10
-  pub held : any (λ m. number-held m (M .tree)) (inserts s) ≡ any (λ m. ltb (place-of m l) (length l)) (inserts s)
-  pub wait : any (λ m. number-held m (M .tree)) (inserts s) ≡ false
-      → wait-set t (needs s (callers-document t (M .tree))) M ≡ wait-word t (need s) (M .is-open) (item l p ∷ ups l p)
+  pub held : number-taken s (M .tree) ≡ taken-in s l
+  pub wait : number-taken s (M .tree) ≡ false
+      → wait-set t (needs s (callers-document t (M .tree))) M ≡ wait-word t (need s) (M .header .is-open) (item l p ∷ ups l p)
   -- cause 11
-  pub misplaces : misplaced s (callers-document t (M .tree)) ≡ misplaced-on s (item l p .now .kind) (children t l p)
+  pub others : kinds (select (child (target s)) (callers-document t (M .tree))) ≡ map kind-of (children t l p)
   -- cause 12
-  pub full : table-full s (M .tree) ≡ any (λ m. leb node-limit (length l)) (inserts s)
+  pub full : table-full node-limit s (M .tree) ≡ full-in s l
   pub answers : answer s (callers-document t (M .tree)) ≡ answer-at s t l p
 
 -- the whole judgement: 8, 9, 10, wait, 11, 12, 13, then granted
 unfoldable pub judged-at : ℕ → Step → Room → State → List Entry → ℕ → Next
 judged-at t s room M l p =
-    cond (not (eqb (misfit-on s (item l p .now)) 0)) (unchanged (refused (misfit-on s (item l p .now))) M)
-    (cond (any (λ m. ltb (place-of m l) (length l)) (inserts s)) (unchanged (refused 10) M)
-    (cond (not (eqb (wait-word t (need s) (M .is-open) (item l p ∷ ups l p)) 0)) (unchanged (waits (wait-word t (need s) (M .is-open) (item l p ∷ ups l p))) M)
-    (cond (misplaced-on s (item l p .now .kind) (children t l p)) (unchanged (refused 11) M)
-    (cond (any (λ m. leb node-limit (length l)) (inserts s)) (unchanged (refused 12) M)
-    (cond (not (has-room (answer-at s t l p) room)) (unchanged (refused 13) M)
-    (becomes (answer-at s t l p) (with-tree M (grant t (locks s (numbers-above l p)) (act t s (M .tree))))))))))
+    checked (
+    (refused unfit-kind, wrong-kind-on s (item l p .now .kind))
+    ∷ (refused unfit-content, wrong-content-on s (item l p .now .kind))
+    ∷ (refused held-number, taken-in s l)
+    ∷ (waits (wait-word t (need s) (M .header .is-open) (item l p ∷ ups l p)), not (eqb (wait-word t (need s) (M .header .is-open) (item l p ∷ ups l p)) 0))
+    ∷ (refused unfit-place, misplaced-on s (item l p .now .kind) (map kind-of (children t l p)))
+    ∷ (refused full-table, full-in s l)
+    ∷ (refused short-buffer, not (has-room (answer-at s t l p) room)) ∷ [])
+    M (takes-step s (answer-at s t l p) (with-tree M (grant t (locks s (numbers-above l p)) (act t s (M .tree)))))

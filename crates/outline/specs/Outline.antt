@@ -8,7 +8,7 @@ use lib.Dec.{eqb, ltb, leb}
 use Rattle.protocol.specs.State.{Marked}
 use Rattle.layout.specs.Lists.{modify, insert}
 use Rattle.layout.specs.Fields.{field}
-use Rattle.layout.specs.Layout.{entry-at, slot, depth, number, is-open, Entry, nodes, no-entry, Left}
+use Rattle.layout.specs.Layout.{entry-at, slot, depth, number, is-open, Entry, nodes, no-entry, Left, header}
 use Rattle.layout.specs.Laws.Bytes.{Only}
 
 -- the entry at place i
@@ -44,7 +44,7 @@ pub record Opened (s s′ : List ℕ) (p d n : ℕ) : Type 0 where
   pub node : Marked
   pub number : node .now .number ≡ n
   pub many : length (nodes s′) ≡ length (nodes s) + 1
-  pub left : Left s s′ (is-open s) (insert p (d, node) (nodes s))
+  pub left : Left s s′ (header s) (insert p (d, node) (nodes s))
 
 -- the least depth that is left out behind a node, 0 for none: after one that is left out, one more than its depth
 unfoldable pub next-below : (Marked → Bool) → ℕ → Entry → ℕ

@@ -6,7 +6,7 @@ ghost use Prim.Native.Nat.{_+_, _-_, _*_, _<_, _≤_};
 ghost use lib.ListN.{length, getD, take};
 ghost use Rattle.protocol.specs.State.{inserted-by};
 ghost use Rattle.layout.specs.Lists.{insert};
-ghost use Rattle.layout.specs.Layout.{state-size, slot, depth, number, is-open, nodes, no-entry, Layout, Left, Kept};
+ghost use Rattle.layout.specs.Layout.{state-size, slot, depth, number, is-open, nodes, no-entry, Layout, Left, Kept, header};
 ghost use Rattle.layout.specs.Flat.{prune};
 ghost use Rattle.outline.specs.Outline.{Entered, Shifted, Opened, exchange, next-below, not-marked};
 
@@ -71,7 +71,7 @@ fn open_place(s: &mut [u8], p: usize, d: u16, n: u16)
 // A node inserted by t, at place p and depth d.
 pub fn insert(s: &mut [u8], p: usize, d: u16, n: u16, kind: u8, t: u8, content: &[u8])
     requires { ⌜ (Layout (now s)) × (length (nodes (now s)) < 1024) × (p ≤ length (nodes (now s))) × (length (now content) ≤ 32) ⌝ }
-    ensures { λ r. ⌜ Left (now (s .entry)) (now (s .exit)) (is-open (now (s .entry)))
+    ensures { λ r. ⌜ Left (now (s .entry)) (now (s .exit)) (header (now (s .entry)))
         (insert p (d, inserted-by t (record { number = n; kind = kind; content = now (content .entry) })) (nodes (now (s .entry)))) ⌝ }
 {
     open_place(s, p, d, n);
@@ -106,7 +106,7 @@ pub fn swap(s: &mut [u8], i: usize, j: usize)
 // Only the first k nodes are held; the slots of the others are free.
 pub fn cut(s: &mut [u8], k: usize)
     requires { ⌜ (Layout (now s)) × (1 ≤ k) × (k ≤ length (nodes (now s))) ⌝ }
-    ensures { λ r. ⌜ Left (now (s .entry)) (now (s .exit)) (is-open (now (s .entry))) (take k (nodes (now (s .entry)))) ⌝ }
+    ensures { λ r. ⌜ Left (now (s .entry)) (now (s .exit)) (header (now (s .entry))) (take k (nodes (now (s .entry)))) ⌝ }
 {
     layout::set_word(s, COUNT, k as u16);
 }
@@ -139,7 +139,7 @@ fn next_below(s: &[u8], j: usize, below: usize, o: usize, t: u8) -> usize
 // The nodes with mark o (2 inserter, 3 deleter) of t taken out, with all below them; the first is not one of them.
 pub fn prune(s: &mut [u8], o: usize, t: u8)
     requires { ⌜ (Layout (now s)) × (o < 4) × (not-marked o t (getD (nodes (now s)) 0 no-entry .1) ≡ true) ⌝ }
-    ensures { λ r. ⌜ Left (now (s .entry)) (now (s .exit)) (is-open (now (s .entry))) (prune (not-marked o t) 0 (nodes (now (s .entry)))) ⌝ }
+    ensures { λ r. ⌜ Left (now (s .entry)) (now (s .exit)) (header (now (s .entry))) (prune (not-marked o t) 0 (nodes (now (s .entry)))) ⌝ }
 {
     let m = table::count(s);
     let mut k: usize = 1;

@@ -5,12 +5,12 @@ ghost use mathlib.Core.Bool.{true};
 ghost use Prim.Native.Nat.{_<_, _≤_};
 ghost use lib.ListN.{length, getD};
 ghost use lib.Dec.{eqb};
-ghost use Rattle.protocol.specs.State.{unwritten, wrote, writer-of, deleted-by};
+ghost use Rattle.protocol.specs.State.{unwritten, wrote, writer-of, deleted-by, with-inserter, with-update};
 ghost use Rattle.layout.specs.Lists.{modify, first};
 ghost use Rattle.layout.specs.Flat.{second};
 ghost use Rattle.layout.specs.Layout.{slot, nodes, no-entry, Layout, Kept};
-ghost use Rattle.layout.specs.Fields.{field, storable, with-field, with-kind, with-update, with-inserter};
-ghost use Rattle.layout.specs.Fields.{has-text, text, with-now, restored, saved-bytes, saved-size, Saved, marked-written};
+ghost use Rattle.layout.specs.Fields.{field, storable, with-field, with-kind};
+ghost use Rattle.layout.specs.Fields.{has-text, text, with-bytes, restored, saved-bytes, saved-size, Saved, marked-written};
 
 // The bytes that a state takes; those behind are never touched.
 pub const SIZE: usize = 110608;
@@ -158,7 +158,7 @@ pub fn content_bytes(s: &[u8], i: usize, o: usize) -> &[u8]
 
 pub fn set_content(s: &mut [u8], i: usize, b: &[u8])
     requires { ⌜ (Layout (now s)) × (i < length (nodes (now s))) × (length (now b) ≤ 32) ⌝ }
-    ensures { λ r. ⌜ Kept (now (s .entry)) (now (s .exit)) (modify i (second (with-now (now (b .entry)))) (nodes (now (s .entry)))) ⌝ }
+    ensures { λ r. ⌜ Kept (now (s .entry)) (now (s .exit)) (modify i (second (with-bytes (now (b .entry)))) (nodes (now (s .entry)))) ⌝ }
 {
     let k = slot(s, i);
     s[CELLS + CELL * k + 4] = b.len() as u8;

@@ -6,10 +6,11 @@ ghost use Prim.Native.Nat.{ℕ, _+_, _-_, _*_, _^_, _<_, _≤_};
 ghost use lib.ListN.{length, getD};
 ghost use lib.Dec.{eqb};
 ghost use Rattle.locks.specs.Modes.{in-word};
+ghost use Rattle.protocol.specs.State.{released, with-open};
 ghost use Rattle.layout.specs.Lists.{modify};
 ghost use Rattle.layout.specs.Flat.{second};
-ghost use Rattle.layout.specs.Layout.{is-open, nodes, no-entry, Layout, Left, Kept};
-ghost use Rattle.layout.specs.Fields.{with-modes, released, unlocked};
+ghost use Rattle.layout.specs.Layout.{is-open, nodes, no-entry, Layout, Left, Kept, header};
+ghost use Rattle.layout.specs.Fields.{with-modes, unlocked};
 ghost use Rattle.layout.specs.Transaction.{Loaded};
 
 const OPEN: usize = 8;
@@ -32,7 +33,7 @@ pub fn is_open(s: &[u8], t: usize) -> bool
 
 pub fn open(s: &mut [u8], t: usize)
     requires { ⌜ (Layout (now s)) × (1 ≤ t) × (t ≤ 16) × (is-open (now s) t ≡ false) ⌝ }
-    ensures { λ r. ⌜ Left (now (s .entry)) (now (s .exit)) (λ u. eqb u t || is-open (now (s .entry)) u) (nodes (now (s .entry))) ⌝ }
+    ensures { λ r. ⌜ Left (now (s .entry)) (now (s .exit)) (with-open (λ u. eqb u t || is-open (now (s .entry)) u) (header (now (s .entry)))) (nodes (now (s .entry))) ⌝ }
 {
     let w = layout::word(s, OPEN);
     layout::set_word(s, OPEN, w ^ power(t - 1));
@@ -40,7 +41,7 @@ pub fn open(s: &mut [u8], t: usize)
 
 pub fn close(s: &mut [u8], t: usize)
     requires { ⌜ (Layout (now s)) × (1 ≤ t) × (t ≤ 16) × (is-open (now s) t ≡ true) ⌝ }
-    ensures { λ r. ⌜ Left (now (s .entry)) (now (s .exit)) (λ u. not (eqb u t) && is-open (now (s .entry)) u) (nodes (now (s .entry))) ⌝ }
+    ensures { λ r. ⌜ Left (now (s .entry)) (now (s .exit)) (with-open (λ u. not (eqb u t) && is-open (now (s .entry)) u) (header (now (s .entry)))) (nodes (now (s .entry))) ⌝ }
 {
     let w = layout::word(s, OPEN);
     layout::set_word(s, OPEN, w ^ power(t - 1));

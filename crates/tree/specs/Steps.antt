@@ -46,56 +46,66 @@ inserts (UU n a b) = []
 
 -- what fits --------------------------------------------------------------------
 
-abbrev pub is-document : Line → Bool
-is-document r = eqb (r .it .kind) document-kind
-
--- cause 7: "no node so numbered"
-abbrev pub unknown : Step → Document → Bool
-unknown s d = not (here (target s) d)
-
--- cause 8: "R, U or D on the document; I where the parent's kind never takes such a child, or the kind is not 2 to 4"
-abbrev pub wrong-kind : Step → Document → Bool
-wrong-kind (T n) d = false
-wrong-kind (C n k) d = false
-wrong-kind (R n) d = is-document (at n d)
-wrong-kind (U n b) d = is-document (at n d)
-wrong-kind (D n) d = is-document (at n d)
-wrong-kind (I m kind b n k) d = not (takes (at n d .it .kind) kind)
-wrong-kind (TT n) d = false
-wrong-kind (RR n) d = false
-wrong-kind (UU n a b) d = false
+-- cause 8 of a step on a node of this kind: "R, U or D on the document; I where the parent's kind never takes such a child, or the kind is
+-- not 2 to 4"
+abbrev pub wrong-kind-on : Step → ℕ → Bool
+wrong-kind-on (T n) on = false
+wrong-kind-on (C n k) on = false
+wrong-kind-on (R n) on = eqb on document-kind
+wrong-kind-on (U n b) on = eqb on document-kind
+wrong-kind-on (D n) on = eqb on document-kind
+wrong-kind-on (I m kind b n k) on = not (takes on kind)
+wrong-kind-on (TT n) on = false
+wrong-kind-on (RR n) on = false
+wrong-kind-on (UU n a b) on = false
 
 -- cause 9: "content or name not allowed"
-abbrev pub wrong-content : Step → Document → Bool
-wrong-content (T n) d = false
-wrong-content (C n k) d = false
-wrong-content (R n) d = false
-wrong-content (U n b) d = not (allowed (at n d .it .kind) b)
-wrong-content (D n) d = false
-wrong-content (I m kind b n k) d = not (allowed kind b)
-wrong-content (TT n) d = false
-wrong-content (RR n) d = false
-wrong-content (UU n a b) d = not (is-name a && is-name b)
-
--- "a number there already"
-abbrev pub number-there : Step → Document → Bool
-number-there s d = any (λ m. here m d) (inserts s)
+abbrev pub wrong-content-on : Step → ℕ → Bool
+wrong-content-on (T n) on = false
+wrong-content-on (C n k) on = false
+wrong-content-on (R n) on = false
+wrong-content-on (U n b) on = not (allowed on b)
+wrong-content-on (D n) on = false
+wrong-content-on (I m kind b n k) on = not (allowed kind b)
+wrong-content-on (TT n) on = false
+wrong-content-on (RR n) on = false
+wrong-content-on (UU n a b) on = not (is-name a && is-name b)
 
 -- k is a place among these children, and the children rule holds with the new one there
 unfoldable pub placed : ℕ → ℕ → ℕ → List ℕ → Bool
 placed parent kind k others = leb 1 k && leb k (suc (length others)) && children-rule parent (insert-at k kind others)
 
--- cause 11: "k is 0 or past children + 1, or the children rule would break"
+-- cause 11, with children of these kinds: "k is 0 or past children + 1, or the children rule would break"
+abbrev pub misplaced-on : Step → ℕ → List ℕ → Bool
+misplaced-on (T n) on others = false
+misplaced-on (C n k) on others = false
+misplaced-on (R n) on others = false
+misplaced-on (U n b) on others = false
+misplaced-on (D n) on others = false
+misplaced-on (I m kind b n k) on others = not (placed on kind k others)
+misplaced-on (TT n) on others = false
+misplaced-on (RR n) on others = false
+misplaced-on (UU n a b) on others = false
+
+-- the same in a document; cause 7: "no node so numbered"
+abbrev pub kind-at : Step → Document → ℕ
+kind-at s d = at (target s) d .it .kind
+
+abbrev pub unknown : Step → Document → Bool
+unknown s d = not (here (target s) d)
+
+abbrev pub wrong-kind : Step → Document → Bool
+wrong-kind s d = wrong-kind-on s (kind-at s d)
+
+abbrev pub wrong-content : Step → Document → Bool
+wrong-content s d = wrong-content-on s (kind-at s d)
+
 abbrev pub misplaced : Step → Document → Bool
-misplaced (T n) d = false
-misplaced (C n k) d = false
-misplaced (R n) d = false
-misplaced (U n b) d = false
-misplaced (D n) d = false
-misplaced (I m kind b n k) d = not (placed (at n d .it .kind) kind k (kinds (select (child n) d)))
-misplaced (TT n) d = false
-misplaced (RR n) d = false
-misplaced (UU n a b) d = false
+misplaced s d = misplaced-on s (kind-at s d) (kinds (select (child (target s)) d))
+
+-- "a number there already"
+abbrev pub number-there : Step → Document → Bool
+number-there s d = any (λ m. here m d) (inserts s)
 
 -- the plain rules allow the step: none of "a node not there, a number there already, a kind or place against the tree's rules"
 abbrev pub fits : Step → Document → Bool

@@ -13,7 +13,7 @@ ghost use Rattle.locks.specs.declared.StepName.the-variants as name;
 ghost use Rattle.protocol.specs.State.{written-by, inserted-by};
 ghost use Rattle.layout.specs.Lists.{modify, insert};
 ghost use Rattle.layout.specs.Flat.{second};
-ghost use Rattle.layout.specs.Layout.{is-open, nodes, Layout, Left, Kept};
+ghost use Rattle.layout.specs.Layout.{is-open, nodes, Layout, Left, Kept, header};
 ghost use Rattle.lookup.specs.Places.{item, children, subtree};
 ghost use Rattle.lookup.specs.Placing.{placed-by};
 ghost use Rattle.edits.specs.Rows.{left-out, granted-modes, new-place};
@@ -267,7 +267,7 @@ pub fn new_place(s: &[u8], p: usize, t: u8, k: u32) -> usize
 // A node put in by t at place q and depth d, with the locks of t on it.
 pub fn put(s: &mut [u8], q: usize, d: u16, m: u16, kind: u8, t: u8, b: &[u8])
     requires { ⌜ (Layout (now s)) × (length (nodes (now s)) < 1024) × (q ≤ length (nodes (now s))) × (length (now b) ≤ 32) × (1 ≤ t) × (t ≤ 16) ⌝ }
-    ensures { λ r. ⌜ Left (now (s .entry)) (now (s .exit)) (is-open (now (s .entry)))
+    ensures { λ r. ⌜ Left (now (s .entry)) (now (s .exit)) (header (now (s .entry)))
         (insert q (d, granted-modes t (need (step-named name.I) .new) (inserted-by t (record { number = m; kind = kind; content = now (b .entry) })))
         (nodes (now (s .entry)))) ⌝ }
 {

@@ -11,9 +11,8 @@ use Rattle.tree.specs.Laws.Tests.{and-left, and-right}
 use Rattle.layout.specs.Flat.{flat, second, prune}
 use Rattle.tree.specs.Laws.Lists.{map-map}
 use Rattle.locks.specs.Modes.{ModeSet, no-mode}
-use Rattle.layout.specs.Fields.{released}
 use Rattle.layout.specs.Layout.{Entry}
-use Rattle.protocol.specs.State.{Marked, Tree, none-of, seen-by, lasting, undone, unmarked, commit-tree, abort-tree, tree-of, start-state}
+use Rattle.protocol.specs.State.{Marked, Tree, none-of, seen-by, lasting, undone, unmarked, commit-tree, abort-tree, tree-of, start-state, released}
 use Rattle.tree.specs.Document.{Document, node-0-alone}
 use Rattle.tree.specs.Content.{document-kind}
 use Rattle.edits.specs.Rows.{left-out, with-held, not-inserted-by}

@@ -1,9 +1,9 @@
 use borrow.Author.Needs.{needs}
 use native.Mathlib.Omega.{arith}
 use mathlib.Core.List.{map}
+use Rattle.protocol.specs.State.{released}
 use Rattle.layout.specs.Flat.{second}
 use Rattle.layout.specs.Layout.{nodes}
-use Rattle.layout.specs.Fields.{released}
 use Rattle.layout.specs.Laws.Kept.{left-kept}
 use Rattle.ends.specs.Laws.Marks.{kept-open, closed-after}
 use Rattle.ends.proofs.close.Statement.{statement}

@@ -13,7 +13,7 @@ use Rattle.protocol.specs.Calls.{Call, begin, commit, abort, refused, Next, unc
 use Rattle.protocol.specs.Answers.{answer-of, granted-answer}
 use Rattle.protocol.specs.declared.Answer.the-variants.{Done, Refused}
 use Rattle.layout.specs.Flat.{flat, second, prune}
-use Rattle.layout.specs.Layout.{state-size, is-open, Entry, nodes, no-entry, Left}
+use Rattle.layout.specs.Layout.{state-size, is-open, Entry, nodes, no-entry, Left, header}
 use Rattle.lookup.specs.Places.{unique}
 use Rattle.form.specs.Form.{form, valid-tree, Holds}
 use Rattle.form.specs.Start.{Started}
@@ -29,6 +29,7 @@ use Rattle.engine.specs.Admission.{Opened, Barred}
 use Rattle.ends.specs.Ends.{Restarted, Ended}
 use Rattle.engine.specs.Laws.Outcomes.{Stays, Grants, performed-stays, performed-grants}
 use Rattle.engine.specs.Laws.Admission.{open-next}
+use Rattle.protocol.specs.State.{with-open}
 
 -- the document is nobody's insertion or deletion, so that no end takes it out -------------------
 
@@ -94,7 +95,7 @@ module _ {s : List ℕ} {t : ℕ} (f : form s ≡ true) where
   begin-high k = refusal 1 f (λ M h. rw (lt-leb t 16 k) (go (leb 1 t) M))
     where
       go : (b : Bool) (M : State)
-          → cond (not (b && false)) (unchanged (refused 1) M) (cond (M .is-open t) (unchanged (refused 2) M) (becomes done (opened t M)))
+          → cond (not (b && false)) (unchanged (refused 1) M) (cond (M .header .is-open t) (unchanged (refused 2) M) (becomes done (opened t M)))
           ≡ unchanged (refused 1) M
       go true M = refl
       go false M = refl
@@ -102,13 +103,13 @@ module _ {s : List ℕ} {t : ℕ} (f : form s ≡ true) where
   module _ (low : 1 ≤ t) (high : t ≤ 16) where
     pub begin-open : is-open s t ≡ true → Performed s s (Refused 2) (begin t)
     unfolding next
-    begin-open e = refusal 2 f (λ M h. let o : M .is-open t ≡ true = rw (← h .opens) e in rw (le-leb 1 t low, le-leb t 16 high, o))
+    begin-open e = refusal 2 f (λ M h. let o : M .header .is-open t ≡ true = rw (← h .header) e in rw (le-leb 1 t low, le-leb t 16 high, o))
 
     begins : is-open s t ≡ false → (M : State) → Holds s M → next (begin t) M ≡ becomes done (opened t M)
     unfolding next
-    begins e M h = let o : M .is-open t ≡ false = rw (← h .opens) e in rw (le-leb 1 t low, le-leb t 16 high, o)
+    begins e M h = let o : M .header .is-open t ≡ false = rw (← h .header) e in rw (le-leb 1 t low, le-leb t 16 high, o)
 
-    pub begin-done : {s′ : List ℕ} → is-open s t ≡ false → Left s s′ (λ u. eqb u t || is-open s u) (nodes s) → Performed s s′ Done (begin t)
+    pub begin-done : {s′ : List ℕ} → is-open s t ≡ false → Left s s′ (with-open (λ u. eqb u t || is-open s u) (header s)) (nodes s) → Performed s s′ Done (begin t)
     unfolding granted-answer
     begin-done {s′} e k = performed-grants
         (record {
@@ -116,7 +117,7 @@ module _ {s : List ℕ} {t : ℕ} (f : form s ≡ true) where
           outcome = λ M h. ap (λ (n : Next). n .outcome) (begins e M h);
           state = λ M h. rw (begins e M h) (record {
             layout = k .layout;
-            opens = k .opens ∙ ap {B = ℕ → Bool} (λ (g : ℕ → Bool) (u : ℕ). eqb u t || g u) (h .opens);
+            header = k .header ∙ ap {B = ℕ → Bool} (λ (g : ℕ → Bool) (u : ℕ). eqb u t || g u) (h .header);
             rows = k .nodes ∙ h .rows;
             unique = rw (k .nodes) (h .unique);
             valid = h .valid;
@@ -159,7 +160,7 @@ module _ {s s′ : List ℕ} {t : ℕ} {call : Call} (edit : Tree → Tree) (sho
               layout = k .layout;
               long = k .long;
               behind = k .behind;
-              opens = k .opens ∙ ap {B = ℕ → Bool} (λ (p : ℕ → Bool) (u : ℕ). not (eqb u t) && p u) (h .opens);
+              header = k .header ∙ ap {B = ℕ → Bool} (λ (p : ℕ → Bool) (u : ℕ). not (eqb u t) && p u) (h .header);
               nodes = k .nodes ∙ ap (λ (l : List Entry). map (second g) (prune shown 0 l)) (h .rows) ∙ sym (rows (M .tree));
             })
             (distinct (M .tree) (holds-unique h)) (kept (M .tree) (h .valid)));

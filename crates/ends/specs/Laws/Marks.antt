@@ -8,11 +8,11 @@ use lib.ListN.{length, getD}
 use lib.Dec.{eqb}
 use borrow.Author.Tests.{eq-eqb, ne-eqb}
 use Rattle.tree.specs.Laws.Lists.{map-map}
-use Rattle.protocol.specs.State.{nobody, writer-of, Marked, seen-by, lasting, undone}
+use Rattle.protocol.specs.State.{nobody, writer-of, Marked, seen-by, lasting, undone, released}
 use Rattle.layout.specs.Lists.{modify}
 use Rattle.layout.specs.Flat.{second, prune}
-use Rattle.layout.specs.Layout.{is-open, Entry, nodes, no-entry, Layout, Left, Kept}
-use Rattle.layout.specs.Fields.{field, storable, with-field, has-text, restored, released}
+use Rattle.layout.specs.Layout.{is-open, Entry, nodes, no-entry, Layout, Left, Kept, header}
+use Rattle.layout.specs.Fields.{field, storable, with-field, has-text, restored}
 use Rattle.layout.specs.Laws.Lists.{modify-modify, modify-same, modify-none}
 use Rattle.layout.specs.Laws.Kept.{kept-same, kept-then, kept-as, left-kept, left-then, left-as}
 use Rattle.ends.specs.Ends.{without-mark, rewritten, lasting-marks, undone-marks, map-first, Closed, Ended}
@@ -105,26 +105,26 @@ module _ (g : Entry → Entry) where
 -- an end ----------------------------------------------------------------------------------------------
 
 -- t is open until it is closed
-pub left-open : {s s′ : List ℕ} {l : List Entry} (t : ℕ) → Left s s′ (is-open s) l → is-open s t ≡ true → is-open s′ t ≡ true
-left-open t a e = ap (λ (f : ℕ → Bool). f t) (a .opens) ∙ e
+pub left-open : {s s′ : List ℕ} {l : List Entry} (t : ℕ) → Left s s′ (header s) l → is-open s t ≡ true → is-open s′ t ≡ true
+left-open t a e = ap (λ (f : ℕ → Bool). f t) (a .header) ∙ e
 
 pub kept-open : {s s′ : List ℕ} {l : List Entry} (t : ℕ) → Kept s s′ l → is-open s t ≡ true → is-open s′ t ≡ true
 kept-open t a e = left-open t (left-kept a) e
 
 -- closed after another change
 module _ {s s₁ s₂ : List ℕ} (t : ℕ) where
-  pub closed-after : (ns : List Entry) (f : List Entry → List Entry) → Left s s₁ (is-open s) ns → Closed t s₁ s₂ (f (nodes s₁)) → Closed t s s₂ (f ns)
+  pub closed-after : (ns : List Entry) (f : List Entry → List Entry) → Left s s₁ (header s) ns → Closed t s₁ s₂ (f (nodes s₁)) → Closed t s s₂ (f ns)
   closed-after ns f a b = record {
     layout = b .layout;
     long = b .long ∙ a .long;
     behind = b .behind ∙ a .behind;
-    opens = b .opens ∙ ap {B = ℕ → Bool} (λ (p : ℕ → Bool) (u : ℕ). not (eqb u t) && p u) (a .opens);
+    header = b .header ∙ ap {B = ℕ → Bool} (λ (p : ℕ → Bool) (u : ℕ). not (eqb u t) && p u) (a .header);
     nodes = b .nodes ∙ ap f (a .nodes);
   }
 
 -- pruned, each mark cleared, the locks released and t closed
 module _ (shown : Marked → Bool) (marks g : Marked → Marked) (t : ℕ) (whole : (a : Marked) → released t (marks a) ≡ g a) where
-  pub ended : {s s₁ s₂ s₃ : List ℕ} → Left s s₁ (is-open s) (prune shown 0 (nodes s)) → Kept s₁ s₂ (map (second marks) (nodes s₁))
+  pub ended : {s s₁ s₂ s₃ : List ℕ} → Left s s₁ (header s) (prune shown 0 (nodes s)) → Kept s₁ s₂ (map (second marks) (nodes s₁))
       → Closed t s₂ s₃ (map (second (released t)) (nodes s₂)) → Ended shown g t s s₃
   ended {s} a b c =
       left-as _ (map (second g) (prune shown 0 (nodes s)))

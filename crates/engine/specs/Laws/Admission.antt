@@ -33,7 +33,7 @@ use Rattle.engine.specs.Laws.Outcomes.{not-both}
 -- a call of an open transaction
 pub open-next : {s : List ℕ} {t : ℕ} → Opened s t → (M : State) → Holds s M → (x : Next) → if-open t M x ≡ x
 open-next {s} {t} o M h x =
-    let e : M .is-open t ≡ true = rw (← h .opens) (o .is-open) in
+    let e : M .header .is-open t ≡ true = rw (← h .header) (o .is-open) in
     rw (le-leb 1 t (o .low), le-leb t 16 (o .high), e)
 
 barring : {s : List ℕ} {t c : ℕ} → (c ≡ 0 → ⊥) → Barred s t c → Caller s t c
@@ -65,7 +65,7 @@ module _ {s : List ℕ} {t : ℕ} where
       pub caller-shut : is-open s t ≡ false → Caller s t 3
       caller-shut e = barring (λ e. omega arith) (record {
         unformed = λ x. not-both f x;
-        formed = λ M h x. let o : M .is-open t ≡ false = rw (← h .opens) e in rw (le-leb 1 t (positive t low), le-leb t 16 high, o);
+        formed = λ M h x. let o : M .header .is-open t ≡ false = rw (← h .header) e in rw (le-leb 1 t (positive t low), le-leb t 16 high, o);
       })
 
       pub caller-open : is-open s t ≡ true → Caller s t 0

@@ -16,7 +16,7 @@ use Rattle.protocol.specs.State.{State, Tree, act, grant, number-held, with-tre
 use Rattle.protocol.specs.Lent.{Room, has-room}
 use Rattle.protocol.specs.Calls.{node-limit, step, waits, refused, unchanged, becomes, Next, next}
 use Rattle.layout.specs.Flat.{flat}
-use Rattle.layout.specs.Layout.{Entry, nodes, is-open, Left, Kept}
+use Rattle.layout.specs.Layout.{Entry, nodes, is-open, Left, Kept, header}
 use Rattle.layout.specs.Laws.Kept.{kept-as}
 use Rattle.lookup.specs.Places.{item, number-of, place-of, ups, numbers-above, children}
 use Rattle.lookup.specs.Found.{misfit-on, misplaced-on, answer-at, wait-word, judged-at}
@@ -69,7 +69,7 @@ module _ {s : List ℕ} {t p : ℕ} (a : Admitted s t p) (st : Step) (on : numbe
 module _ {s : List ℕ} {t p : ℕ} {st : Step} (f : Fits s t p st) where
   -- the set by the definition's open transactions
   abbrev set-in : State → ℕ
-  set-in M = wait-word t (need st) (M .is-open) (item (nodes s) p ∷ ups (nodes s) p)
+  set-in M = wait-word t (need st) (M .header .is-open) (item (nodes s) p ∷ ups (nodes s) p)
 
   module _ (w : Way) (c : Climbed (nodes s) p w) (k : StepName) (same : need (step-named k) ≡ need st) (set : ℕ)
       (v : set ≡ wait-word t (need (step-named k)) (is-open s) (way-nodes (nodes s) w)) where
@@ -80,7 +80,7 @@ module _ {s : List ℕ} {t p : ℕ} {st : Step} (f : Fits s t p st) where
     unfolding judged-at
     stays-waits n room = record {
       formed = f .admitted .formed;
-      next = λ M h. let e : set ≡ set-in M = set-is ∙ rw (h .opens) in
+      next = λ M h. let e : set ≡ set-in M = set-is ∙ rw (h .header) in
           admitted-next (f .admitted) M h st (f .on) room ∙ rw (f .fits, f .new, ← e, ne-eqb set 0 n);
       quiet = refl;
     }
@@ -91,8 +91,8 @@ module _ {s : List ℕ} {t p : ℕ} {st : Step} (f : Fits s t p st) where
 -- causes 11 to 13 --------------------------------------------------------------------------
 
 module _ {s : List ℕ} {t p : ℕ} {st : Step} (f : Free s t p st) (room : Room) where
-  none-waits : (M : State) → Holds s M → wait-word t (need st) (M .is-open) (item (nodes s) p ∷ ups (nodes s) p) ≡ 0
-  none-waits M h = rw (← h .opens) (f .free)
+  none-waits : (M : State) → Holds s M → wait-word t (need st) (M .header .is-open) (item (nodes s) p ∷ ups (nodes s) p) ≡ 0
+  none-waits M h = rw (← h .header) (f .free)
 
   to-place : (M : State) → Holds s M → next (step t st room) M ≡ judged-at t st room M (nodes s) p
   to-place M h = admitted-next (f .fits .admitted) M h st (f .fits .on) room
@@ -137,7 +137,7 @@ module _ {s : List ℕ} {t p : ℕ} {st : Step} (f : Placed s t p st) (room : Ro
       any-same (λ m. number-held m (M .tree)) (λ m. ltb (place-of m (nodes s)) (length (nodes s))) (inserts st)
       (λ m i. held-place m (M .tree) ∙ rw (← h .rows)) ∙ f .free .fits .new
 
-  pub grants-step : {s′ : List ℕ} → has-room (answer-at st t (nodes s) p) room ≡ true → Left s s′ (is-open s) (stepped t st p (nodes s))
+  pub grants-step : {s′ : List ℕ} → has-room (answer-at st t (nodes s) p) room ≡ true → Left s s′ (header s) (stepped t st p (nodes s))
       → Grants s s′ (answer-at st t (nodes s) p) (step t st room)
   grants-step {s′} e l = record {
     formed = f .free .fits .admitted .formed;
@@ -158,7 +158,7 @@ module _ {s : List ℕ} {t p : ℕ} {st : Step} (f : Placed s t p st) (room : Ro
           let valid = valid-act t st g p (f .free .fits .admitted .high) (h .valid) (holds-unique h) i o (rw (h .rows) at (f .free .fits .fits)) in
           record {
             layout = l .layout;
-            opens = l .opens ∙ h .opens;
+            header = l .header ∙ h .header;
             rows = l .nodes ∙ sym rows;
             unique = rw (l .nodes, ← rows) (unique-grant t (locks st (numbers-above (nodes s) p)) u ∙ unique-act t st g p (holds-unique h) i o (none-held M h));
             valid = valid-grant t (locks st (numbers-above (nodes s) p)) u valid;

@@ -25,7 +25,7 @@ short-texts d (b ∷ c) l h = h .0
 
 put-none : {s : List ℕ} → Layout s → (d : ℕ) → Put s s (texts d [])
 unfolding texts
-put-none {s} h d = record { layout = h; long = refl; behind = refl; opens = refl; nodes = sym (rows-done s) }
+put-none {s} h d = record { layout = h; long = refl; behind = refl; header = refl; nodes = sym (rows-done s) }
 
 pub length-bytes : (n : ℕ) (b : List ℕ) → n ≤ content-limit → length b ≡ content-limit → length (take n b) ≡ n
 length-bytes n b h e = length-take-le n b (omega arith)
@@ -60,13 +60,13 @@ module _ {x s : List ℕ} {stop at d : ℕ} {b : List ℕ} {n : ℕ} {c : Cursor
 -- its callers --------------------------------------------------------------------------------
 
 pub put-same : {s s′ : List ℕ} (k : List Row) → Put s s′ k → Same s s′
-put-same k p = record { long = p .long; behind = p .behind; opens = p .opens }
+put-same k p = record { long = p .long; behind = p .behind; header = p .header }
 
 pub same-then : {s s′ s″ : List ℕ} → Same s s′ → Same s′ s″ → Same s s″
-same-then a b = record { long = b .long ∙ a .long; behind = b .behind ∙ a .behind; opens = b .opens ∙ a .opens }
+same-then a b = record { long = b .long ∙ a .long; behind = b .behind ∙ a .behind; header = b .header ∙ a .header }
 
 pub same-same : (s : List ℕ) → Same s s
-same-same s = record { long = refl; behind = refl; opens = refl }
+same-same s = record { long = refl; behind = refl; header = refl }
 
 -- rows put, and the place behind them
 pub filled-by : {P Q : ℕ → List ℕ → List Row → Type 0} {x s s′ : List ℕ} {at d : ℕ} (F : Filling P x s at d) (k l : List Row) → F .rows ≡ k ++ l → Put s s′ k

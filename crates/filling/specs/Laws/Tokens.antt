@@ -9,7 +9,7 @@ use lib.Seq.{drop-cons, take-length, drop-length}
 use Rattle.tree.specs.Content.{name-byte}
 use Rattle.protocol.specs.State.{inserted-by}
 use Rattle.layout.specs.Lists.{insert}
-use Rattle.layout.specs.Layout.{is-open, nodes, Left}
+use Rattle.layout.specs.Layout.{is-open, nodes, Left, header}
 use Rattle.layout.specs.Laws.Kept.{left-as}
 use Rattle.xml.specs.Bytes.{slash, equals-sign, greater-than, blank}
 use Rattle.xml.specs.Grammar.{Blanks}
@@ -59,7 +59,7 @@ at-end x at i c j r k e = record {
 
 -- a node put behind the last
 pub put-last : {s s′ : List ℕ} (p d kind : ℕ) (b : List ℕ) → p ≡ length (nodes s)
-    → Left s s′ (is-open s) (insert p (d, inserted-by 0 (record { number = p; kind = kind; content = b })) (nodes s))
+    → Left s s′ (header s) (insert p (d, inserted-by 0 (record { number = p; kind = kind; content = b })) (nodes s))
     → Put s s′ ((d, record { kind = kind; content = b }) ∷ [])
 unfolding insert entries
 put-last {s} {s′} p d kind b e l =

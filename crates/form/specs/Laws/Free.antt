@@ -74,7 +74,7 @@ saved-free i l u d h =
     let k = kept (h .layout) i l d u in
     record {
       layout = k .layout;
-      opens = k .opens ∙ h .opens;
+      header = k .header ∙ h .header;
       rows = k .nodes ∙ h .rows;
       unique = rw (k .nodes) (h .unique);
       valid = h .valid;

@@ -151,7 +151,7 @@ pub form-holds : (s : List ℕ) → form s ≡ true → (M : State) × Holds s M
 form-holds s h =
     let p = form-parts h in
     let t = valid-forest (nodes s) (p .rows) in
-    (record { is-open = is-open s; tree = t .0 }, record { layout = form-layout h; opens = refl; rows = t .1; unique = p .unique; valid = t .2 })
+    (record { is-open = is-open s; tree = t .0 }, record { layout = form-layout h; header = refl; rows = t .1; unique = p .unique; valid = t .2 })
 
 pub holds-form : {s : List ℕ} {M : State} → Holds s M → form s ≡ true
 unfolding slots cells apart

@@ -47,4 +47,4 @@ module _ {A : Type 0} where
 
 pub holds-one : {s : List ℕ} (M N : State) → Holds s M → Holds s N → M ≡ N
 holds-one M N h k =
-    ap₂ (λ (o : ℕ → Bool) (f : Tree). record { is-open = o; tree = f }) (sym (h .opens) ∙ k .opens) (flat-one 0 (M .tree) (N .tree) (sym (h .rows) ∙ k .rows))
+    ap₂ (λ (o : ℕ → Bool) (f : Tree). record { is-open = o; tree = f }) (sym (h .header) ∙ k .header) (flat-one 0 (M .tree) (N .tree) (sym (h .rows) ∙ k .rows))

@@ -166,7 +166,7 @@ module _ (s : List ℕ) (l : state-size ≤ length s) (b : (j : ℕ) → j < sta
 
   pub start-holds : Holds s start-state
   unfolding tree-of node-0-alone view flat
-  start-holds = record { layout = start-layout; opens = open-is; rows = nodes-is; unique = rw nodes-is; valid = valid-start }
+  start-holds = record { layout = start-layout; header = open-is; rows = nodes-is; unique = rw nodes-is; valid = valid-start }
 
 -- the calls ------------------------------------------------------------------------------------------
 

@@ -30,14 +30,14 @@ use Rattle.form.specs.Laws.Valid.{Root, root-of, tree-of-root, valid-mar
 -- bytes that hold a state again ------------------------------------------------------------------
 
 -- after any change
-pub holds-left : {s s′ : List ℕ} (M : State) → Left s s′ (M .is-open) (flat 0 (M .tree)) → unique (flat 0 (M .tree)) ≡ true
+pub holds-left : {s s′ : List ℕ} (M : State) → Left s s′ (M .header .is-open) (flat 0 (M .tree)) → unique (flat 0 (M .tree)) ≡ true
     → valid-tree (M .tree) ≡ true → Holds s′ M
-holds-left M l u f = record { layout = l .layout; opens = l .opens; rows = l .nodes; unique = rw (l .nodes) u; valid = f }
+holds-left M l u f = record { layout = l .layout; header = l .header; rows = l .nodes; unique = rw (l .nodes) u; valid = f }
 
 -- after a change of the nodes alone
 pub holds-kept : {s s′ : List ℕ} {M : State} (f : Tree) → Holds s M → Kept s s′ (flat 0 f) → unique (flat 0 f) ≡ true → valid-tree f ≡ true
     → Holds s′ (with-tree M f)
-holds-kept f h k u g = record { layout = k .layout; opens = k .opens ∙ h .opens; rows = k .nodes; unique = rw (k .nodes) u; valid = g }
+holds-kept f h k u g = record { layout = k .layout; header = k .header ∙ h .header; rows = k .nodes; unique = rw (k .nodes) u; valid = g }
 
 -- in terms of the tree
 pub holds-unique : {s : List ℕ} {M : State} → Holds s M → unique (flat 0 (M .tree)) ≡ true

@@ -9,12 +9,12 @@ use lib.Seq.{drop-set-lt, getD-set-other}
 use lib.Dec.{eqb, ltb}
 use borrow.Author.Tests.{ltb-true, ltb-false, leb-true, eqb-true, eqb-false, eq-eqb, ne-eqb}
 use Rattle.locks.specs.Modes.{ModeSet, no-mode, in-word}
-use Rattle.protocol.specs.State.{is-transaction, unwritten, wrote, writer-of, Marked}
+use Rattle.protocol.specs.State.{is-transaction, unwritten, wrote, writer-of, Marked, with-update}
 use Rattle.layout.specs.Lists.{modify}
 use Rattle.layout.specs.Flat.{second}
 use Rattle.layout.specs.Layout.{state-size, entry-at, cell-at, word, part, count, slot, depth, number, cell, held, decode, Entry, entry, nodes}
 use Rattle.layout.specs.Layout.{stored, update-of, no-entry, Sized, Layout, Kept}
-use Rattle.layout.specs.Fields.{field, storable, with-field, with-update, saved-bytes, saved-size}
+use Rattle.layout.specs.Fields.{field, storable, with-field, saved-bytes, saved-size}
 use Rattle.layout.specs.Laws.Lists.{getD-set-eqb}
 use Rattle.layout.specs.Laws.Bytes.{Only, only-set, only-wider, part-at, part-set}
 use Rattle.layout.specs.Laws.Nodes.{node-at, length-nodes, length-cell, cell-kept}

@@ -8,7 +8,7 @@ use lib.ListN.{length, getD, take, drop, set}
 use lib.Dec.{eqb, ltb, leb}
 use borrow.Author.Tests.{ltb-true, ltb-false, lt-ltb, le-ltb, leb-true, le-leb, eqb-true, eqb-false, eq-eqb, ne-eqb}
 use Rattle.locks.specs.Modes.{Mode, ModeSet, no-mode, in-word, LT, LC, LR, LU, LW, LTT, LRR, LUU, LIR, LIU, LIW, LICW}
-use Rattle.protocol.specs.State.{is-transaction, Marked, none-of}
+use Rattle.protocol.specs.State.{is-transaction, Marked, none-of, released, with-held}
 use Rattle.layout.specs.Lists.{tabulate, modify}
 use Rattle.layout.specs.Flat.{second}
 use Rattle.layout.specs.Layout.{state-size, cell-at, lock-at, word, part, count, slot, number, cell, held, decode, Entry, entry, nodes}
@@ -16,7 +16,7 @@ use Rattle.layout.specs.Layout.{no-entry, Sized, Layout, Kept}
 use borrow.Author.Count.{below-more}
 use lib.Seq.{getD-set-same, getD-set-other}
 use Rattle.layout.specs.Transaction.{Loaded}
-use Rattle.layout.specs.Fields.{with-modes, released, unlocked}
+use Rattle.layout.specs.Fields.{with-modes, unlocked}
 use Rattle.layout.specs.Laws.Lists.{modify-modify, modify-same, modify-none}
 use Rattle.layout.specs.Laws.Kept.{kept-same, kept-then, kept-as}
 use Rattle.layout.specs.Laws.Bytes.{Filled, Only, only-wider, only-word, put-word, word-put, word-low, word-high, part-low}
@@ -195,13 +195,9 @@ not-transaction u h = go (is-transaction u) refl
     go true e = absurd (h (transaction-low u e) (transaction-high u e))
     go false e = refl
 
--- a with other modes
-abbrev holding : Marked → (ℕ → ModeSet) → Marked
-holding a f = record { now = a .now; update = a .update; inserter = a .inserter; deleter = a .deleter; held = f }
-
 cleared-none : (a : Marked) → a .held 0 ≡ no-mode → cleared 1 a ≡ a
 unfolding cleared
-cleared-none a h = ap (holding a) (fun-ext go)
+cleared-none a h = ap (λ (f : ℕ → ModeSet). with-held f a) (fun-ext go)
   where
     go : (u : ℕ) → cond (ltb u 1) no-mode (a .held u) ≡ a .held u
     go zero = sym h
@@ -209,7 +205,7 @@ cleared-none a h = ap (holding a) (fun-ext go)
 
 cleared-more : (t : ℕ) (a : Marked) → with-modes t 0 (cleared t a) ≡ cleared (t + 1) a
 unfolding cleared
-cleared-more t a = ap (holding a) (fun-ext (λ u. go u (eqb u t) refl (ltb u t) refl))
+cleared-more t a = ap (λ (f : ℕ → ModeSet). with-held f a) (fun-ext (λ u. go u (eqb u t) refl (ltb u t) refl))
   where
     go : (u : ℕ) (x : Bool) → eqb u t ≡ x → (y : Bool) → ltb u t ≡ y
         → cond (eqb u t) (in-word 0) (cond (ltb u t) no-mode (a .held u)) ≡ cond (ltb u (t + 1)) no-mode (a .held u)
@@ -219,7 +215,7 @@ cleared-more t a = ap (holding a) (fun-ext (λ u. go u (eqb u t) refl (ltb u t) 
 
 cleared-all : (a : Marked) → ((u : ℕ) → is-transaction u ≡ false → a .held u ≡ no-mode) → cleared 17 a ≡ unlocked a
 unfolding cleared
-cleared-all a h = ap (holding a) (fun-ext (λ u. go u (ltb u 17) refl))
+cleared-all a h = ap (λ (f : ℕ → ModeSet). with-held f a) (fun-ext (λ u. go u (ltb u 17) refl))
   where
     go : (u : ℕ) (x : Bool) → ltb u 17 ≡ x → cond x no-mode (a .held u) ≡ no-mode
     go u true p = refl

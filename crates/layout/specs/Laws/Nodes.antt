@@ -7,12 +7,12 @@ use native.Mathlib.Omega.{arith}
 use lib.ListN.{length, getD, take, drop, set}
 use lib.Dec.{eqb, ltb}
 use borrow.Author.Tests.{ltb-true, ltb-false, leb-true, eqb-true, eqb-false, eq-eqb, ne-eqb}
-use Rattle.locks.specs.Modes.{ModeSet, no-mode, in-word}
-use Rattle.protocol.specs.State.{is-transaction, Marked}
+use Rattle.locks.specs.Modes.{ModeSet, no-mode, in-word, bit}
+use Rattle.protocol.specs.State.{is-transaction, Marked, with-open}
 use Rattle.layout.specs.Lists.{tabulate, modify}
 use Rattle.layout.specs.Flat.{second}
 use Rattle.layout.specs.Layout.{state-size, open-at, entry-at, cell-at, lock-at, word, part, count, slot, depth, number, cell, is-open, held}
-use Rattle.layout.specs.Layout.{decode, Entry, entry, nodes, no-entry, Sized, Layout, Left, Kept}
+use Rattle.layout.specs.Layout.{decode, Entry, entry, nodes, no-entry, Sized, Layout, Left, Kept, header}
 use Rattle.layout.specs.Laws.Lists.{length-tabulate, getD-tabulate, tabulate-same, modify-tabulate, map-tabulate}
 use Rattle.layout.specs.Laws.Bytes.{Only, word-low, word-high, part-low, part-high, part-same, drop-high, length-part, part-at, part-set}
 
@@ -28,6 +28,11 @@ node-at s i h = getD-tabulate (count s) (entry s) i no-entry h
 pub length-cell : (s : List ℕ) (k : ℕ) → state-size ≤ length s → k < 1024 → length (cell s k) ≡ 70
 unfolding cell
 length-cell s k h l = length-part s (cell-at k) 70 (omega arith)
+
+-- changes behind the header, once for all its fields
+pub same-header : {k n : ℕ} {s s′ : List ℕ} → Only k n s s′ → entry-at 0 ≤ k → header s′ ≡ header s
+unfolding is-open
+same-header {k} {n} {s} {s′} o low = ap (λ (w : ℕ). with-open (λ t. cond (is-transaction t) (bit w (t - 1)) false) (header s)) (word-low o open-at (omega arith))
 
 -- changes behind the outline -------------------------------------------------------------
 
@@ -47,10 +52,6 @@ module _ {k n : ℕ} {s s′ : List ℕ} (o : Only k n s s′) (low : cell-at 0 
   same-number : (i : ℕ) → i < 1024 → number s′ i ≡ number s i
   unfolding number
   same-number i h = word-low o (entry-at i + 4) (omega arith)
-
-  pub same-open : is-open s′ ≡ is-open s
-  unfolding is-open
-  same-open = fun-ext (λ t. rw (word-low o 8 (omega arith)))
 
   entry-as : (i : ℕ) → i < 1024 → entry s′ i ≡ (depth s i, decode (number s i) (cell s′ (slot s i)) (held s′ (slot s i)))
   unfolding entry
@@ -74,7 +75,7 @@ module _ {k n : ℕ} {s s′ : List ℕ} (o : Only k n s s′) (low : cell-at 0 
         };
         long = o .long;
         behind = drop-high o state-size b;
-        opens = same-open;
+        header = same-header o (omega arith);
         many = length-nodes s′ ∙ same-count ∙ sym (length-nodes s);
         nodes = rw same-count e;
       }

@@ -9,8 +9,8 @@ use lib.Bits.{bitXor}
 use lib.Dec.{eqb}
 use borrow.Author.Tests.{eqb-true, eqb-false, eq-eqb, ne-eqb}
 use Rattle.locks.specs.Modes.{bit}
-use Rattle.protocol.specs.State.{is-transaction}
-use Rattle.layout.specs.Layout.{state-size, open-at, entry-at, cell-at, lock-at, word, part, count, slot, depth, number, cell, is-open, held}
+use Rattle.protocol.specs.State.{is-transaction, with-open}
+use Rattle.layout.specs.Layout.{state-size, open-at, entry-at, cell-at, lock-at, word, part, count, slot, depth, number, cell, is-open, header, held}
 use Rattle.layout.specs.Layout.{decode, Entry, entry, nodes, Sized, Layout, Left}
 use Rattle.layout.specs.Laws.Lists.{tabulate-same}
 use Rattle.layout.specs.Laws.Bytes.{Only, only-word, put-word, word-put, word-high, part-low, part-high, drop-high}
@@ -34,7 +34,7 @@ module _ (s s′ : List ℕ) (o : Only open-at 2 s s′) where
       rw (same-slot i, same-cell (slot s i), word-high o (entry-at i + 2) (omega arith), word-high o (entry-at i + 4) (omega arith))
       (ap (λ m. (depth s i, decode (number s i) (cell s (slot s i)) m)) h)
 
-  pub opens-left : Layout s → (flags : ℕ → Bool) → is-open s′ ≡ flags → Left s s′ flags (nodes s)
+  pub opens-left : Layout s → (flags : ℕ → Bool) → is-open s′ ≡ flags → Left s s′ (with-open flags (header s)) (nodes s)
   unfolding nodes count
   opens-left h flags e =
       let c : count s′ ≡ count s = word-high o 10 (omega arith) in
@@ -51,7 +51,7 @@ module _ (s s′ : List ℕ) (o : Only open-at 2 s s′) where
         };
         long = o .long;
         behind = drop-high o state-size (omega arith);
-        opens = e;
+        header = ap (λ (f : ℕ → Bool). with-open f (header s)) e;
         nodes = rw c (tabulate-same (count s) (entry s′) (entry s) (λ i l. same-entry i));
       }
 
@@ -76,7 +76,7 @@ module _ (s s′ : List ℕ) (t w p : ℕ) (e : s′ ≡ put-word s open-at (bit
   stored : s′ ≡ put-word s open-at (bitXor (word s open-at) (2 ^ (t - 1)))
   stored = e ∙ rw (x, y)
 
-  pub opened-left : is-open s t ≡ false → Left s s′ (λ u. eqb u t || is-open s u) (nodes s)
+  pub opened-left : is-open s t ≡ false → Left s s′ (with-open (λ u. eqb u t || is-open s u) (header s)) (nodes s)
   opened-left f =
       rw stored (opens-left s _ (only-word s open-at (bitXor (word s open-at) (2 ^ (t - 1)))) h _
       (turned s t (t - 1) refl a b h ∙ fun-ext (λ u. rw f (go u (eqb u t)))))
@@ -85,7 +85,7 @@ module _ (s s′ : List ℕ) (t w p : ℕ) (e : s′ ≡ put-word s open-at (bit
       go u true = refl
       go u false = refl
 
-  pub closed-left : is-open s t ≡ true → Left s s′ (λ u. not (eqb u t) && is-open s u) (nodes s)
+  pub closed-left : is-open s t ≡ true → Left s s′ (with-open (λ u. not (eqb u t) && is-open s u) (header s)) (nodes s)
   closed-left f =
       rw stored (opens-left s _ (only-word s open-at (bitXor (word s open-at) (2 ^ (t - 1)))) h _
       (turned s t (t - 1) refl a b h ∙ fun-ext (λ u. rw f (go u (eqb u t)))))

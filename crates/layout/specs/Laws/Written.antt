@@ -4,11 +4,11 @@ use Prim.Native.Nat.{ℕ, _≤_, _<_}
 use mathlib.Core.List.{List}
 use lib.ListN.{length, getD}
 use borrow.Author.Tests.{eq-eqb, ne-eqb}
-use Rattle.protocol.specs.State.{nobody, wrote, writer-of, Marked}
+use Rattle.protocol.specs.State.{nobody, wrote, writer-of, Marked, with-update}
 use Rattle.layout.specs.Lists.{modify}
 use Rattle.layout.specs.Flat.{second}
 use Rattle.layout.specs.Layout.{Entry, nodes, no-entry, Layout, Kept}
-use Rattle.layout.specs.Fields.{with-update, with-saved, marked-written, saved-bytes, saved-size, Saved}
+use Rattle.layout.specs.Fields.{with-saved, marked-written, saved-bytes, saved-size, Saved}
 use Rattle.layout.specs.Laws.Lists.{modify-modify, modify-same}
 use Rattle.layout.specs.Laws.Kept.{kept-then, kept-as}
 use Rattle.layout.specs.Laws.Texts.{Copied, saved-at, saved-small}

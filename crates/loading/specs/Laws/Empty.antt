@@ -6,11 +6,11 @@ use mathlib.Core.List.{List, []}
 use lib.ListN.{take}
 use Rattle.tree.specs.Forest.{view}
 use Rattle.tree.specs.Document.{node-0-alone}
-use Rattle.protocol.specs.State.{unwritten, tree-of}
+use Rattle.protocol.specs.State.{unwritten, tree-of, with-update}
 use Rattle.layout.specs.Lists.{modify}
 use Rattle.layout.specs.Flat.{flat, second}
-use Rattle.layout.specs.Fields.{with-update, with-now, unlocked}
-use Rattle.layout.specs.Layout.{is-open, nodes, Left, Kept}
+use Rattle.layout.specs.Fields.{with-bytes, unlocked}
+use Rattle.layout.specs.Layout.{is-open, nodes, Left, Kept, header}
 use Rattle.layout.specs.Laws.Kept.{left-then, left-as}
 use Rattle.form.specs.Form.{form}
 use Rattle.form.specs.Laws.Holds.{form-holds}
@@ -18,7 +18,7 @@ use Rattle.form.specs.Laws.Valid.{root-of}
 
 -- by the form, the first node is the document, which nobody inserted or deleted
 alone : (s : List ℕ) → form s ≡ true →
-    modify 0 (second unlocked) (modify 0 (second (with-now [])) (modify 0 (second (with-update unwritten)) (take 1 (nodes s))))
+    modify 0 (second unlocked) (modify 0 (second (with-bytes [])) (modify 0 (second (with-update unwritten)) (take 1 (nodes s))))
     ≡ flat 0 (tree-of node-0-alone)
 unfolding flat modify tree-of node-0-alone view
 alone s h =
@@ -27,10 +27,10 @@ alone s h =
     let d = r .document in
     rw (p .1 .rows, r .whole, d .kind, d .number, d .inserter, d .deleter)
 
-pub emptied : {s s₁ s₂ s₃ s₄ : List ℕ} → form s ≡ true → Left s s₁ (is-open s) (take 1 (nodes s)) →
-    Kept s₁ s₂ (modify 0 (second (with-update unwritten)) (nodes s₁)) → Kept s₂ s₃ (modify 0 (second (with-now [])) (nodes s₂)) →
-    Kept s₃ s₄ (modify 0 (second unlocked) (nodes s₃)) → Left s s₄ (is-open s) (flat 0 (tree-of node-0-alone))
+pub emptied : {s s₁ s₂ s₃ s₄ : List ℕ} → form s ≡ true → Left s s₁ (header s) (take 1 (nodes s)) →
+    Kept s₁ s₂ (modify 0 (second (with-update unwritten)) (nodes s₁)) → Kept s₂ s₃ (modify 0 (second (with-bytes [])) (nodes s₂)) →
+    Kept s₃ s₄ (modify 0 (second unlocked) (nodes s₃)) → Left s s₄ (header s) (flat 0 (tree-of node-0-alone))
 emptied {s} h a b c d =
     left-as _ _ (alone s h)
     (left-then _ (modify 0 (second unlocked))
-    (left-then _ (modify 0 (second (with-now []))) (left-then _ (modify 0 (second (with-update unwritten))) a b) c) d)
+    (left-then _ (modify 0 (second (with-bytes []))) (left-then _ (modify 0 (second (with-update unwritten))) a b) c) d)

@@ -14,7 +14,7 @@ use Rattle.protocol.specs.Calls.{node-limit, loadable, Input, unreadable, stand
 use Rattle.protocol.specs.Answers.{answer-of, granted-answer}
 use Rattle.protocol.specs.declared.Answer.the-variants.{Count, Refused, RefusedAt}
 use Rattle.layout.specs.Flat.{flat}
-use Rattle.layout.specs.Layout.{is-open, nodes, Left}
+use Rattle.layout.specs.Layout.{is-open, nodes, Left, header}
 use Rattle.edits.specs.Laws.Kept.{unique-load}
 use Rattle.form.specs.Form.{form, Holds}
 use Rattle.form.specs.Laws.Steps.{valid-load}
@@ -31,13 +31,13 @@ use Rattle.loading.specs.Laws.Opens.{none-open}
 pub begun : {x s s′ : List ℕ} {n : ℕ} {q : ℕ → Bool} → Stands x n → Left s s′ q (flat 0 (tree-of node-0-alone)) → Begun x s′
 begun d k = record { shape = d .shape; spelled = d .spelled; few = d .few; short = d .short; layout = k .layout; alone = k .nodes }
 
-pub replaced : {x s s′ s″ : List ℕ} → any (is-open s) transactions ≡ false → Left s s′ (is-open s) (flat 0 (tree-of node-0-alone)) → Filled x s′ s″
+pub replaced : {x s s′ s″ : List ℕ} → any (is-open s) transactions ≡ false → Left s s′ (header s) (flat 0 (tree-of node-0-alone)) → Filled x s′ s″
     → Replaced x s s″
 replaced {s = s} e k f = record {
   layout = f .layout;
   long = f .same .long ∙ k .long;
   behind = f .same .behind ∙ k .behind;
-  closed = f .same .opens ∙ k .opens ∙ none-open s e;
+  closed = f .same .header ∙ k .header ∙ none-open s e;
   nodes = f .nodes;
 }
 
@@ -48,8 +48,8 @@ unfolding loadable
 legal-of d h = and-left (legal d) _ (and-left (legal d && leb (length (lines d)) node-limit) _ h)
 
 -- the same calls are open in the state that the bytes hold
-asked : {s : List ℕ} {M : State} {b : Bool} → Holds s M → any (is-open s) transactions ≡ b → any (M .is-open) transactions ≡ b
-asked h e = ap (λ (q : ℕ → Bool). any q transactions) (sym (h .opens)) ∙ e
+asked : {s : List ℕ} {M : State} {b : Bool} → Holds s M → any (is-open s) transactions ≡ b → any (M .header .is-open) transactions ≡ b
+asked h e = ap (λ (q : ℕ → Bool). any q transactions) (sym (h .header)) ∙ e
 
 module _ {s : List ℕ} (f : form s ≡ true) where
   pub load-open : any (is-open s) transactions ≡ true → (i : Input) → Performed s s (Refused 15) (load i)
@@ -72,7 +72,7 @@ module _ {s : List ℕ} (f : form s ≡ true) where
       held : {M : State} → Holds s M → Holds s′ (with-tree M (tree-of D))
       held {M} h = record {
         layout = k .layout;
-        opens = k .closed ∙ sym (none-open s e) ∙ h .opens;
+        header = k .closed ∙ sym (none-open s e) ∙ h .header;
         rows = k .nodes (d .shape) (d .spelled);
         unique = rw (k .nodes (d .shape) (d .spelled)) (unique-load D (legal-of D (d .fits)));
         valid = valid-load D (legal-of D (d .fits));

@@ -10,20 +10,21 @@ use borrow.Author.Tests.{le-ltb}
 use Rattle.tree.specs.Lists.{any, keep}
 use Rattle.tree.specs.Forest.{row}
 use Rattle.tree.specs.Document.{Node, Document, Line, here, at, child, under, select}
-use Rattle.tree.specs.Steps.{Step, T, C, R, U, D, I, TT, RR, UU, target, inserts, misfit, misplaced, answer, kth, is-named}
+use Rattle.tree.specs.Steps.{Step, T, C, R, U, D, I, TT, RR, UU, target, inserts, kind-at, answer, kth, is-named}
 use Rattle.tree.specs.Steps.{none, numbers-are, cells-are, how-many}
 use Rattle.tree.specs.Laws.Lists.{map-map, any-same, keep-map}
 use Rattle.protocol.specs.State.{Marked, State, number-held, callers-document}
 use Rattle.protocol.specs.Lent.{Room}
-use Rattle.protocol.specs.Calls.{node-limit, unchanged, refused, judged}
+use Rattle.protocol.specs.Calls.{node-limit, number-taken, unchanged, refused, judged}
 use Rattle.layout.specs.Flat.{flat}
 use Rattle.layout.specs.Layout.{Entry}
 use Rattle.lookup.specs.Places.{item, number-of, unique, place-of, numbers-above, seen-at, children, subtree}
-use Rattle.lookup.specs.Found.{misfit-on, misplaced-on, kth-child, answer-at, Found, judged-at}
+use Rattle.lookup.specs.Found.{taken-in, full-in, kind-of, kth-child, answer-at, Found, judged-at}
 use Rattle.lookup.specs.Laws.Find.{Holder, holder, held-place, count-held, here-nowhere, here-at, line-at}
 use Rattle.lookup.specs.Laws.Children.{child-lines}
 use Rattle.lookup.specs.Laws.Subtree.{subtree-lines}
 use Rattle.lookup.specs.Laws.Waiting.{wait-set-at}
+use Rattle.protocol.specs.Causes.{no-such-node}
 
 -- lines and nodes that go together -------------------------------------------------------
 
@@ -53,41 +54,6 @@ count-same q ls cs e =
 
 -- the nine steps ---------------------------------------------------------------------------
 
--- cause 7
-pub misfit-nowhere : (s : Step) (d : Document) → here (target s) d ≡ false → misfit s d ≡ 7
-misfit-nowhere (T n) d h = rw h
-misfit-nowhere (C n k) d h = rw h
-misfit-nowhere (R n) d h = rw h
-misfit-nowhere (U n b) d h = rw h
-misfit-nowhere (D n) d h = rw h
-misfit-nowhere (I m kind b n k) d h = rw h
-misfit-nowhere (TT n) d h = rw h
-misfit-nowhere (RR n) d h = rw h
-misfit-nowhere (UU n a b) d h = rw h
-
-misfit-here : (s : Step) (d : Document) (a : Node) (p : List ℕ) → here (target s) d ≡ true → at (target s) d ≡ row a p → misfit s d ≡ misfit-on s a
-misfit-here (T n) d a p h e = rw h
-misfit-here (C n k) d a p h e = rw h
-misfit-here (R n) d a p h e = rw (h, e)
-misfit-here (U n b) d a p h e = rw (h, e)
-misfit-here (D n) d a p h e = rw (h, e)
-misfit-here (I m kind b n k) d a p h e = rw (h, e)
-misfit-here (TT n) d a p h e = rw h
-misfit-here (RR n) d a p h e = rw h
-misfit-here (UU n x y) d a p h e = rw h
-
-misplaced-here : (s : Step) (d : Document) (a : Node) (p : List ℕ) (cs : List Marked) → at (target s) d ≡ row a p → Same (select (child (target s)) d) cs
-    → misplaced s d ≡ misplaced-on s (a .kind) cs
-misplaced-here (T n) d a p cs e c = refl
-misplaced-here (C n k) d a p cs e c = refl
-misplaced-here (R n) d a p cs e c = refl
-misplaced-here (U n b) d a p cs e c = refl
-misplaced-here (D n) d a p cs e c = refl
-misplaced-here (I m kind b n k) d a p cs e c = rw (e, by-nodes (λ x. x .kind) (select (child n) d) cs c)
-misplaced-here (TT n) d a p cs e c = refl
-misplaced-here (RR n) d a p cs e c = refl
-misplaced-here (UU n x y) d a p cs e c = refl
-
 answer-here : (s : Step) (t : ℕ) (l : List Entry) (p : ℕ) (d : Document) → at (target s) d ≡ row (item l p .now) (numbers-above l p)
     → Same (select (child (target s)) d) (children t l p) → Same (select (under (target s)) d) (subtree t l p) → answer s d ≡ answer-at s t l p
 answer-here (T n) t l p d e c u = rw e
@@ -105,18 +71,17 @@ answer-here (UU n a b) t l p d e c u = ap how-many (count-same (is-named a) (sel
 -- the rows l of the tree; no number is held twice
 module _ (l : List Entry) (t : ℕ) (s : Step) (M : State) (rows : l ≡ flat 0 (M .tree)) where
   -- no place has the number
-  pub misfit-missing : length l ≤ place-of (target s) l → misfit s (callers-document t (M .tree)) ≡ 7
-  misfit-missing h =
-      misfit-nowhere s (callers-document t (M .tree))
-      (here-nowhere t (target s) (M .tree) (held-place (target s) (M .tree) ∙ rw (← rows) (le-ltb (place-of (target s) l) (length l) h)))
+  pub missing : length l ≤ place-of (target s) l → here (target s) (callers-document t (M .tree)) ≡ false
+  missing h =
+      here-nowhere t (target s) (M .tree) (held-place (target s) (M .tree) ∙ rw (← rows) (le-ltb (place-of (target s) l) (length l) h))
 
   module _ (u : unique l ≡ true) (p : ℕ) (h : p < length l) (n : number-of (item l p) ≡ target s) where
     at-place : Holder (M .tree) (target s) p
     at-place = holder (M .tree) (target s) p (rw rows at u) (rw rows at h) (rw rows at n)
 
     -- the caller deleted the node or one above it
-    pub misfit-deleted : seen-at t l p ≡ false → misfit s (callers-document t (M .tree)) ≡ 7
-    misfit-deleted v = misfit-nowhere s (callers-document t (M .tree)) (here-at at-place t ∙ rw (← rows) v)
+    pub deleted : seen-at t l p ≡ false → here (target s) (callers-document t (M .tree)) ≡ false
+    deleted v = here-at at-place t ∙ rw (← rows) v
 
     pub found : seen-at t l p ≡ true → Found l t s M p
     found v =
@@ -130,26 +95,26 @@ module _ (l : List Entry) (t : ℕ) (s : Step) (M : State) (rows : l ≡ flat 0 
           is-here = here-is;
           line = line-is;
           lock-list = rw line-is;
-          misfits = misfit-here s (callers-document t (M .tree)) (item l p .now) (numbers-above l p) here-is line-is;
+          kind = ap (λ (r : Line). r .it .kind) line-is;
           held = any-same (λ m. number-held m (M .tree)) (λ m. ltb (place-of m l) (length l)) (inserts s) (λ m i. held-place m (M .tree) ∙ rw (← rows));
           wait = λ b. rw line-is (wait-set-at t s M l p (sym rows) u h n b);
-          misplaces = misplaced-here s (callers-document t (M .tree)) (item l p .now) (numbers-above l p) (children t l p) line-is children-are;
+          others = by-nodes (λ x. x .kind) (select (child (target s)) (callers-document t (M .tree))) (children t l p) children-are;
           full = ap (λ z. any (λ m. leb node-limit z) (inserts s)) (count-held (M .tree) ∙ ap length (sym rows));
           answers = answer-here s t l p (callers-document t (M .tree)) line-is children-are all-are;
         }
 
 -- the whole judgement ---------------------------------------------------------------------------
 
-pub judged-missing : (t : ℕ) (s : Step) (room : Room) (M : State) → misfit s (callers-document t (M .tree)) ≡ 7
-    → judged t s room M (callers-document t (M .tree)) ≡ unchanged (refused 7) M
+pub judged-missing : (t : ℕ) (s : Step) (room : Room) (M : State) → here (target s) (callers-document t (M .tree)) ≡ false
+    → judged t s room M (callers-document t (M .tree)) ≡ unchanged (refused no-such-node) M
 unfolding judged
 judged-missing t s room M h = rw h
 
 pub judged-found : (l : List Entry) (t : ℕ) (s : Step) (room : Room) (M : State) (p : ℕ) → Found l t s M p
     → judged t s room M (callers-document t (M .tree)) ≡ judged-at t s room M l p
 unfolding judged judged-at
-judged-found l t s room M p f = go (any (λ m. number-held m (M .tree)) (inserts s)) refl
+judged-found l t s room M p f = go (number-taken s (M .tree)) refl
   where
-    go : (b : Bool) → any (λ m. number-held m (M .tree)) (inserts s) ≡ b → judged t s room M (callers-document t (M .tree)) ≡ judged-at t s room M l p
-    go true e = let h = sym (f .held) ∙ e in rw (f .misfits, e, h)
-    go false e = let h = sym (f .held) ∙ e in rw (f .misfits, e, h, f .wait e, f .lock-list, f .misplaces, f .full, f .answers)
+    go : (b : Bool) → number-taken s (M .tree) ≡ b → judged t s room M (callers-document t (M .tree)) ≡ judged-at t s room M l p
+    go true e = let h = sym (f .held) ∙ e in rw (f .is-here, f .kind, e, h)
+    go false e = let h = sym (f .held) ∙ e in rw (f .is-here, f .kind, e, h, f .wait e, f .lock-list, f .others, f .full, f .answers)

@@ -203,12 +203,12 @@ bits-transactions q = bits-word q 16 0 ∙ once (word (λ i. q (suc i)) 16 0)
 pub wait-set-at : (t : ℕ) (s : Step) (M : State) (l : List Entry) (p : ℕ) → flat 0 (M .tree) ≡ l → unique l ≡ true → p < length l
     → number-of (item l p) ≡ target s
     → any (λ m. number-held m (M .tree)) (inserts s) ≡ false
-    → wait-set t (locks s (numbers-above l p)) M ≡ wait-word t (need s) (M .is-open) (item l p ∷ ups l p)
+    → wait-set t (locks s (numbers-above l p)) M ≡ wait-word t (need s) (M .header .is-open) (item l p ∷ ups l p)
 unfolding wait-set wait-word
 wait-set-at t s M l p e u h n b =
     let g : nodes (M .tree) ≡ items l = nodes-held (M .tree) ∙ ap items e in
     let k : any (λ m. any (numbered m) (items l)) (inserts s) ≡ false = sym (ap (λ z. any (λ m. any (numbered m) z) (inserts s)) g) ∙ b in
     bits-transactions (blocks t (locks s (numbers-above l p)) M)
     ∙ ap (λ (q : ℕ → Bool). word q 16 0)
-    (fun-ext (λ i. ap (λ c. M .is-open (suc i) && not (eqb (suc i) t) && c)
+    (fun-ext (λ i. ap (λ c. M .header .is-open (suc i) && not (eqb (suc i) t) && c)
     (ap (any (clashes (locks s (numbers-above l p)) (suc i))) g ∙ way-blocks l (suc i) u s p h n k)))

@@ -9,7 +9,7 @@ use lib.Dec.{eqb, ltb}
 use borrow.Author.Tests.{ltb-true, ltb-false, eqb-true, eqb-false}
 use Rattle.layout.specs.Lists.{tabulate, modify, insert}
 use Rattle.layout.specs.Layout.{state-size, entry-at, cell-at, lock-at, word, part, count, slot, depth, number, cell, is-open, held, decode, Entry}
-use Rattle.layout.specs.Layout.{entry, nodes, no-entry, Sized, Layout, Left, Kept}
+use Rattle.layout.specs.Layout.{entry, nodes, no-entry, Sized, Layout, Left, Kept, header}
 use Rattle.layout.specs.Laws.Bytes.{Only, only-wider, only-then, only-word, put-word, word-put, word-low, word-high, part-low, part-high, drop-high}
 use Rattle.layout.specs.Laws.Nodes.{length-nodes}
 use Rattle.outline.specs.Outline.{Placed, Copy, Entered, Shifted}
@@ -88,7 +88,7 @@ module _ {s s′ : List ℕ} (o : Only 10 6150 s s′) where
   pub outline-left :
       Layout s → (n : ℕ) → count s′ ≡ n → 1 ≤ n → n ≤ 1024 → (back : ℕ → ℕ) →
       ((i : ℕ) → i < 1024 → (j : ℕ) × (j < 1024) × (slot s′ i ≡ slot s j) × (back j ≡ i)) →
-      ((i : ℕ) → i < n → Sized (cell s (slot s′ i))) → (ns : List Entry) → tabulate n (entry s′) ≡ ns → Left s s′ (is-open s) ns
+      ((i : ℕ) → i < n → Sized (cell s (slot s′ i))) → (ns : List Entry) → tabulate n (entry s′) ≡ ns → Left s s′ (header s) ns
   unfolding nodes is-open
   outline-left h n c a b back from z ns e =
       record {
@@ -105,7 +105,7 @@ module _ {s s′ : List ℕ} (o : Only 10 6150 s s′) where
         };
         long = o .long;
         behind = drop-high o state-size (omega arith);
-        opens = fun-ext (λ t. rw (word-low o 8 (omega arith)));
+        header = fun-ext (λ t. rw (word-low o 8 (omega arith)));
         nodes = rw c e;
       }
 

@@ -9,12 +9,12 @@ use native.Mathlib.Nat.{add-assoc}
 use lib.ListN.{length, getD, take, drop}
 use lib.Dec.{eqb, ltb}
 use borrow.Author.Tests.{ltb-true, ltb-false, lt-ltb, le-ltb, eqb-true, eqb-false, eq-eqb, ne-eqb}
-use Rattle.protocol.specs.State.{Marked, inserted-by, deleted-by, unwritten}
+use Rattle.protocol.specs.State.{Marked, inserted-by, deleted-by, unwritten, with-inserter, with-update}
 use Rattle.layout.specs.Lists.{tabulate, modify, insert}
 use Rattle.layout.specs.Flat.{second}
-use Rattle.layout.specs.Fields.{with-kind, with-update, with-inserter, with-now, unlocked}
+use Rattle.layout.specs.Fields.{with-kind, with-bytes, unlocked}
 use Rattle.layout.specs.Layout.{state-size, count-at, entry-at, cell-at, word, count, slot, depth, number, cell, is-open, held, decode, Entry, entry}
-use Rattle.layout.specs.Layout.{nodes, no-entry, Sized, Layout, Left, Kept}
+use Rattle.layout.specs.Layout.{nodes, no-entry, Sized, Layout, Left, Kept, header}
 use Rattle.layout.specs.Laws.Bytes.{Only, only-wider, only-then, only-word, put-word, word-put, word-high, Filled, part-at}
 use Rattle.layout.specs.Laws.Nodes.{length-nodes, other-cell, cell-held, kept-none, same-slot, same-count}
 use Rattle.layout.specs.Laws.Fields.{cell-byte}
@@ -171,15 +171,15 @@ module _ (s s₁ s₂ s₃ s₄ : List ℕ) (n p k d m : ℕ) (h : Layout s) (c 
 pub inserted : {s s₁ s₂ s₃ s₄ s₅ s₆ s₇ : List ℕ} (p d n kind t : ℕ) (b : List ℕ) → Opened s s₁ p d n →
     Kept s₁ s₂ (modify p (second (with-kind kind)) (nodes s₁)) → Kept s₂ s₃ (modify p (second (with-update unwritten)) (nodes s₂))
     → Kept s₃ s₄ (modify p (second (with-inserter t)) (nodes s₃)) →
-    Kept s₄ s₅ (modify p (second (deleted-by 0)) (nodes s₄)) → Kept s₅ s₆ (modify p (second (with-now b)) (nodes s₅))
+    Kept s₄ s₅ (modify p (second (deleted-by 0)) (nodes s₄)) → Kept s₅ s₆ (modify p (second (with-bytes b)) (nodes s₅))
     → Kept s₆ s₇ (modify p (second unlocked) (nodes s₆)) →
-    p ≤ length (nodes s) → Left s s₇ (is-open s) (insert p (d, inserted-by t (record { number = n; kind = kind; content = b })) (nodes s))
+    p ≤ length (nodes s) → Left s s₇ (header s) (insert p (d, inserted-by t (record { number = n; kind = kind; content = b })) (nodes s))
 inserted {s} {s₁} {s₂} {s₃} {s₄} {s₅} {s₆} {s₇} p d n kind t b o a₁ a₂ a₃ a₄ a₅ a₆ h =
-    let step : (s′ s″ : List ℕ) (x : Entry) (f : Marked → Marked) → Left s s′ (is-open s) (insert p x (nodes s))
-    → Kept s′ s″ (modify p (second f) (nodes s′)) → Left s s″ (is-open s) (insert p (second f x) (nodes s)) =
+    let step : (s′ s″ : List ℕ) (x : Entry) (f : Marked → Marked) → Left s s′ (header s) (insert p x (nodes s))
+    → Kept s′ s″ (modify p (second f) (nodes s′)) → Left s s″ (header s) (insert p (second f x) (nodes s)) =
     λ s′ s″ x f l k. left-as _ _ (modify-insert p (second f) x (nodes s) h) (left-then (insert p x (nodes s)) (modify p (second f)) l k) in
     let l =
-    step s₆ s₇ _ unlocked (step s₅ s₆ _ (with-now b)
+    step s₆ s₇ _ unlocked (step s₅ s₆ _ (with-bytes b)
     (step s₄ s₅ _ (deleted-by 0)
     (step s₃ s₄ _ (with-inserter t)
     (step s₂ s₃ _ (with-update unwritten) (step s₁ s₂ (d, o .node) (with-kind kind) (o .left) a₁) a₂) a₃) a₄) a₅) a₆

@@ -13,7 +13,7 @@ use Rattle.protocol.specs.State.{Marked}
 use Rattle.layout.specs.Lists.{tabulate, modify}
 use Rattle.layout.specs.Flat.{prune}
 use Rattle.layout.specs.Layout.{state-size, count-at, entry-at, cell-at, word, count, slot, depth, number, cell, is-open, Entry, entry, nodes}
-use Rattle.layout.specs.Layout.{no-entry, Sized, Layout, Left, Kept}
+use Rattle.layout.specs.Layout.{no-entry, Sized, Layout, Left, Kept, header}
 use Rattle.layout.specs.Laws.Lists.{modify-none, length-modify, getD-modify, getD-modify-other, list-of, length-tabulate, getD-tabulate, tabulate-same}
 use Rattle.layout.specs.Laws.Bytes.{Only, only-wider, only-then, only-word, put-word, word-put, word-high, word-low}
 use Rattle.layout.specs.Laws.Nodes.{length-nodes, node-at}
@@ -105,7 +105,7 @@ module _ (s s′ s″ : List ℕ) (i j : ℕ) (h : Layout s) (l : i < j) (m : j 
         layout = f .layout;
         long = f .long;
         behind = f .behind;
-        opens = f .opens;
+        header = f .header;
         many = length-nodes s″ ∙ same-count ∙ sym (length-nodes s);
         nodes = f .nodes;
       }
@@ -189,7 +189,7 @@ unfolding prune
 prune-done shown m l k below j v h = sym (append-nil (take k l)) ∙ (rw (drop-of-length-le l h) at v)
 
 -- the count cut down
-pub cut-left : (s s′ : List ℕ) (k : ℕ) → s′ ≡ put-word s count-at k → Layout s → 1 ≤ k → k ≤ length (nodes s) → Left s s′ (is-open s) (take k (nodes s))
+pub cut-left : (s s′ : List ℕ) (k : ℕ) → s′ ≡ put-word s count-at k → Layout s → 1 ≤ k → k ≤ length (nodes s) → Left s s′ (header s) (take k (nodes s))
 unfolding count slot depth number nodes
 cut-left s s′ k e h a b =
     let o : Only count-at 2 s s′ = rw e (only-word s count-at k) in
@@ -227,7 +227,7 @@ module _ (shown : Marked → Bool) (below : ℕ) (x : Entry) where
 
 pub pruned-left : {s s′ s″ : List ℕ} (shown : Marked → Bool) (k below j : ℕ) → Kept s s′ (nodes s′)
     → take k (nodes s′) ++ prune shown below (drop j (nodes s′)) ≡ prune shown 0 (nodes s) →
-    length (nodes s′) ≤ j → Left s′ s″ (is-open s′) (take k (nodes s′)) → Left s s″ (is-open s) (prune shown 0 (nodes s))
+    length (nodes s′) ≤ j → Left s′ s″ (header s′) (take k (nodes s′)) → Left s s″ (header s) (prune shown 0 (nodes s))
 pruned-left {s} {s′} shown k below j a v h b =
     left-as _ _ (prune-done shown (prune shown 0 (nodes s)) (nodes s′) k below j v h) (then-left (nodes s′) (take k) (left-kept a) b)
 
@@ -236,7 +236,7 @@ kept-on a b = record {
   layout = b .layout;
   long = b .long ∙ a .long;
   behind = b .behind ∙ a .behind;
-  opens = b .opens ∙ a .opens;
+  header = b .header ∙ a .header;
   many = b .many ∙ a .many;
   nodes = refl;
 }

@@ -12,7 +12,7 @@ use Rattle.protocol.specs.Calls.{step}
 use Rattle.protocol.specs.Answers.{answer-of, granted-answer}
 use Rattle.protocol.specs.declared.Answer.{Answer}
 use Rattle.protocol.specs.declared.Answer.the-variants.{Waits, Refused}
-use Rattle.layout.specs.Layout.{nodes, is-open, Left}
+use Rattle.layout.specs.Layout.{nodes, is-open, Left, header}
 use Rattle.lookup.specs.Places.{item, number-of}
 use Rattle.lookup.specs.Found.{misfit-on, answer-at, wait-word}
 use Rattle.edits.specs.Rows.{stepped}
@@ -36,6 +36,6 @@ module _ {s : List ℕ} {t p : ℕ} (st : Step) where
   waits-for f w c k same set v n = performed-stays (stays-waits f w c k same set v n no-room) (Waits set) (λ writing. refl)
 
   pub granted-to-caller : Placed s t p st → has-room (answer-at st t (nodes s) p) no-room ≡ true → {s′ : List ℕ}
-      → Left s s′ (is-open s) (stepped t st p (nodes s))
+      → Left s s′ (header s) (stepped t st p (nodes s))
       → (r : Answer) → r ≡ granted-answer (answer-at st t (nodes s) p) → Performed s s′ r (step t st no-room)
   granted-to-caller f h l r e = performed-grants (grants-step f no-room h l) r e

@@ -21,7 +21,7 @@ use Rattle.protocol.specs.Answers.{answer-of, granted-answer}
 use Rattle.protocol.specs.declared.Answer.{Answer}
 use Rattle.protocol.specs.declared.Answer.the-variants.{Done, Waits, Refused}
 use Rattle.layout.specs.Lists.{insert}
-use Rattle.layout.specs.Layout.{Entry, nodes, is-open, Left, Kept}
+use Rattle.layout.specs.Layout.{Entry, nodes, is-open, Left, Kept, header}
 use Rattle.layout.specs.Laws.Kept.{left-kept, left-as, then-left}
 use Rattle.lookup.specs.Places.{depth, item, number-of, place-of, children}
 use Rattle.lookup.specs.Found.{wait-word}
@@ -157,7 +157,7 @@ module _ {s : List ℕ} {t p : ℕ} (m kind : ℕ) (b : List ℕ) (k : ℕ) wher
       pub insert-granted : {s₁ s₂ : List ℕ} (w : Way) → Climbed (nodes s) p w → length (nodes s) < 1024 → (q d : ℕ) → q ≡ new-place t k p (nodes s)
           → d ≡ depth (nodes s) p
           → Kept s s₁ (granted-on t (need (step-named name.I)) (way-places w) (nodes s))
-          → Left s₁ s₂ (is-open s₁)
+          → Left s₁ s₂ (header s₁)
           (insert q (d + 1, granted-modes t (need (step-named name.I) .new) (inserted-by t (record { number = m; kind = kind; content = b }))) (nodes s₁))
           → Performed s s₂ Done (step t (insert-step s p m kind b k) no-room)
       unfolding granted-answer first-lent second-lent stepped

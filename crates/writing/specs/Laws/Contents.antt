@@ -5,12 +5,12 @@ use Rattle.protocol.specs.State.{written-by}
 use Rattle.layout.specs.Lists.{modify}
 use Rattle.layout.specs.Flat.{second}
 use Rattle.layout.specs.Layout.{nodes, Kept}
-use Rattle.layout.specs.Fields.{with-now, marked-written}
+use Rattle.layout.specs.Fields.{with-bytes, marked-written}
 use Rattle.layout.specs.Laws.Lists.{modify-modify}
 use Rattle.layout.specs.Laws.Kept.{kept-then, kept-as}
 
 pub written : {s s₁ s₂ : List ℕ} (p t : ℕ) (b : List ℕ) → Kept s s₁ (modify p (second (marked-written t)) (nodes s))
-    → Kept s₁ s₂ (modify p (second (with-now b)) (nodes s₁)) → Kept s s₂ (modify p (second (written-by t b)) (nodes s))
+    → Kept s₁ s₂ (modify p (second (with-bytes b)) (nodes s₁)) → Kept s s₂ (modify p (second (written-by t b)) (nodes s))
 written {s} p t b x y =
-    kept-as _ _ (modify-modify p (second (with-now b)) (second (marked-written t)) (nodes s))
-    (kept-then (modify p (second (marked-written t)) (nodes s)) (modify p (second (with-now b))) x y)
+    kept-as _ _ (modify-modify p (second (with-bytes b)) (second (marked-written t)) (nodes s))
+    (kept-then (modify p (second (marked-written t)) (nodes s)) (modify p (second (with-bytes b))) x y)

@@ -9,10 +9,10 @@ use lib.Dec.{eqb}
 use Rattle.tree.specs.Document.{Node}
 use Rattle.locks.specs.Modes.{Mode, no-mode, union, among, in-word}
 use Rattle.locks.specs.Words.{word-of}
-use Rattle.protocol.specs.State.{inserted-by}
+use Rattle.protocol.specs.State.{inserted-by, Header}
 use Rattle.layout.specs.Lists.{modify, insert}
 use Rattle.layout.specs.Flat.{second}
-use Rattle.layout.specs.Layout.{is-open, Entry, nodes, Left, Kept}
+use Rattle.layout.specs.Layout.{is-open, Entry, nodes, Left, Kept, header}
 use Rattle.layout.specs.Fields.{with-modes}
 use Rattle.layout.specs.Laws.Kept.{left-then, left-as}
 use Rattle.lookup.specs.Laws.Placing.{length-insert}
@@ -30,12 +30,12 @@ new-modes t ms x h = let e : in-word (word-of ms) ≡ among ms = fun-ext h in ap
 
 pub put-left : {s s₁ s₂ : List ℕ} (q d t : ℕ) (x : Node) (ms : List Mode) → ((m : Mode) → in-word (word-of ms) m ≡ among ms m) → (w : ℕ)
     → w ≡ word-of ms → q ≤ length (nodes s)
-    → Left s s₁ (is-open s) (insert q (d, inserted-by t x) (nodes s)) → Kept s₁ s₂ (modify q (second (with-modes t w)) (nodes s₁))
-    → Left s s₂ (is-open s) (insert q (d, granted-modes t ms (inserted-by t x)) (nodes s))
+    → Left s s₁ (header s) (insert q (d, inserted-by t x) (nodes s)) → Kept s₁ s₂ (modify q (second (with-modes t w)) (nodes s₁))
+    → Left s s₂ (header s) (insert q (d, granted-modes t ms (inserted-by t x)) (nodes s))
 put-left {s} q d t x ms h w e l a b =
     left-as _ _ (modify-insert q (second (with-modes t w)) (d, inserted-by t x) (nodes s) l ∙ rw (e, new-modes t ms x h))
     (left-then (insert q (d, inserted-by t x) (nodes s)) (modify q (second (with-modes t w))) a b)
 
-pub put-long : {s s₁ : List ℕ} {flags : ℕ → Bool} (q : ℕ) (x : Entry) → Left s s₁ flags (insert q x (nodes s)) → length (nodes s₁) ≡ length (nodes s) + 1
+pub put-long : {s s₁ : List ℕ} {k : Header} (q : ℕ) (x : Entry) → Left s s₁ k (insert q x (nodes s)) → length (nodes s₁) ≡ length (nodes s) + 1
 unfolding insert
 put-long {s} q x a = ap length (a .nodes) ∙ length-insert q x (nodes s) ∙ sym (add-one (length (nodes s)))
