@@ -46,13 +46,9 @@ not-inserted-by t a = not (eqb (a .inserter) t)
 
 -- locks ----------------------------------------------------------------------------------------
 
--- a node with other sets of modes
-abbrev pub with-held : Marked → (ℕ → ModeSet) → Marked
-with-held a h = record { now = a .now; update = a .update; inserter = a .inserter; deleter = a .deleter; held = h }
-
 -- t is granted these modes on a node
 abbrev pub granted-modes : ℕ → List Mode → Marked → Marked
-granted-modes t ms a = with-held a (λ u. cond (eqb u t) (union (a .held u) (among ms)) (a .held u))
+granted-modes t ms a = with-held (λ u. cond (eqb u t) (union (a .held u) (among ms)) (a .held u)) a
 
 -- t is granted these locks, wherever a row has their numbers
 abbrev pub all-granted : ℕ → List Lock → List Entry → List Entry

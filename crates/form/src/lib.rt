@@ -4,7 +4,7 @@ ghost use Prim.Native.Nat.{ℕ, _+_, _*_, _^_, _<_, _≤_};
 ghost use lib.ListN.{length, getD};
 ghost use Rattle.tree.specs.Lists.{same};
 ghost use Rattle.locks.specs.Modes.{bit};
-ghost use Rattle.layout.specs.Layout.{state-size, count, cell, part, header};
+ghost use Rattle.layout.specs.Layout.{state-size, count, cell, part};
 ghost use Rattle.form.specs.Form.{sizes-in-range, apart, form};
 ghost use Rattle.layout.specs.Laws.Bytes.{Filled};
 ghost use Rattle.form.specs.Start.{outline-byte, start-byte, Started};

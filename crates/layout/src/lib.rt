@@ -62,3 +62,9 @@ pub fn copy_32(s: &mut [u8], k: usize, m: usize)
         j += 1;
     }
 }
+
+// Nodes by their places in document order, in some order: the first `count` of `places`.
+pub struct Places {
+    pub places: [u16; 1024],
+    pub count: usize,
+}

@@ -6,16 +6,16 @@ use lib.Dec.{eqb}
 use Rattle.locks.specs.Modes.{union, in-word}
 use Rattle.locks.specs.Needs.{Need}
 use Rattle.locks.specs.declared.NeedWords.{NeedWords}
-use Rattle.protocol.specs.State.{Marked}
+use Rattle.protocol.specs.State.{Marked, with-held}
 use Rattle.layout.specs.Lists.{modify}
 use Rattle.layout.specs.Flat.{second}
 use Rattle.layout.specs.Layout.{Entry}
-use Rattle.edits.specs.Rows.{with-held, granted-along}
+use Rattle.edits.specs.Rows.{granted-along}
 use Rattle.locking.specs.Waits.{word-at}
 
 -- t is granted the modes of a word on a node
 abbrev pub with-more : ℕ → ℕ → Marked → Marked
-with-more t w a = with-held a (λ u. cond (eqb u t) (union (a .held u) (in-word w)) (a .held u))
+with-more t w a = with-held (λ u. cond (eqb u t) (union (a .held u) (in-word w)) (a .held u)) a
 
 -- on the places of the way from its j-th on
 unfoldable pub granted-from : ℕ → NeedWords → ℕ → List ℕ → List Entry → List Entry

@@ -15,7 +15,8 @@ use Rattle.layout.specs.Layout.{Entry}
 use Rattle.protocol.specs.State.{Marked, Tree, none-of, seen-by, lasting, undone, unmarked, commit-tree, abort-tree, tree-of, start-state, released}
 use Rattle.tree.specs.Document.{Document, node-0-alone}
 use Rattle.tree.specs.Content.{document-kind}
-use Rattle.edits.specs.Rows.{left-out, with-held, not-inserted-by}
+use Rattle.edits.specs.Rows.{left-out, not-inserted-by}
+use Rattle.protocol.specs.State.{with-held}
 
 -- 0 leaves nothing out; a limit leaves out from its own depth on
 pub left-out-zero : (d : ℕ) → left-out 0 d ≡ false
@@ -154,9 +155,9 @@ released-twice t h = fun-ext (λ u. go u (eqb u t))
 pub commit-released : (t : ℕ) (f : Tree) → flat 0 (commit-tree t f) ≡ map (second (lasting t)) (prune (seen-by t) 0 (map (second (released t)) (flat 0 f)))
 commit-released t f =
     commit-rows t f
-    ∙ sym (pass-after (seen-by t) (lasting t) (released t) (λ a. refl) (λ a. ap (λ h. with-held (lasting t a) h) (released-twice t (a .held))) (flat 0 f))
+    ∙ sym (pass-after (seen-by t) (lasting t) (released t) (λ a. refl) (λ a. ap (λ h. with-held h (lasting t a)) (released-twice t (a .held))) (flat 0 f))
 
 pub abort-released : (t : ℕ) (f : Tree) → flat 0 (abort-tree t f) ≡ map (second (undone t)) (prune (not-inserted-by t) 0 (map (second (released t)) (flat 0 f)))
 abort-released t f =
     abort-rows t f
-    ∙ sym (pass-after (not-inserted-by t) (undone t) (released t) (λ a. refl) (λ a. ap (λ h. with-held (undone t a) h) (released-twice t (a .held))) (flat 0 f))
+    ∙ sym (pass-after (not-inserted-by t) (undone t) (released t) (λ a. refl) (λ a. ap (λ h. with-held h (undone t a)) (released-twice t (a .held))) (flat 0 f))

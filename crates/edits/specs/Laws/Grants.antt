@@ -15,14 +15,14 @@ use Rattle.locks.specs.Modes.{Mode, ModeSet, no-mode, same-mode, among, union, 
 use Rattle.locks.specs.Needs.{Need, need, Lock, each, every-one, up, locks}
 use Rattle.locks.specs.Words.{word-of}
 use Rattle.locks.specs.Laws.Sets.{in-union}
-use Rattle.protocol.specs.State.{Marked, Tree, numbered, modes-on, granted-to, grant}
+use Rattle.protocol.specs.State.{Marked, Tree, numbered, modes-on, granted-to, grant, with-held}
 use Rattle.layout.specs.Lists.{modify}
 use Rattle.layout.specs.Flat.{flat, second}
 use Rattle.layout.specs.Fields.{with-modes}
 use Rattle.layout.specs.Layout.{Entry}
 use Rattle.layout.specs.Laws.Lists.{length-modify}
 use Rattle.lookup.specs.Places.{items, unique}
-use Rattle.edits.specs.Rows.{Lacks, Inside, with-held, all-granted, row-number, row-numbers, number-at, granted-modes, granted-along}
+use Rattle.edits.specs.Rows.{Lacks, Inside, all-granted, row-number, row-numbers, number-at, granted-modes, granted-along}
 use Rattle.edits.specs.Laws.Unique.{same-numbers, by-number, by-number-none, by-number-one}
 use Rattle.edits.specs.Laws.Updates.{flat-amend, numbers-modify, number-same}
 
@@ -80,8 +80,8 @@ locks-way s ns n e =
 
 -- one node -------------------------------------------------------------------------------
 
-same-held : (a : Marked) (h k : ℕ → ModeSet) → ((u : ℕ) (m : Mode) → h u m ≡ k u m) → with-held a h ≡ with-held a k
-same-held a h k e = ap (with-held a) (fun-ext (λ u. fun-ext (λ m. e u m)))
+same-held : (a : Marked) (h k : ℕ → ModeSet) → ((u : ℕ) (m : Mode) → h u m ≡ k u m) → with-held h a ≡ with-held k a
+same-held a h k e = ap (λ (f : ℕ → ModeSet). with-held f a) (fun-ext (λ u. fun-ext (λ m. e u m)))
 
 module _ (t : ℕ) where
   pub granted-append : (ls ks : List Lock) (a : Marked) → granted-to t (ls ++ ks) a ≡ granted-to t ks (granted-to t ls a)
@@ -97,7 +97,7 @@ module _ (t : ℕ) where
 
   -- a set of modes more
   abbrev granted-set : ModeSet → Marked → Marked
-  granted-set p a = with-held a (λ u. cond (eqb u t) (union (a .held u) p) (a .held u))
+  granted-set p a = with-held (λ u. cond (eqb u t) (union (a .held u) p) (a .held u)) a
 
   granted-none : (a : Marked) → granted-set no-mode a ≡ a
   granted-none a = same-held a (λ u. cond (eqb u t) (union (a .held u) no-mode) (a .held u)) (a .held) (λ u m. go u m (eqb u t))

@@ -15,7 +15,7 @@ use Rattle.protocol.specs.State.{nobody, Marked, Tree, State}
 use Rattle.protocol.specs.Calls.{node-limit}
 use Rattle.layout.specs.Lists.{tabulate}
 use Rattle.layout.specs.Flat.{flat}
-use Rattle.layout.specs.Layout.{state-size, format-mark, part, count, slot, cell, is-open, Entry, nodes, Sized, Layout}
+use Rattle.layout.specs.Layout.{state-size, format-mark, part, count, slot, cell, header, Entry, nodes, Sized, Layout}
 use Rattle.layout.specs.Laws.Nodes.{length-nodes}
 use Rattle.lookup.specs.Places.{unique}
 use Rattle.form.specs.Form.{valid-rows, valid-tree, slots, cells, sizes-in-range, apart, form, Holds}
@@ -151,7 +151,7 @@ pub form-holds : (s : List ℕ) → form s ≡ true → (M : State) × Holds s M
 form-holds s h =
     let p = form-parts h in
     let t = valid-forest (nodes s) (p .rows) in
-    (record { is-open = is-open s; tree = t .0 }, record { layout = form-layout h; header = refl; rows = t .1; unique = p .unique; valid = t .2 })
+    (record { header = header s; tree = t .0 }, record { layout = form-layout h; header = refl; rows = t .1; unique = p .unique; valid = t .2 })
 
 pub holds-form : {s : List ℕ} {M : State} → Holds s M → form s ≡ true
 unfolding slots cells apart

@@ -6,7 +6,7 @@ use mathlib.Core.List.{List, [], _∷_, _++_, append-nil}
 use native.Mathlib.Omega.{arith}
 use lib.ListN.{length, getD}
 use Rattle.tree.specs.Forest.{Forest, nil, node}
-use Rattle.protocol.specs.State.{Tree, State}
+use Rattle.protocol.specs.State.{Header, Tree, State}
 use Rattle.layout.specs.Flat.{flat}
 use Rattle.lookup.specs.Places.{below}
 use Rattle.lookup.specs.Laws.NodeAt.{below-flat, below-none}
@@ -47,4 +47,4 @@ module _ {A : Type 0} where
 
 pub holds-one : {s : List ℕ} (M N : State) → Holds s M → Holds s N → M ≡ N
 holds-one M N h k =
-    ap₂ (λ (o : ℕ → Bool) (f : Tree). record { is-open = o; tree = f }) (sym (h .header) ∙ k .header) (flat-one 0 (M .tree) (N .tree) (sym (h .rows) ∙ k .rows))
+    ap₂ (λ (h : Header) (f : Tree). record { header = h; tree = f }) (sym (h .header) ∙ k .header) (flat-one 0 (M .tree) (N .tree) (sym (h .rows) ∙ k .rows))

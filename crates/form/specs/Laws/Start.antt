@@ -13,7 +13,7 @@ use Rattle.tree.specs.Forest.{nil, node, view}
 use Rattle.tree.specs.Document.{Node, node-0-alone}
 use Rattle.locks.specs.Modes.{ModeSet, no-mode, in-word}
 use Rattle.locks.specs.Modes.{bit}
-use Rattle.protocol.specs.State.{is-transaction, Marked, unmarked, tree-of, start-state}
+use Rattle.protocol.specs.State.{is-transaction, Marked, unmarked, tree-of, with-open, start-header, start-state}
 use Rattle.layout.specs.Lists.{tabulate}
 use Rattle.layout.specs.Flat.{flat}
 use Rattle.layout.specs.Layout.{state-size, format-mark, entry-at, cell-at, lock-at, word, part, count, slot, depth, number, cell, is-open, held}
@@ -166,7 +166,7 @@ module _ (s : List ℕ) (l : state-size ≤ length s) (b : (j : ℕ) → j < sta
 
   pub start-holds : Holds s start-state
   unfolding tree-of node-0-alone view flat
-  start-holds = record { layout = start-layout; header = open-is; rows = nodes-is; unique = rw nodes-is; valid = valid-start }
+  start-holds = record { layout = start-layout; header = ap (λ (f : ℕ → Bool). with-open f start-header) open-is; rows = nodes-is; unique = rw nodes-is; valid = valid-start }
 
 -- the calls ------------------------------------------------------------------------------------------
 

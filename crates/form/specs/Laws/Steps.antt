@@ -6,12 +6,12 @@ use mathlib.Core.List.{List, [], _∷_, _++_, map}
 use native.Mathlib.Omega.{arith}
 use lib.ListN.{length, getD}
 use lib.Dec.{eqb, leb}
-use borrow.Author.Tests.{le-leb, leb-true, eqb-true, eqb-false, eq-eqb, ne-eqb}
+use borrow.Author.Tests.{le-leb, leb-true, not-false, eqb-true, eqb-false, eq-eqb, ne-eqb}
 use Rattle.tree.specs.Lists.{any, every, distinct}
 use Rattle.tree.specs.Forest.{Forest, nil, node, Row, row, view}
 use Rattle.tree.specs.Content.{document-kind, element-kind, attribute-kind, text-kind, between, allowed, takes, attributes-first, children-rule}
 use Rattle.tree.specs.Document.{Node, Document, node-0-alone, lines, numbers, top-kinds, ruled, rooted, legal}
-use Rattle.tree.specs.Steps.{Step, T, C, R, U, D, I, TT, RR, UU, target}
+use Rattle.tree.specs.Steps.{Step, T, C, R, U, D, I, TT, RR, UU, target, wrong-kind-on}
 use Rattle.tree.specs.Laws.Tests.{and-left, and-right, or-left, or-right}
 use Rattle.locks.specs.Needs.{Lock}
 use Rattle.protocol.specs.State.{nobody, Marked, Tree, State, numbered, seen-by, written-by, deleted-by, unmarked, inserted-by, granted-to, lasting, undone}
@@ -19,7 +19,6 @@ use Rattle.protocol.specs.State.{mark, renamed, act, grant, commit-tree, abort-
 use Rattle.layout.specs.Flat.{flat}
 use Rattle.layout.specs.Layout.{Entry, no-entry, is-open, nodes, Layout, Left, Kept}
 use Rattle.lookup.specs.Places.{item, items, number-of, unique}
-use Rattle.lookup.specs.Found.{misfit-on}
 use Rattle.lookup.specs.Laws.Find.{unique-head}
 use Rattle.form.specs.Form.{in-range, valid, valid-document, all-valid, valid-tree, Holds}
 use Rattle.form.specs.Laws.Rows.{and-of, between-low, between-high}
@@ -30,7 +29,7 @@ use Rattle.form.specs.Laws.Valid.{Root, root-of, tree-of-root, valid-mar
 -- bytes that hold a state again ------------------------------------------------------------------
 
 -- after any change
-pub holds-left : {s s′ : List ℕ} (M : State) → Left s s′ (M .header .is-open) (flat 0 (M .tree)) → unique (flat 0 (M .tree)) ≡ true
+pub holds-left : {s s′ : List ℕ} (M : State) → Left s s′ (M .header) (flat 0 (M .tree)) → unique (flat 0 (M .tree)) ≡ true
     → valid-tree (M .tree) ≡ true → Holds s′ M
 holds-left M l u f = record { layout = l .layout; header = l .header; rows = l .nodes; unique = rw (l .nodes) u; valid = f }
 
@@ -93,28 +92,19 @@ takes-low parent kind h = go (eqb parent document-kind) (eqb parent element-kind
     go false true c h = h
     go false false c h = rw (eqb-true kind text-kind (and-right c _ h))
 
--- what causes 8 and 9 leave
-not-eight : (b : Bool) → _≡_ {A = ℕ} (cond b 8 0) 0 → b ≡ false
-not-eight true h = absurd (omega arith)
-not-eight false h = refl
-
-taken : (b : Bool) (x : ℕ) → cond b x 8 ≡ 0 → b ≡ true
-taken true x h = refl
-taken false x h = absurd (omega arith)
-
--- t is a transaction, and the step finds its node at p, where neither cause 8 nor 9 applies
+-- t is a transaction, and the step finds its node at p, where cause 8 does not apply
 pub valid-act : (t : ℕ) (s : Step) (f : Tree) (p : ℕ) → t ≤ 16 → valid-tree f ≡ true → unique (flat 0 f) ≡ true → p < length (flat 0 f)
     → number-of (item (flat 0 f) p) ≡ target s
-    → misfit-on s (item (flat 0 f) p .now) ≡ 0 → valid-tree (act t s f) ≡ true
+    → wrong-kind-on s (item (flat 0 f) p .now .kind) ≡ false → valid-tree (act t s f) ≡ true
 valid-act t (T n) f p l h u k e m = h
 valid-act t (C n i) f p l h u k e m = h
 valid-act t (R n) f p l h u k e m = h
 valid-act t (U n b) f p l h u k e m =
     valid-some (λ r. numbered n (r .it)) (written-by t b) (keeps-written t b l .node) (λ a d v. keeps-written t b l .document a d) f h
 valid-act t (D n) f p l h u k e m = valid-some (λ r. numbered n (r .it)) (deleted-by t) (valid-deleted t l)
-    (λ a d v. absurd (eqb-false _ document-kind (not-eight _ m) (is-root f p h u k (e ∙ sym (eqb-true (a .now .number) n v) ∙ d .number)))) f h
+    (λ a d v. absurd (eqb-false _ document-kind m (is-root f p h u k (e ∙ sym (eqb-true (a .now .number) n v) ∙ d .number)))) f h
 valid-act t (I x kind b n i) f p l h u k e m =
-    let q : between element-kind text-kind kind ≡ true = takes-low (item (flat 0 f) p .now .kind) kind (taken _ (cond (allowed kind b) 0 9) m) in
+    let q : between element-kind text-kind kind ≡ true = takes-low (item (flat 0 f) p .now .kind) kind (not-false _ m) in
     let a : Node = record { number = x; kind = kind; content = b } in
     valid-put (numbered n) (seen-by t) i (inserted-by t a)
     (valid-inserted t a l (between-low element-kind text-kind kind q) (between-high element-kind text-kind kind q)) f h

@@ -21,7 +21,6 @@ use Rattle.protocol.specs.State.{mark, renamed, act, grant, commit-tree, abort-
 use Rattle.layout.specs.Flat.{flat}
 use Rattle.layout.specs.Layout.{Entry, no-entry}
 use Rattle.lookup.specs.Places.{item, items, number-of, unique}
-use Rattle.lookup.specs.Found.{misfit-on}
 use Rattle.lookup.specs.Laws.Find.{unique-head}
 use Rattle.form.specs.Form.{in-range, valid, valid-document, all-valid, valid-tree}
 use Rattle.form.specs.Laws.Rows.{and-of, between-of, between-low, between-high}

@@ -11,7 +11,7 @@ use Rattle.locks.specs.Modes.{ModeSet, no-mode, in-word, bit}
 use Rattle.protocol.specs.State.{is-transaction, Marked, with-open}
 use Rattle.layout.specs.Lists.{tabulate, modify}
 use Rattle.layout.specs.Flat.{second}
-use Rattle.layout.specs.Layout.{state-size, open-at, entry-at, cell-at, lock-at, word, part, count, slot, depth, number, cell, is-open, held}
+use Rattle.layout.specs.Layout.{state-size, open-at, count-at, entry-at, cell-at, lock-at, word, part, count, slot, depth, number, cell, is-open, held}
 use Rattle.layout.specs.Layout.{decode, Entry, entry, nodes, no-entry, Sized, Layout, Left, Kept, header}
 use Rattle.layout.specs.Laws.Lists.{length-tabulate, getD-tabulate, tabulate-same, modify-tabulate, map-tabulate}
 use Rattle.layout.specs.Laws.Bytes.{Only, word-low, word-high, part-low, part-high, part-same, drop-high, length-part, part-at, part-set}
@@ -30,7 +30,7 @@ unfolding cell
 length-cell s k h l = length-part s (cell-at k) 70 (omega arith)
 
 -- changes behind the header, once for all its fields
-pub same-header : {k n : ℕ} {s s′ : List ℕ} → Only k n s s′ → entry-at 0 ≤ k → header s′ ≡ header s
+pub same-header : {k n : ℕ} {s s′ : List ℕ} → Only k n s s′ → count-at ≤ k → header s′ ≡ header s
 unfolding is-open
 same-header {k} {n} {s} {s′} o low = ap (λ (w : ℕ). with-open (λ t. cond (is-transaction t) (bit w (t - 1)) false) (header s)) (word-low o open-at (omega arith))
 

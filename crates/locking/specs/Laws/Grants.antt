@@ -15,7 +15,7 @@ use Rattle.locks.specs.Needs.{Need}
 use Rattle.locks.specs.Words.{word-of, words}
 use Rattle.locks.specs.declared.NeedWords.{NeedWords}
 use Rattle.locks.specs.Laws.Sets.{in-union, SameSets}
-use Rattle.protocol.specs.State.{Marked}
+use Rattle.protocol.specs.State.{Marked, with-held}
 use Rattle.layout.specs.Lists.{modify}
 use Rattle.layout.specs.Flat.{second}
 use Rattle.layout.specs.Layout.{Entry, nodes, no-entry, Layout, Kept}
@@ -23,7 +23,7 @@ use Rattle.layout.specs.Fields.{with-modes}
 use Rattle.layout.specs.Laws.Lists.{modify-same}
 use Rattle.layout.specs.Laws.Kept.{kept-same, kept-then, kept-as}
 use Rattle.lookup.specs.Places.{item}
-use Rattle.edits.specs.Rows.{with-held, granted-modes, granted-along}
+use Rattle.edits.specs.Rows.{granted-modes, granted-along}
 use Rattle.locking.specs.declared.Way.{Way}
 use Rattle.locking.specs.Way.{way-places, Inside}
 use Rattle.locking.specs.Waits.{word-at}
@@ -33,7 +33,7 @@ use Rattle.locking.specs.Grants.{with-more, granted-from, granted-on}
 
 -- the union of the word that stands for what t holds, and of the new one
 more-modes : (t v w : ℕ) (a : Marked) → in-word v ≡ a .held t → with-modes t (bitOr v w) a ≡ with-more t w a
-more-modes t v w a e = ap (with-held a) (fun-ext (λ u. go u (eqb u t) refl))
+more-modes t v w a e = ap (λ (f : ℕ → ModeSet). with-held f a) (fun-ext (λ u. go u (eqb u t) refl))
   where
     go : (u : ℕ) (b : Bool) → eqb u t ≡ b → cond b (in-word (bitOr v w)) (a .held u) ≡ cond b (union (a .held u) (in-word w)) (a .held u)
     go u true i = let f : in-word (bitOr v w) ≡ union (in-word v) (in-word w) = fun-ext (in-union v w) in f ∙ rw (e, eqb-true u t i)
@@ -50,7 +50,7 @@ add-kept {s} t i v w x e f k =
 module _ (t : ℕ) (w : Need) (e : SameSets w) where
   same-modes : (ms : List Mode) → ((m : Mode) → in-word (word-of ms) m ≡ among ms m) → with-more t (word-of ms) ≡ granted-modes t ms
   same-modes ms h = let f : in-word (word-of ms) ≡ among ms = fun-ext h in
-      let g : ModeSet → Marked → Marked = λ p a. with-held a (λ u. cond (eqb u t) (union (a .held u) p) (a .held u)) in
+      let g : ModeSet → Marked → Marked = λ p a. with-held (λ u. cond (eqb u t) (union (a .held u) p) (a .held u)) a in
       ap g f
 
   above-words : (j : ℕ) (is : List ℕ) (l : List Entry) → granted-from t (words w) (suc (suc j)) is l ≡ granted-along t (w .above) (w .above) (w .above) is l

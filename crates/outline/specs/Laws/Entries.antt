@@ -11,7 +11,7 @@ use Rattle.layout.specs.Lists.{tabulate, modify, insert}
 use Rattle.layout.specs.Layout.{state-size, entry-at, cell-at, lock-at, word, part, count, slot, depth, number, cell, is-open, held, decode, Entry}
 use Rattle.layout.specs.Layout.{entry, nodes, no-entry, Sized, Layout, Left, Kept, header}
 use Rattle.layout.specs.Laws.Bytes.{Only, only-wider, only-then, only-word, put-word, word-put, word-low, word-high, part-low, part-high, drop-high}
-use Rattle.layout.specs.Laws.Nodes.{length-nodes}
+use Rattle.layout.specs.Laws.Nodes.{length-nodes, same-header}
 use Rattle.outline.specs.Outline.{Placed, Copy, Entered, Shifted}
 
 -- another place
@@ -105,7 +105,7 @@ module _ {s s′ : List ℕ} (o : Only 10 6150 s s′) where
         };
         long = o .long;
         behind = drop-high o state-size (omega arith);
-        header = fun-ext (λ t. rw (word-low o 8 (omega arith)));
+        header = same-header o (omega arith);
         nodes = rw c e;
       }
 

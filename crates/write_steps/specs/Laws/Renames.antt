@@ -14,7 +14,7 @@ use Rattle.locks.specs.Modes.{Mode, no-mode}
 use Rattle.locks.specs.Needs.{need}
 use Rattle.locks.specs.Words.{step-named}
 use Rattle.locks.specs.declared.StepName.the-variants as name
-use Rattle.protocol.specs.State.{Marked, seen-by}
+use Rattle.protocol.specs.State.{Marked, seen-by, with-held}
 use Rattle.protocol.specs.Lent.{first-lent, second-lent}
 use Rattle.protocol.specs.Calls.{step}
 use Rattle.protocol.specs.Answers.{granted-answer}
@@ -27,7 +27,7 @@ use Rattle.layout.specs.Laws.Lists.{modify-none}
 use Rattle.layout.specs.Laws.Kept.{kept-then, left-kept}
 use Rattle.lookup.specs.Places.{depth, item, items, number-of, below, seen-from, subtree}
 use Rattle.lookup.specs.Found.{wait-word}
-use Rattle.edits.specs.Rows.{with-held, granted-modes, granted-along, granted-up, renamed-rows, stepped}
+use Rattle.edits.specs.Rows.{granted-modes, granted-along, granted-up, renamed-rows, stepped}
 use Rattle.edits.specs.Laws.Ends.{prune-map}
 use Rattle.edits.specs.Laws.Lists.{map-modify, map-drop}
 use Rattle.locking.specs.declared.Way.{Way}
@@ -44,7 +44,7 @@ use Rattle.write_steps.specs.Laws.Ends.{refused-misfit, waits-for, grant
 -- rows without their locks -----------------------------------------------------------------
 
 abbrev bare : Marked → Marked
-bare a = with-held a (λ u. no-mode)
+bare a = with-held (λ u. no-mode) a
 
 abbrev bare-rows : List Entry → List Entry
 bare-rows l = map (second bare) l

@@ -9,7 +9,7 @@ use lib.Dec.{eqb}
 use Rattle.tree.specs.Document.{Node}
 use Rattle.locks.specs.Modes.{Mode, no-mode, union, among, in-word}
 use Rattle.locks.specs.Words.{word-of}
-use Rattle.protocol.specs.State.{inserted-by, Header}
+use Rattle.protocol.specs.State.{inserted-by, Header, with-held}
 use Rattle.layout.specs.Lists.{modify, insert}
 use Rattle.layout.specs.Flat.{second}
 use Rattle.layout.specs.Layout.{is-open, Entry, nodes, Left, Kept, header}
@@ -17,12 +17,12 @@ use Rattle.layout.specs.Fields.{with-modes}
 use Rattle.layout.specs.Laws.Kept.{left-then, left-as}
 use Rattle.lookup.specs.Laws.Placing.{length-insert}
 use Rattle.outline.specs.Laws.Lists.{modify-insert}
-use Rattle.edits.specs.Rows.{with-held, granted-modes}
+use Rattle.edits.specs.Rows.{granted-modes}
 
 -- nobody held anything there
 new-modes : (t : ℕ) (ms : List Mode) (x : Node) → ((m : Mode) → in-word (word-of ms) m ≡ among ms m)
     → with-modes t (word-of ms) (inserted-by t x) ≡ granted-modes t ms (inserted-by t x)
-new-modes t ms x h = let e : in-word (word-of ms) ≡ among ms = fun-ext h in ap (with-held (inserted-by t x)) (fun-ext (λ u. go e (eqb u t)))
+new-modes t ms x h = let e : in-word (word-of ms) ≡ among ms = fun-ext h in ap (λ (f : ℕ → ModeSet). with-held f (inserted-by t x)) (fun-ext (λ u. go e (eqb u t)))
   where
     go : in-word (word-of ms) ≡ among ms → (b : Bool) → cond b (in-word (word-of ms)) no-mode ≡ cond b (union no-mode (among ms)) no-mode
     go e true = e
