@@ -3,7 +3,7 @@ use mathlib.Core.Path.{_≡_}
 use Prim.Native.Nat.{ℕ, _≤_}
 use mathlib.Core.List.{List}
 use lib.ListN.{length}
-use Rattle.tree.specs.Steps.{T, C, R, U, D, I, TT, RR, UU}
+use Rattle.tree.specs.Steps.{Step}
 use Rattle.protocol.specs.State.{State}
 use Rattle.protocol.specs.Lent.{Room, first-lent, second-lent}
 use Rattle.protocol.specs.Calls.{Input, Call, start, load, begin, commit, abort, step, write}
@@ -25,15 +25,7 @@ pub data Makes (room : Room) : Request → Call → Type 0 where
   makes-begin : {t : ℕ} → Makes room (Request.begin t) (begin t)
   makes-commit : {t : ℕ} → Makes room (Request.commit t) (commit t)
   makes-abort : {t : ℕ} → Makes room (Request.abort t) (abort t)
-  makes-test : {t n : ℕ} → Makes room (Request.test t n) (step t (T n) room)
-  makes-child : {t n k : ℕ} → Makes room (Request.child t n k) (step t (C n k) room)
-  makes-read : {t n : ℕ} → Makes room (Request.read t n) (step t (R n) room)
-  makes-update : {t n : ℕ} {b : List ℕ} → Makes room (Request.update t n b) (step t (U n b) room)
-  makes-delete : {t n : ℕ} → Makes room (Request.delete t n) (step t (D n) room)
-  makes-insert : {t m kind n k : ℕ} {b : List ℕ} → Makes room (Request.insert t m kind b n k) (step t (I m kind b n k) room)
-  makes-test-tree : {t n : ℕ} → Makes room (Request.test-tree t n) (step t (TT n) room)
-  makes-read-tree : {t n : ℕ} → Makes room (Request.read-tree t n) (step t (RR n) room)
-  makes-rename-tree : {t n : ℕ} {a b : List ℕ} → Makes room (Request.rename-tree t n a b) (step t (UU n a b) room)
+  makes-step : {t : ℕ} {s : Step} → Makes room (Request.step t s) (step t s room)
 
 -- the call that was made
 abbrev pub MakesCall : Exchange → Call → Type 0

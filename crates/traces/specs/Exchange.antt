@@ -3,6 +3,7 @@ use Prim.Native.Nat.{ℕ, _/_, _%_}
 use mathlib.Core.Bool.{Bool}
 use mathlib.Core.List.{List, []}
 use lib.Dec.{eqb}
+use Rattle.tree.specs.Steps.{Step}
 
 -- the numbers and the bytes that a call is given, beside the state and the buffers for its answer
 pub data Request : Type 0 where
@@ -10,14 +11,8 @@ pub data Request : Type 0 where
   load : (xml : List ℕ) → Request
   write : Request
   begin commit abort : (t : ℕ) → Request
-  test : (t n : ℕ) → Request
-  child : (t n k : ℕ) → Request
-  read : (t n : ℕ) → Request
-  update : (t n : ℕ) (bytes : List ℕ) → Request
-  delete : (t n : ℕ) → Request
-  insert : (t m kind : ℕ) (bytes : List ℕ) (n k : ℕ) → Request
-  test-tree read-tree : (t n : ℕ) → Request
-  rename-tree : (t n : ℕ) (from to : List ℕ) → Request
+  -- the nine steps, each by its numbers and bytes
+  step : (t : ℕ) (s : Step) → Request
 
 -- lent bytes, before the call and after it
 pub record Memory : Type 0 where

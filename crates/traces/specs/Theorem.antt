@@ -7,17 +7,20 @@ use mathlib.Core.Bool.{true, false, cond}
 use mathlib.Core.List.{List, [], _∷_, _++_, map, List·Memᴰ}
 use lib.ListN.{length, take, drop}
 use Rattle.tree.specs.Document.{Document, node-0-alone}
-use Rattle.tree.specs.Steps.{Step, Value, unfit, plain-answers}
+use Rattle.tree.specs.Lists.{has, joined}
+use Rattle.tree.specs.Steps.{Step, Value, PlainAnswer, plain-value, unfit, plain-answers}
 use Rattle.locks.specs.Needs.{needs}
 use Rattle.protocol.specs.State.{State, start-state, callers-document, committed-document}
 use Rattle.protocol.specs.Lent.{Room, filled, first-lent, second-lent}
-use Rattle.protocol.specs.Calls.{Call, start, step, write, Outcome, granted, written, waits, refused, refused-at, next}
+use Rattle.protocol.specs.Causes.{causes}
+use Rattle.protocol.specs.Calls.{Call, start, load, begin, commit, abort, step, write, Outcome, granted, written, waits, refused, refused-at, next}
 use Rattle.protocol.specs.History.{Event, is-granted, Log, new-log, logged, fed, plain}
 use Rattle.protocol.specs.Answers.{granted-answer, code-of, answer-of, lent-after}
 use Rattle.protocol.specs.declared.Answer.{Answer}
 use Rattle.protocol.specs.declared.Answer.the-variants.{Count, Refused}
 use Rattle.layout.specs.Layout.{state-size}
 use Rattle.form.specs.Form.{form, Holds}
+use Rattle.engine.specs.Contract.{outside}
 use Rattle.serializability.specs.Theorem.{since-start, reached, WaitSet, Demand3}
 use Rattle.xml.specs.Writing as xml
 use Rattle.xml.specs.Writing.{ReadBack}
@@ -67,14 +70,22 @@ pub record ByDefinition (writing : ℕ → Document → Answer) (text : List ℕ
 abbrev pub Same : Memory → Type 0
 Same m = m .after ≡ m .before
 
+-- the same bytes outside of some places
+abbrev pub SameOutside : List (ℕ × ℕ) → Memory → Type 0
+SameOutside ps m = outside ps (m .after) ≡ outside ps (m .before)
+
+-- the places of the state that a call may change which is not granted: none
+abbrev pub changed-in : Exchange → List (ℕ × ℕ)
+changed-in x = []
+
 -- the outcome of a call, and what it leaves, on any bytes
 pub record Outcomes (x : Exchange) : Type 0 where
-  -- granted, a wait, or a refusal by one of the fifteen causes
+  -- granted, a wait, or a refusal by one of the causes
   pub outcomes : outcome (x .code) ≤ 2
-  pub causes : outcome (x .code) ≡ 2 → (1 ≤ cause (x .code)) × (cause (x .code) ≤ 15)
+  pub causes : outcome (x .code) ≡ 2 → has (cause (x .code)) causes ≡ true
   pub no-cause : (outcome (x .code) ≡ 2 → ⊥) → cause (x .code) ≡ 0
-  -- a wait or a refusal: "left as it was: everything"
-  pub still : (outcome (x .code) ≡ 0 → ⊥) → Same (x .state) × Same (x .first) × Same (x .second)
+  -- a wait or a refusal: "left as it was: everything", but for the places of the state that a call changes which is not granted (none)
+  pub still : (outcome (x .code) ≡ 0 → ⊥) → SameOutside (changed-in x) (x .state) × Same (x .first) × Same (x .second)
   -- bytes behind the state are never touched
   pub long : length (x .state .after) ≡ length (x .state .before)
   pub behind : drop state-size (x .state .after) ≡ drop state-size (x .state .before)
@@ -133,13 +144,26 @@ pub record GrantedStep : Type 0 where
   pub step : Step
   pub exchange : Exchange
 
--- the log (protocol's History) of a list of exchanges and of the calls that they make. "Of their answers only which calls and steps were
--- granted": the codes say it. The entry of a granted step has its exchange in place of a value
+-- the steps that a call asks for
+abbrev pub asked : Call → List Step
+asked start = []
+asked (load i) = []
+asked (begin t) = []
+asked (commit t) = []
+asked (abort t) = []
+asked (step t s room) = s ∷ []
+asked write = []
+
+-- those that were granted, by the code: "of their answers only which calls and steps were granted"
+abbrev pub granted-in : Exchange → Call → List GrantedStep
+granted-in x c = cond (told-granted (x .code)) (map (λ s. record { step = s; exchange = x }) (asked c)) []
+
+-- the log (protocol's History) of a list of exchanges and of the calls that they make; the entry of a granted step has its exchange in
+-- place of a value
 unfoldable pub log-by-codes : Log GrantedStep → List Exchange → List Call → Log GrantedStep
 log-by-codes L [] cs = L
 log-by-codes L (x ∷ xs) [] = L
-log-by-codes L (x ∷ xs) (c ∷ cs) =
-    log-by-codes (cond (told-granted (x .code)) (logged (λ s v. record { step = s; exchange = x }) c unfit L) L) xs cs
+log-by-codes L (x ∷ xs) (c ∷ cs) = log-by-codes (logged c (told-granted (x .code)) (granted-in x c) L) xs cs
 
 abbrev pub granted-steps : List Exchange → List Call → Log GrantedStep
 granted-steps xs cs = log-by-codes (new-log node-0-alone) xs cs
@@ -150,18 +174,22 @@ steps gs = map (λ g. g .step) gs
 -- the plain run of the events h is fed these steps
 pub record Feeds (L : Log GrantedStep) (h : List Event) : Type 0 where
   pub first : L .first ≡ fed h .first
-  pub committed : steps (L .committed) ≡ fed h .committed
+  pub committed : map steps (L .committed) ≡ fed h .committed
   pub open-log : (t : ℕ) → steps (L .open-log t) ≡ fed h .open-log t
 
--- x was answered with the value v, which is not unfit: "what a step puts in a lent buffer belongs to its answer"
-pub record AnsweredWith (v : Value) (x : Exchange) : Type 0 where
-  pub fits : v ≡ unfit → ⊥
+-- x was answered with the value v: "what a step puts in a lent buffer belongs to its answer"
+pub record Answered (v : Value) (x : Exchange) : Type 0 where
   pub code : x .code ≡ code-of (granted-answer v)
   pub first : x .first .after ≡ filled (first-lent v) (x .first .before)
   pub second : x .second .after ≡ filled (second-lent v) (x .second .before)
 
--- one value for each step, in order
-abbrev pub AllAnswered : List Value → List GrantedStep → Type 0
+-- the plain run's answer is a value, with which x was answered
+abbrev pub AnsweredWith : PlainAnswer → Exchange → Type 0
+AnsweredWith (plain-value v) x = Answered v x
+AnsweredWith unfit x = ⊥
+
+-- one answer for each step, in order
+abbrev pub AllAnswered : List PlainAnswer → List GrantedStep → Type 0
 AllAnswered [] [] = Unit {0}
 AllAnswered [] (g ∷ gs) = ⊥
 AllAnswered (v ∷ vs) [] = ⊥
@@ -169,7 +197,7 @@ AllAnswered (v ∷ vs) (g ∷ gs) = AnsweredWith v (g .exchange) × AllAnswered 
 
 -- "each granted step of a committed transaction has in the plain run the answer it had here"
 abbrev pub PlainAnswers : Log GrantedStep → Type 0
-PlainAnswers L = AllAnswered (plain-answers (L .first) (steps (L .committed))) (L .committed)
+PlainAnswers L = AllAnswered (plain-answers (L .first) (steps (joined (L .committed)))) (joined (L .committed))
 
 -- all of them --------------------------------------------------------------------------
 
