@@ -18,6 +18,5 @@ pub mod Released
 pub mod AnyOrder
 pub mod Held
 pub mod Pending
-pub mod Unfit
 pub mod Main
 pub mod Reached

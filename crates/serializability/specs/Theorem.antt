@@ -5,17 +5,17 @@ use mathlib.Core.Path.{_≡_}
 use mathlib.Core.Logic.{_↔_}
 use mathlib.Core.Bool.{Bool, true, false}
 use mathlib.Core.List.{List, [], _∷_, _++_, map, List·Memᴰ}
-use Rattle.tree.specs.Lists.{has, distinct}
-use Rattle.tree.specs.Document.{Document, here, legal, node-0-alone}
-use Rattle.tree.specs.Steps.{Step, Value, unfit, target, plain-document, plain-answers}
-use Rattle.locks.specs.Modes.{Mode}
-use Rattle.locks.specs.Modes.{bit}
+use Rattle.tree.specs.Lists.{has, distinct, joined}
+use Rattle.tree.specs.Document.{Document, here, legal}
+use Rattle.tree.specs.Steps.{Step, Value, plain-value, unfit, target, plain-document, plain-answers}
+use Rattle.locks.specs.Modes.{Mode, bit}
 use Rattle.locks.specs.Needs.{Lock, needs}
 use Rattle.protocol.specs.State.{State, start-state, Marked, is-transaction, transactions, nodes}
 use Rattle.protocol.specs.State.{callers-document, held-document, document-of, committed-document}
 use Rattle.protocol.specs.Lent.{Room}
-use Rattle.protocol.specs.Calls.{Call, start, abort, step, write, granted, written, waits, refused, blocks, next}
-use Rattle.protocol.specs.History.{Event, history, state-after, is-granted, Log, new-log, log-after, fed, plain, plain-run-answers, answers-given, pending}
+use Rattle.protocol.specs.Causes.{no-such-node}
+use Rattle.protocol.specs.Calls.{Call, start, abort, step, write, written, waits, refused, blocks, next}
+use Rattle.protocol.specs.History.{Event, history, state-after, is-granted, fed, answered, plain, plain-run-answers, pending}
 
 -- a list that begins with a start, which is always granted, and the state that it reaches. They begin in one fixed state: start forgets the
 -- state before it (`start-forgets`)
@@ -27,26 +27,19 @@ reached cs = state-after start-state (start ∷ cs)
 
 -- any order ----------------------------------------------------------------------------
 
--- the logs of some transactions, one behind the other; one that is not open has an empty log
-abbrev pub logs : {E : Type 0} → (ℕ → List E) → List ℕ → List E
-logs log [] = []
-logs log (t ∷ ts) = log t ++ logs log ts
-
--- the steps of the committed transactions, in commit order, and then of the transactions b, one behind the other
+-- the steps of the committed transactions, in commit order, and then of the transactions b, one transaction behind the other; one that is
+-- not open has none
 abbrev pub steps-of : List Event → List ℕ → List Step
-steps-of h b = fed h .committed ++ logs (fed h .open-log) b
+steps-of h b = joined (fed h .committed ++ map (fed h .open-log) b)
 
 -- the answers that these steps had
-abbrev pub answered : List Event → Log Value
-answered h = log-after (λ s v. v) (new-log node-0-alone) h
-
 abbrev pub answers-of : List Event → List ℕ → List Value
-answers-of h b = answered h .committed ++ logs (answered h .open-log) b
+answers-of h b = joined (answered h .committed ++ map (answered h .open-log) b)
 
 -- the plain rules run the committed transactions and then b: they leave the document d, and each step has the answer it had
 pub record Runs (h : List Event) (b : List ℕ) (d : Document) : Type 0 where
   pub document : plain-document (fed h .first) (steps-of h b) ≡ d
-  pub answers : plain-answers (fed h .first) (steps-of h b) ≡ answers-of h b
+  pub answers : plain-answers (fed h .first) (steps-of h b) ≡ map plain-value (answers-of h b)
 
 -- any of the open transactions, in any order, leave what the tree shows of them
 abbrev pub AnyOrder : List Call → Type 0
@@ -55,7 +48,7 @@ AnyOrder cs = (b : List ℕ) → distinct b ≡ true → Runs (since-start cs) b
 -- A.14: "let the plain rules run the committed transactions in commit order and then those still open, .. in an arbitrary order.
 -- Each step must have the answer it had here, and the document left must equal the held one"
 abbrev pub OpenInAnyOrder : List Call → Type 0
-OpenInAnyOrder cs = (b : List ℕ) → distinct b ≡ true → ((u : ℕ) → has u b ≡ reached cs .is-open u)
+OpenInAnyOrder cs = (b : List ℕ) → distinct b ≡ true → ((u : ℕ) → has u b ≡ reached cs .header .is-open u)
     → Runs (since-start cs) b (held-document (reached cs))
 
 -- demand 3 -----------------------------------------------------------------------------
@@ -72,7 +65,7 @@ all-aborted M = state-after M (map abort transactions)
 -- a single claim about the list
 pub record Demand3 (cs : List Call) : Type 0 where
   pub held-plain : (held-document (reached cs) ≡ plain (since-start cs)) ↔ (pending (since-start cs) ≡ false)
-  pub answers : plain-run-answers (since-start cs) ≡ answers-given (since-start cs)
+  pub answers : plain-run-answers (since-start cs) ≡ map plain-value (joined (answered (since-start cs) .committed))
   -- "answers unfit, as no granted step does": the plain run allows each of these steps
   pub none-unfit : List·Memᴰ unfit (plain-run-answers (since-start cs)) → ⊥
   pub committed : committed-document (reached cs) ≡ plain (since-start cs)
@@ -87,19 +80,15 @@ pub record Reached (M : State) : Type 0 where
   pub documents-legal : (S : ℕ → Bool) → legal (document-of S (M .tree)) ≡ true
   pub held-legal : legal (held-document M) ≡ true
   -- a transaction that is not open holds no lock: commit and abort empty its sets
-  pub locks-open : (a : Marked) → List·Memᴰ a (nodes (M .tree)) → (u : ℕ) (m : Mode) → a .held u m ≡ true → M .is-open u ≡ true
+  pub locks-open : (a : Marked) → List·Memᴰ a (nodes (M .tree)) → (u : ℕ) (m : Mode) → a .held u m ≡ true → M .header .is-open u ≡ true
   -- "the committed one .. is the one held if they all aborted"
   pub committed-if-aborted : held-document (all-aborted M) ≡ committed-document M
 
 -- one call -----------------------------------------------------------------------------
 
--- demand 1: a call that waits or is refused leaves the state as it was
+-- demand 1: a call that waits or is refused leaves the state as it was, and no step in it was granted
 abbrev pub NotGranted : Type 0
-NotGranted = (c : Call) (M : State) → is-granted (next c M .outcome) ≡ false → next c M .state ≡ M
-
--- "unfit, as no granted step does"
-abbrev pub GrantedFits : Type 0
-GrantedFits = (c : Call) (M : State) → next c M .outcome ≡ granted unfit → ⊥
+NotGranted = (c : Call) (M : State) → is-granted (next c M .outcome) ≡ false → (next c M .steps ≡ []) × (next c M .state ≡ M)
 
 -- demand 2: "a 16-bit set with bit t-1 for each such transaction t, and no other", never empty
 pub record WaitSet (w t : ℕ) (ls : List Lock) (M : State) : Type 0 where
@@ -117,7 +106,7 @@ NoClashNoWait = (t : ℕ) (s : Step) (room : Room) (M : State)
     → ((u : ℕ) → is-transaction u ≡ true → blocks t (needs s (callers-document t (M .tree))) M u ≡ false)
     → (w : ℕ) → next (step t s room) M .outcome ≡ waits w → ⊥
 
--- a step on a node of the caller's document is not refused by 7
+-- a step on a node of the caller's document is not refused by cause 7
 abbrev pub FoundNotSeven : Type 0
 FoundNotSeven = (t : ℕ) (s : Step) (room : Room) (M : State) → here (target s) (callers-document t (M .tree)) ≡ true
-    → next (step t s room) M .outcome ≡ refused 7 → ⊥
+    → next (step t s room) M .outcome ≡ refused no-such-node → ⊥

@@ -1,15 +1,16 @@
 -- A step leaves what another sees, if their locks do not clash.
 use mathlib.Core.Path.{_≡_, refl, sym, ap, _∙_}
 use Prim.Native.Nat.{ℕ}
-use mathlib.Core.Bool.{Bool, true, false, cond, not, _&&_, false≢true, true≢false}
+use mathlib.Core.Bool.{Bool, true, false, _||_, false≢true, true≢false}
 use mathlib.Core.List.{List, [], _∷_}
 use lib.Dec.{eqb}
-use borrow.Author.Tests.{eqb-true, eq-eqb, ne-eqb, not-true}
+use borrow.Author.Tests.{eqb-true, eq-eqb, ne-eqb, not-true, not-false}
 use Rattle.tree.specs.Lists.{any, has}
 use Rattle.tree.specs.Forest.{row}
 use Rattle.tree.specs.Document.{Node, Document, Line, is, here, some?}
-use Rattle.tree.specs.Steps.{Step, T, C, R, U, D, I, TT, RR, UU, target, inserts, fits, misfit, misplaced, after, remove, rewrite}
-use Rattle.tree.specs.Laws.Tests.{and-left, and-right, or-left, refuted}
+use Rattle.tree.specs.Steps.{Step, T, C, R, U, D, I, TT, RR, UU, target, inserts, fits, unknown, wrong-kind, wrong-content, number-there, misplaced}
+use Rattle.tree.specs.Steps.{after, remove, rewrite}
+use Rattle.tree.specs.Laws.Tests.{and-left, and-right, or-left, or-right, refuted}
 use Rattle.tree.specs.Laws.Lists.{at-any, has-in, eqb-flip}
 use Rattle.locks.specs.Modes.{LW, clash}
 use Rattle.locks.specs.Needs.{need, needs}
@@ -26,38 +27,36 @@ use Rattle.commute.specs.Laws.Apart.{path, path-of, not-under, under-not
 
 -- a step that fits ---------------------------------------------------------------------------
 
-zero-if : (t : Bool) (x : ℕ) → eqb (cond t x 7) 0 ≡ true → t ≡ true
-zero-if true x h = refl
-zero-if false x h = absurd (false≢true h)
+-- none of the causes applies
+pub record Fit (s : Step) (d : Document) : Type 0 where
+  pub there : here (target s) d ≡ true
+  pub kind : wrong-kind s d ≡ false
+  pub content : wrong-content s d ≡ false
+  pub new : number-there s d ≡ false
+  pub place : misplaced s d ≡ false
 
-pub misfit-here : (s : Step) (d : Document) → eqb (misfit s d) 0 ≡ true → here (target s) d ≡ true
-misfit-here (T n) d h = zero-if _ _ h
-misfit-here (C n k) d h = zero-if _ _ h
-misfit-here (R n) d h = zero-if _ _ h
-misfit-here (U n b) d h = zero-if _ _ h
-misfit-here (D n) d h = zero-if _ _ h
-misfit-here (I m kind b n k) d h = zero-if _ _ h
-misfit-here (TT n) d h = zero-if _ _ h
-misfit-here (RR n) d h = zero-if _ _ h
-misfit-here (UU n a b) d h = zero-if _ _ h
+pub fit-parts : (s : Step) (d : Document) → fits s d ≡ true → Fit s d
+fit-parts s d h =
+    let a = not-true _ h in
+    let b = or-left _ _ a in
+    let c = or-left _ _ b in
+    let e = or-left _ _ c in
+    record {
+      there = not-false _ (or-left _ _ e);
+      kind = or-right (unknown s d) _ e;
+      content = or-right (unknown s d || wrong-kind s d) _ c;
+      new = or-right (unknown s d || wrong-kind s d || wrong-content s d) _ b;
+      place = or-right (unknown s d || wrong-kind s d || wrong-content s d || number-there s d) _ a;
+    }
 
 module _ (s : Step) (d : Document) (h : fits s d ≡ true) where
-  pub fits-misfit : eqb (misfit s d) 0 ≡ true
-  fits-misfit = and-left _ _ (and-left _ _ h)
-
-  pub fits-placed : misplaced s d ≡ false
-  fits-placed = not-true _ (and-right (eqb (misfit s d) 0 && not (any (λ m. here m d) (inserts s))) _ h)
-
   -- its node is there
   pub fits-here : here (target s) d ≡ true
-  fits-here = misfit-here s d fits-misfit
+  fits-here = fit-parts s d h .there
 
   -- what it inserts is not
   pub fits-absent : Absent s d
-  fits-absent m i = refuted _ (λ e. true≢false (sym (at-any (λ q. here q d) (inserts s) (has-in m (inserts s) i) e) ∙ none))
-    where
-      none : any (λ q. here q d) (inserts s) ≡ false
-      none = not-true _ (and-right (eqb (misfit s d) 0) _ (and-left _ _ h))
+  fits-absent m i = refuted _ (λ e. true≢false (sym (at-any (λ q. here q d) (inserts s) (has-in m (inserts s) i) e) ∙ fit-parts s d h .new))
 
 -- what is left ---------------------------------------------------------------------------------
 

@@ -15,52 +15,10 @@ use Rattle.tree.specs.Laws.Rows.{self}
 use Rattle.commute.specs.Laws.Lines.{number, Unique, at-only, rewritten-number, rewritten-kind, insert}
 use Rattle.commute.specs.Laws.Classes.{Rewriting, update, rename, Class, reading, rewriting, removing, inserting, class, touched, written}
 use Rattle.commute.specs.Laws.Classes.{after-rewriting}
-use Rattle.commute.specs.Laws.Kept.{fits-here, fits-misfit, fits-placed}
+use Rattle.commute.specs.Laws.Kept.{Fit, fit-parts, fits-here}
 use Rattle.commute.specs.Laws.Uniqueness.{unique-after}
 use Rattle.commute.specs.Laws.Runs.{Entry, Run}
 use Rattle.commute.specs.Laws.Rules.{ruled-amend, ruled-view, ruled-put, Has-node, node-line, children-kinds}
-
--- what a step that fits promises ---------------------------------------------------------------
-
--- causes 7, 8 and 9 do not apply
-no-cause : (there bad good : Bool) → eqb (cond there (cond bad 8 (cond good 0 9)) 7) 0 ≡ true → (bad ≡ false) × (good ≡ true)
-no-cause true true good h = absurd (false≢true h)
-no-cause true false true h = (refl, refl)
-no-cause true false false h = absurd (false≢true h)
-no-cause false bad good h = absurd (false≢true h)
-
-removed-kind : (there bad : Bool) → eqb (cond there (cond bad 8 0) 7) 0 ≡ true → bad ≡ false
-removed-kind true true h = absurd (false≢true h)
-removed-kind true false h = refl
-removed-kind false bad h = absurd (false≢true h)
-
-renamed-name : (there good : Bool) → eqb (cond there (cond good 0 9) 7) 0 ≡ true → good ≡ true
-renamed-name true true h = refl
-renamed-name true false h = absurd (false≢true h)
-renamed-name false good h = absurd (false≢true h)
-
-inserted-content : (there takes good : Bool) → eqb (cond there (cond takes (cond good 0 9) 8) 7) 0 ≡ true → good ≡ true
-inserted-content true true true h = refl
-inserted-content true true false h = absurd (false≢true h)
-inserted-content true false good h = absurd (false≢true h)
-inserted-content false takes good h = absurd (false≢true h)
-
-pub fits-U : (n : ℕ) (b : List ℕ) (d : Document) → fits (U n b) d ≡ true → allowed (at n d .it .kind) b ≡ true
-fits-U n b d h = no-cause (here n d) (is-document (at n d)) (allowed (at n d .it .kind) b) (fits-misfit (U n b) d h) .1
-
-pub fits-UU : (n : ℕ) (a b : List ℕ) (d : Document) → fits (UU n a b) d ≡ true → is-name b ≡ true
-fits-UU n a b d h = and-right (is-name a) _ (renamed-name (here n d) (is-name a && is-name b) (fits-misfit (UU n a b) d h))
-
-pub fits-D : (n : ℕ) (d : Document) → fits (D n) d ≡ true → is-document (at n d) ≡ false
-fits-D n d h = removed-kind (here n d) (is-document (at n d)) (fits-misfit (D n) d h)
-
-module _ (m kind : ℕ) (b : List ℕ) (n k : ℕ) (d : Document) (h : fits (I m kind b n k) d ≡ true) where
-  pub fits-I-content : allowed kind b ≡ true
-  fits-I-content = inserted-content (here n d) (takes (at n d .it .kind) kind) (allowed kind b) (fits-misfit (I m kind b n k) d h)
-
-  pub fits-I-place : children-rule (at n d .it .kind) (insert-at k kind (kinds (select (child n) d))) ≡ true
-  unfolding placed
-  fits-I-place = and-right (leb 1 k && leb k (suc (length (kinds (select (child n) d))))) _ (not-false _ (fits-placed (I m kind b n k) d h))
 
 -- the document node ----------------------------------------------------------------------------------
 
@@ -92,9 +50,9 @@ rooted-remove x (node a ks (node c js fs)) u h i e = absurd (false≢true h)
 ruled-rewriting : (d : Document) → Unique d → {s : Step} (w : Rewriting s) → fits s d ≡ true → ruled d ≡ true → ruled (rewrite (touched w) (written w) d) ≡ true
 unfolding allowed
 ruled-rewriting d u (update n b) g h = ruled-amend (is n) b [] d h
-    (λ r m i. rw (at-only d u n (fits-here (U n b) d g) r m (eqb-true _ n i)) (fits-U n b d g))
+    (λ r m i. rw (at-only d u n (fits-here (U n b) d g) r m (eqb-true _ n i)) (not-false _ (fit-parts (U n b) d g .content)))
 ruled-rewriting d u (rename n a b) g h = ruled-amend (λ r. under n r && named a r) b [] d h
-    (λ r m i. rw (eqb-true (r .it .kind) element-kind (and-left _ _ (and-right (under n r) _ i))) (fits-UU n a b d g))
+    (λ r m i. rw (eqb-true (r .it .kind) element-kind (and-left _ _ (and-right (under n r) _ i))) (and-right (is-name a) _ (not-false _ (fit-parts (UU n a b) d g .content))))
 
 childless : (kind : ℕ) → children-rule kind [] ≡ true
 unfolding children-rule attributes-first
@@ -106,16 +64,19 @@ childless kind = go (eqb kind element-kind)
 
 ruled-insertion : (m kind : ℕ) (b : List ℕ) (n k : ℕ) (d : Document) → Unique d → fits (I m kind b n k) d ≡ true → ruled d ≡ true
     → ruled (insert (record { number = m; kind = kind; content = b }) n k d) ≡ true
-unfolding ruled select lines
+unfolding ruled select lines placed
 ruled-insertion m kind b n k d u g h = ruled-put (λ x. eqb (x .number) n) k (record { number = m; kind = kind; content = b }) d h
-    (rw (fits-I-content m kind b n k d g, childless kind)) (λ a ks i e. rule a ks i (eqb-true _ n e))
+    (rw (not-false (allowed kind b) (fit .content), childless kind)) (λ a ks i e. rule a ks i (eqb-true _ n e))
   where
+    fit : Fit (I m kind b n k) d
+    fit = fit-parts (I m kind b n k) d g
+
     rule : (a : Node) (ks : Document) → Has-node a ks d → a .number ≡ n → children-rule (a .kind) (insert-at k kind (top-kinds ks)) ≡ true
     rule a ks i e =
         let o = node-line [] i in
         let l : row a (o .0) ≡ at n d = at-only d u n (fits-here (I m kind b n k) d g) (row a (o .0)) (o .1) e in
         let c : kinds (select (child n) d) ≡ top-kinds ks = children-kinds n [] i e refl u in
-        rw (ap (λ (r : Line). r .it .kind) l, ← c) (fits-I-place m kind b n k d g)
+        rw (ap (λ (r : Line). r .it .kind) l, ← c) (and-right (leb 1 k && leb k (suc (length (kinds (select (child n) d))))) _ (not-false _ (fit .place)))
 
 -- legal -----------------------------------------------------------------------------------------------
 
@@ -143,7 +104,7 @@ legal-after d s h g = legal-whole (after s d) (record { root = root (class s) g;
     root : {s : Step} → Class s → fits s d ≡ true → rooted (after s d) ≡ true
     root (reading e b) g = rw (e d) (l .root)
     root (rewriting w) g = rw (after-rewriting w d) (rooted-rewrite (touched w) (written w) d (l .root))
-    root (removing x) g = rooted-remove x d (l .unique) (l .root) (fits-here (D x) d g) (fits-D x d g)
+    root (removing x) g = rooted-remove x d (l .unique) (l .root) (fits-here (D x) d g) (fit-parts (D x) d g .kind)
     root (inserting m kind b n k) g = rooted-insert (record { number = m; kind = kind; content = b }) n k d (l .root)
 
     rules : {s : Step} → Class s → fits s d ≡ true → ruled (after s d) ≡ true

@@ -2,13 +2,13 @@
 use mathlib.Core.Path.{_≡_, refl, sym, ap, _∙_}
 use Prim.Native.Nat.{ℕ}
 use mathlib.Core.Bool.{Bool, true, false, cond, _||_, false≢true, true≢false, or-true}
-use mathlib.Core.List.{List, [], _∷_, _++_, append-assoc, List·Memᴰ, Memᴰ·append-left, Memᴰ·append-right}
+use mathlib.Core.List.{List, [], _∷_, _++_, map, append-nil, append-assoc, List·Memᴰ, Memᴰ·append-left, Memᴰ·append-right}
 use lib.Dec.{eqb}
 use borrow.Author.Tests.{eqb-true, eqb-false, eq-eqb}
-use Rattle.tree.specs.Lists.{has, distinct}
+use Rattle.tree.specs.Lists.{has, distinct, joined}
 use Rattle.tree.specs.Document.{Document}
 use Rattle.tree.specs.Laws.Tests.{or-left, or-right, or-swap}
-use Rattle.tree.specs.Laws.Lists.{eqb-flip}
+use Rattle.tree.specs.Laws.Lists.{eqb-flip, map-append}
 use Rattle.commute.specs.Laws.Lines.{Unique}
 use Rattle.commute.specs.Laws.Runs.{Entry, Run, run-split, run-append, unique-run, run-valid, All-clear, Brings-once, All-absent, absent-run, exchange}
 
@@ -82,14 +82,16 @@ to-back t (u ∷ a) = then (exchanged t u) (behind u (to-back t a))
 
 -- logs one behind the other --------------------------------------------------------------------
 
+pub joined-append : {A : Type 0} (a b : List (List A)) → joined (a ++ b) ≡ joined a ++ joined b
+joined-append [] b = refl
+joined-append (l ∷ a) b = rw (joined-append a b) (sym (append-assoc l (joined a) (joined b)))
+
 module _ (log : ℕ → List Entry) where
   abbrev pub logs : List ℕ → List Entry
-  logs [] = []
-  logs (t ∷ a) = log t ++ logs a
+  logs a = joined (map log a)
 
-  pub logs-append : (a b : List ℕ) → logs (a ++ b) ≡ logs a ++ logs b
-  logs-append [] b = refl
-  logs-append (t ∷ a) b = rw (logs-append a b) (sym (append-assoc (log t) (logs a) (logs b)))
+  pub logs-last : (a : List ℕ) (t : ℕ) → logs (a ++ (t ∷ [])) ≡ logs a ++ log t
+  logs-last a t = rw (map-append log a (t ∷ []), joined-append (map log a) (log t ∷ []), append-nil (log t))
 
   in-logs : (t : ℕ) (a : List ℕ) → has t a ≡ true → {y : Entry} → List·Memᴰ y (log t) → List·Memᴰ y (logs a)
   in-logs t [] h m = absurd (false≢true h)

@@ -1,11 +1,11 @@
 -- Logs of granted steps, and runs of them by the plain rules. Logs whose locks do not clash may be run in either order.
-use mathlib.Core.Path.{_≡_, refl, sym, ap, ap₂, _∙_}
+use mathlib.Core.Path.{_≡_, refl, sym, ap, _∙_}
 use Prim.Native.Nat.{ℕ}
 use mathlib.Core.Bool.{true, false}
 use mathlib.Core.List.{List, [], _∷_, _++_, map, List·Memᴰ, List·Memᴰ·head, List·Memᴰ·tail, List·Memᴰ·not-nil}
 use Rattle.tree.specs.Lists.{has}
 use Rattle.tree.specs.Document.{Document, at}
-use Rattle.tree.specs.Steps.{Step, target, inserts, Value, answer, fits, after, plain-answer, plain-after, plain-document, plain-answers}
+use Rattle.tree.specs.Steps.{Step, target, inserts, Value, answer, fits, after, plain-value, plain-document, plain-answers}
 use Rattle.locks.specs.Needs.{Lock, needs}
 use Rattle.locks.specs.Laws.Compatible.{Compatible}
 use Rattle.commute.specs.Laws.Lines.{Unique}
@@ -56,30 +56,21 @@ run-valid d [] e r y m = absurd (List·Memᴰ·not-nil m)
 run-valid d (x ∷ l) e r y (List·Memᴰ·head q) = (d, rw q (r .0))
 run-valid d (x ∷ l) e r y (List·Memᴰ·tail m) = run-valid (after (x .step) d) l e (r .1) y m
 
-plain-after-fit : (s : Step) (d : Document) → fits s d ≡ true → plain-after s d ≡ after s d
-plain-after-fit s d h = rw h
-
-plain-answer-fit : (s : Step) (d : Document) → fits s d ≡ true → plain-answer s d ≡ answer s d
-plain-answer-fit s d h = rw h
-
 -- a run ends in one document: the one that the plain run of the steps leaves
 pub run-document : (d : Document) (l : List Entry) (e : Document) → Run d l e → plain-document d (map (λ x. x .step) l) ≡ e
 unfolding plain-document
 run-document d [] e r = r
-run-document d (x ∷ l) e r =
-    ap (λ (c : Document). plain-document c (map (λ y. y .step) l)) (plain-after-fit (x .step) d (r .0 .fit))
-    ∙ run-document (after (x .step) d) l e (r .1)
+run-document d (x ∷ l) e r = rw (r .0 .fit, plain-document) (run-document (after (x .step) d) l e (r .1))
 
 pub run-one-end : (d : Document) (l : List Entry) (e e' : Document) → Run d l e → Run d l e' → e ≡ e'
 run-one-end d l e e' r r' = sym (run-document d l e r) ∙ run-document d l e' r'
 
 -- and gives the answers that the plain run gives
-pub run-answers : (d : Document) (l : List Entry) (e : Document) → Run d l e → plain-answers d (map (λ x. x .step) l) ≡ map (λ x. x .value) l
+pub run-answers : (d : Document) (l : List Entry) (e : Document) → Run d l e
+    → plain-answers d (map (λ x. x .step) l) ≡ map plain-value (map (λ x. x .value) l)
 unfolding plain-answers
 run-answers d [] e r = refl
-run-answers d (x ∷ l) e r =
-    ap₂ (λ (v : Value) (vs : List Value). v ∷ vs) (plain-answer-fit (x .step) d (r .0 .fit) ∙ r .0 .says)
-    (ap (λ (c : Document). plain-answers c (map (λ y. y .step) l)) (plain-after-fit (x .step) d (r .0 .fit)) ∙ run-answers (after (x .step) d) l e (r .1))
+run-answers d (x ∷ l) e r = rw (r .0 .fit, r .0 .says, run-answers (after (x .step) d) l e (r .1))
 
 -- locks between entries --------------------------------------------------------------------
 

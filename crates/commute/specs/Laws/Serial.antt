@@ -1,8 +1,8 @@
 -- Transactions run one after another, in any order; a granted step, commit and abort.
 use mathlib.Core.Path.{_≡_, refl, sym, _∙_}
 use Prim.Native.Nat.{ℕ}
-use mathlib.Core.Bool.{Bool, true, false, cond, _||_, true≢false, or-true}
-use mathlib.Core.List.{List, [], _∷_, _++_, append-nil, List·Memᴰ, List·Memᴰ·head, List·Memᴰ·tail, List·Memᴰ·not-nil, List·Memᴰ·append-cases}
+use mathlib.Core.Bool.{Bool, true, false, cond, or-true}
+use mathlib.Core.List.{List, [], _∷_, _++_, List·Memᴰ, List·Memᴰ·head, List·Memᴰ·tail, List·Memᴰ·not-nil, List·Memᴰ·append-cases}
 use mathlib.Core.List.{List·Memᴰ·eq-of-singleton}
 use mathlib.Core.Logic.{_⊎_, inl, inr}
 use lib.Dec.{eqb}
@@ -10,13 +10,13 @@ use borrow.Author.Tests.{eqb-true, eq-eqb}
 use Rattle.tree.specs.Lists.{has}
 use Rattle.tree.specs.Document.{Document}
 use Rattle.tree.specs.Steps.{after}
-use Rattle.tree.specs.Laws.Tests.{or-cases}
+use Rattle.tree.specs.Laws.Tests.{or-left, or-right, or-cases}
 use Rattle.locks.specs.Laws.Compatible.{compatible-symmetric}
 use Rattle.commute.specs.Laws.Lines.{Unique}
 use Rattle.commute.specs.Laws.Classes.{Absent}
 use Rattle.commute.specs.Laws.Runs.{Entry, Valid, Run, run-split, run-append, unique-run, Clear, All-clear, Other-numbers, Brings-once, All-absent}
 use Rattle.commute.specs.Laws.Orders.{Permutation, permuted-has, permuted-distinct, permutation-back, to-back, Distinct, distinct-head}
-use Rattle.commute.specs.Laws.Orders.{distinct-tail, distinct-cons, logs, logs-append, Apart, None-there, rest-not-there, any-order}
+use Rattle.commute.specs.Laws.Orders.{distinct-tail, distinct-cons, logs, logs-last, Apart, None-there, rest-not-there, any-order}
 
 -- the transactions a, run one after another in this order on d, give every step its answer and its locks, and leave h
 pub record Serial (d : Document) (a : List ℕ) (log : ℕ → List Entry) (h : Document) : Type 0 where
@@ -57,7 +57,7 @@ pub abort : (d : Document) (t : ℕ) (a : List ℕ) (log : ℕ → List Entry) (
     → (e : Document) × Run e (log t) h × Serial d a log e
 abort d t a log h s =
     let r : Run d (logs log (a ++ (t ∷ []))) h = any-order log (to-back t a) d h (s .apart) (s .unique) (s .distinct) (s .none-there) (s .run) in
-    let q : Run d (logs log a ++ log t) h = rw (logs-append log a (t ∷ []), append-nil (log t)) at r in
+    let q : Run d (logs log a ++ log t) h = rw (logs-last log a t) at r in
     let g = run-split d (logs log a) (log t) h q in (
       g .0,
       g .2,
@@ -70,50 +70,59 @@ abort d t a log h s =
       },
     )
 
--- transactions without entries ---------------------------------------------------------------------
+-- a log replaced ---------------------------------------------------------------------------------
+
+-- the log of t is l
+abbrev pub replaced : ℕ → List Entry → (ℕ → List Entry) → ℕ → List Entry
+replaced t l log v = cond (eqb v t) l (log v)
+
+pub in-replaced : (t : ℕ) (l : List Entry) (log : ℕ → List Entry) (v : ℕ) {y : Entry} → List·Memᴰ y (replaced t l log v)
+    → List·Memᴰ y (log v) ⊎ ((v ≡ t) × List·Memᴰ y l)
+in-replaced t l log v {y} m = go (eqb v t) refl m
+  where
+    go : (e : Bool) → eqb v t ≡ e → List·Memᴰ y (cond e l (log v)) → List·Memᴰ y (log v) ⊎ ((v ≡ t) × List·Memᴰ y l)
+    go true e i = inr (eqb-true v t e, i)
+    go false e i = inl i
+
+-- the log of a transaction that is not among them does not matter
+logs-replaced : (t : ℕ) (l : List Entry) (log : ℕ → List Entry) (a : List ℕ) → has t a ≡ false → logs (replaced t l log) a ≡ logs log a
+logs-replaced t l log [] h = refl
+logs-replaced t l log (v ∷ a) h = rw (or-left (eqb v t) (has t a) h, logs-replaced t l log a (or-right (eqb v t) (has t a) h))
+
+once-replaced : (t : ℕ) (l : List Entry) (log : ℕ → List Entry) → ((v : ℕ) → Brings-once (log v)) → Brings-once l → (v : ℕ) → Brings-once (replaced t l log v)
+once-replaced t l log s o v = go (eqb v t)
+  where
+    go : (e : Bool) → Brings-once (cond e l (log v))
+    go true = o
+    go false = s v
 
 -- the log of t is emptied
 abbrev pub emptied : ℕ → (ℕ → List Entry) → ℕ → List Entry
-emptied t log v = cond (eqb v t) [] (log v)
+emptied t log = replaced t [] log
 
 pub in-emptied : (t : ℕ) (log : ℕ → List Entry) (v : ℕ) {y : Entry} → List·Memᴰ y (emptied t log v) → List·Memᴰ y (log v)
-in-emptied t log v {y} m = go (eqb v t) m
+in-emptied t log v {y} m = go (in-replaced t [] log v m)
   where
-    go : (e : Bool) → List·Memᴰ y (cond e [] (log v)) → List·Memᴰ y (log v)
-    go true i = absurd (List·Memᴰ·not-nil i)
-    go false i = i
+    go : List·Memᴰ y (log v) ⊎ ((v ≡ t) × List·Memᴰ y []) → List·Memᴰ y (log v)
+    go (inl i) = i
+    go (inr i) = absurd (List·Memᴰ·not-nil (i .1))
 
-pub apart-emptied : (t : ℕ) (log : ℕ → List Entry) → Apart log → Apart (emptied t log)
-apart-emptied t log s = record { clear = λ u v ne y z i j. s .clear u v ne y z (in-emptied t log u i) (in-emptied t log v j); once = once }
-  where
-    once : (v : ℕ) → Brings-once (emptied t log v)
-    once v = go (eqb v t)
-      where
-        go : (e : Bool) → Brings-once (cond e [] (log v))
-        go true = tt
-        go false = s .once v
-
-logs-emptied : (t : ℕ) (log : ℕ → List Entry) (a : List ℕ) → has t a ≡ false → logs (emptied t log) a ≡ logs log a
-logs-emptied t log [] h = refl
-logs-emptied t log (v ∷ a) h = go (eqb v t) h (λ i. logs-emptied t log a i)
-  where
-    go : (e : Bool) → (e || has t a) ≡ false → (has t a ≡ false → logs (emptied t log) a ≡ logs log a)
-        → cond e [] (log v) ++ logs (emptied t log) a ≡ log v ++ logs log a
-    go true i f = absurd (true≢false i)
-    go false i f = rw (f i)
-
--- the log of a transaction that is not among them does not matter
-pub forget : (d : Document) (t : ℕ) (a : List ℕ) (log : ℕ → List Entry) (h : Document) → has t a ≡ false → Serial d a log h → Serial d a (emptied t log) h
+pub forget : (d : Document) (t : ℕ) (a : List ℕ) (log : ℕ → List Entry) (h : Document) → has t a ≡ false → Serial d a log h
+    → Serial d a (emptied t log) h
 forget d t a log h w s = record {
   unique = s .unique;
   distinct = s .distinct;
-  apart = apart-emptied t log (s .apart);
+  apart = record {
+    clear = λ u v ne y z i j. s .apart .clear u v ne y z (in-emptied t log u i) (in-emptied t log v j);
+    once = once-replaced t [] log (s .apart .once) tt;
+  };
   none-there = λ v i y m. s .none-there v i y (in-emptied t log v m);
-  run = rw (logs-emptied t log a w) (s .run);
+  run = rw (logs-replaced t [] log a w) (s .run);
 }
 
 -- a transaction with an empty log may stand among them
-pub idle : (d : Document) (t : ℕ) (a : List ℕ) (log : ℕ → List Entry) (h : Document) → has t a ≡ false → log t ≡ [] → Serial d a log h → Serial d (t ∷ a) log h
+pub idle : (d : Document) (t : ℕ) (a : List ℕ) (log : ℕ → List Entry) (h : Document) → has t a ≡ false → log t ≡ [] → Serial d a log h
+    → Serial d (t ∷ a) log h
 idle d t a log h w e s = record {
   unique = s .unique;
   distinct = distinct-cons t a w (s .distinct);
@@ -130,27 +139,19 @@ idle d t a log h w e s = record {
 
 -- x behind the log of t
 abbrev pub noted : ℕ → Entry → (ℕ → List Entry) → ℕ → List Entry
-noted t x log v = cond (eqb v t) (log t ++ (x ∷ [])) (log v)
+noted t x log = replaced t (log t ++ (x ∷ [])) log
 
-logs-noted : (t : ℕ) (x : Entry) (log : ℕ → List Entry) (a : List ℕ) → has t a ≡ false → logs (noted t x log) a ≡ logs log a
-logs-noted t x log [] h = refl
-logs-noted t x log (v ∷ a) h = go (eqb v t) h (λ i. logs-noted t x log a i)
-  where
-    go : (e : Bool) → (e || has t a) ≡ false → (has t a ≡ false → logs (noted t x log) a ≡ logs log a)
-        → cond e (log t ++ (x ∷ [])) (log v) ++ logs (noted t x log) a ≡ log v ++ logs log a
-    go true i f = absurd (true≢false i)
-    go false i f = rw (f i)
-
-pub in-noted : (t : ℕ) (x : Entry) (log : ℕ → List Entry) (v : ℕ) {y : Entry} → List·Memᴰ y (noted t x log v) → List·Memᴰ y (log v) ⊎ ((v ≡ t) × (y ≡ x))
-in-noted t x log v {y} m = go (eqb v t) refl m
+pub in-noted : (t : ℕ) (x : Entry) (log : ℕ → List Entry) (v : ℕ) {y : Entry} → List·Memᴰ y (noted t x log v)
+    → List·Memᴰ y (log v) ⊎ ((v ≡ t) × (y ≡ x))
+in-noted t x log v {y} m = go (in-replaced t (log t ++ (x ∷ [])) log v m)
   where
     more : v ≡ t → List·Memᴰ y (log t) ⊎ List·Memᴰ y (x ∷ []) → List·Memᴰ y (log v) ⊎ ((v ≡ t) × (y ≡ x))
     more e (inl i) = inl (rw e i)
     more e (inr i) = inr (e, List·Memᴰ·eq-of-singleton i)
 
-    go : (e : Bool) → eqb v t ≡ e → List·Memᴰ y (cond e (log t ++ (x ∷ [])) (log v)) → List·Memᴰ y (log v) ⊎ ((v ≡ t) × (y ≡ x))
-    go true e i = more (eqb-true v t e) (List·Memᴰ·append-cases (log t) i)
-    go false e i = inl i
+    go : List·Memᴰ y (log v) ⊎ ((v ≡ t) × List·Memᴰ y (log t ++ (x ∷ []))) → List·Memᴰ y (log v) ⊎ ((v ≡ t) × (y ≡ x))
+    go (inl i) = inl i
+    go (inr i) = more (i .0) (List·Memᴰ·append-cases (log t) (i .1))
 
 inserts-once-noted : (l : List Entry) (x : Entry) → Brings-once l → ((y : Entry) → List·Memᴰ y l → Other-numbers x y) → Brings-once (l ++ (x ∷ []))
 inserts-once-noted [] x o n = (λ y i. absurd (List·Memᴰ·not-nil i), tt)
@@ -165,8 +166,11 @@ pub record Grantable (t : ℕ) (log : ℕ → List Entry) (x : Entry) : Type 0 w
   pub clear : (v : ℕ) → (v ≡ t → ⊥) → (y : Entry) → List·Memᴰ y (log v) → Clear x y
   pub new : (y : Entry) → List·Memᴰ y (log t) → Other-numbers x y
 
-pub apart-noted : (t : ℕ) (log : ℕ → List Entry) (x : Entry) → Apart log → Grantable t log x → Apart (noted t x log)
-apart-noted t log x s g = record { clear = clear; once = once }
+apart-noted : (t : ℕ) (log : ℕ → List Entry) (x : Entry) → Apart log → Grantable t log x → Apart (noted t x log)
+apart-noted t log x s g = record {
+  clear = clear;
+  once = once-replaced t (log t ++ (x ∷ [])) log (s .once) (inserts-once-noted (log t) x (s .once t) (g .new));
+}
   where
     clear : (u v : ℕ) → (u ≡ v → ⊥) → All-clear (noted t x log u) (noted t x log v)
     clear u v ne y z i j = go (in-noted t x log u i) (in-noted t x log v j)
@@ -176,13 +180,6 @@ apart-noted t log x s g = record { clear = clear; once = once }
         go (inl p) (inr r) = rw (r .1) (compatible-symmetric (x .held) (y .held) (g .clear u (λ e. ne (e ∙ sym (r .0))) y p))
         go (inr p) (inl r) = rw (p .1) (g .clear v (λ e. ne (p .0 ∙ sym e)) z r)
         go (inr p) (inr r) = absurd (ne (p .0 ∙ sym (r .0)))
-
-    once : (v : ℕ) → Brings-once (noted t x log v)
-    once v = go (eqb v t)
-      where
-        go : (e : Bool) → Brings-once (cond e (log t ++ (x ∷ [])) (log v))
-        go true = inserts-once-noted (log t) x (s .once t) (g .new)
-        go false = s .once v
 
 none-there-noted : (t : ℕ) (log : ℕ → List Entry) (x : Entry) (a : List ℕ) (d : Document) → None-there log a d → Absent (x .step) d
     → None-there (noted t x log) a d
@@ -206,7 +203,7 @@ grant d t a log h x s v g n = reorder d (a ++ (t ∷ [])) (t ∷ a) (noted t x l
     run : Run d (logs (noted t x log) (a ++ (t ∷ []))) (after (x .step) h)
     run =
         let g = abort d t a log h s in
-        rw (logs-append (noted t x log) a (t ∷ []), logs-noted t x log a (distinct-head t a (s .distinct)), eq-eqb t t refl, append-nil (log t ++ (x ∷ [])))
+        rw (logs-last (noted t x log) a t, logs-replaced t (log t ++ (x ∷ [])) log a (distinct-head t a (s .distinct)), eq-eqb t t refl)
         (run-append d (logs log a) (log t ++ (x ∷ [])) (g .0) (after (x .step) h) (g .2 .run)
         (run-append (g .0) (log t) (x ∷ []) h (after (x .step) h) (g .1) (v, refl)))
 
@@ -218,5 +215,5 @@ grant-other d t a log h x w s g n = record {
   distinct = s .distinct;
   apart = apart-noted t log x (s .apart) g;
   none-there = none-there-noted t log x a d (s .none-there) n;
-  run = rw (logs-noted t x log a w) (s .run);
+  run = rw (logs-replaced t (log t ++ (x ∷ [])) log a w) (s .run);
 }

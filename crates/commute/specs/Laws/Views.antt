@@ -4,13 +4,12 @@ use Prim.Native.Nat.{ℕ, zero, suc}
 use mathlib.Core.Bool.{Bool, true, false, not}
 use mathlib.Core.List.{List, [], _∷_, map, List·Memᴰ}
 use lib.Dec.{eqb}
-use borrow.Author.Tests.{eqb-true}
+use borrow.Author.Tests.{eqb-true, eq-eqb}
 use Rattle.tree.specs.Lists.{has, keep}
 use Rattle.tree.specs.Forest.{row}
-use Rattle.tree.specs.Document.{Node, Document, Line, lines, is, child, under, select, first, some?, here}
+use Rattle.tree.specs.Document.{Node, Document, Line, lines, is, child, under, select, first, some?, here, at}
 use Rattle.tree.specs.Steps.{Step, T, C, R, U, D, I, TT, RR, UU, target, inserts, fits, answer, kth, numbers-are, with-content, rewrite, remove}
-use Rattle.tree.specs.Steps.{misfit, misplaced}
-use Rattle.tree.specs.Laws.Lists.{any-same, in-has, keep-keep, keep-all, keep-map, in-keep, map-map, map-self}
+use Rattle.tree.specs.Laws.Lists.{keep-keep, keep-all, keep-map, in-keep, map-map, map-self}
 use Rattle.tree.specs.Laws.Put.{put-kept}
 use Rattle.locks.specs.Needs.{needs, locks}
 use Rattle.commute.specs.Laws.Lines.{number, Of, of-lines, rewritten, rewritten-number, rewritten-kind, lines-rewrite, lines-remove, insert}
@@ -111,43 +110,27 @@ module _ (t : Line → Bool) (d e : Document) (h : Shapes t d e) where
   shapes-map f q = sym (map-map f shape f (select t e) (λ r m. q r)) ∙ ap (map f) h ∙ map-map f shape f (select t d) (λ r m. q r)
 
 pub views-same : (s : Step) (d e : Document) → Views s d e → Same s d e
-views-same s d e v = record { fit = fit; says = says s v; need = ap (locks s) (shapes-above (is (target s)) d e (v .node)) }
+views-same s d e v = record { fit = go s v .0; says = go s v .1; need = ap (locks s) (shapes-above (is (target s)) d e (v .node)) }
   where
-    misfit-same : (s : Step) → Views s d e → misfit s e ≡ misfit s d
-    misfit-same (T n) w = rw (shapes-some (is n) d e (w .node))
-    misfit-same (C n k) w = rw (shapes-some (is n) d e (w .node))
-    misfit-same (R n) w = rw (shapes-some (is n) d e (w .node), shapes-kind (is n) d e (w .node))
-    misfit-same (U n b) w = rw (shapes-some (is n) d e (w .node), shapes-kind (is n) d e (w .node))
-    misfit-same (D n) w = rw (shapes-some (is n) d e (w .node), shapes-kind (is n) d e (w .node))
-    misfit-same (I m kind b n k) w = rw (shapes-some (is n) d e (w .node), shapes-kind (is n) d e (w .node))
-    misfit-same (TT n) w = rw (shapes-some (is n) d e (w .node))
-    misfit-same (RR n) w = rw (shapes-some (is n) d e (w .node))
-    misfit-same (UU n a b) w = rw (shapes-some (is n) d e (w .node))
+    there : {s : Step} → Views s d e → here (target s) e ≡ here (target s) d
+    there {s} w = shapes-some (is (target s)) d e (w .node)
 
-    misplaced-same : (s : Step) → Views s d e → misplaced s e ≡ misplaced s d
-    misplaced-same (T n) w = refl
-    misplaced-same (C n k) w = refl
-    misplaced-same (R n) w = refl
-    misplaced-same (U n b) w = refl
-    misplaced-same (D n) w = refl
-    misplaced-same (I m kind b n k) w = rw (shapes-kind (is n) d e (w .node), shapes-map (child n) d e (w .lines) (λ r. r .it .kind) (λ r. refl))
-    misplaced-same (TT n) w = refl
-    misplaced-same (RR n) w = refl
-    misplaced-same (UU n a b) w = refl
+    kind : {s : Step} → Views s d e → at (target s) e .it .kind ≡ at (target s) d .it .kind
+    kind {s} w = shapes-kind (is (target s)) d e (w .node)
 
-    says : (s : Step) → Views s d e → answer s e ≡ answer s d
-    says (T n) w = rw (shapes-kind (is n) d e (w .node), shapes-above (is n) d e (w .node))
-    says (C n k) w = shapes-kth (child n) d e (w .lines) k
-    says (R n) w = rw (w .contents refl)
-    says (U n b) w = refl
-    says (D n) w = refl
-    says (I m kind b n k) w = refl
-    says (TT n) w = ap numbers-are (shapes-map (under n) d e (w .lines) (λ r. r .it .number) (λ r. refl))
-    says (RR n) w = rw (w .contents refl)
-    says (UU n a b) w = rw (w .contents refl)
-
-    fit : fits s e ≡ fits s d
-    fit = rw (misfit-same s v, misplaced-same s v, any-same (λ m. here m e) (λ m. here m d) (inserts s) (λ m i. v .absent m (in-has m (inserts s) i)))
+    go : (s : Step) → Views s d e → (fits s e ≡ fits s d) × (answer s e ≡ answer s d)
+    go (T n) w = (rw (there w), rw (kind w, shapes-above (is n) d e (w .node)))
+    go (C n k) w = (rw (there w), shapes-kth (child n) d e (w .lines) k)
+    go (R n) w = (rw (there w, kind w), rw (w .contents refl))
+    go (U n b) w = (rw (there w, kind w), refl)
+    go (D n) w = (rw (there w, kind w), refl)
+    go (I m k b n i) w = (
+      rw (there w, kind w, w .absent m (rw (eq-eqb m m refl)), shapes-map (child n) d e (w .lines) (λ r. r .it .kind) (λ r. refl)),
+      refl,
+    )
+    go (TT n) w = (rw (there w), ap numbers-are (shapes-map (under n) d e (w .lines) (λ r. r .it .number) (λ r. refl)))
+    go (RR n) w = (rw (there w), rw (w .contents refl))
+    go (UU n a b) w = (rw (there w), rw (w .contents refl))
 
 -- new contents: nothing but contents changes; nothing at all where no line is rewritten -------
 

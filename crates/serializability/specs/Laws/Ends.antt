@@ -158,10 +158,10 @@ module _ (c : Document) (log : ℕ → List Entry) (M : State) (g : Good c log M
   end-good : (c' : Document) → ((b : List ℕ) → Distinct b → Serial c' b log' (document-of (λ u. has u b) rest)) → Good c' log' (closed t rest M)
   end-good c' serial = record { closed = shut; numbered = λ u e. g .numbered u (and-right (not (eqb u t)) _ e); covered = end-covered; standing = end-standing; brought = end-brought; serial = serial }
     where
-      shut : (u : ℕ) → (not (eqb u t) && M .is-open u) ≡ false → log' u ≡ []
+      shut : (u : ℕ) → (not (eqb u t) && M .header .is-open u) ≡ false → log' u ≡ []
       shut u e = go (eqb u t) refl e
         where
-          go : (x : Bool) → eqb u t ≡ x → (not x && M .is-open u) ≡ false → cond x [] (log u) ≡ []
+          go : (x : Bool) → eqb u t ≡ x → (not x && M .header .is-open u) ≡ false → cond x [] (log u) ≡ []
           go true x y = refl
           go false x y = g .closed u y
 

@@ -61,43 +61,43 @@ here-visible S f d {r} i h =
 
 module _ (c : Document) (log : ℕ → List Entry) (M : State) (g : Good c log M) where
   -- who holds a lock is open
-  holder-open : (u : ℕ) (l : Lock) → List·Memᴰ l (holds log u) → M .is-open u ≡ true
+  holder-open : (u : ℕ) (l : Lock) → List·Memᴰ l (holds log u) → M .header .is-open u ≡ true
   holder-open u l i = log-open g u (lock-entry (log u) l i .1)
 
-  pub marker-open : (r : Place) → Inside r (M .tree) → (u : ℕ) → (u ≡ nobody → ⊥) → (eqb (r .it .inserter) u || eqb (r .it .deleter) u) ≡ true → M .is-open u ≡ true
+  pub marker-open : (r : Place) → Inside r (M .tree) → (u : ℕ) → (u ≡ nobody → ⊥) → (eqb (r .it .inserter) u || eqb (r .it .deleter) u) ≡ true → M .header .is-open u ≡ true
   marker-open r i u nu h = holder-open u (number-of r, LW) (g .covered .guarded r i u nu h (number-of r, LW) (node-locked (D (number-of r)) (numbers-of (r .above)) LW (List·Memᴰ·head refl)))
 
-  renamer-open : (u : ℕ) (p : List ℕ) → Renames (holds log) u p → M .is-open u ≡ true
+  renamer-open : (u : ℕ) (p : List ℕ) → Renames (holds log) u p → M .header .is-open u ≡ true
   renamer-open u [] w = absurd w
   renamer-open u (q ∷ p) (inl w) = holder-open u (q, LUU) (w (q, LUU) (node-locked (UU q [] []) p LUU (List·Memᴰ·head refl)))
   renamer-open u (q ∷ p) (inr w) = renamer-open u p w
 
-  pub writer-open : (r : Place) → Inside r (M .tree) → (u : ℕ) → (u ≡ nobody → ⊥) → eqb (writer-of (r .it .update)) u ≡ true → M .is-open u ≡ true
+  pub writer-open : (r : Place) → Inside r (M .tree) → (u : ℕ) → (u ≡ nobody → ⊥) → eqb (writer-of (r .it .update)) u ≡ true → M .header .is-open u ≡ true
   writer-open r i u nu h = go (g .covered .authored r i u nu h)
     where
-      go : (eqb (r .it .inserter) u ≡ true) ⊎ (Within (locks (U (number-of r) []) (numbers-of (r .above))) (holds log u) ⊎ Renames (holds log) u (numbers-of (path r))) → M .is-open u ≡ true
+      go : (eqb (r .it .inserter) u ≡ true) ⊎ (Within (locks (U (number-of r) []) (numbers-of (r .above))) (holds log u) ⊎ Renames (holds log) u (numbers-of (path r))) → M .header .is-open u ≡ true
       go (inl e) = marker-open r i u nu (rw e)
       go (inr (inl w)) = holder-open u (number-of r, LU) (w (number-of r, LU) (node-locked (U (number-of r) []) (numbers-of (r .above)) LU (List·Memᴰ·head refl)))
       go (inr (inr w)) = renamer-open u (numbers-of (path r)) w
 
   -- a mark is nobody's or of an open transaction
-  pub inserter-done : (r : Place) → Inside r (M .tree) → done-by (M .is-open) (r .it .inserter) ≡ true
+  pub inserter-done : (r : Place) → Inside r (M .tree) → done-by (M .header .is-open) (r .it .inserter) ≡ true
   inserter-done r i = go (eqb (r .it .inserter) nobody) refl
     where
-      go : (x : Bool) → eqb (r .it .inserter) nobody ≡ x → (x || M .is-open (r .it .inserter)) ≡ true
+      go : (x : Bool) → eqb (r .it .inserter) nobody ≡ x → (x || M .header .is-open (r .it .inserter)) ≡ true
       go true e = refl
       go false e = marker-open r i (r .it .inserter) (eqb-false _ nobody e) (rw (eq-eqb (r .it .inserter) (r .it .inserter) refl))
 
-  pub writer-done : (r : Place) → Inside r (M .tree) → done-by (M .is-open) (writer-of (r .it .update)) ≡ true
+  pub writer-done : (r : Place) → Inside r (M .tree) → done-by (M .header .is-open) (writer-of (r .it .update)) ≡ true
   writer-done r i = go (eqb (writer-of (r .it .update)) nobody) refl
     where
-      go : (x : Bool) → eqb (writer-of (r .it .update)) nobody ≡ x → (x || M .is-open (writer-of (r .it .update))) ≡ true
+      go : (x : Bool) → eqb (writer-of (r .it .update)) nobody ≡ x → (x || M .header .is-open (writer-of (r .it .update))) ≡ true
       go true e = refl
       go false e = writer-open r i (writer-of (r .it .update)) (eqb-false _ nobody e) (eq-eqb (writer-of (r .it .update)) (writer-of (r .it .update)) refl)
 
   -- the held document is what the open transactions show
-  pub held-shown : held-document M ≡ document-of (M .is-open) (M .tree)
+  pub held-shown : held-document M ≡ document-of (M .header .is-open) (M .tree)
   unfolding held-document document-of
   held-shown =
-      view-agree (λ a. a) (shown (M .is-open)) (shown (M .is-open)) (λ a. refl) (λ a. not (deleted-in (M .is-open) a)) (as-shown (M .is-open)) (λ a. a .now) [] (M .tree) refl
+      view-agree (λ a. a) (shown (M .header .is-open)) (shown (M .header .is-open)) (λ a. refl) (λ a. not (deleted-in (M .header .is-open) a)) (as-shown (M .header .is-open)) (λ a. a .now) [] (M .tree) refl
       (λ r i e. rw (inserter-done r i)) (λ r i e. rw (writer-done r i))

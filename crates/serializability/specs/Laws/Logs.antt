@@ -1,20 +1,19 @@
 -- A log with more in its entries than the history tells: each of the history's logs is read off it.
-use mathlib.Core.Path.{_≡_, refl, sym, ap, _∙_, fun-ext}
+use mathlib.Core.Path.{_≡_, refl, sym, _∙_, fun-ext}
 use Prim.Native.Nat.{ℕ}
 use mathlib.Core.Bool.{Bool, true, false, cond}
-use mathlib.Core.List.{List, [], _∷_, _++_, map}
+use mathlib.Core.List.{List, [], _∷_, _++_, map, append-nil}
 use lib.Dec.{eqb}
-use Rattle.tree.specs.Laws.Lists.{map-append}
-use Rattle.tree.specs.Steps.{Step, Value}
-use Rattle.protocol.specs.State.{State}
-use Rattle.protocol.specs.Calls.{Call, start, load, begin, commit, abort, step, write, unreadable, stands-for, next}
-use Rattle.protocol.specs.History.{history, is-granted, value-of, Log, with-log, logged, log-after}
-use Rattle.serializability.specs.Theorem.{logs}
+use borrow.Author.Tests.{eqb-true}
+use Rattle.tree.specs.Lists.{joined}
+use Rattle.tree.specs.Laws.Lists.{map-append, map-map}
+use Rattle.protocol.specs.Calls.{Call, start, load, begin, commit, abort, step, write, unreadable, stands-for}
+use Rattle.protocol.specs.History.{Log, with-log, logged}
 
 module _ {X E : Type 0} (g : X → E) where
-  -- each note replaced by what g reads off it
-  abbrev pub noted-as : Log X → Log E
-  noted-as L = record { first = L .first; committed = map g (L .committed); open-log = λ u. map g (L .open-log u) }
+  -- each entry replaced by what g reads off it
+  abbrev pub read-off : Log X → Log E
+  read-off L = record { first = L .first; committed = map (map g) (L .committed); open-log = λ u. map g (L .open-log u) }
 
   map-log : (t : ℕ) (l : List X) (log : ℕ → List X) → _≡_ {A = ℕ → List E} (λ u. map g (with-log t l log u)) (with-log t (map g l) (λ u. map g (log u)))
   map-log t l log = fun-ext (λ u. go u (eqb u t))
@@ -23,40 +22,47 @@ module _ {X E : Type 0} (g : X → E) where
       go u true = refl
       go u false = refl
 
-  pub logged-as : (nx : Step → Value → X) (ne : Step → Value → E) → ((s : Step) (v : Value) → g (nx s v) ≡ ne s v)
-      → (c : Call) (v : Value) (L : Log X) → noted-as (logged nx c v L) ≡ logged ne c v (noted-as L)
-  logged-as nx ne h start v L = refl
-  logged-as nx ne h (load (unreadable cause offset)) v L = refl
-  logged-as nx ne h (load (stands-for d l)) v L = refl
-  logged-as nx ne h (begin t) v L = rw (map-log t [] (L .open-log))
-  logged-as nx ne h (commit t) v L = rw (map-log t [] (L .open-log), map-append g (L .committed) (L .open-log t))
-  logged-as nx ne h (abort t) v L = rw (map-log t [] (L .open-log))
-  logged-as nx ne h (step t s room) v L = rw (map-log t (L .open-log t ++ (nx s v ∷ [])) (L .open-log), map-append g (L .open-log t) (nx s v ∷ []), h s v)
-  logged-as nx ne h write v L = refl
+  if-read : (b : Bool) (L K : Log X) (L' : Log E) → read-off L ≡ L' → read-off (cond b L K) ≡ cond b L' (read-off K)
+  if-read true L K L' e = e
+  if-read false L K L' e = refl
 
-  pub logs-as : (log : ℕ → List X) (b : List ℕ) → logs (λ u. map g (log u)) b ≡ map g (logs log b)
-  logs-as log [] = refl
-  logs-as log (t ∷ b) = rw (logs-as log b) (sym (map-append g (log t) (logs log b)))
+  pub logged-read : (c : Call) (b : Bool) (l : List X) (L : Log X) → read-off (logged c b l L) ≡ logged c b (map g l) (read-off L)
+  logged-read start b l L = if-read b _ L _ refl
+  logged-read (load (unreadable cause offset)) b l L = refl
+  logged-read (load (stands-for d h)) b l L = if-read b _ L _ refl
+  logged-read (begin t) b l L = if-read b _ L _ (rw (map-log t [] (L .open-log)))
+  logged-read (commit t) b l L = if-read b _ L _ (rw (map-log t [] (L .open-log), map-append (map g) (L .committed) (L .open-log t ∷ [])))
+  logged-read (abort t) b l L = if-read b _ L _ (rw (map-log t [] (L .open-log)))
+  logged-read (step t s room) b l L = rw (map-log t (L .open-log t ++ l) (L .open-log), map-append g (L .open-log t) l)
+  logged-read write b l L = refl
 
--- what a step notes may depend on the state in which it is granted
-module _ {X : Type 0} (note : Call → State → Step → Value → X) where
-  abbrev pub logged-in : State → Call → Log X → Log X
-  logged-in M c L = cond (is-granted (next c M .outcome)) (logged (note c M) c (value-of (next c M .outcome)) L) L
+  map-joined : (ls : List (List X)) → joined (map (map g) ls) ≡ map g (joined ls)
+  map-joined [] = refl
+  map-joined (l ∷ ls) = rw (map-joined ls) (sym (map-append g l (joined ls)))
 
-  unfoldable pub tracked : State → Log X → List Call → Log X
-  tracked M L [] = L
-  tracked M L (c ∷ cs) = tracked (next c M .state) (logged-in M c L) cs
+  -- of the committed transactions and then of b
+  pub joined-read : (L : Log X) (b : List ℕ)
+      → joined (map (map g) (L .committed) ++ map (λ u. map g (L .open-log u)) b) ≡ map g (joined (L .committed ++ map (L .open-log) b))
+  joined-read L b = rw (
+    ← map-map (map g) (L .open-log) (λ u. map g (L .open-log u)) b (λ u m. refl),
+    ← map-append (map g) (L .committed) (map (L .open-log) b),
+  ) (map-joined (L .committed ++ map (L .open-log) b))
 
-  pub tracked-as : {E : Type 0} (g : X → E) (ne : Step → Value → E) → ((c : Call) (M : State) (s : Step) (v : Value) → g (note c M s v) ≡ ne s v)
-      → (M : State) (L : Log X) (cs : List Call) → log-after ne (noted-as g L) (history M cs) ≡ noted-as g (tracked M L cs)
-  unfolding log-after history tracked
-  tracked-as g ne h M L [] = refl
-  tracked-as {E} g ne h M L (c ∷ cs) =
-      ap (λ (x : Log E). log-after ne x (history (next c M .state) cs)) (go (is-granted (next c M .outcome))) ∙ tracked-as g ne h (next c M .state) (logged-in M c L) cs
-    where
-      v : Value
-      v = value-of (next c M .outcome)
+-- a log with the same entries of t is the log
+pub with-log-same : {E : Type 0} (t : ℕ) (l : List E) (log : ℕ → List E) → l ≡ log t → with-log t l log ≡ log
+with-log-same t l log e = fun-ext (λ u. go u (eqb u t) refl)
+  where
+    go : (u : ℕ) (b : Bool) → eqb u t ≡ b → cond b l (log u) ≡ log u
+    go u true i = rw (eqb-true u t i) e
+    go u false i = refl
 
-      go : (b : Bool) → cond b (logged ne c v (noted-as g L)) (noted-as g L) ≡ noted-as g (cond b (logged (note c M) c v L) L)
-      go true = sym (logged-as g (note c M) ne (h c M) c v L)
-      go false = refl
+-- a call that is not granted, with no step in it
+pub logged-none : {E : Type 0} (c : Call) (L : Log E) → logged c false [] L ≡ L
+logged-none start L = refl
+logged-none (load (unreadable cause offset)) L = refl
+logged-none (load (stands-for d h)) L = refl
+logged-none (begin t) L = refl
+logged-none (commit t) L = refl
+logged-none (abort t) L = refl
+logged-none (step t s room) L = rw (with-log-same t (L .open-log t ++ []) (L .open-log) (append-nil (L .open-log t)))
+logged-none write L = refl

@@ -2,24 +2,22 @@
 use mathlib.Core.Path.{_≡_, refl, sym, ap, _∙_}
 use Prim.Native.Nat.{ℕ}
 use mathlib.Core.Bool.{Bool, true, false, false≢true, true≢false}
-use mathlib.Core.List.{List, [], _∷_, _++_, List·Memᴰ}
+use mathlib.Core.List.{List, [], _∷_, _++_, map, append-nil, List·Memᴰ}
 use mathlib.Core.Logic.{_↔_}
-use Rattle.tree.specs.Lists.{any, has}
-use Rattle.tree.specs.Document.{node-0-alone}
-use Rattle.tree.specs.Steps.{unfit, plain-document}
+use Rattle.tree.specs.Lists.{any, has, joined}
+use Rattle.tree.specs.Steps.{PlainAnswer, plain-value, unfit, plain-document}
 use Rattle.tree.specs.Laws.Tests.{refuted}
-use Rattle.tree.specs.Laws.Lists.{any-at, at-any, every-at, any-same}
-use Rattle.commute.specs.Laws.Runs.{run-document, run-answers}
+use Rattle.tree.specs.Laws.Lists.{any-at, at-any, every-at, any-same, in-map}
+use Rattle.commute.specs.Laws.Runs.{run-document}
 use Rattle.protocol.specs.State.{State, start-state, is-transaction, transactions, held-document, document-of, committed-document}
 use Rattle.protocol.specs.Calls.{Call, start, load, begin, commit, abort, step, write, written, next}
-use Rattle.protocol.specs.History.{Event, history, state-after, fed, plain, plain-run-answers, answers-given, pending-in, pending}
+use Rattle.protocol.specs.History.{Event, history, state-after, event, fed, answered, plain, plain-run-answers, pending-in, pending}
 use Rattle.serializability.specs.Theorem.{since-start, reached, OpenInAnyOrder, writes-plain, Demand3}
 use Rattle.serializability.specs.Laws.Reached.{always-reached}
 use Rattle.serializability.specs.Laws.Tracking.{Tracks}
 use Rattle.serializability.specs.Laws.Ends.{document-same}
-use Rattle.serializability.specs.Laws.AnyOrder.{entries, reached-tracks, fed-is, answered-is, any-order}
+use Rattle.serializability.specs.Laws.AnyOrder.{entries, reached-tracks, fed-is, any-order}
 use Rattle.serializability.specs.Laws.Held.{held-shown}
-use Rattle.serializability.specs.Laws.Unfit.{none-unfit}
 use Rattle.serializability.specs.Laws.Pending.{steps, log-run, quiet-held, held-quiet}
 
 -- a list of calls begins in one fixed state: start forgets the state before it
@@ -32,9 +30,13 @@ start-forgets M cs = (refl, refl)
 pub open-in-any-order : (cs : List Call) → OpenInAnyOrder cs
 open-in-any-order cs b n o =
     let tr = reached-tracks cs in
-    rw (held-shown (tr .c) (entries cs .open-log) (reached cs) (tr .good), document-same (reached cs .is-open) (λ u. has u b) (reached cs .tree) (λ u. sym (o u))) (any-order cs b n)
+    rw (held-shown (tr .c) (entries cs .open-log) (reached cs) (tr .good), document-same (reached cs .header .is-open) (λ u. has u b) (reached cs .tree) (λ u. sym (o u))) (any-order cs b n)
 
 -- demand 3 -------------------------------------------------------------------------------------
+
+abbrev is-unfit : PlainAnswer → Bool
+is-unfit (plain-value v) = false
+is-unfit unfit = true
 
 module _ (cs : List Call) where
   abbrev tr : Tracks (entries cs) (reached cs)
@@ -43,19 +45,17 @@ module _ (cs : List Call) where
   abbrev h : List Event
   h = since-start cs
 
+  -- the committed transactions, and none behind them
   pub plain-committed : committed-document (reached cs) ≡ plain h
   unfolding plain
-  plain-committed = sym (tr .good .serial [] refl .run)
-      ∙ sym (rw (fed-is cs) (run-document (entries cs .first) (entries cs .committed) (tr .c) (tr .run)))
+  plain-committed = sym (rw (append-nil (fed h .committed)) at (any-order cs [] refl .document))
 
-  plain-same-answers : plain-run-answers h ≡ answers-given h
-  unfolding plain-run-answers answers-given
-  plain-same-answers = rw (fed-is cs) (run-answers (entries cs .first) (entries cs .committed) (tr .c) (tr .run)) ∙ sym (ap (λ L. L .committed) (answered-is cs))
+  plain-same-answers : plain-run-answers h ≡ map plain-value (joined (answered h .committed))
+  unfolding plain-run-answers
+  plain-same-answers = rw (append-nil (fed h .committed), append-nil (answered h .committed)) at (any-order cs [] refl .answers)
 
-  -- they are the answers given here
-  no-plain-unfit : List·Memᴰ unfit (plain-run-answers h) → ⊥
-  unfolding answers-given
-  no-plain-unfit i = none-unfit start-state (start ∷ cs) node-0-alone (rw plain-same-answers at i)
+  none-unfit : List·Memᴰ unfit (plain-run-answers h) → ⊥
+  none-unfit i = true≢false (ap is-unfit (in-map plain-value (joined (answered h .committed)) (rw plain-same-answers at i) .2))
 
   -- pending, by the marks
   abbrev pending-of : ℕ → Bool
@@ -108,7 +108,7 @@ writes-from before [] = tt
 writes-from before (c ∷ cs) = (write-gives before c, next-event (writes-from (before ++ (c ∷ [])) cs))
   where
     e : Event
-    e = record { call = c; outcome = next c (reached before) .outcome }
+    e = event c (reached before)
 
     longer : since-start (before ++ (c ∷ [])) ≡ since-start before ++ (e ∷ [])
     longer = history-append start-state (start ∷ before) (c ∷ [])
@@ -134,7 +134,7 @@ pub demand-3 : (cs : List Call) → Demand3 cs
 demand-3 cs = record {
   held-plain = held-plain cs;
   answers = plain-same-answers cs;
-  none-unfit = no-plain-unfit cs;
+  none-unfit = none-unfit cs;
   committed = plain-committed cs;
   aborted = always-reached cs .committed-if-aborted ∙ plain-committed cs;
   writes = all-writes cs;

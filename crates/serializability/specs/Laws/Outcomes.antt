@@ -1,68 +1,121 @@
--- What a call's outcome says of the state and of the tests that it passed.
-use mathlib.Core.Path.{_≡_, refl}
+-- What a list of checks makes of a call, and with that a claim about every call, from its granted calls and its refusals.
+use mathlib.Core.Path.{_≡_, refl, sym, _∙_}
 use Prim.Native.Nat.{ℕ}
-use mathlib.Core.Bool.{Bool, true, false, cond, not, _||_}
-use mathlib.Core.Logic.{_⊎_, inl, inr}
+use mathlib.Core.Bool.{Bool, true, false, cond, not, _&&_, false≢true}
+use mathlib.Core.List.{List, [], _∷_, List·Memᴰ, List·Memᴰ·head, List·Memᴰ·tail}
+use lib.ListN.{length}
 use lib.Dec.{eqb}
-use Rattle.tree.specs.Lists.{any}
-use Rattle.tree.specs.Document.{Document}
-use Rattle.tree.specs.Steps.{Step, inserts, misfit, misplaced, answer}
+use borrow.Author.Tests.{not-true, not-false}
+use Rattle.tree.specs.Lists.{any, every, has, keep}
+use Rattle.tree.specs.Laws.Tests.{and-left, and-right}
+use Rattle.tree.specs.Laws.Lists.{every-at, keep-in}
+use Rattle.tree.specs.Document.{Document, lines}
+use Rattle.tree.specs.Steps.{Step, done, how-many, unknown, wrong-kind, wrong-content, misplaced, answer}
 use Rattle.locks.specs.Needs.{needs}
-use Rattle.protocol.specs.State.{State, is-transaction, number-held, act, grant, with-tree}
-use Rattle.protocol.specs.Lent.{Room, has-room}
-use Rattle.protocol.specs.Calls.{Outcome, waits, refused, Next, unchanged, becomes, wait-set, table-full, judged, if-open}
+use Rattle.protocol.specs.State.{State, is-transaction, transactions, callers-document, committed-document, act, grant, commit-tree, abort-tree, tree-of}
+use Rattle.protocol.specs.State.{start-state, with-tree, opened, closed}
+use Rattle.protocol.specs.Lent.{Room}
+use Rattle.protocol.specs.Causes.{causes, not-a-transaction, already-open, not-open, open-at-load}
+use Rattle.protocol.specs.Calls.{Call, start, load, begin, commit, abort, step, write, Input, unreadable, stands-for, node-limit, loadable}
+use Rattle.protocol.specs.Calls.{Outcome, granted, written, waits, refused, refused-at, Next, unchanged, becomes, takes-step, Check, checked}
+use Rattle.protocol.specs.Calls.{wait-set, number-taken, step-checks, judged, if-open, loaded, next}
+use Rattle.protocol.specs.History.{is-granted}
 
--- what the tests of a step say -----------------------------------------------------------
+-- none of the checks applies
+abbrev pub AllPassed : List Check → Type 0
+AllPassed [] = Unit {0}
+AllPassed (c ∷ cs) = (c .1 ≡ false) × AllPassed cs
 
--- why a step is not granted, with its outcome
-pub data Reason (t : ℕ) (s : Step) (M : State) (d : Document) : Outcome → Type 0 where
-  by-misfit : (eqb (misfit s d) 0 ≡ false) → Reason t s M d (refused (misfit s d))
-  by-number : Reason t s M d (refused 10)
-  by-clash : (eqb (wait-set t (needs s d) M) 0 ≡ false) → Reason t s M d (waits (wait-set t (needs s d) M))
-  by-place : Reason t s M d (refused 11)
-  by-limit : Reason t s M d (refused 12)
-  by-room : Reason t s M d (refused 13)
+-- one of the checks applies, or none does
+pub checked-cases : (P : Next → Type 0) (cs : List Check) (M : State) (n : Next)
+    → ((c : Check) → List·Memᴰ c cs → c .1 ≡ true → P (unchanged (c .0) M)) → (AllPassed cs → P n) → P (checked cs M n)
+checked-cases P [] M n f g = g tt
+checked-cases P (c ∷ cs) M n f g = go (c .1) refl (checked-cases P cs M n (λ x i. f x (List·Memᴰ·tail i)))
+  where
+    go : (b : Bool) → c .1 ≡ b → ((AllPassed cs → P n) → P (checked cs M n)) → P (cond b (unchanged (c .0) M) (checked cs M n))
+    go true e rest = f c (List·Memᴰ·head refl) e
+    go false e rest = rest (λ p. g (e, p))
+
+-- an outcome with a property that n's has not is that of a check with the property, which applies
+pub checked-by : (p : Outcome → Bool) (cs : List Check) (M : State) (n : Next) → p (n .outcome) ≡ false → p (checked cs M n .outcome) ≡ true
+    → (c : Check) × List·Memᴰ c (keep (λ x. p (x .0)) cs) × (c .1 ≡ true) × (checked cs M n .outcome ≡ c .0)
+checked-by p cs M n h = checked-cases
+    (λ x. p (x .outcome) ≡ true → (c : Check) × List·Memᴰ c (keep (λ y. p (y .0)) cs) × (c .1 ≡ true) × (x .outcome ≡ c .0)) cs M n
+    (λ c i e k. (c, keep-in (λ y. p (y .0)) cs i k, e, refl)) (λ q k. absurd (false≢true (sym h ∙ k)))
+
+-- a refusal by one of the causes, or a wait
+abbrev pub is-refusal : Outcome → Bool
+is-refusal (granted v) = false
+is-refusal (written d) = false
+is-refusal (waits w) = true
+is-refusal (refused c) = has c causes
+is-refusal (refused-at c o) = false
 
 -- what a granted step has passed
 pub record Passed (t : ℕ) (s : Step) (M : State) (d : Document) : Type 0 where
-  pub fit : eqb (misfit s d) 0 ≡ true
-  pub unheld : any (λ m. number-held m (M .tree)) (inserts s) ≡ false
+  pub there : unknown s d ≡ false
+  pub kind : wrong-kind s d ≡ false
+  pub content : wrong-content s d ≡ false
+  pub unheld : number-taken s (M .tree) ≡ false
   pub clear : eqb (wait-set t (needs s d) M) 0 ≡ true
-  pub in-place : misplaced s d ≡ false
+  pub place : misplaced s d ≡ false
 
-abbrev pub Verdict : ℕ → Step → State → Document → Next → Type 0
-Verdict t s M d n = ((o : Outcome) × Reason t s M d o × (n ≡ unchanged o M))
-    ⊎ (Passed t s M d × (n ≡ becomes (answer s d) (with-tree M (grant t (needs s d) (act t s (M .tree))))))
+-- a claim about a call in the state M and what it makes of M: of the refusals, and of each granted call
+pub record Cases (P : Call → Next → Type 0) (M : State) : Type 0 where
+  pub refusal : (c : Call) (o : Outcome) → is-granted o ≡ false → is-refusal o ≡ true → P c (unchanged o M)
+  pub at-start : P start (becomes done start-state)
+  pub at-unread : (c i : ℕ) → P (load (unreadable c i)) (unchanged (refused-at c i) M)
+  pub at-load : (d : Document) (h : loadable node-limit d ≡ true)
+      → P (load (stands-for d h)) (becomes (how-many (length (lines d))) (with-tree M (tree-of d)))
+  pub at-begin : (t : ℕ) → is-transaction t ≡ true → M .header .is-open t ≡ false → P (begin t) (becomes done (opened t M))
+  pub at-commit : (t : ℕ) → is-transaction t ≡ true → M .header .is-open t ≡ true
+      → P (commit t) (becomes done (closed t (commit-tree t (M .tree)) M))
+  pub at-abort : (t : ℕ) → is-transaction t ≡ true → M .header .is-open t ≡ true
+      → P (abort t) (becomes done (closed t (abort-tree t (M .tree)) M))
+  pub at-step : (t : ℕ) (s : Step) (room : Room) → is-transaction t ≡ true → M .header .is-open t ≡ true
+      → let d = callers-document t (M .tree) in Passed t s M d
+      → P (step t s room) (takes-step s (answer s d) (with-tree M (grant t (needs s d) (act t s (M .tree)))))
+  pub at-write : P write (unchanged (written (committed-document M)) M)
 
-pub judged-verdict : (t : ℕ) (s : Step) (room : Room) (M : State) (d : Document) → Verdict t s M d (judged t s room M d)
-unfolding judged
-judged-verdict t s room M d = go (eqb (misfit s d) 0) refl (any (λ m. number-held m (M .tree)) (inserts s)) refl (eqb (wait-set t (needs s d) M) 0) refl
-    (misplaced s d) refl (table-full s (M .tree)) (has-room (answer s d) room)
-  where
-    done-state : State
-    done-state = with-tree M (grant t (needs s d) (act t s (M .tree)))
+module _ (P : Call → Next → Type 0) (M : State) (k : Cases P M) where
+  -- behind checks that refuse or make wait
+  behind : (c : Call) (cs : List Check) (n : Next) → every (λ x. not (is-granted (x .0)) && is-refusal (x .0)) cs ≡ true
+      → (AllPassed cs → P c n) → P c (checked cs M n)
+  behind c cs n h g = checked-cases (P c) cs M n (λ x i e. refuses x (every-at (λ y. not (is-granted (y .0)) && is-refusal (y .0)) cs h i)) g
+    where
+      refuses : (x : Check) → (not (is-granted (x .0)) && is-refusal (x .0)) ≡ true → P c (unchanged (x .0) M)
+      refuses x h = k .refusal c (x .0) (not-true _ (and-left _ _ h)) (and-right (not (is-granted (x .0))) _ h)
 
-    go : (a : Bool) → eqb (misfit s d) 0 ≡ a → (b : Bool) → any (λ m. number-held m (M .tree)) (inserts s) ≡ b
-        → (c : Bool) → eqb (wait-set t (needs s d) M) 0 ≡ c → (e : Bool) → misplaced s d ≡ e → (f g : Bool)
-        → Verdict t s M d (cond (not a) (unchanged (refused (misfit s d)) M) (cond b (unchanged (refused 10) M)
-        (cond (not c) (unchanged (waits (wait-set t (needs s d) M)) M) (cond e (unchanged (refused 11) M)
-        (cond f (unchanged (refused 12) M) (cond (not g) (unchanged (refused 13) M) (becomes (answer s d) done-state)))))))
-    go false p b q c r e u f g = inl (refused (misfit s d), by-misfit p, refl)
-    go true p true q c r e u f g = inl (refused 10, by-number, refl)
-    go true p false q false r e u f g = inl (waits (wait-set t (needs s d) M), by-clash r, refl)
-    go true p false q true r true u f g = inl (refused 11, by-place, refl)
-    go true p false q true r false u true g = inl (refused 12, by-limit, refl)
-    go true p false q true r false u false false = inl (refused 13, by-room, refl)
-    go true p false q true r false u false true = inr (record { fit = p; unheld = q; clear = r; in-place = u }, refl)
+  if-open-case : (c : Call) (t : ℕ) (n : Next) → (is-transaction t ≡ true → M .header .is-open t ≡ true → P c n) → P c (if-open t M n)
+  if-open-case c t n g =
+      behind c ((refused not-a-transaction, not (is-transaction t)) ∷ (refused not-open, not (M .header .is-open t)) ∷ []) n refl
+      (λ p. g (not-false _ (p .0)) (not-false _ (p .1 .0)))
 
--- a call of a transaction that is not open is refused
-pub if-open-cases : (t : ℕ) (M : State) (n : Next) → ((c : ℕ) × ((eqb c 1 || eqb c 3) ≡ true) × (if-open t M n ≡ unchanged (refused c) M))
-    ⊎ ((is-transaction t ≡ true) × (M .is-open t ≡ true) × (if-open t M n ≡ n))
-if-open-cases t M n = go (is-transaction t) refl (M .is-open t) refl
-  where
-    go : (a : Bool) → is-transaction t ≡ a → (b : Bool) → M .is-open t ≡ b
-        → ((c : ℕ) × ((eqb c 1 || eqb c 3) ≡ true) × (cond (not a) (unchanged (refused 1) M) (cond (not b) (unchanged (refused 3) M) n) ≡ unchanged (refused c) M))
-        ⊎ ((is-transaction t ≡ true) × (M .is-open t ≡ true) × (cond (not a) (unchanged (refused 1) M) (cond (not b) (unchanged (refused 3) M) n) ≡ n))
-    go false p b q = inl (1, refl, refl)
-    go true p false q = inl (3, refl, refl)
-    go true p true q = inr (p, q, refl)
+  load-case : (i : Input) → P (load i) (loaded i M)
+  load-case (unreadable c i) = k .at-unread c i
+  load-case (stands-for d h) = k .at-load d h
+
+  step-case : (t : ℕ) (s : Step) (room : Room) → is-transaction t ≡ true → M .header .is-open t ≡ true
+      → P (step t s room) (judged t s room M (callers-document t (M .tree)))
+  unfolding judged
+  step-case t s room h o = behind (step t s room) (step-checks t s room M (callers-document t (M .tree))) _ refl (λ p.
+      k .at-step t s room h o (record {
+        there = p .0;
+        kind = p .1 .0;
+        content = p .1 .1 .0;
+        unheld = p .1 .1 .1 .0;
+        clear = not-false _ (p .1 .1 .1 .1 .0);
+        place = p .1 .1 .1 .1 .1 .0;
+      }))
+
+  pub every-call : (c : Call) → P c (next c M)
+  unfolding next
+  every-call start = k .at-start
+  every-call (load i) = behind (load i) ((refused open-at-load, any (M .header .is-open) transactions) ∷ []) _ refl (λ p. load-case i)
+  every-call (begin t) =
+      behind (begin t) ((refused not-a-transaction, not (is-transaction t)) ∷ (refused already-open, M .header .is-open t) ∷ []) _ refl
+      (λ p. k .at-begin t (not-false _ (p .0)) (p .1 .0))
+  every-call (commit t) = if-open-case (commit t) t _ (k .at-commit t)
+  every-call (abort t) = if-open-case (abort t) t _ (k .at-abort t)
+  every-call (step t s room) = if-open-case (step t s room) t _ (step-case t s room)
+  every-call write = k .at-write

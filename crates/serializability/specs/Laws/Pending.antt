@@ -168,40 +168,40 @@ module _ (c : Document) (log : ℕ → List Entry) (M : State) (g : Good c log M
   idle-logs (t ∷ b) h = run-append committed (log t) (orders.logs log b) committed committed (h t (rw (eq-eqb t t refl))) (idle-logs b (λ u i. h u (rw (i, or-true (eqb t u)))))
 
   abbrev open-ones : List ℕ
-  open-ones = keep (M .is-open) transactions
+  open-ones = keep (M .header .is-open) transactions
 
-  open-is : (u : ℕ) → has u open-ones ≡ M .is-open u
-  open-is u = go (M .is-open u) refl
+  open-is : (u : ℕ) → has u open-ones ≡ M .header .is-open u
+  open-is u = go (M .header .is-open u) refl
     where
-      go : (x : Bool) → M .is-open u ≡ x → has u open-ones ≡ x
-      go true e = in-has u open-ones (keep-in (M .is-open) transactions (transaction-in u (g .numbered u e)) e)
-      go false e = refuted _ (λ h. true≢false (sym (in-keep (M .is-open) transactions (has-in u open-ones h) .1) ∙ e))
+      go : (x : Bool) → M .header .is-open u ≡ x → has u open-ones ≡ x
+      go true e = in-has u open-ones (keep-in (M .header .is-open) transactions (transaction-in u (g .numbered u e)) e)
+      go false e = refuted _ (λ h. true≢false (sym (in-keep (M .header .is-open) transactions (has-in u open-ones h) .1) ∙ e))
 
   pub quiet-held : ((t : ℕ) → List·Memᴰ t transactions → pending-in committed (steps (log t)) (with-only t) ≡ false) → held-document M ≡ committed
   quiet-held q =
-      let r : Run committed (orders.logs log open-ones) (document-of (λ u. has u open-ones) f) = rw c-committed at (g .serial open-ones (some-distinct (M .is-open)) .run) in
-      held-shown c log M g ∙ document-same (M .is-open) (λ u. has u open-ones) f (λ u. sym (open-is u))
+      let r : Run committed (orders.logs log open-ones) (document-of (λ u. has u open-ones) f) = rw c-committed at (g .serial open-ones (some-distinct (M .header .is-open)) .run) in
+      held-shown c log M g ∙ document-same (M .header .is-open) (λ u. has u open-ones) f (λ u. sym (open-is u))
       ∙ run-one-end committed (orders.logs log open-ones) _ committed r (idle-logs open-ones idle)
     where
       idle : (t : ℕ) → has t open-ones ≡ true → Run committed (log t) committed
-      idle t h = rw (quiet-document t (q t (in-keep (M .is-open) transactions (has-in t open-ones h) .0))) at (log-run t)
+      idle t h = rw (quiet-document t (q t (in-keep (M .header .is-open) transactions (has-in t open-ones h) .0))) at (log-run t)
 
   -- the held document is the committed one: nothing is pending ---------------------------------------
 
   module _ (equal : held-document M ≡ committed) where
-    shown-equal : document-of (M .is-open) f ≡ committed
+    shown-equal : document-of (M .header .is-open) f ≡ committed
     shown-equal = sym (held-shown c log M g) ∙ equal
 
     -- a place that one of the two shows the other shows
-    both-visible : (r : Place) → Inside r f → visible none r ≡ true → (visible (M .is-open) r ≡ true) × (as-shown (M .is-open) (r .it) ≡ as-shown none (r .it))
+    both-visible : (r : Place) → Inside r f → visible none r ≡ true → (visible (M .header .is-open) r ≡ true) × (as-shown (M .header .is-open) (r .it) ≡ as-shown none (r .it))
     both-visible r i v =
-        let h : here (number-of r) (document-of (M .is-open) f) ≡ true = rw shown-equal (place-here none f i v) in
-        let a = here-visible (M .is-open) f (g .covered .distinct) i h in
+        let h : here (number-of r) (document-of (M .header .is-open) f) ≡ true = rw shown-equal (place-here none f i v) in
+        let a = here-visible (M .header .is-open) f (g .covered .distinct) i h in
         let b = here-visible none f (g .covered .distinct) i (place-here none f i v) in
         (a .0, ap (λ (x : Line). x .it) (sym (a .1) ∙ ap (at (number-of r)) shown-equal ∙ b .1))
 
     -- what nobody and all show, t shows
-    only-shown : (t : ℕ) → (t ≡ nobody → ⊥) → (r : Place) → Inside r f → shown none (r .it) ≡ true → shown (M .is-open) (r .it) ≡ true → shown (only t) (r .it) ≡ true
+    only-shown : (t : ℕ) → (t ≡ nobody → ⊥) → (r : Place) → Inside r f → shown none (r .it) ≡ true → shown (M .header .is-open) (r .it) ≡ true → shown (only t) (r .it) ≡ true
     only-shown t nt r i a b = rw e (go (eqb (r .it .deleter) nobody) refl (eqb t (r .it .deleter)) refl)
       where
         e : eqb (r .it .inserter) nobody ≡ true
@@ -211,44 +211,44 @@ module _ (c : Document) (log : ℕ → List Entry) (M : State) (g : Good c log M
         go true p y q = refl
         go false p false q = refl
         go false p true q =
-            let o : M .is-open (r .it .deleter) ≡ true = marker-open c log M g r i (r .it .deleter) (eqb-false _ nobody p)
+            let o : M .header .is-open (r .it .deleter) ≡ true = marker-open c log M g r i (r .it .deleter) (eqb-false _ nobody p)
             (rw (eq-eqb (r .it .deleter) (r .it .deleter) refl) (or-true (eqb (r .it .inserter) (r .it .deleter)))) in
-            absurd (false≢true (rw (p, o) at (and-right (done-by (M .is-open) (r .it .inserter)) _ b)))
+            absurd (false≢true (rw (p, o) at (and-right (done-by (M .header .is-open) (r .it .inserter)) _ b)))
 
-    only-visible : (t : ℕ) → (t ≡ nobody → ⊥) → (l : List Marked) → Each (λ a. a) (λ a p. Inside (row a p) f) l → every (shown none) l ≡ true → every (shown (M .is-open)) l ≡ true → every (shown (only t)) l ≡ true
+    only-visible : (t : ℕ) → (t ≡ nobody → ⊥) → (l : List Marked) → Each (λ a. a) (λ a p. Inside (row a p) f) l → every (shown none) l ≡ true → every (shown (M .header .is-open)) l ≡ true → every (shown (only t)) l ≡ true
     only-visible t nt [] k a b = refl
     only-visible t nt (x ∷ p) k a b = rw (
       only-shown t nt (row x p) (k .0) (and-left _ _ a) (and-left _ _ b),
-      only-visible t nt p (k .1) (and-right (shown none x) _ a) (and-right (shown (M .is-open) x) _ b),
+      only-visible t nt p (k .1) (and-right (shown none x) _ a) (and-right (shown (M .header .is-open) x) _ b),
     )
 
     -- nor does t show another content
-    only-content : (t : ℕ) (r : Place) → Inside r f → as-shown (M .is-open) (r .it) ≡ as-shown none (r .it) → as-shown (only t) (r .it) .content ≡ as-shown none (r .it) .content
+    only-content : (t : ℕ) (r : Place) → Inside r f → as-shown (M .header .is-open) (r .it) ≡ as-shown none (r .it) → as-shown (only t) (r .it) .content ≡ as-shown none (r .it) .content
     only-content t r i e = go (eqb (writer-of (r .it .update)) nobody) refl (eqb t (writer-of (r .it .update))) refl (ap (λ (x : Node). x .content) e)
       where
         go : (x : Bool) → eqb (writer-of (r .it .update)) nobody ≡ x → (y : Bool) → eqb t (writer-of (r .it .update)) ≡ y
-            → cond (x || M .is-open (writer-of (r .it .update))) (r .it .now .content) (saved-of (r .it .update)) ≡ cond (x || false) (r .it .now .content) (saved-of (r .it .update))
+            → cond (x || M .header .is-open (writer-of (r .it .update))) (r .it .now .content) (saved-of (r .it .update)) ≡ cond (x || false) (r .it .now .content) (saved-of (r .it .update))
             → cond (x || (y || false)) (r .it .now .content) (saved-of (r .it .update)) ≡ cond (x || false) (r .it .now .content) (saved-of (r .it .update))
         go true p y q z = refl
         go false p false q z = refl
         go false p true q z = rw (writer-open c log M g r i (writer-of (r .it .update)) (eqb-false _ nobody p) (eq-eqb (writer-of (r .it .update)) (writer-of (r .it .update)) refl)) at z
 
     -- what t inserted and shows, all show: nobody else deleted it or a node above it
-    all-shown : (t : ℕ) → (t ≡ nobody → ⊥) → M .is-open t ≡ true → (r : Place) → Inside r f → (m : Mode) → Locked (number-of r) m (holds log t) → shown (only t) (r .it) ≡ true → shown (M .is-open) (r .it) ≡ true
-    all-shown t nt o r i m lk s = rw (inserter-done c log M g r i) (go (eqb (r .it .deleter) nobody) refl (M .is-open (r .it .deleter)) refl (eqb t (r .it .deleter)) refl)
+    all-shown : (t : ℕ) → (t ≡ nobody → ⊥) → M .header .is-open t ≡ true → (r : Place) → Inside r f → (m : Mode) → Locked (number-of r) m (holds log t) → shown (only t) (r .it) ≡ true → shown (M .header .is-open) (r .it) ≡ true
+    all-shown t nt o r i m lk s = rw (inserter-done c log M g r i) (go (eqb (r .it .deleter) nobody) refl (M .header .is-open (r .it .deleter)) refl (eqb t (r .it .deleter)) refl)
       where
         lw : eqb (r .it .deleter) nobody ≡ false → Locked (number-of r) LW (holds log (r .it .deleter))
         lw p = g .covered .guarded r i (r .it .deleter) (eqb-false _ nobody p) (rw (eq-eqb (r .it .deleter) (r .it .deleter) refl) (or-true (eqb (r .it .inserter) (r .it .deleter))))
             (number-of r, LW) (node-locked (D (number-of r)) (numbers-of (r .above)) LW (List·Memᴰ·head refl))
 
-        go : (x : Bool) → eqb (r .it .deleter) nobody ≡ x → (y : Bool) → M .is-open (r .it .deleter) ≡ y → (z : Bool) → eqb t (r .it .deleter) ≡ z → not (not x && y) ≡ true
+        go : (x : Bool) → eqb (r .it .deleter) nobody ≡ x → (y : Bool) → M .header .is-open (r .it .deleter) ≡ y → (z : Bool) → eqb t (r .it .deleter) ≡ z → not (not x && y) ≡ true
         go true p y q z w = refl
         go false p false q z w = refl
         go false p true q true w = absurd (false≢true (rw (p, w) at (and-right (done-by (only t) (r .it .inserter)) _ s)))
         go false p true q false w = absurd (true≢false (sym (LW-clashes m) ∙ logs-compatible g t (r .it .deleter) (eqb-false t _ w) (number-of r) m LW lk (lw p)))
 
-    all-visible : (t : ℕ) → (t ≡ nobody → ⊥) → M .is-open t ≡ true → (l : List Marked) → Each (λ a. a) (λ a p. Inside (row a p) f) l
-        → ((q : ℕ) → has q (numbers-of l) ≡ true → (m : Mode) × Locked q m (holds log t)) → every (shown (only t)) l ≡ true → every (shown (M .is-open)) l ≡ true
+    all-visible : (t : ℕ) → (t ≡ nobody → ⊥) → M .header .is-open t ≡ true → (l : List Marked) → Each (λ a. a) (λ a p. Inside (row a p) f) l
+        → ((q : ℕ) → has q (numbers-of l) ≡ true → (m : Mode) × Locked q m (holds log t)) → every (shown (only t)) l ≡ true → every (shown (M .header .is-open)) l ≡ true
     all-visible t nt o [] k w s = refl
     all-visible t nt o (x ∷ p) k w s =
         let m = w (x .now .number) (rw (eq-eqb (x .now .number) (x .now .number) refl)) in
@@ -264,11 +264,11 @@ module _ (c : Document) (log : ℕ → List Entry) (M : State) (g : Good c log M
           let n = g .standing t y i .new m h in
           let r : Place = n .0 in
           let v = here-visible (only t) f (g .covered .distinct) (n .1) (rw (n .2) e) in
-          let o : M .is-open t ≡ true = log-open g t i in
+          let o : M .header .is-open t ≡ true = log-open g t i in
           let guard = g .covered .guarded r (n .1) t nt (rw (eq-eqb (r .it .inserter) t (n .4))) in
-          let w : visible (M .is-open) r ≡ true = all-visible t nt o (path r) (places r (n .1))
+          let w : visible (M .header .is-open) r ≡ true = all-visible t nt o (path r) (places r (n .1))
           (λ q x. let a = path-locked (D (number-of r)) (numbers-of (r .above)) q x in (a .0, guard (q, a .0) (a .1))) (v .0) in
-          let z = here-visible none f (g .covered .distinct) (n .1) (rw shown-equal at (place-here (M .is-open) f (n .1) w)) in
+          let z = here-visible none f (g .covered .distinct) (n .1) (rw shown-equal at (place-here (M .header .is-open) f (n .1) w)) in
           let e0 : eqb (r .it .inserter) nobody ≡ true = sym (none-shown (r .it)) ∙ and-left _ _ (z .0) in
           nt (sym (n .4) ∙ eqb-true _ nobody e0)
 

@@ -5,7 +5,7 @@ use mathlib.Core.Bool.{Bool, true, false, cond, not, _&&_, _||_, false≢true, t
 use mathlib.Core.List.{List, [], _∷_, map, List·Memᴰ, List·Memᴰ·head, List·Memᴰ·tail, List·Memᴰ·not-nil}
 use lib.Dec.{eqb}
 use borrow.Author.Tests.{eqb-false, eq-eqb}
-use Rattle.tree.specs.Lists.{has, keep, distinct}
+use Rattle.tree.specs.Lists.{has, keep, distinct, joined}
 use Rattle.tree.specs.Document.{Document, legal}
 use Rattle.tree.specs.Steps.{done, with-content}
 use Rattle.tree.specs.Laws.Tests.{refuted}
@@ -78,9 +78,9 @@ module _ (c : Document) (log : ℕ → List Entry) (M : State) (g : Good c log M
 
 -- aborts -------------------------------------------------------------------------------------
 
-abort-state : (t : ℕ) (M : State) → is-transaction t ≡ true → next (abort t) M .state ≡ cond (M .is-open t) (closed t (abort-tree t (M .tree)) M) M
+abort-state : (t : ℕ) (M : State) → is-transaction t ≡ true → next (abort t) M .state ≡ cond (M .header .is-open t) (closed t (abort-tree t (M .tree)) M) M
 unfolding next
-abort-state t M h = rw h (go (M .is-open t))
+abort-state t M h = rw h (go (M .header .is-open t))
   where
     go : (x : Bool) → cond (not x) (unchanged (refused 3) M) (becomes done (closed t (abort-tree t (M .tree)) M)) .state ≡ cond x (closed t (abort-tree t (M .tree)) M) M
     go true = refl
@@ -92,7 +92,7 @@ module _ (t : ℕ) (M : State) (tr : is-transaction t ≡ true) where
   nz e = false≢true (rw e at tr)
 
   abort-committed : committed-document (next (abort t) M .state) ≡ committed-document M
-  abort-committed = ap committed-document (abort-state t M tr) ∙ go (M .is-open t)
+  abort-committed = ap committed-document (abort-state t M tr) ∙ go (M .header .is-open t)
     where
       none : (u : ℕ) → minus t (λ v. false) u ≡ false
       none u = and-false (not (eqb u t))
@@ -101,17 +101,17 @@ module _ (t : ℕ) (M : State) (tr : is-transaction t ≡ true) where
       go true = abort-shown t nz (λ u. false) (M .tree) ∙ document-same (minus t (λ u. false)) (λ u. false) (M .tree) none
       go false = refl
 
-  abort-closes : next (abort t) M .state .is-open t ≡ false
-  abort-closes = ap (λ (N : State). N .is-open t) (abort-state t M tr) ∙ go (M .is-open t) refl
+  abort-closes : next (abort t) M .state .header .is-open t ≡ false
+  abort-closes = ap (λ (N : State). N .header .is-open t) (abort-state t M tr) ∙ go (M .header .is-open t) refl
     where
-      go : (x : Bool) → M .is-open t ≡ x → cond x (closed t (abort-tree t (M .tree)) M) M .is-open t ≡ false
+      go : (x : Bool) → M .header .is-open t ≡ x → cond x (closed t (abort-tree t (M .tree)) M) M .header .is-open t ≡ false
       go true e = rw (eq-eqb t t refl)
       go false e = e
 
-  abort-opens-none : (u : ℕ) → M .is-open u ≡ false → next (abort t) M .state .is-open u ≡ false
-  abort-opens-none u h = ap (λ (N : State). N .is-open u) (abort-state t M tr) ∙ go (M .is-open t)
+  abort-opens-none : (u : ℕ) → M .header .is-open u ≡ false → next (abort t) M .state .header .is-open u ≡ false
+  abort-opens-none u h = ap (λ (N : State). N .header .is-open u) (abort-state t M tr) ∙ go (M .header .is-open t)
     where
-      go : (x : Bool) → cond x (closed t (abort-tree t (M .tree)) M) M .is-open u ≡ false
+      go : (x : Bool) → cond x (closed t (abort-tree t (M .tree)) M) M .header .is-open u ≡ false
       go true = rw h (and-false (not (eqb u t)))
       go false = h
 
@@ -120,12 +120,12 @@ unfolding state-after
 aborts-committed [] M h = refl
 aborts-committed (t ∷ ts) M h = aborts-committed ts (next (abort t) M .state) (λ u i. h u (List·Memᴰ·tail i)) ∙ abort-committed t M (h t (List·Memᴰ·head refl))
 
-aborts-open-none : (ts : List ℕ) (M : State) → ((u : ℕ) → List·Memᴰ u ts → is-transaction u ≡ true) → (u : ℕ) → M .is-open u ≡ false → state-after M (map abort ts) .is-open u ≡ false
+aborts-open-none : (ts : List ℕ) (M : State) → ((u : ℕ) → List·Memᴰ u ts → is-transaction u ≡ true) → (u : ℕ) → M .header .is-open u ≡ false → state-after M (map abort ts) .header .is-open u ≡ false
 unfolding state-after
 aborts-open-none [] M h u e = e
 aborts-open-none (t ∷ ts) M h u e = aborts-open-none ts (next (abort t) M .state) (λ v i. h v (List·Memᴰ·tail i)) u (abort-opens-none t M (h t (List·Memᴰ·head refl)) u e)
 
-aborts-close : (ts : List ℕ) (M : State) → ((u : ℕ) → List·Memᴰ u ts → is-transaction u ≡ true) → (u : ℕ) → List·Memᴰ u ts → state-after M (map abort ts) .is-open u ≡ false
+aborts-close : (ts : List ℕ) (M : State) → ((u : ℕ) → List·Memᴰ u ts → is-transaction u ≡ true) → (u : ℕ) → List·Memᴰ u ts → state-after M (map abort ts) .header .is-open u ≡ false
 unfolding state-after
 aborts-close [] M h u i = absurd (List·Memᴰ·not-nil i)
 aborts-close (t ∷ ts) M h u (List·Memᴰ·head e) = aborts-open-none ts (next (abort t) M .state) (λ v i. h v (List·Memᴰ·tail i)) u (rw e (abort-closes t M (h t (List·Memᴰ·head refl))))
@@ -138,9 +138,9 @@ listed u i = every-at is-transaction transactions refl i
 
 aborted-held : (L : Log Entry) (M : State) → Tracks L M → held-document (all-aborted M) ≡ committed-document M
 aborted-held L M tr =
-    let N = calls-track L M tr (map abort transactions) in
+    let N = calls-track L M tr (map abort transactions) .tracks in
     held-shown (N .c) _ (all-aborted M) (N .good)
-    ∙ document-same (all-aborted M .is-open) (λ u. false) (all-aborted M .tree)
+    ∙ document-same (all-aborted M .header .is-open) (λ u. false) (all-aborted M .tree)
     (λ u. refuted _ (λ e. true≢false (sym e ∙ aborts-close transactions M listed u (transaction-in u (N .good .numbered u e)))))
     ∙ aborts-committed transactions M listed
 
@@ -148,7 +148,7 @@ pub always-reached : (cs : List Call) → Reached (reached cs)
 always-reached cs = record {
   numbers-distinct = distinct-numbers (reached cs .tree) (tr .good .covered .distinct);
   documents-legal = legal-set;
-  held-legal = rw (held-shown (tr .c) (entries cs .open-log) (reached cs) (tr .good)) (legal-set (reached cs .is-open));
+  held-legal = rw (held-shown (tr .c) (entries cs .open-log) (reached cs) (tr .good)) (legal-set (reached cs .header .is-open));
   locks-open = holders-open cs;
   committed-if-aborted = aborted-held (entries cs) (reached cs) tr;
 }
@@ -157,4 +157,4 @@ always-reached cs = record {
     tr = reached-tracks cs
 
     legal-set : (S : ℕ → Bool) → legal (document-of S (reached cs .tree)) ≡ true
-    legal-set S = set-legal (tr .c) (entries cs .open-log) (reached cs) (tr .good) S (legal-run (entries cs .first) (entries cs .committed) (tr .c) (tr .first-legal) (tr .run))
+    legal-set S = set-legal (tr .c) (entries cs .open-log) (reached cs) (tr .good) S (legal-run (entries cs .first) (joined (entries cs .committed)) (tr .c) (tr .first-legal) (tr .run))

@@ -13,12 +13,11 @@ use Rattle.tree.specs.Laws.Put.{in-put, New}
 use Rattle.locks.specs.Modes.{Mode, union}
 use Rattle.locks.specs.Needs.{Lock, needs}
 use Rattle.protocol.specs.State.{State, Marked, Tree, is-transaction, transactions, nodes, numbered, seen-by, callers-document, inserted-by, modes-on, granted-to}
-use Rattle.protocol.specs.State.{none-of, lasting, undone, mark, renamed, act, grant, commit-tree, abort-tree, tree-of, start-state, opened}
-use Rattle.protocol.specs.Lent.{Room}
-use Rattle.protocol.specs.Calls.{Call, start, load, begin, commit, abort, step, write, Input, unreadable, stands-for, Next, unchanged, becomes, refused, judged, if-open, loaded, next}
+use Rattle.protocol.specs.State.{none-of, lasting, undone, mark, renamed, act, grant, commit-tree, abort-tree, tree-of, start-state}
+use Rattle.protocol.specs.Calls.{Call, next}
 use Rattle.protocol.specs.History.{state-after}
 use Rattle.serializability.specs.Theorem.{reached}
-use Rattle.serializability.specs.Laws.Outcomes.{Verdict, judged-verdict, if-open-cases}
+use Rattle.serializability.specs.Laws.Outcomes.{every-call}
 use Rattle.serializability.specs.Laws.Edited.{written-held, deleted-held}
 use Rattle.serializability.specs.Laws.Shown.{Place, Inside}
 use Rattle.serializability.specs.Laws.Numbers.{in-mark, in-part, node-place}
@@ -104,57 +103,28 @@ load-released o d r i u m h = absurd (false≢true (sym (ap (λ (a : Marked). a 
 -- every call ---------------------------------------------------------------------------------------
 
 Kept : State → Type 0
-Kept M = Released (M .is-open) (M .tree)
+Kept M = Released (M .header .is-open) (M .tree)
 
-module _ (M : State) (k : Kept M) where
-  open-kept : (t : ℕ) (n : Next) → (M .is-open t ≡ true → Kept (n .state)) → Kept (if-open t M n .state)
-  open-kept t n h = go (if-open-cases t M n)
-    where
-      go : ((x : ℕ) × ((eqb x 1 || eqb x 3) ≡ true) × (if-open t M n ≡ unchanged (refused x) M)) ⊎ ((is-transaction t ≡ true) × (M .is-open t ≡ true) × (if-open t M n ≡ n)) → Kept (if-open t M n .state)
-      go (inl v) = rw (v .2) k
-      go (inr v) = rw (v .2) (h (v .1))
-
-  step-kept : (t : ℕ) (s : Step) (room : Room) → M .is-open t ≡ true → Kept (judged t s room M (callers-document t (M .tree)) .state)
-  unfolding Kept
-  step-kept t s room o = go (judged-verdict t s room M (callers-document t (M .tree)))
-    where
-      d : Document
-      d = callers-document t (M .tree)
-
-      go : Verdict t s M d (judged t s room M d) → Kept (judged t s room M d .state)
-      go (inl v) = rw (v .2) k
-      go (inr v) = rw (v .1) (step-released (M .is-open) t s (needs s d) (M .tree) o k)
-
-  load-kept : (i : Input) → Kept (loaded i M .state)
-  unfolding Kept
-  load-kept (unreadable cause offset) = k
-  load-kept (stands-for d l) = load-released (M .is-open) d
-
-  call-kept : (c : Call) → Kept (next c M .state)
-  unfolding next Kept Released
-  call-kept start = load-released (λ u. false) node-0-alone
-  call-kept (load i) = go (any (M .is-open) transactions)
-    where
-      go : (b : Bool) → Kept (cond b (unchanged (refused 15) M) (loaded i M) .state)
-      go true = k
-      go false = load-kept i
-  call-kept (begin t) = go (is-transaction t) (M .is-open t)
-    where
-      go : (a b : Bool) → Kept (cond (not a) (unchanged (refused 1) M) (cond b (unchanged (refused 2) M) (becomes done (opened t M))) .state)
-      go false b = k
-      go true true = k
-      go true false = λ r i u m h. rw (k r i u m h) (or-true (eqb u t))
-  call-kept (commit t) = open-kept t _ (λ o. commit-released (M .is-open) t (M .tree) k)
-  call-kept (abort t) = open-kept t _ (λ o. abort-released (M .is-open) t (M .tree) k)
-  call-kept (step t s room) = open-kept t _ (λ o. step-kept t s room o)
-  call-kept write = k
+call-kept : (M : State) → Kept M → (c : Call) → Kept (next c M .state)
+unfolding Kept Released
+call-kept M k = every-call (λ c n. Kept (n .state)) M (record {
+  refusal = λ c o g i. k;
+  at-start = load-released (λ u. false) node-0-alone;
+  at-unread = λ c i. k;
+  at-load = λ d h. load-released (M .header .is-open) d;
+  at-begin = λ t h o r i u m e. rw (k r i u m e) (or-true (eqb u t));
+  at-commit = λ t h o. commit-released (M .header .is-open) t (M .tree) k;
+  at-abort = λ t h o. abort-released (M .header .is-open) t (M .tree) k;
+  at-step = λ t s room h o p. step-released (M .header .is-open) t s _ (M .tree) o k;
+  at-write = k;
+})
 
 calls-kept : (M : State) → Kept M → (cs : List Call) → Kept (state-after M cs)
 unfolding state-after
 calls-kept M k [] = k
 calls-kept M k (c ∷ cs) = calls-kept (next c M .state) (call-kept M k c) cs
 
-pub holders-open : (cs : List Call) (a : Marked) → List·Memᴰ a (nodes (reached cs .tree)) → (u : ℕ) (m : Mode) → a .held u m ≡ true → reached cs .is-open u ≡ true
+pub holders-open : (cs : List Call) (a : Marked) → List·Memᴰ a (nodes (reached cs .tree)) → (u : ℕ) (m : Mode) → a .held u m ≡ true → reached cs .header .is-open u ≡ true
 unfolding state-after next Kept Released
 holders-open cs a i u m h =
     let r = node-place (reached cs .tree) i in

@@ -95,13 +95,13 @@ unblocked-compatible ls hs u f link h q a b i j = refuted (clash a b) (λ e.
     true≢false (sym (at-any (clashes ls u) (nodes f) (place-node f (r .1)) there) ∙ h))
 
 -- the locks of a step that does not wait are compatible with those of every other transaction
-pub no-wait-compatible : (t : ℕ) (ls hs : List Lock) (M : State) (u : ℕ) → eqb (wait-set t ls M) 0 ≡ true → (u ≡ t → ⊥) → M .is-open u ≡ true → is-transaction u ≡ true
+pub no-wait-compatible : (t : ℕ) (ls hs : List Lock) (M : State) (u : ℕ) → eqb (wait-set t ls M) 0 ≡ true → (u ≡ t → ⊥) → M .header .is-open u ≡ true → is-transaction u ≡ true
     → ((l : Lock) → List·Memᴰ l hs → (r : Place) × Inside r (M .tree) × (number-of r ≡ l .0) × (r .it .held u (l .1) ≡ true)) → Compatible ls hs
 unfolding wait-set
 no-wait-compatible t ls hs M u w ne o tr link = unblocked-compatible ls hs u (M .tree) link
     (go (any (clashes ls u) (nodes (M .tree))) (sum-empty (blocks t ls M) (eqb-true _ 0 w) u tr))
   where
-    go : (x : Bool) → (M .is-open u && not (eqb u t) && x) ≡ false → x ≡ false
+    go : (x : Bool) → (M .header .is-open u && not (eqb u t) && x) ≡ false → x ≡ false
     go x e = rw (o, ne-eqb u t ne) at e
 
 -- after an edit ------------------------------------------------------------------------------

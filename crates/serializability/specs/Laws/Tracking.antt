@@ -1,34 +1,30 @@
 -- Every call keeps the state in step with a log of entries.
-use mathlib.Core.Path.{_≡_, refl, sym, ap, _∙_, fun-ext}
+use mathlib.Core.Path.{_≡_, refl, sym, ap, _∙_}
 use Prim.Native.Nat.{ℕ}
-use mathlib.Core.Bool.{Bool, true, false, cond, not, _&&_, _||_, false≢true, true≢false}
-use mathlib.Core.List.{List, [], _∷_, map, List·Memᴰ·not-nil}
+use mathlib.Core.Bool.{true, false, false≢true, true≢false}
+use mathlib.Core.List.{List, [], _∷_, map, append-nil, List·Memᴰ·not-nil}
 use mathlib.Core.Logic.{_⊎_, inl, inr}
 use lib.Dec.{eqb}
 use borrow.Author.Tests.{eqb-true, ne-eqb}
-use Rattle.tree.specs.Lists.{any, every, has, distinct}
+use Rattle.tree.specs.Lists.{every, has, joined}
 use Rattle.tree.specs.Forest.{Forest, nil, node, Row, row, rows}
-use Rattle.tree.specs.Document.{Node, Document, lines, numbers, legal, node-0-alone, ruled}
+use Rattle.tree.specs.Document.{Node, Document, lines, legal, node-0-alone, ruled}
 use Rattle.tree.specs.Content.{allowed, children-rule}
-use Rattle.tree.specs.Steps.{Step, Value}
-use Rattle.tree.specs.Laws.Tests.{and-left, and-right}
+use Rattle.tree.specs.Laws.Tests.{and-left, or-right, or-cases}
 use Rattle.tree.specs.Laws.Lists.{map-append, map-map, keep-all}
 use Rattle.tree.specs.Laws.View.{rows-view, in-view}
-use Rattle.locks.specs.Needs.{Lock, needs}
 use Rattle.commute.specs.Laws.Lines.{Unique}
 use Rattle.commute.specs.Laws.Runs.{Entry, Run, run-append}
-use Rattle.commute.specs.Laws.Orders.{Distinct, logs}
-use Rattle.commute.specs.Laws.Serial.{emptied}
-use Rattle.protocol.specs.State.{nobody, State, Marked, is-transaction, transactions, callers-document, unmarked, tree-of, start-state, opened, closed, writer-of}
-use Rattle.protocol.specs.Lent.{Room}
-use Rattle.protocol.specs.Calls.{Call, start, load, begin, commit, abort, step, write, Input, unreadable, stands-for, loadable, Outcome, Next, unchanged, becomes, refused, judged, if-open, loaded, next}
-use Rattle.protocol.specs.History.{state-after, is-granted, value-of, Log, new-log, logged}
-use Rattle.serializability.specs.Laws.Outcomes.{Reason, by-misfit, by-number, by-clash, by-place, by-limit, by-room, Verdict, judged-verdict, if-open-cases}
-use Rattle.serializability.specs.Laws.OneCall.{not-granted}
-use Rattle.serializability.specs.Laws.Logs.{logged-in, tracked}
+use Rattle.commute.specs.Laws.Orders.{joined-append, logs}
+use Rattle.commute.specs.Laws.Legal.{legal-parts}
+use Rattle.protocol.specs.State.{nobody, State, Marked, is-transaction, unmarked, commit-tree, tree-of, start-state, with-tree, opened, closed}
+use Rattle.protocol.specs.Calls.{Call, loadable, Taken, Next, next}
+use Rattle.protocol.specs.History.{history, state-after, is-granted, Log, new-log, with-log, with-commit, logged, log-after}
+use Rattle.serializability.specs.Laws.Outcomes.{every-call}
+use Rattle.serializability.specs.Laws.Logs.{read-off, logged-read, with-log-same, logged-none}
 use Rattle.serializability.specs.Laws.Shown.{Place, Inside, load-shown}
 use Rattle.serializability.specs.Laws.Numbers as places
-use Rattle.serializability.specs.Laws.Whole.{Good, step-good}
+use Rattle.serializability.specs.Laws.Whole.{Good, entry, step-good}
 use Rattle.serializability.specs.Laws.Ends.{commit-good, abort-good}
 
 -- a tree without marks ------------------------------------------------------------------------
@@ -72,11 +68,16 @@ no-logs [] = refl
 no-logs (t ∷ b) = no-logs b
 
 -- a document that was loaded, with no logs
-load-good : (d : Document) → Unique d → (o : ℕ → Bool) → ((u : ℕ) → o u ≡ true → is-transaction u ≡ true) → Good d (λ u. []) (record { is-open = o; tree = tree-of d })
-load-good d u o n = record {
+load-good : (d : Document) → Unique d → (M : State) → ((u : ℕ) → M .header .is-open u ≡ true → is-transaction u ≡ true)
+    → Good d (λ u. []) (with-tree M (tree-of d))
+load-good d u M n = record {
   closed = λ v e. refl;
   numbered = n;
-  covered = record { distinct = load-distinct d u; guarded = λ r i v nv h. absurd (unmarked-by r i v nv h); authored = λ r i v nv h. absurd (unwritten-by r i v nv h) };
+  covered = record {
+    distinct = load-distinct d u;
+    guarded = λ r i v nv h. absurd (true≢false (sym h ∙ rw (load-unmarked d r i .1, is-nobody v nv)));
+    authored = λ r i v nv h. absurd (true≢false (sym h ∙ rw (load-unmarked d r i .1) (is-nobody v nv)));
+  };
   standing = λ v y i. absurd (List·Memᴰ·not-nil i);
   brought = λ r i e. absurd (e (ap (λ (a : Marked). a .inserter) (load-unmarked d r i .1)));
   serial = λ b k. record {
@@ -91,157 +92,113 @@ load-good d u o n = record {
     is-nobody : (v : ℕ) → (v ≡ nobody → ⊥) → eqb nobody v ≡ false
     is-nobody v nv = ne-eqb nobody v (λ e. nv (sym e))
 
-    unmarked-by : (r : Place) → Inside r (tree-of d) → (v : ℕ) → (v ≡ nobody → ⊥) → (eqb (r .it .inserter) v || eqb (r .it .deleter) v) ≡ true → ⊥
-    unmarked-by r i v nv h = true≢false (sym h ∙ rw (load-unmarked d r i .1, is-nobody v nv))
-
-    unwritten-by : (r : Place) → Inside r (tree-of d) → (v : ℕ) → (v ≡ nobody → ⊥) → eqb (writer-of (r .it .update)) v ≡ true → ⊥
-    unwritten-by r i v nv h = true≢false (sym h ∙ rw (load-unmarked d r i .1) (is-nobody v nv))
-
 -- the log ------------------------------------------------------------------------------------
 
--- the locks of a step call
-abbrev pub call-locks : Call → State → Step → List Lock
-call-locks start M s = []
-call-locks (load i) M s = []
-call-locks (begin t) M s = []
-call-locks (commit t) M s = []
-call-locks (abort t) M s = []
-call-locks (step t s' room) M s = needs s (callers-document t (M .tree))
-call-locks write M s = []
-
--- a step notes itself, its answer and its locks
-abbrev pub note : Call → State → Step → Value → Entry
-note c M s v = record { step = s; value = v; held = call-locks c M s }
-
--- the log's committed log leads from its first document, a legal one, to c, which is the committed document
+-- the log's committed transactions lead from its first document, a legal one, to c, which is the committed document
 pub record Tracks (L : Log Entry) (M : State) : Type 0 where
   pub first-legal : legal (L .first) ≡ true
   pub c : Document
-  pub run : Run (L .first) (L .committed) c
+  pub run : Run (L .first) (joined (L .committed)) c
   pub good : Good c (L .open-log) M
 
-legal-unique : (d : Document) → legal d ≡ true → Unique d
-unfolding legal
-legal-unique d h = and-right (Rattle.tree.specs.Document.rooted d && ruled d) _ h
-
 -- a new document, with no open transaction that did anything
-new-tracks : (d : Document) → legal d ≡ true → (o : ℕ → Bool) → ((u : ℕ) → o u ≡ true → is-transaction u ≡ true) → Tracks (new-log d) (record { is-open = o; tree = tree-of d })
-new-tracks d h o n = record { first-legal = h; c = d; run = refl; good = load-good d (legal-unique d h) o n }
+new-tracks : (d : Document) → legal d ≡ true → (M : State) → ((u : ℕ) → M .header .is-open u ≡ true → is-transaction u ≡ true)
+    → Tracks (new-log d) (with-tree M (tree-of d))
+new-tracks d h M n = record { first-legal = h; c = d; run = refl; good = load-good d (legal-parts d h .unique) M n }
 
 node-0-legal : legal node-0-alone ≡ true
 unfolding legal ruled lines rows node-0-alone allowed children-rule
 node-0-legal = refl
 
+-- the log of a list that begins with a start
+pub start-tracks : Tracks (new-log node-0-alone) start-state
+start-tracks = new-tracks node-0-alone node-0-legal start-state (λ u e. absurd (false≢true e))
+
+-- an entry is a granted step with its locks
+abbrev pub taken-of : Entry → Taken
+taken-of x = record { step = x .step; value = x .value }
+
+-- some entries are the steps that were granted in a call, and with them the log is in step with the state
+record Entered (L : Log Entry) (c : Call) (n : Next) : Type 0 where
+  entries : List Entry
+  read : map taken-of entries ≡ n .steps
+  tracks : Tracks (logged c (is-granted (n .outcome)) entries L) (n .state)
+
 module _ (L : Log Entry) (M : State) (tr : Tracks L M) where
-  Entered : Call → Next → Type 0
-  Entered c n = is-granted (n .outcome) ≡ true → Tracks (logged (note c M) c (value-of (n .outcome)) L) (n .state)
+  no-step : {c : Call} {n : Next} → n .steps ≡ [] → Tracks (logged c (is-granted (n .outcome)) [] L) (n .state) → Entered L c n
+  no-step e t = record { entries = []; read = sym e; tracks = t }
 
-  -- no claim where a call is refused
-  logged-refused : (c : Call) (o : Outcome) (n : Next) → is-granted o ≡ false → n ≡ unchanged o M → Entered c n
-  unfolding Entered
-  logged-refused c o n g e h = absurd (true≢false (sym h ∙ ap (λ (x : Next). is-granted (x .outcome)) e ∙ g))
-
-  -- a call of an open transaction
-  logged-open : (c : Call) (t : ℕ) (n : Next) → (is-transaction t ≡ true → M .is-open t ≡ true → Entered c n) → Entered c (if-open t M n)
-  unfolding Entered
-  logged-open c t n k = go (if-open-cases t M n)
-    where
-      go : ((x : ℕ) × ((eqb x 1 || eqb x 3) ≡ true) × (if-open t M n ≡ unchanged (refused x) M)) ⊎ ((is-transaction t ≡ true) × (M .is-open t ≡ true) × (if-open t M n ≡ n)) → Entered c (if-open t M n)
-      go (inl v) = logged-refused c (refused (v .0)) (if-open t M n) refl (v .2)
-      go (inr v) = rw (v .2) (k (v .0) (v .1))
+  -- the committed document stays
+  stays : (log : ℕ → List Entry) (N : State) → Good (tr .c) log N → Tracks (record { first = L .first; committed = L .committed; open-log = log }) N
+  stays log N g = record { first-legal = tr .first-legal; c = tr .c; run = tr .run; good = g }
 
   somebody : (t : ℕ) → is-transaction t ≡ true → t ≡ nobody → ⊥
   somebody t h e = false≢true (rw e at h)
 
-  logged-load : (i : Input) → Entered (load i) (loaded i M)
-  unfolding Entered loadable
-  logged-load (unreadable cause offset) h = absurd (false≢true h)
-  logged-load (stands-for d l) h = new-tracks d (and-left _ _ (and-left _ _ l)) (M .is-open) (tr .good .numbered)
-
-  logged-begin : (t : ℕ) → is-transaction t ≡ true → M .is-open t ≡ false → Good (tr .c) (emptied t (L .open-log)) (opened t M)
-  logged-begin t h e = rw log-same (record {
-    closed = λ u x. tr .good .closed u (or-off u x);
-    numbered = λ u x. numbers u (eqb u t) refl x;
+  begin-good : (t : ℕ) → is-transaction t ≡ true → M .header .is-open t ≡ false → Good (tr .c) (with-log t [] (L .open-log)) (opened t M)
+  begin-good t h e = rw (with-log-same t [] (L .open-log) (sym (tr .good .closed t e))) (record {
+    closed = λ u x. tr .good .closed u (or-right (eqb u t) _ x);
+    numbered = λ u x. go u (or-cases (eqb u t) _ x);
     covered = tr .good .covered;
     standing = tr .good .standing;
     brought = tr .good .brought;
     serial = tr .good .serial;
   })
     where
-      log-same : emptied t (L .open-log) ≡ L .open-log
-      log-same = fun-ext (λ u. go u (eqb u t) refl)
-        where
-          go : (u : ℕ) (b : Bool) → eqb u t ≡ b → cond b [] (L .open-log u) ≡ L .open-log u
-          go u true x = sym (rw (eqb-true u t x) (tr .good .closed t e))
-          go u false x = refl
+      go : (u : ℕ) → (eqb u t ≡ true) ⊎ (M .header .is-open u ≡ true) → is-transaction u ≡ true
+      go u (inl x) = rw (eqb-true u t x) h
+      go u (inr x) = tr .good .numbered u x
 
-      or-off : (u : ℕ) → (eqb u t || M .is-open u) ≡ false → M .is-open u ≡ false
-      or-off u x = go (eqb u t) x
-        where
-          go : (b : Bool) → (b || M .is-open u) ≡ false → M .is-open u ≡ false
-          go true y = absurd (true≢false y)
-          go false y = y
-
-      numbers : (u : ℕ) (b : Bool) → eqb u t ≡ b → (b || M .is-open u) ≡ true → is-transaction u ≡ true
-      numbers u true y x = rw (eqb-true u t y) h
-      numbers u false y x = tr .good .numbered u x
-
-  logged-step : (t : ℕ) (s : Step) (room : Room) → is-transaction t ≡ true → M .is-open t ≡ true → Entered (step t s room) (judged t s room M (callers-document t (M .tree)))
-  unfolding Entered
-  logged-step t s room h o = go (judged-verdict t s room M (callers-document t (M .tree)))
-    where
-      d : Document
-      d = callers-document t (M .tree)
-
-      refusal : (x : Outcome) → Reason t s M d x → is-granted x ≡ false
-      refusal x (by-misfit e) = refl
-      refusal x by-number = refl
-      refusal x (by-clash e) = refl
-      refusal x by-place = refl
-      refusal x by-limit = refl
-      refusal x by-room = refl
-
-      go : Verdict t s M d (judged t s room M d) → Entered (step t s room) (judged t s room M d)
-      go (inl v) = logged-refused (step t s room) (v .0) (judged t s room M d) (refusal (v .0) (v .1)) (v .2)
-      go (inr v) = rw (v .1) (λ x. record { first-legal = tr .first-legal; c = tr .c; run = tr .run; good = step-good (tr .c) (L .open-log) M (tr .good) t s h o (v .0) })
-
-  logged-any : (c : Call) → Entered c (next c M)
-  unfolding next Entered
-  logged-any start = λ x. new-tracks node-0-alone node-0-legal (λ u. false) (λ u e. absurd (false≢true e))
-  logged-any (load i) = go (any (M .is-open) transactions)
-    where
-      go : (b : Bool) → Entered (load i) (cond b (unchanged (refused 15) M) (loaded i M))
-      go true = logged-refused (load i) (refused 15) _ refl refl
-      go false = logged-load i
-  logged-any (begin t) = go (is-transaction t) refl (M .is-open t) refl
-    where
-      go : (a : Bool) → is-transaction t ≡ a → (b : Bool) → M .is-open t ≡ b
-          → Entered (begin t) (cond (not a) (unchanged (refused 1) M) (cond b (unchanged (refused 2) M) (becomes Value.done (opened t M))))
-      go false p b q = logged-refused (begin t) (refused 1) _ refl refl
-      go true p true q = logged-refused (begin t) (refused 2) _ refl refl
-      go true p false q = λ x. record { first-legal = tr .first-legal; c = tr .c; run = tr .run; good = logged-begin t p q }
-  logged-any (commit t) = logged-open (commit t) t _ (λ h o x.
+  commit-tracks : (t : ℕ) → is-transaction t ≡ true → Tracks (with-commit t L) (closed t (commit-tree t (M .tree)) M)
+  commit-tracks t h =
       let e = commit-good (tr .c) (L .open-log) M (tr .good) t (somebody t h) in
-      record { first-legal = tr .first-legal; c = e .0; run = run-append (L .first) (L .committed) (L .open-log t) (tr .c) (e .0) (tr .run) (e .1); good = e .2 })
-  logged-any (abort t) = logged-open (abort t) t _ (λ h o x.
-      record { first-legal = tr .first-legal; c = tr .c; run = tr .run; good = abort-good (tr .c) (L .open-log) M (tr .good) t (somebody t h) })
-  logged-any (step t s room) = logged-open (step t s room) t _ (λ h o. logged-step t s room h o)
-  logged-any write = λ x. tr
+      record {
+        first-legal = tr .first-legal;
+        c = e .0;
+        run = rw (joined-append (L .committed) (L .open-log t ∷ []), append-nil (L .open-log t))
+            (run-append (L .first) (joined (L .committed)) (L .open-log t) (tr .c) (e .0) (tr .run) (e .1));
+        good = e .2;
+      }
 
   -- every call
-  pub call-tracks : (c : Call) → Tracks (logged-in note M c L) (next c M .state)
-  unfolding Entered
-  call-tracks c = go (is-granted (next c M .outcome)) refl
-    where
-      go : (b : Bool) → is-granted (next c M .outcome) ≡ b → Tracks (cond b (logged (note c M) c (value-of (next c M .outcome)) L) L) (next c M .state)
-      go true e = logged-any c e
-      go false e = rw (not-granted c M e) tr
+  call-tracks : (c : Call) → Entered L c (next c M)
+  unfolding loadable
+  call-tracks = every-call (Entered L) M (record {
+    refusal = λ c o g i. no-step refl (rw (g, logged-none c L) tr);
+    at-start = no-step refl start-tracks;
+    at-unread = λ c i. no-step refl tr;
+    at-load = λ d h. no-step refl (new-tracks d (and-left _ _ (and-left _ _ h)) M (tr .good .numbered));
+    at-begin = λ t h o. no-step refl (stays _ _ (begin-good t h o));
+    at-commit = λ t h o. no-step refl (commit-tracks t h);
+    at-abort = λ t h o. no-step refl (stays _ _ (abort-good (tr .c) (L .open-log) M (tr .good) t (somebody t h)));
+    at-step = λ t s room h o p. record {
+      entries = entry t M s ∷ [];
+      read = refl;
+      tracks = stays _ _ (step-good (tr .c) (L .open-log) M (tr .good) t s h o p);
+    };
+    at-write = no-step refl tr;
+  })
 
-pub calls-track : (L : Log Entry) (M : State) → Tracks L M → (cs : List Call) → Tracks (tracked note M L cs) (state-after M cs)
-unfolding tracked state-after
-calls-track L M tr [] = tr
-calls-track L M tr (c ∷ cs) = calls-track (logged-in note M c L) (next c M .state) (call-tracks L M tr c) cs
+-- after some calls: a log in step with the state, off which each log of the history is read
+pub record Tracked (L : Log Entry) (M : State) (cs : List Call) : Type 1 where
+  pub log : Log Entry
+  pub tracks : Tracks log (state-after M cs)
+  pub read : (E : Type 0) (g : Entry → E) (e : Taken → E) → ((x : Entry) → e (taken-of x) ≡ g x)
+      → log-after e (read-off g L) (history M cs) ≡ read-off g log
 
--- the log of a list that begins with a start
-pub start-tracks : Tracks (new-log node-0-alone) start-state
-start-tracks = new-tracks node-0-alone node-0-legal (λ u. false) (λ u e. absurd (false≢true e))
+call-read : (L : Log Entry) (M : State) (c : Call) (x : Entered L c (next c M)) (E : Type 0) (g : Entry → E) (e : Taken → E)
+    → ((y : Entry) → e (taken-of y) ≡ g y) → let b = is-granted (next c M .outcome) in
+    logged c b (map e (next c M .steps)) (read-off g L) ≡ read-off g (logged c b (x .entries) L)
+call-read L M c x E g e h = rw (← x .read, map-map e taken-of g (x .entries) (λ y m. h y)) (sym (logged-read g c _ (x .entries) L))
+
+pub calls-track : (L : Log Entry) (M : State) → Tracks L M → (cs : List Call) → Tracked L M cs
+unfolding state-after history log-after
+calls-track L M tr [] = record { log = L; tracks = tr; read = λ E g e h. refl }
+calls-track L M tr (c ∷ cs) =
+    let x = call-tracks L M tr c in
+    let rest = calls-track _ (next c M .state) (x .tracks) cs in
+    record {
+      log = rest .log;
+      tracks = rest .tracks;
+      read = λ E g e h. ap (λ (K : Log E). log-after e K (history (next c M .state) cs)) (call-read L M c x E g e h) ∙ rest .read E g e h;
+    }

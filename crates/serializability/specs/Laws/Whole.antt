@@ -6,7 +6,7 @@ use mathlib.Core.Bool.{Bool, true, false, cond, false≢true, true≢false}
 use mathlib.Core.List.{List, [], _∷_, _++_, List·Memᴰ, List·Memᴰ·head, List·Memᴰ·tail, List·Memᴰ·not-nil, Memᴰ·append-left, Memᴰ·append-right, List·Memᴰ·append-cases}
 use mathlib.Core.Logic.{_⊎_, inl, inr}
 use lib.Dec.{eqb}
-use borrow.Author.Tests.{eqb-true, eq-eqb, ne-eqb}
+use borrow.Author.Tests.{eqb-true, eq-eqb, ne-eqb, not-false}
 use Rattle.tree.specs.Lists.{any, every, has}
 use Rattle.tree.specs.Document.{Document, here, at}
 use Rattle.tree.specs.Steps.{Step, target, inserts, fits, answer, after}
@@ -16,7 +16,6 @@ use Rattle.locks.specs.Needs.{Lock, needs}
 use Rattle.locks.specs.Laws.Compatible.{Compatible}
 use Rattle.commute.specs.Laws.Views.{views-same}
 use Rattle.commute.specs.Laws.Classes.{Absent}
-use Rattle.commute.specs.Laws.Kept.{fits-here}
 use Rattle.commute.specs.Laws.Runs.{Entry, Valid, Clear}
 use Rattle.commute.specs.Laws.Orders.{Distinct, permutation-back, to-front}
 use Rattle.commute.specs.Laws.Serial.{Serial, reorder, noted, in-noted, Grantable, grant, grant-other}
@@ -56,8 +55,8 @@ holds log u = locks-of (log u)
 
 -- c is the committed document, log what each open transaction did so far
 pub record Good (c : Document) (log : ℕ → List Entry) (M : State) : Type 0 where
-  pub closed : (u : ℕ) → M .is-open u ≡ false → log u ≡ []
-  pub numbered : (u : ℕ) → M .is-open u ≡ true → is-transaction u ≡ true
+  pub closed : (u : ℕ) → M .header .is-open u ≡ false → log u ≡ []
+  pub numbered : (u : ℕ) → M .header .is-open u ≡ true → is-transaction u ≡ true
   pub covered : Covered (holds log) (M .tree)
   pub standing : (u : ℕ) (y : Entry) → List·Memᴰ y (log u) → Standing (M .tree) u (y .step) (y .held)
   -- a node that a transaction inserted is one that its log brought in
@@ -65,10 +64,10 @@ pub record Good (c : Document) (log : ℕ → List Entry) (M : State) : Type 0 w
   pub serial : (b : List ℕ) → Distinct b → Serial c b log (document-of (λ u. has u b) (M .tree))
 
 -- whoever has a log is open
-pub log-open : {c : Document} {log : ℕ → List Entry} {M : State} → Good c log M → (u : ℕ) {y : Entry} → List·Memᴰ y (log u) → M .is-open u ≡ true
-log-open {M = M} g u i = go (M .is-open u) refl
+pub log-open : {c : Document} {log : ℕ → List Entry} {M : State} → Good c log M → (u : ℕ) {y : Entry} → List·Memᴰ y (log u) → M .header .is-open u ≡ true
+log-open {M = M} g u i = go (M .header .is-open u) refl
   where
-    go : (x : Bool) → M .is-open u ≡ x → x ≡ true
+    go : (x : Bool) → M .header .is-open u ≡ x → x ≡ true
     go true e = refl
     go false e = absurd (List·Memᴰ·not-nil (rw (g .closed u e) at i))
 
@@ -84,7 +83,7 @@ abbrev pub stepped : ℕ → Step → State → State
 stepped t s M = with-tree M (after-step t s (needs s (callers-document t (M .tree))) (M .tree))
 
 module _ (c : Document) (log : ℕ → List Entry) (M : State) (g : Good c log M) (t : ℕ) (s : Step) (tr : is-transaction t ≡ true)
-    (op : M .is-open t ≡ true) (ok : Passed t s M (callers-document t (M .tree))) where
+    (op : M .header .is-open t ≡ true) (ok : Passed t s M (callers-document t (M .tree))) where
   abbrev f : Tree
   f = M .tree
 
@@ -107,15 +106,15 @@ module _ (c : Document) (log : ℕ → List Entry) (M : State) (g : Good c log M
       true≢false (sym (a .2) ∙ unheld-absent (seen-by t) (λ y. y .now .content) f (a .0) (unheld (a .0) (in-has (a .0) (inserts s) (a .1)))))
 
   fit : fits s d ≡ true
-  fit = rw (ok .fit, nothing-there, ok .in-place)
+  fit = rw (ok .there, ok .kind, ok .content, nothing-there, ok .place)
 
   hs : here (target s) d ≡ true
-  hs = fits-here s d fit
+  hs = not-false _ (ok .there)
 
   compat : (u : ℕ) → (u ≡ t → ⊥) → Compatible (needs s d) (holds log u)
-  compat u ne = go (M .is-open u) refl
+  compat u ne = go (M .header .is-open u) refl
     where
-      go : (b : Bool) → M .is-open u ≡ b → Compatible (needs s d) (holds log u)
+      go : (b : Bool) → M .header .is-open u ≡ b → Compatible (needs s d) (holds log u)
       go true e = no-wait-compatible t (needs s d) (holds log u) M u (ok .clear) ne e (g .numbered u e)
           (λ l i. let y = lock-entry (log u) l i in g .standing u (y .0) (y .1) .held l (y .2))
       go false e = λ q a b i j. absurd (List·Memᴰ·not-nil (rw (g .closed u e) at j))
@@ -206,5 +205,5 @@ module _ (c : Document) (log : ℕ → List Entry) (M : State) (g : Good c log M
     serial = step-serial;
   }
     where
-      shut : (u : ℕ) → M .is-open u ≡ false → noted t x log u ≡ []
+      shut : (u : ℕ) → M .header .is-open u ≡ false → noted t x log u ≡ []
       shut u e = rw (ne-eqb u t (λ q. true≢false (sym op ∙ rw q at e))) (g .closed u e)
