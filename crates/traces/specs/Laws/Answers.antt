@@ -20,6 +20,18 @@ use Rattle.traces.specs.Contract.{makes-start, Ensured, Contract}
 use Rattle.traces.specs.Theorem.{first-after, ByDefinition, Answers}
 use Rattle.traces.specs.Laws.Codes.{not-written}
 
+-- a call is start, write, or one on a state
+pub ensured-cases : (x : Exchange) (r : Answer) (P : Call → Type 0) → (contract.Start x r → P start) → (contract.Write x r → P write)
+    → ((c : Call) → contract.OnState x r c → P c) → (c : Call) → Ensured x r c → P c
+unfolding Ensured
+ensured-cases x r P f g h start e = f e
+ensured-cases x r P f g h write e = g e
+ensured-cases x r P f g h (load i) e = h (load i) e
+ensured-cases x r P f g h (begin t) e = h (begin t) e
+ensured-cases x r P f g h (commit t) e = h (commit t) e
+ensured-cases x r P f g h (abort t) e = h (abort t) e
+ensured-cases x r P f g h (step t s room) e = h (step t s room) e
+
 -- where nothing is written
 same-first : (text : List ℕ → Document → List ℕ) (r : Answer) (o : Outcome) (b : List ℕ) → ((w : Document → Answer) → r ≡ answer-of w o)
     → lent-after first-lent o b ≡ first-after text o b
@@ -60,14 +72,7 @@ module _ (w : ℕ → Document → Answer) (text : List ℕ → Document → Lis
     write-by h g = record { code = e ∙ ap code-of (g .0); first = g .1; second = h .second; left = rw (h .state) b }
 
     pub ensured-by : (contract.Write x r → Writes) → (c : Call) → Ensured x r c → ByDefinition w text M x c
-    unfolding Ensured
-    ensured-by g start h = start-by h (b .layout .size)
-    ensured-by g write h = write-by h (g h)
-    ensured-by g (load i) h = step-by (load i) h
-    ensured-by g (begin t) h = step-by (begin t) h
-    ensured-by g (commit t) h = step-by (commit t) h
-    ensured-by g (abort t) h = step-by (abort t) h
-    ensured-by g (step t s room) h = step-by (step t s room) h
+    ensured-by g = ensured-cases x r (ByDefinition w text M x) (λ h. start-by h (b .layout .size)) (λ h. write-by h (g h)) step-by
 
 -- the contract of a start
 pub start-of : (x : Exchange) (k : Contract x) → x .request ≡ Request.start → contract.Start x (k .answer)

@@ -4,8 +4,13 @@ use Prim.Native.Nat.{ℕ, _≤_, _<_}
 use mathlib.Core.Bool.{true, false, false≢true}
 use mathlib.Core.Logic.{_↔_}
 use native.Mathlib.Omega.{arith}
+use lib.Dec.{ltb}
+use borrow.Author.Tests.{ltb-true}
+use Rattle.tree.specs.Lists.{every, has}
+use Rattle.tree.specs.Laws.Lists.{every-at, has-in}
 use Rattle.tree.specs.Document.{Document}
-use Rattle.tree.specs.Steps.{done, kind-parent, child-is, none, content-is, numbers-are, cells-are, how-many, unfit}
+use Rattle.tree.specs.Steps.{done, kind-parent, child-is, none, content-is, numbers-are, cells-are, how-many}
+use Rattle.protocol.specs.Causes.{causes}
 use Rattle.protocol.specs.Calls.{Outcome, granted, written, waits, refused, refused-at}
 use Rattle.protocol.specs.History.{is-granted}
 use Rattle.protocol.specs.Answers.{granted-answer, answer-of, packed, code-of}
@@ -13,17 +18,24 @@ use Rattle.protocol.specs.declared.Answer.{Answer}
 use Rattle.protocol.specs.declared.Answer.the-variants.{Done, Count, Waits}
 use Rattle.traces.specs.Exchange.{outcome, cause, value}
 
--- one of the fifteen causes, where it is a refusal
-abbrev pub Listed : Outcome → Type 0
-Listed (granted v) = Unit {0}
-Listed (written d) = Unit {0}
-Listed (waits set) = Unit {0}
-Listed (refused c) = (1 ≤ c) × (c ≤ 15)
-Listed (refused-at c offset) = (1 ≤ c) × (c ≤ 15)
+-- one of the causes, where it is a refusal
+abbrev pub listed : Outcome → Bool
+listed (granted v) = true
+listed (written d) = true
+listed (waits set) = true
+listed (refused c) = has c causes
+listed (refused-at c offset) = has c causes
+
+-- a cause takes one byte of the number
+few-causes : every (λ c. ltb c 256) causes ≡ true
+few-causes = refl
+
+cause-byte : (c : ℕ) → has c causes ≡ true → c < 256
+cause-byte c h = ltb-true c 256 (every-at (λ c. ltb c 256) causes few-causes (has-in c causes h))
 
 pub record Told (code : ℕ) (o : Outcome) : Type 0 where
   pub outcomes : outcome code ≤ 2
-  pub causes : outcome code ≡ 2 → (1 ≤ cause code) × (cause code ≤ 15)
+  pub causes : outcome code ≡ 2 → has (cause code) causes ≡ true
   pub no-cause : (outcome code ≡ 2 → ⊥) → cause code ≡ 0
   pub not-granted : (outcome code ≡ 0 → ⊥) → is-granted o ≡ false
   pub as-granted : (outcome code ≡ 0) ↔ (is-granted o ≡ true)
@@ -65,13 +77,13 @@ told-waits w =
       waiting = λ _. ap waits (sym (packed-value 1 0 w (omega arith) (omega arith)));
     }
 
-told-refused : (k v : ℕ) (o : Outcome) → (1 ≤ k) × (k ≤ 15) → is-granted o ≡ false → Told (packed 2 k v) o
+told-refused : (k v : ℕ) (o : Outcome) → has k causes ≡ true → is-granted o ≡ false → Told (packed 2 k v) o
 told-refused k v o l g =
     let e : outcome (packed 2 k v) ≡ 2 = packed-outcome 2 k v (omega arith) in
-    let c : cause (packed 2 k v) ≡ k = packed-cause 2 k v (omega arith) (omega arith) in
+    let c : cause (packed 2 k v) ≡ k = packed-cause 2 k v (omega arith) (cause-byte k l) in
     record {
       outcomes = omega arith;
-      causes = λ _. (omega arith, omega arith);
+      causes = λ _. rw c l;
       no-cause = λ n. absurd (n e);
       not-granted = λ _. g;
       as-granted = (λ h. absurd (omega arith), λ h. absurd (false≢true (sym g ∙ h)));
@@ -79,7 +91,7 @@ told-refused k v o l g =
     }
 
 -- where nothing is written, so that `writing` plays no part
-pub told : (o : Outcome) → Listed o → Told (code-of (answer-of (λ d. Done) o)) o
+pub told : (o : Outcome) → listed o ≡ true → Told (code-of (answer-of (λ d. Done) o)) o
 unfolding code-of answer-of granted-answer
 told (granted done) l = told-granted 0 (granted done) refl
 told (granted (kind-parent kind parent)) l = told-granted _ _ refl
@@ -89,7 +101,6 @@ told (granted (content-is b)) l = told-granted _ _ refl
 told (granted (numbers-are b)) l = told-granted _ _ refl
 told (granted (cells-are b)) l = told-granted _ _ refl
 told (granted (how-many n)) l = told-granted _ _ refl
-told (granted unfit) l = told-granted 0 (granted unfit) refl
 told (written d) l = told-granted 0 (written d) refl
 told (waits w) l = told-waits w
 told (refused c) l = told-refused c 0 (refused c) l refl

@@ -1,29 +1,30 @@
 -- Demand 3 of the numbers and the bytes: the log by the codes is the one that feeds the plain run, and its exchanges had these answers.
 use mathlib.Core.Path.{_≡_, refl, sym, ap, subst, _∙_}
 use Prim.Native.Nat.{ℕ}
-use mathlib.Core.Bool.{Bool, true, false, cond, false≢true}
-use mathlib.Core.List.{List, [], _∷_, _++_}
+use mathlib.Core.Bool.{Bool, true, false, cond, false≢true, true≢false}
+use mathlib.Core.List.{List, [], _∷_, _++_, map}
 use mathlib.Core.Logic.{_↔_}
 use lib.ListN.{length}
 use lib.Dec.{eqb}
 use borrow.Author.Tests.{eqb-true, eq-eqb}
-use Rattle.tree.specs.Document.{Document, node-0-alone}
-use Rattle.tree.specs.Steps.{Step, Value, unfit, plain-answers}
+use Rattle.tree.specs.Document.{node-0-alone}
+use Rattle.tree.specs.Lists.{joined}
+use Rattle.tree.specs.Steps.{Step, Value, PlainAnswer, plain-value, plain-answers}
 use Rattle.tree.specs.Laws.Tests.{refuted}
-use Rattle.tree.specs.Laws.Lists.{map-append}
+use Rattle.tree.specs.Laws.Lists.{map-map}
 use Rattle.protocol.specs.State.{State}
-use Rattle.protocol.specs.Lent.{Room, second-lent}
-use Rattle.protocol.specs.Calls.{Call, start, load, begin, commit, abort, step, write, unreadable, stands-for, Outcome, granted, next}
-use Rattle.protocol.specs.History.{history, state-after, is-granted, value-of, Log, new-log, with-log, logged, log-after}
-use Rattle.protocol.specs.History.{fed, plain-run-answers, answers-given}
+use Rattle.protocol.specs.Lent.{second-lent}
+use Rattle.protocol.specs.Calls.{Call, start, load, begin, commit, abort, step, write, unreadable, stands-for, Outcome, Taken, Next, next}
+use Rattle.protocol.specs.History.{history, state-after, is-granted, Log, new-log, logged, log-after, fed, answered, plain-run-answers}
 use Rattle.protocol.specs.Answers.{code-of, answer-of, lent-after}
 use Rattle.writer.specs.Contract.{writing, text-after}
-use Rattle.serializability.specs.Theorem.{since-start, reached, answered}
-use Rattle.serializability.specs.Laws.Unfit.{granted-fits, step-value}
+use Rattle.serializability.specs.Theorem.{since-start, reached}
+use Rattle.serializability.specs.Laws.Outcomes.{every-call}
+use Rattle.serializability.specs.Laws.Logs.{read-off, logged-read, map-joined}
 use Rattle.serializability.specs.Laws.Main.{is-write, further, demand-3}
 use Rattle.traces.specs.Exchange.{Exchange, outcome, told-granted}
-use Rattle.traces.specs.Theorem.{first-after, Demand2, Each}
-use Rattle.traces.specs.Theorem.{GrantedStep, log-by-codes, granted-steps, steps, Feeds, AnsweredWith, AllAnswered, PlainAnswers}
+use Rattle.traces.specs.Theorem.{first-after, Demand2, Each, GrantedStep, granted-in, log-by-codes, granted-steps, steps, Feeds}
+use Rattle.traces.specs.Theorem.{Answered, AllAnswered, PlainAnswers}
 
 -- one call ---------------------------------------------------------------------------------
 
@@ -35,125 +36,67 @@ granted-same code g h = go g refl
     go true f = eq-eqb (outcome code) 0 (h .1 f)
     go false f = refuted _ (λ e. false≢true (sym f ∙ h .0 (eqb-true (outcome code) 0 e)))
 
--- the calls whose codes tell that they were granted are logged as the definition's granted ones; a write has no entry
-module _ {E : Type 0} (entry : Step → Value → E) (v : Value) (L : Log E) (M : State) (x : Exchange) where
-  abbrev Same : Call → Type 0
-  Same c = cond (told-granted (x .code)) (logged entry c v L) L ≡ cond (is-granted (next c M .outcome)) (logged entry c v L) L
+-- a granted step, its exchange, and that the exchange had its answer
+record Given : Type 0 where
+  taken : Taken
+  exchange : Exchange
+  answered : Answered (taken .value) exchange
 
-  told : (c : Call) → Demand2 M x c → is-write c ≡ false → Same c
+abbrev by-exchange : Given → GrantedStep
+by-exchange g = record { step = g .taken .step; exchange = g .exchange }
+
+none-granted : (b : Bool) → _≡_ {A = List GrantedStep} [] (cond b [] [])
+none-granted true = refl
+none-granted false = refl
+
+module _ (x : Exchange) where
+  -- x has the outcome of n
+  record Meets (n : Next) : Type 0 where
+    code : x .code ≡ code-of (answer-of (writing (length (x .first .before))) (n .outcome))
+    first : x .first .after ≡ first-after text-after (n .outcome) (x .first .before)
+    second : x .second .after ≡ lent-after second-lent (n .outcome) (x .second .before)
+
+  -- the granted steps of a call, from the codes and from the definitions
+  abbrev Gives : Call → Next → Type 0
+  Gives c n = (is-write c ≡ false → told-granted (x .code) ≡ is-granted (n .outcome)) → Meets n
+      → (gs : List Given) × (map (λ g. g .taken) gs ≡ n .steps) × (map by-exchange gs ≡ granted-in x c)
+
+  refused-none : (c : Call) (o : Outcome) → is-granted o ≡ false → (is-write c ≡ false → told-granted (x .code) ≡ is-granted o) → [] ≡ granted-in x c
   unfolding is-write
-  told c d w =
-      rw (granted-same (x .code) (is-granted (next c M .outcome)) (d .as-granted (λ e. false≢true (sym w ∙ ap is-write e))))
+  refused-none start o g t = none-granted _
+  refused-none (load i) o g t = none-granted _
+  refused-none (begin u) o g t = none-granted _
+  refused-none (commit u) o g t = none-granted _
+  refused-none (abort u) o g t = none-granted _
+  refused-none (step u s room) o g t = rw (t refl, g)
+  refused-none write o g t = none-granted _
 
-  either : (a b : Bool) → cond a L L ≡ cond b L L
-  either true true = refl
-  either true false = refl
-  either false true = refl
-  either false false = refl
+  gives : (c : Call) (M : State) → Gives c (next c M)
+  unfolding answer-of first-after lent-after is-write
+  gives c M = every-call Gives M (record {
+    refusal = λ c o g r t m. ([], refl, refused-none c o g t);
+    at-start = λ t m. ([], refl, none-granted _);
+    at-unread = λ c i t m. ([], refl, none-granted _);
+    at-load = λ d h t m. ([], refl, none-granted _);
+    at-begin = λ u i o t m. ([], refl, none-granted _);
+    at-commit = λ u i o t m. ([], refl, none-granted _);
+    at-abort = λ u i o t m. ([], refl, none-granted _);
+    at-step = λ u s room i o p t m.
+        (record { taken = _; exchange = x; answered = record { code = m .code; first = m .first; second = m .second } } ∷ [], refl, rw (t refl));
+    at-write = λ t m. ([], refl, none-granted _);
+  }) c
 
-  by-code : (c : Call) → Demand2 M x c → Same c
-  unfolding is-write
-  by-code start d = told start d refl
-  by-code (load i) d = told (load i) d refl
-  by-code (begin t) d = told (begin t) d refl
-  by-code (commit t) d = told (commit t) d refl
-  by-code (abort t) d = told (abort t) d refl
-  by-code (step t s room) d = told (step t s room) d refl
-  by-code write d = either (told-granted (x .code)) (is-granted (next write M .outcome))
-
--- a granted step was answered with its value
-step-answered : (M : State) (x : Exchange) (t : ℕ) (s : Step) (room : Room) → Demand2 M x (step t s room)
-    → is-granted (next (step t s room) M .outcome) ≡ true → AnsweredWith (value-of (next (step t s room) M .outcome)) x
-unfolding answer-of first-after lent-after
-step-answered M x t s room h g =
-    let e = step-value t s room M g in
-    let d = h .by-definition in
-    record {
-      fits = λ u. granted-fits (step t s room) M (e ∙ ap granted u);
-      code = d .code ∙ ap (λ (o : Outcome). code-of (answer-of (writing (length (x .first .before))) o)) e;
-      first = d .first ∙ ap (λ (o : Outcome). first-after text-after o (x .first .before)) e;
-      second = d .second ∙ ap (λ (o : Outcome). lent-after second-lent o (x .second .before)) e;
-    }
-
--- logs -------------------------------------------------------------------------------------
-
--- the entries have these steps, and were answered with these values
-abbrev Entries : List Step → List Value → List GrantedStep → Type 0
-Entries ss vs gs = (steps gs ≡ ss) × AllAnswered vs gs
-
-record Matches (F : Log Step) (A : Log Value) (G : Log GrantedStep) : Type 0 where
-  first : G .first ≡ F .first
-  committed : Entries (F .committed) (A .committed) (G .committed)
-  open-log : (u : ℕ) → Entries (F .open-log u) (A .open-log u) (G .open-log u)
-
-all-append : (vs ws : List Value) (gs hs : List GrantedStep) → AllAnswered vs gs → AllAnswered ws hs → AllAnswered (vs ++ ws) (gs ++ hs)
-all-append [] ws [] hs a b = b
-all-append [] ws (g ∷ gs) hs a b = absurd a
-all-append (v ∷ vs) ws [] hs a b = absurd a
-all-append (v ∷ vs) ws (g ∷ gs) hs a b = (a .0, all-append vs ws gs hs (a .1) b)
-
-append : (ss ts : List Step) (vs ws : List Value) (gs hs : List GrantedStep) → Entries ss vs gs → Entries ts ws hs
-    → Entries (ss ++ ts) (vs ++ ws) (gs ++ hs)
-append ss ts vs ws gs hs a b =
-    (rw (← a .0, ← b .0) (map-append (λ (g : GrantedStep). g .step) gs hs), all-append vs ws gs hs (a .1) (b .1))
-
--- the log of t replaced
-replaced : (t : ℕ) (ss : List Step) (vs : List Value) (gs : List GrantedStep) (F : Log Step) (A : Log Value) (G : Log GrantedStep)
-    → Matches F A G → Entries ss vs gs
-    → (u : ℕ) → Entries (with-log t ss (F .open-log) u) (with-log t vs (A .open-log) u) (with-log t gs (G .open-log) u)
-replaced t ss vs gs F A G m h u = go (eqb u t)
-  where
-    go : (b : Bool) → Entries (cond b ss (F .open-log u)) (cond b vs (A .open-log u)) (cond b gs (G .open-log u))
-    go true = h
-    go false = m .open-log u
-
-begun : (d : Document) → Matches (new-log d) (new-log d) (new-log d)
-begun d = record { first = refl; committed = (refl, tt); open-log = λ u. (refl, tt) }
-
-abbrev entry : Exchange → Step → Value → GrantedStep
-entry x s v = record { step = s; exchange = x }
-
-module _ (M : State) (x : Exchange) (F : Log Step) (A : Log Value) (G : Log GrantedStep) (m : Matches F A G) where
-  emptied : (t : ℕ) (u : ℕ) → Entries (with-log t [] (F .open-log) u) (with-log t [] (A .open-log) u) (with-log t [] (G .open-log) u)
-  emptied t = replaced t [] [] [] F A G m (refl, tt)
-
-  logged-matches : (c : Call) → Demand2 M x c → is-granted (next c M .outcome) ≡ true
-      → Matches (logged (λ s v. s) c (value-of (next c M .outcome)) F) (logged (λ s v. v) c (value-of (next c M .outcome)) A)
-      (logged (entry x) c unfit G)
-  logged-matches start d g = begun node-0-alone
-  logged-matches (load (unreadable cause offset)) d g = m
-  logged-matches (load (stands-for e l)) d g = begun e
-  logged-matches (begin t) d g = record { first = m .first; committed = m .committed; open-log = emptied t }
-  logged-matches (commit t) d g = record {
-    first = m .first;
-    committed = append (F .committed) (F .open-log t) (A .committed) (A .open-log t) (G .committed) (G .open-log t)
-        (m .committed) (m .open-log t);
-    open-log = emptied t;
-  }
-  logged-matches (abort t) d g = record { first = m .first; committed = m .committed; open-log = emptied t }
-  logged-matches (step t s room) d g =
-      let v : Value = value-of (next (step t s room) M .outcome) in
-      record {
-        first = m .first;
-        committed = m .committed;
-        open-log = replaced t (F .open-log t ++ (s ∷ [])) (A .open-log t ++ (v ∷ [])) (G .open-log t ++ (entry x s v ∷ [])) F A G m
-            (append (F .open-log t) (s ∷ []) (A .open-log t) (v ∷ []) (G .open-log t) (entry x s v ∷ [])
-            (m .open-log t) (refl, (step-answered M x t s room d g, tt)));
-      }
-  logged-matches write d g = m
-
-  -- by the code
-  call-matches : (c : Call) → Demand2 M x c
-      → Matches (cond (is-granted (next c M .outcome)) (logged (λ s v. s) c (value-of (next c M .outcome)) F) F)
-      (cond (is-granted (next c M .outcome)) (logged (λ s v. v) c (value-of (next c M .outcome)) A) A)
-      (cond (told-granted (x .code)) (logged (entry x) c unfit G) G)
-  call-matches c d = rw (by-code (entry x) unfit G M x c d) (go (is-granted (next c M .outcome)) refl)
-    where
-      go : (b : Bool) → is-granted (next c M .outcome) ≡ b
-          → Matches (cond b (logged (λ s v. s) c (value-of (next c M .outcome)) F) F)
-          (cond b (logged (λ s v. v) c (value-of (next c M .outcome)) A) A) (cond b (logged (entry x) c unfit G) G)
-      go true g = logged-matches c d g
-      go false g = m
+-- the flag of a call that writes plays no part
+same-flag : {E : Type 0} (c : Call) (a b : Bool) (es : List E) (L : Log E) → (is-write c ≡ false → a ≡ b) → logged c a es L ≡ logged c b es L
+unfolding is-write
+same-flag start a b es L h = rw (h refl)
+same-flag (load (unreadable cause offset)) a b es L h = refl
+same-flag (load (stands-for d l)) a b es L h = rw (h refl)
+same-flag (begin t) a b es L h = rw (h refl)
+same-flag (commit t) a b es L h = rw (h refl)
+same-flag (abort t) a b es L h = rw (h refl)
+same-flag (step t s room) a b es L h = refl
+same-flag write a b es L h = refl
 
 -- lists of calls ---------------------------------------------------------------------------
 
@@ -161,33 +104,84 @@ module _ (M : State) (x : Exchange) (F : Log Step) (A : Log Value) (G : Log Gran
 abbrev pub InReached : List Call → Exchange → Call → Type 0
 InReached before x c = Demand2 (reached before) x c
 
-logs-match : (before : List Call) (xs : List Exchange) (cs : List Call) → Each InReached before xs cs
-    → (F : Log Step) (A : Log Value) (G : Log GrantedStep) → Matches F A G
-    → Matches (log-after (λ s v. s) F (history (reached before) cs)) (log-after (λ s v. v) A (history (reached before) cs))
-    (log-by-codes G xs cs)
+module _ (M : State) (x : Exchange) (c : Call) (d : Demand2 M x c) where
+  same-told : is-write c ≡ false → told-granted (x .code) ≡ is-granted (next c M .outcome)
+  unfolding is-write
+  same-told w = granted-same (x .code) (is-granted (next c M .outcome)) (d .as-granted (λ e. false≢true (sym w ∙ ap is-write e)))
+
+  given : (gs : List Given) × (map (λ g. g .taken) gs ≡ next c M .steps) × (map by-exchange gs ≡ granted-in x c)
+  given = let b = d .by-definition in gives x c M same-told (record { code = b .code; first = b .first; second = b .second })
+
+  -- the log with all of it
+  abbrev with-given : Log Given → Log Given
+  with-given L = logged c (is-granted (next c M .outcome)) (given .0) L
+
+  read-taken : {E : Type 0} (f : Taken → E) (L : Log Given)
+      → logged c (is-granted (next c M .outcome)) (map f (next c M .steps)) (read-off (λ g. f (g .taken)) L) ≡ read-off (λ g. f (g .taken)) (with-given L)
+  read-taken f L =
+      rw (← given .1, map-map f (λ (g : Given). g .taken) (λ g. f (g .taken)) (given .0) (λ g i. refl))
+      (sym (logged-read (λ g. f (g .taken)) c (is-granted (next c M .outcome)) (given .0) L))
+
+  read-codes : (L : Log Given) → logged c (told-granted (x .code)) (granted-in x c) (read-off by-exchange L) ≡ read-off by-exchange (with-given L)
+  read-codes L =
+      same-flag c (told-granted (x .code)) (is-granted (next c M .outcome)) (granted-in x c) (read-off by-exchange L) same-told
+      ∙ rw (← given .2) (sym (logged-read by-exchange c (is-granted (next c M .outcome)) (given .0) L))
+
+-- one log from which the history's logs and the one by codes are read off
+pub log-given : (before : List Call) (xs : List Exchange) (cs : List Call) → Each InReached before xs cs → (L : Log Given)
+    → (K : Log Given) × ({E : Type 0} (f : Taken → E)
+    → log-after f (read-off (λ g. f (g .taken)) L) (history (reached before) cs) ≡ read-off (λ g. f (g .taken)) K)
+    × (log-by-codes (read-off by-exchange L) xs cs ≡ read-off by-exchange K)
 unfolding log-after history log-by-codes
-logs-match before [] [] h F A G m = m
-logs-match before [] (c ∷ cs) h F A G m = absurd h
-logs-match before (x ∷ xs) [] h F A G m = absurd h
-logs-match before (x ∷ xs) (c ∷ cs) h F A G m =
-    rw (further before c) at (logs-match (before ++ (c ∷ [])) xs cs (h .1) _ _ _ (call-matches (reached before) x F A G m c (h .0)))
+log-given before [] [] h L = (L, λ f. refl, refl)
+log-given before [] (c ∷ cs) h L = absurd h
+log-given before (x ∷ xs) [] h L = absurd h
+log-given before (x ∷ xs) (c ∷ cs) h L =
+    let M = reached before in
+    let k = log-given (before ++ (c ∷ [])) xs cs (h .1) (with-given M x c (h .0) L) in
+    (k .0, λ f. rw (read-taken M x c (h .0) f L) (rw (further before c) at (k .1 f)), rw (read-codes M x c (h .0) L) (k .2))
+
+all-answered : (gs : List Given) → AllAnswered (map plain-value (map (λ g. g .taken .value) gs)) (map by-exchange gs)
+all-answered [] = tt
+all-answered (g ∷ gs) = (g .answered, all-answered gs)
 
 -- x is the granted start
 module _ (x : Exchange) (xs : List Exchange) (cs : List Call) (g : outcome (x .code) ≡ 0) (h : Each InReached [] xs cs) where
   abbrev G : Log GrantedStep
   G = granted-steps (x ∷ xs) (start ∷ cs)
 
-  all-match : Matches (fed (since-start cs)) (answered (since-start cs)) G
-  unfolding log-after history log-by-codes next state-after
-  all-match = rw g (logs-match [] xs cs h (new-log _) (new-log _) (new-log _) (begun node-0-alone))
+  abbrev K : Log Given
+  K = log-given [] xs cs h (new-log node-0-alone) .0
+
+  fed-is : fed (since-start cs) ≡ read-off (λ g. g .taken .step) K
+  unfolding log-after history next state-after
+  fed-is = log-given [] xs cs h (new-log node-0-alone) .1 (λ t. t .step)
+
+  answered-is : answered (since-start cs) ≡ read-off (λ g. g .taken .value) K
+  unfolding log-after history next state-after
+  answered-is = log-given [] xs cs h (new-log node-0-alone) .1 (λ t. t .value)
+
+  codes-are : G ≡ read-off by-exchange K
+  unfolding log-by-codes
+  codes-are = rw g (log-given [] xs cs h (new-log node-0-alone) .2)
+
+  steps-are : (gs : List Given) → steps (map by-exchange gs) ≡ map (λ g. g .taken .step) gs
+  steps-are gs = map-map (λ (s : GrantedStep). s .step) by-exchange (λ g. g .taken .step) gs (λ g i. refl)
 
   pub feeds : Feeds G (since-start cs)
-  feeds = record { first = all-match .first; committed = all-match .committed .0; open-log = λ t. all-match .open-log t .0 }
+  feeds = rw (codes-are, fed-is) (record {
+    first = refl;
+    committed = map-map steps (map by-exchange) (map (λ g. g .taken .step)) (K .committed) (λ gs i. steps-are gs);
+    open-log = λ t. steps-are (K .open-log t);
+  })
 
   pub plain-answers-given : PlainAnswers G
-  unfolding plain-run-answers answers-given
-  plain-answers-given =
-      let m = all-match in
-      let e : plain-answers (G .first) (steps (G .committed)) ≡ answered (since-start cs) .committed
-      = rw (m .first, m .committed .0) (demand-3 cs .answers) in
-      subst (λ (vs : List Value). AllAnswered vs (G .committed)) (sym e) (m .committed .1)
+  unfolding plain-run-answers
+  plain-answers-given = rw (codes-are, map-joined by-exchange (K .committed)) (subst (λ (vs : List PlainAnswer). AllAnswered vs (map by-exchange all)) (sym same) (all-answered all))
+    where
+      all : List Given
+      all = joined (K .committed)
+
+      same : plain-answers (K .first) (steps (map by-exchange all)) ≡ map plain-value (map (λ g. g .taken .value) all)
+      same = rw (steps-are all, ← map-joined (λ (g : Given). g .taken .step) (K .committed), ← map-joined (λ (g : Given). g .taken .value) (K .committed))
+          (rw (fed-is, answered-is) at (demand-3 cs .answers))

@@ -13,7 +13,7 @@ use Rattle.tree.specs.Document.{Node, Document, legal, lines}
 use Rattle.tree.specs.Steps.{Step, Value, done, how-many}
 use Rattle.protocol.specs.State.{State, start-state, shown, as-shown, document-of, committed-document}
 use Rattle.protocol.specs.Lent.{filled, first-lent, second-lent}
-use Rattle.protocol.specs.Calls.{node-limit, Call, start, load, begin, commit, abort, step, write, Outcome, granted, written, waits, refused, refused-at, next}
+use Rattle.protocol.specs.Calls.{node-limit, Call, start, step, write, Outcome, granted, written, waits, refused, refused-at, next}
 use Rattle.protocol.specs.History.{is-granted}
 use Rattle.protocol.specs.Answers.{code-of, answer-of, granted-answer, lent-after}
 use Rattle.protocol.specs.declared.Answer.{Answer}
@@ -32,9 +32,9 @@ use Rattle.writer.specs.Laws.Calls.{legal-writing}
 use Rattle.traces.specs.Contract as contract
 use Rattle.traces.specs.Contract.{MakesCall, Ensured, Contract}
 use Rattle.traces.specs.Theorem.{Same, first-after, ByDefinition, Outcomes, Demand2}
-use Rattle.traces.specs.Laws.Codes.{Listed, Told, told, not-written, count-value}
-use Rattle.traces.specs.Laws.Causes.{makes-one, listed}
-use Rattle.traces.specs.Laws.Answers.{ensured-by}
+use Rattle.traces.specs.Laws.Codes.{listed, Told, told, not-written, count-value}
+use Rattle.traces.specs.Laws.Causes.{makes-one, all-listed}
+use Rattle.traces.specs.Laws.Answers.{ensured-cases, ensured-by}
 
 -- demand 1 ------------------------------------------------------------------------------
 
@@ -61,14 +61,14 @@ kept-buffer lent (refused-at c i) b h = refl
 -- the refusal of bytes that are no state
 told-13 : Told (code-of (Refused 13)) (refused 13)
 unfolding answer-of
-told-13 = told (refused 13) (omega arith, omega arith)
+told-13 = told (refused 13) refl
 
 module _ (x : Exchange) (r : Answer) (e : x .code ≡ code-of r) where
   -- the number is that of an outcome
-  tells : (o : Outcome) → Listed o → r ≡ answer-of (λ d. Done) o → Told (x .code) o
+  tells : (o : Outcome) → listed o ≡ true → r ≡ answer-of (λ d. Done) o → Told (x .code) o
   tells o l f = rw (e, f) (told o l)
 
-  step-demand : (c : Call) → contract.OnState x r c → ((M : State) → Listed (next c M .outcome)) → Outcomes x
+  step-demand : (c : Call) → contract.OnState x r c → ((M : State) → listed (next c M .outcome) ≡ true) → Outcomes x
   step-demand c h l = go (form (x .state .before)) refl
     where
       go : (f : Bool) → form (x .state .before) ≡ f → Outcomes x
@@ -95,7 +95,7 @@ module _ (x : Exchange) (r : Answer) (e : x .code ≡ code-of r) where
           let u = h .restarted .short (leb-false state-size (length (x .state .before)) f) in
           told-demand x (refused 13) (rw (e, u .0) told-13) (λ _. (u .1, h .first, h .second)) (h .restarted .long) (h .restarted .behind)
       go true f =
-          told-demand x (granted done) (tells (granted done) tt (h .restarted .answer (leb-true state-size (length (x .state .before)) f) start-state (λ d. Done)))
+          told-demand x (granted done) (tells (granted done) refl (h .restarted .answer (leb-true state-size (length (x .state .before)) f) start-state (λ d. Done)))
           (λ g. absurd (false≢true (sym g))) (h .restarted .long) (h .restarted .behind)
 
   -- a write of d: its outcome as a number tells it, and what it leaves
@@ -106,9 +106,9 @@ module _ (x : Exchange) (r : Answer) (e : x .code ≡ code-of r) where
       go : (p q : Bool) → r ≡ cond p (cond q (Count (length (xml.write d))) (Refused 13)) (Refused 14)
           → x .first .after ≡ cond (p && q) (filled (xml.write d) (x .first .before)) (x .first .before) → Outcomes x
       go true true a f =
-          told-demand x (granted (how-many (length (xml.write d)))) (tells (granted (how-many (length (xml.write d)))) tt a) (λ g. absurd (false≢true (sym g))) (ap length s) (ap (drop state-size) s)
-      go true false a f = told-demand x (refused 13) (tells (refused 13) (omega arith, omega arith) a) (λ _. (s, f, k)) (ap length s) (ap (drop state-size) s)
-      go false q a f = told-demand x (refused 14) (tells (refused 14) (omega arith, omega arith) a) (λ _. (s, f, k)) (ap length s) (ap (drop state-size) s)
+          told-demand x (granted (how-many (length (xml.write d)))) (tells (granted (how-many (length (xml.write d)))) refl a) (λ g. absurd (false≢true (sym g))) (ap length s) (ap (drop state-size) s)
+      go true false a f = told-demand x (refused 13) (tells (refused 13) refl a) (λ _. (s, f, k)) (ap length s) (ap (drop state-size) s)
+      go false q a f = told-demand x (refused 14) (tells (refused 14) refl a) (λ _. (s, f, k)) (ap length s) (ap (drop state-size) s)
 
   write-demand : contract.Write x r → Outcomes x
   unfolding answer-of write-answer write-buffer
@@ -118,7 +118,7 @@ module _ (x : Exchange) (r : Answer) (e : x .code ≡ code-of r) where
           → x .first .after ≡ cond o (text-after (x .first .before) d) (x .first .before) → Outcomes x
       by-order d true a f = writing-demand d a f (h .state) (h .second)
       by-order d false a f =
-          told-demand x (refused 14) (tells (refused 14) (omega arith, omega arith) a) (λ _. (h .state, f, h .second)) (ap length (h .state)) (ap (drop state-size) (h .state))
+          told-demand x (refused 14) (tells (refused 14) refl a) (λ _. (h .state, f, h .second)) (ap length (h .state)) (ap (drop state-size) (h .state))
 
       go : (f : Bool) → form (x .state .before) ≡ f → Outcomes x
       go false f =
@@ -128,19 +128,13 @@ module _ (x : Exchange) (r : Answer) (e : x .code ≡ code-of r) where
           let M = form-holds (x .state .before) f in
           by-order (committed-document (M .0)) (ordered (committed-document (M .0))) (h .written .answer (M .0) (M .1)) (h .written .text (M .0) (M .1))
 
-  ensured-demand : (c : Call) → ((M : State) → Listed (next c M .outcome)) → Ensured x r c → Outcomes x
-  unfolding Ensured
-  ensured-demand start l h = start-demand h
-  ensured-demand write l h = write-demand h
-  ensured-demand (load i) l h = step-demand (load i) h l
-  ensured-demand (begin t) l h = step-demand (begin t) h l
-  ensured-demand (commit t) l h = step-demand (commit t) h l
-  ensured-demand (abort t) l h = step-demand (abort t) h l
-  ensured-demand (step t s room) l h = step-demand (step t s room) h l
-
 -- on any bytes
 pub outcomes-of : (x : Exchange) → Contract x → Outcomes x
-outcomes-of x k = let m = makes-one _ (x .request) in ensured-demand x (k .answer) (k .code) (m .0) (listed (m .1)) (k .ensured (m .0) (m .1))
+outcomes-of x k =
+    let m = makes-one _ (x .request) in
+    ensured-cases x (k .answer) (λ c. ((M : State) → listed (next c M .outcome) ≡ true) → Outcomes x)
+    (λ h l. start-demand x (k .answer) (k .code) h) (λ h l. write-demand x (k .answer) (k .code) h)
+    (λ c h l. step-demand x (k .answer) (k .code) c h l) (m .0) (k .ensured (m .0) (m .1)) (all-listed (m .1))
 
 -- demand 2 ------------------------------------------------------------------------------
 
@@ -190,7 +184,7 @@ write-no-wait out d h = go (xml.expressible d) (leb (length (xml.write d)) (leng
 
 module _ (M : State) (x : Exchange) (r : Answer) (e : x .code ≡ code-of r) (b : Holds (x .state .before) M) where
   -- a call that does not write
-  told-meets : (c : Call) → ((w : Document → Answer) → r ≡ answer-of w (next c M .outcome)) → Listed (next c M .outcome)
+  told-meets : (c : Call) → ((w : Document → Answer) → r ≡ answer-of w (next c M .outcome)) → listed (next c M .outcome) ≡ true
       → ByDefinition writing text-after M x c → Demand2 M x c
   unfolding next
   told-meets c given l d = record {
@@ -222,23 +216,18 @@ module _ (M : State) (x : Exchange) (r : Answer) (e : x .code ≡ code-of r) (b 
         );
   }
 
-  ensured-meets : (c : Call) → Listed (next c M .outcome) → legal (committed-document M) ≡ true → ByDefinition writing text-after M x c
+  ensured-meets : (c : Call) → listed (next c M .outcome) ≡ true → legal (committed-document M) ≡ true → ByDefinition writing text-after M x c
       → Ensured x r c → Demand2 M x c
-  unfolding Ensured
-  ensured-meets start l g d h = told-meets start (h .restarted .answer (b .layout .size) M) l d
-  ensured-meets write l g d h = write-meets g d
-  ensured-meets (load i) l g d h = told-meets (load i) (h .performed .answer M b) l d
-  ensured-meets (begin t) l g d h = told-meets (begin t) (h .performed .answer M b) l d
-  ensured-meets (commit t) l g d h = told-meets (commit t) (h .performed .answer M b) l d
-  ensured-meets (abort t) l g d h = told-meets (abort t) (h .performed .answer M b) l d
-  ensured-meets (step t s room) l g d h = told-meets (step t s room) (h .performed .answer M b) l d
+  ensured-meets c l g d h = ensured-cases x r (λ c. listed (next c M .outcome) ≡ true → ByDefinition writing text-after M x c → Demand2 M x c)
+      (λ h l d. told-meets start (h .restarted .answer (b .layout .size) M) l d) (λ h l d. write-meets g d)
+      (λ c h l d. told-meets c (h .performed .answer M b) l d) c h l d
 
 -- on bytes that hold a state whose committed document is by the rules
 pub demand-2 : (M : State) (x : Exchange) (c : Call) → Contract x → MakesCall x c → Holds (x .state .before) M
     → legal (committed-document M) ≡ true → Demand2 M x c
 demand-2 M x c k m b g =
     let d = ensured-by writing text-after M x (k .answer) (k .code) b (λ h. legal-writing M (h .written) b g) c (k .ensured c m) in
-    ensured-meets M x (k .answer) (k .code) b c (listed m M) g d (k .ensured c m)
+    ensured-meets M x (k .answer) (k .code) b c (all-listed m M) g d (k .ensured c m)
 
 -- a granted write answers the length of the committed document's text, and puts the text before the rest of the buffer
 pub granted-text : (M : State) (x : Exchange) (c : Call) → Demand2 M x c → c ≡ write → outcome (x .code) ≡ 0

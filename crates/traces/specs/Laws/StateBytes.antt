@@ -8,7 +8,7 @@ use lib.ListN.{length}
 use lib.Dec.{leb}
 use borrow.Author.Tests.{leb-true, leb-false}
 use Rattle.protocol.specs.Lent.{Room}
-use Rattle.protocol.specs.Calls.{Call, start, load, begin, commit, abort, step, write, next}
+use Rattle.protocol.specs.Calls.{Call, start, next}
 use Rattle.protocol.specs.Answers.{code-of, answer-of, granted-answer}
 use Rattle.protocol.specs.declared.Answer.{Answer}
 use Rattle.protocol.specs.declared.Answer.the-variants.{Refused}
@@ -19,7 +19,7 @@ use Rattle.traces.specs.Exchange.{Request, Exchange, outcome}
 use Rattle.traces.specs.Contract.{Makes, makes-start, MakesCall, Ensured, Contract}
 use Rattle.traces.specs.Theorem.{StateBytes}
 use Rattle.traces.specs.Laws.Causes.{makes-one}
-use Rattle.traces.specs.Laws.Answers.{start-of, answers-of}
+use Rattle.traces.specs.Laws.Answers.{ensured-cases, start-of, answers-of}
 
 -- bytes that are too short are not of the form
 short-form : (s : List ℕ) → length s < state-size → form s ≡ false
@@ -34,24 +34,15 @@ only-start makes-start = refl
 
 module _ (x : Exchange) (r : Answer) where
   unformed-answer : (c : Call) → MakesCall x c → Ensured x r c → form (x .state .before) ≡ false → (x .request ≡ Request.start → ⊥) → r ≡ Refused 13
-  unfolding Ensured
-  unformed-answer start m h f n = absurd (n (only-start m))
-  unformed-answer write m h f n = h .written .unformed f .0
-  unformed-answer (load i) m h f n = h .performed .unformed f .0
-  unformed-answer (begin t) m h f n = h .performed .unformed f .0
-  unformed-answer (commit t) m h f n = h .performed .unformed f .0
-  unformed-answer (abort t) m h f n = h .performed .unformed f .0
-  unformed-answer (step t s room) m h f n = h .performed .unformed f .0
+  unformed-answer c m h f n =
+      ensured-cases x r (λ c. MakesCall x c → r ≡ Refused 13) (λ h m. absurd (n (only-start m))) (λ h m. h .written .unformed f .0)
+      (λ c h m. h .performed .unformed f .0) c h m
 
   short-answer : (c : Call) → Ensured x r c → length (x .state .before) < state-size → r ≡ Refused 13
-  unfolding Ensured
-  short-answer start h l = h .restarted .short l .0
-  short-answer write h l = h .written .unformed (short-form (x .state .before) l) .0
-  short-answer (load i) h l = h .performed .unformed (short-form (x .state .before) l) .0
-  short-answer (begin t) h l = h .performed .unformed (short-form (x .state .before) l) .0
-  short-answer (commit t) h l = h .performed .unformed (short-form (x .state .before) l) .0
-  short-answer (abort t) h l = h .performed .unformed (short-form (x .state .before) l) .0
-  short-answer (step t s room) h l = h .performed .unformed (short-form (x .state .before) l) .0
+  short-answer c h l =
+      let f = short-form (x .state .before) l in
+      ensured-cases x r (λ c. r ≡ Refused 13) (λ h. h .restarted .short l .0) (λ h. h .written .unformed f .0)
+      (λ c h. h .performed .unformed f .0) c h
 
 -- a granted start was lent bytes enough
 pub granted-size : (x : Exchange) → Contract x → x .request ≡ Request.start → outcome (x .code) ≡ 0 → state-size ≤ length (x .state .before)
