@@ -1,4 +1,5 @@
 // The calls of the library as C programs see them (include/noodlefen.h). Every contract is `Contract` of traces/specs/Contract.antt.
+ghost use Rattle.tree.specs.Steps.{T, C, R, U, D, I, TT, RR, UU};
 ghost use Rattle.traces.specs.Exchange.{Request, with-none, with-one, with-two};
 ghost use Rattle.traces.specs.Contract.{Contract};
 
@@ -53,7 +54,7 @@ pub extern "C" fn noodlefen_abort(state: &mut [u8], t: u32) -> u64
 // T(n): the kind and the parent of node n.
 #[no_mangle]
 pub extern "C" fn noodlefen_test(state: &mut [u8], t: u32, n: u16) -> u64
-    ensures { λ r. ⌜ Contract (with-none (Request.test t n) (now (state .entry)) (now (state .exit)) r) ⌝ }
+    ensures { λ r. ⌜ Contract (with-none (Request.step t (T n)) (now (state .entry)) (now (state .exit)) r) ⌝ }
 {
     read_calls::test(state, t, n)
 }
@@ -61,7 +62,7 @@ pub extern "C" fn noodlefen_test(state: &mut [u8], t: u32, n: u16) -> u64
 // C(n, k): the number and the kind of the k-th child of node n, or none.
 #[no_mangle]
 pub extern "C" fn noodlefen_child(state: &mut [u8], t: u32, n: u16, k: u32) -> u64
-    ensures { λ r. ⌜ Contract (with-none (Request.child t n k) (now (state .entry)) (now (state .exit)) r) ⌝ }
+    ensures { λ r. ⌜ Contract (with-none (Request.step t (C n k)) (now (state .entry)) (now (state .exit)) r) ⌝ }
 {
     read_calls::child(state, t, n, k)
 }
@@ -69,7 +70,7 @@ pub extern "C" fn noodlefen_child(state: &mut [u8], t: u32, n: u16, k: u32) -> u
 // R(n): the content of node n, into out.
 #[no_mangle]
 pub extern "C" fn noodlefen_read(state: &mut [u8], t: u32, n: u16, out: &mut [u8]) -> u64
-    ensures { λ r. ⌜ Contract (with-one (Request.read t n) (now (state .entry)) (now (state .exit)) (now (out .entry)) (now (out .exit)) r) ⌝ }
+    ensures { λ r. ⌜ Contract (with-one (Request.step t (R n)) (now (state .entry)) (now (state .exit)) (now (out .entry)) (now (out .exit)) r) ⌝ }
 {
     read_calls::read(state, t, n, out)
 }
@@ -77,7 +78,7 @@ pub extern "C" fn noodlefen_read(state: &mut [u8], t: u32, n: u16, out: &mut [u8
 // U(n, bytes): node n has the bytes as its content.
 #[no_mangle]
 pub extern "C" fn noodlefen_update(state: &mut [u8], t: u32, n: u16, bytes: &[u8]) -> u64
-    ensures { λ r. ⌜ Contract (with-none (Request.update t n (now (bytes .entry))) (now (state .entry)) (now (state .exit)) r) ⌝ }
+    ensures { λ r. ⌜ Contract (with-none (Request.step t (U n (now (bytes .entry)))) (now (state .entry)) (now (state .exit)) r) ⌝ }
 {
     write_calls::update(state, t, n, bytes)
 }
@@ -85,7 +86,7 @@ pub extern "C" fn noodlefen_update(state: &mut [u8], t: u32, n: u16, bytes: &[u8
 // D(n): node n and all below it are deleted.
 #[no_mangle]
 pub extern "C" fn noodlefen_delete(state: &mut [u8], t: u32, n: u16) -> u64
-    ensures { λ r. ⌜ Contract (with-none (Request.delete t n) (now (state .entry)) (now (state .exit)) r) ⌝ }
+    ensures { λ r. ⌜ Contract (with-none (Request.step t (D n)) (now (state .entry)) (now (state .exit)) r) ⌝ }
 {
     write_calls::delete(state, t, n)
 }
@@ -101,7 +102,7 @@ pub extern "C" fn noodlefen_insert(
     n: u16,
     k: u32,
 ) -> u64
-    ensures { λ r. ⌜ Contract (with-none (Request.insert t m kind (now (bytes .entry)) n k) (now (state .entry)) (now (state .exit)) r) ⌝ }
+    ensures { λ r. ⌜ Contract (with-none (Request.step t (I m kind (now (bytes .entry)) n k)) (now (state .entry)) (now (state .exit)) r) ⌝ }
 {
     write_calls::insert(state, t, m, kind, bytes, n, k)
 }
@@ -109,7 +110,7 @@ pub extern "C" fn noodlefen_insert(
 // TT(n): the numbers of node n and all below it, in document order.
 #[no_mangle]
 pub extern "C" fn noodlefen_test_tree(state: &mut [u8], t: u32, n: u16, numbers: &mut [u8]) -> u64
-    ensures { λ r. ⌜ Contract (with-one (Request.test-tree t n) (now (state .entry)) (now (state .exit)) (now (numbers .entry)) (now (numbers .exit)) r) ⌝ }
+    ensures { λ r. ⌜ Contract (with-one (Request.step t (TT n)) (now (state .entry)) (now (state .exit)) (now (numbers .entry)) (now (numbers .exit)) r) ⌝ }
 {
     read_calls::test_tree(state, t, n, numbers)
 }
@@ -123,7 +124,7 @@ pub extern "C" fn noodlefen_read_tree(
     numbers: &mut [u8],
     cells: &mut [u8],
 ) -> u64
-    ensures { λ r. ⌜ Contract (with-two (Request.read-tree t n) (now (state .entry)) (now (state .exit))
+    ensures { λ r. ⌜ Contract (with-two (Request.step t (RR n)) (now (state .entry)) (now (state .exit))
         (now (numbers .entry)) (now (numbers .exit)) (now (cells .entry)) (now (cells .exit)) r) ⌝ }
 {
     read_calls::read_tree(state, t, n, numbers, cells)
@@ -138,7 +139,7 @@ pub extern "C" fn noodlefen_rename_tree(
     from: &[u8],
     to: &[u8],
 ) -> u64
-    ensures { λ r. ⌜ Contract (with-none (Request.rename-tree t n (now (from .entry)) (now (to .entry))) (now (state .entry)) (now (state .exit)) r) ⌝ }
+    ensures { λ r. ⌜ Contract (with-none (Request.step t (UU n (now (from .entry)) (now (to .entry)))) (now (state .entry)) (now (state .exit)) r) ⌝ }
 {
     write_calls::rename_tree(state, t, n, from, to)
 }

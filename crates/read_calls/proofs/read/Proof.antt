@@ -1,5 +1,5 @@
 use borrow.Author.Needs.{needs}
-use Rattle.traces.specs.Contract.{makes-read}
+use Rattle.traces.specs.Contract.{makes-step}
 use Rattle.traces.specs.Laws.Exports.{one-contract}
 use Rattle.read_calls.proofs.read.Statement.{statement}
 use Rattle.read_calls.proofs.read.Tie as tie
@@ -17,7 +17,7 @@ same-length-2 : tie.Need-same-length-2
 same-length-2 c = search needs
 
 returns : tie.Need-returns
-returns c = let h = c .before .before .before .before .before .read .ensures in one-contract (c .code .ensures) makes-read (h .0) (h .1)
+returns c = let h = c .before .before .before .before .before .read .ensures in one-contract (c .code .ensures) makes-step (h .0) (h .1)
 
 pub read-spec : {M : Type 1} → statement M
 read-spec = tie.close (tie.spec read-requires code-requires same-length same-length-2 returns)

@@ -1,5 +1,5 @@
 use borrow.Author.Needs.{needs}
-use Rattle.traces.specs.Contract.{makes-insert}
+use Rattle.traces.specs.Contract.{makes-step}
 use Rattle.traces.specs.Laws.Exports.{none-contract}
 use Rattle.write_calls.proofs.insert.Statement.{statement}
 use Rattle.write_calls.proofs.insert.Tie as tie
@@ -14,7 +14,7 @@ same-length : tie.Need-same-length
 same-length c = search needs
 
 returns : tie.Need-returns
-returns c = none-contract (c .code .ensures) makes-insert (c .before .before .before .insert .ensures)
+returns c = none-contract (c .code .ensures) makes-step (c .before .before .before .insert .ensures)
 
 pub insert-spec : {M : Type 1} → statement M
 insert-spec = tie.close (tie.spec insert-requires code-requires same-length returns)

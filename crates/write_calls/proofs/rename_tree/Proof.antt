@@ -1,5 +1,5 @@
 use borrow.Author.Needs.{needs}
-use Rattle.traces.specs.Contract.{makes-rename-tree}
+use Rattle.traces.specs.Contract.{makes-step}
 use Rattle.traces.specs.Laws.Exports.{none-contract}
 use Rattle.write_calls.proofs.rename_tree.Statement.{statement}
 use Rattle.write_calls.proofs.rename_tree.Tie as tie
@@ -14,7 +14,7 @@ same-length : tie.Need-same-length
 same-length c = search needs
 
 returns : tie.Need-returns
-returns c = none-contract (c .code .ensures) makes-rename-tree (c .before .before .before .rename-tree .ensures)
+returns c = none-contract (c .code .ensures) makes-step (c .before .before .before .rename-tree .ensures)
 
 pub rename-tree-spec : {M : Type 1} → statement M
 rename-tree-spec = tie.close (tie.spec rename-tree-requires code-requires same-length returns)

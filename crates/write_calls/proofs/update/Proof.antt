@@ -1,5 +1,5 @@
 use borrow.Author.Needs.{needs}
-use Rattle.traces.specs.Contract.{makes-update}
+use Rattle.traces.specs.Contract.{makes-step}
 use Rattle.traces.specs.Laws.Exports.{none-contract}
 use Rattle.write_calls.proofs.update.Statement.{statement}
 use Rattle.write_calls.proofs.update.Tie as tie
@@ -14,7 +14,7 @@ same-length : tie.Need-same-length
 same-length c = search needs
 
 returns : tie.Need-returns
-returns c = none-contract (c .code .ensures) makes-update (c .before .before .before .update .ensures)
+returns c = none-contract (c .code .ensures) makes-step (c .before .before .before .update .ensures)
 
 pub update-spec : {M : Type 1} → statement M
 update-spec = tie.close (tie.spec update-requires code-requires same-length returns)
