@@ -73,19 +73,16 @@ at-only d u n h r m e = one-line d u r (at n d) m (at-line n d h .0) (e ∙ sym 
 abbrev pub rewritten : (Line → Bool) → List ℕ → Line → Node
 rewritten t b r = cond (t r) (with-content (r .it) b) (r .it)
 
+-- what is read off alike in both cases
+pub cond-same : {A B : Type 0} (h : A → B) (x : Bool) (a a' : A) → h a ≡ h a' → h (cond x a a') ≡ h a'
+cond-same h true a a' e = e
+cond-same h false a a' e = refl
+
 pub rewritten-number : (t : Line → Bool) (b : List ℕ) (r : Line) → rewritten t b r .number ≡ r .it .number
-rewritten-number t b r = go (t r)
-  where
-    go : (c : Bool) → cond c (with-content (r .it) b) (r .it) .number ≡ r .it .number
-    go true = refl
-    go false = refl
+rewritten-number t b r = cond-same number (t r) (with-content (r .it) b) (r .it) refl
 
 pub rewritten-kind : (t : Line → Bool) (b : List ℕ) (r : Line) → rewritten t b r .kind ≡ r .it .kind
-rewritten-kind t b r = go (t r)
-  where
-    go : (c : Bool) → cond c (with-content (r .it) b) (r .it) .kind ≡ r .it .kind
-    go true = refl
-    go false = refl
+rewritten-kind t b r = cond-same (λ (a : Node). a .kind) (t r) (with-content (r .it) b) (r .it) refl
 
 pub lines-rewrite : (t : Line → Bool) (b : List ℕ) (d : Document) → lines (rewrite t b d) ≡ map (λ r. row (rewritten t b r) (r .above)) (lines d)
 unfolding lines

@@ -24,7 +24,7 @@ use Rattle.serializability.specs.Laws.Shown.{Place, Inside, path, number
 use Rattle.serializability.specs.Laws.Numbers.{number-of, seen-as, in-part, part-in, part-distinct}
 use Rattle.serializability.specs.Laws.Marks.{Within, Guarded, Renames, Authored, Covered}
 use Rattle.serializability.specs.Laws.Standing.{Standing, Carried, standing-carried}
-use Rattle.serializability.specs.Laws.Whole.{locks-of, in-locks-of, lock-entry, holds, Good}
+use Rattle.serializability.specs.Laws.Whole.{locks-of, in-locks-of, lock-entry, holds, Brought, brought-as, Good}
 
 -- what an end of t does to the marks
 pub record Ending (t : ℕ) (stays : Marked → Bool) (g : Marked → Marked) : Type 0 where
@@ -143,16 +143,14 @@ module _ (c : Document) (log : ℕ → List Entry) (M : State) (g : Good c log M
             inserter = λ e. eqb-true _ u (end .inserter-stays (r .it) u ne (eq-eqb _ u e));
           }
 
-  end-brought : (r : Place) → Inside r rest → (r .it .inserter ≡ nobody → ⊥) → (y : Entry) × List·Memᴰ y (log' (r .it .inserter)) × (has (number-of r) (inserts (y .step)) ≡ true)
+  end-brought : (r : Place) → Inside r rest → (r .it .inserter ≡ nobody → ⊥) → Brought log' (number-of r) (r .it .inserter)
   end-brought r i nu =
       let a = in-part stays h f i in
       let w = end .inserter (a .0 .it) (r .it .inserter) nu (and-left _ _ (a .2)) (eq-eqb _ _ (ap (λ (z : Place). z .it .inserter) (sym (a .3)))) in
-      let e : a .0 .it .inserter ≡ r .it .inserter = eqb-true _ _ (w .0) in
-      let y = g .brought (a .0) (a .1) (λ z. nu (sym e ∙ z)) in
-      (y .0, moved (a .0 .it .inserter) (r .it .inserter) e (w .1) (y .0) (y .1), ap (λ m. has m (inserts (y .0 .step))) (ap number-of (a .3) ∙ end .number (a .0 .it)) ∙ y .2)
-    where
-      moved : (v u : ℕ) → v ≡ u → (u ≡ t → ⊥) → (y : Entry) → List·Memᴰ y (log v) → List·Memᴰ y (log' u)
-      moved v u e ne y m = rw (emptied-other t log u ne, ← e) m
+      let e : r .it .inserter ≡ a .0 .it .inserter = sym (eqb-true _ _ (w .0)) in
+      let y = g .brought (a .0) (a .1) (λ z. nu (e ∙ z)) in
+      brought-as log' (ap number-of (a .3) ∙ end .number (a .0 .it)) e
+      (y .0, rw (emptied-other t log (a .0 .it .inserter) (λ z. w .1 (e ∙ z))) (y .1), y .2)
 
   -- the rest of what is claimed of the state, from the documents
   end-good : (c' : Document) → ((b : List ℕ) → Distinct b → Serial c' b log' (document-of (λ u. has u b) rest)) → Good c' log' (closed t rest M)

@@ -14,7 +14,8 @@ use Rattle.tree.specs.Laws.Rows.{Each, each-above}
 use Rattle.tree.specs.Laws.Put.{in-put, New}
 use Rattle.locks.specs.Needs.{Lock, locks, needs}
 use Rattle.protocol.specs.State.{nobody, Marked, Tree, numbered, number-held, seen-by, callers-document, written-by, deleted-by, inserted-by, granted-to, mark, mark-node, renamed, act, grant, writer-of}
-use Rattle.serializability.specs.Laws.Edited.{written-number, written-inserter, written-deleter, deleted-number, deleted-inserter, deleted-writer}
+use Rattle.commute.specs.Laws.Lines.{cond-same}
+use Rattle.serializability.specs.Laws.Edited.{keeps-written, keeps-deleted}
 use Rattle.serializability.specs.Laws.Shown.{Place, Inside, path, numbers-of}
 use Rattle.serializability.specs.Laws.Numbers.{number-of, marked-above, in-mark, marked-numbers, mark-distinct, put-distinct}
 use Rattle.serializability.specs.Laws.Marks.{Within, Guarded, Renames, Authored, Covered, above-is}
@@ -95,7 +96,8 @@ module _ (holds holds' : ℕ → List Lock) (more : (u : ℕ) → Within (holds 
         → ((r : Place) → Inside r f → test r ≡ true → Within (locks (U (number-of r) []) (numbers-of (r .above))) (holds' t) ⊎ Renames holds' t (numbers-of (path r)))
         → Covered holds' (mark (λ r. cond (test r) (written-by t b (r .it)) (r .it)) f)
     unfolding Deleted Written
-    write-covered test b h = mark-covered _ (λ r. written-number t b (r .it) (test r)) (λ r. written-inserter t b (r .it) (test r)) (λ r i. inl (written-deleter t b (r .it) (test r))) (λ r i. writer r (test r) (h r i))
+    write-covered test b h = mark-covered _ (keeps-written t b test .number) (keeps-written t b test .inserter)
+        (λ r i. inl (cond-same (λ (a : Marked). a .deleter) (test r) (written-by t b (r .it)) (r .it) refl)) (λ r i. writer r (test r) (h r i))
       where
         writer : (r : Place) (x : Bool) → (x ≡ true → Within (locks (U (number-of r) []) (numbers-of (r .above))) (holds' t) ⊎ Renames holds' t (numbers-of (path r)))
             → (writer-of (cond x (written-by t b (r .it)) (r .it) .update) ≡ writer-of (r .it .update))
@@ -105,8 +107,10 @@ module _ (holds holds' : ℕ → List Lock) (more : (u : ℕ) → Within (holds 
 
     delete-covered : (n : ℕ) → ((r : Place) → Inside r f → number-of r ≡ n → Within (locks (D (number-of r)) (numbers-of (r .above))) (holds' t)) → Covered holds' (mark-node n (deleted-by t) f)
     unfolding Deleted Written
-    delete-covered n h = mark-covered _ (λ r. deleted-number t (r .it) (numbered n (r .it))) (λ r. deleted-inserter t (r .it) (numbered n (r .it)))
-        (λ r i. deleter r (numbered n (r .it)) (λ e. h r i (eqb-true _ n e))) (λ r i. inl (deleted-writer t (r .it) (numbered n (r .it))))
+    delete-covered n h =
+        (let k = keeps-deleted t (λ r. numbered n (r .it)) in mark-covered _ (k .number) (k .inserter)
+        (λ r i. deleter r (numbered n (r .it)) (λ e. h r i (eqb-true _ n e)))
+        (λ r i. inl (cond-same (λ (a : Marked). writer-of (a .update)) (numbered n (r .it)) (deleted-by t (r .it)) (r .it) refl)))
       where
         deleter : (r : Place) (x : Bool) → (x ≡ true → Within (locks (D (number-of r)) (numbers-of (r .above))) (holds' t))
             → (cond x (deleted-by t (r .it)) (r .it) .deleter ≡ r .it .deleter)

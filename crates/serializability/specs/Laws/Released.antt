@@ -8,55 +8,24 @@ use lib.Dec.{eqb}
 use borrow.Author.Tests.{eqb-true}
 use Rattle.tree.specs.Lists.{any}
 use Rattle.tree.specs.Document.{Document, node-0-alone}
-use Rattle.tree.specs.Steps.{Step, T, C, R, U, D, I, TT, RR, UU, done}
-use Rattle.tree.specs.Laws.Put.{in-put, New}
+use Rattle.tree.specs.Steps.{Step}
 use Rattle.locks.specs.Modes.{Mode, union}
 use Rattle.locks.specs.Needs.{Lock, needs}
-use Rattle.protocol.specs.State.{State, Marked, Tree, is-transaction, transactions, nodes, numbered, seen-by, callers-document, inserted-by, modes-on, granted-to}
-use Rattle.protocol.specs.State.{none-of, lasting, undone, mark, renamed, act, grant, commit-tree, abort-tree, tree-of, start-state}
+use Rattle.protocol.specs.State.{State, Marked, Tree, nodes, seen-by, modes-on, granted-to}
+use Rattle.protocol.specs.State.{none-of, lasting, undone, act, grant, commit-tree, abort-tree, tree-of, start-state}
 use Rattle.protocol.specs.Calls.{Call, next}
 use Rattle.protocol.specs.History.{state-after}
 use Rattle.serializability.specs.Theorem.{reached}
 use Rattle.serializability.specs.Laws.Outcomes.{every-call}
-use Rattle.serializability.specs.Laws.Edited.{written-held, deleted-held}
 use Rattle.serializability.specs.Laws.Shown.{Place, Inside}
 use Rattle.serializability.specs.Laws.Numbers.{in-mark, in-part, node-place}
-use Rattle.serializability.specs.Laws.Granting.{after-step}
+use Rattle.serializability.specs.Laws.Granting.{after-step, Old-place, New-place, act-places}
 use Rattle.serializability.specs.Laws.Tracking.{load-unmarked}
 
 Released : (ℕ → Bool) → Tree → Type 0
 Released o f = (r : Place) → Inside r f → (u : ℕ) (m : Mode) → r .it .held u m ≡ true → o u ≡ true
 
 -- a granted step ---------------------------------------------------------------------------------
-
--- what a place holds after an edit that gives no locks, it held before
-Held-before : Tree → Place → Type 0
-Held-before f r = (u : ℕ) (m : Mode) → r .it .held u m ≡ true → (x : Place) × Inside x f × (x .it .held u m ≡ true)
-
-mark-held : (c : Place → Marked) → ((x : Place) (u : ℕ) (m : Mode) → c x .held u m ≡ x .it .held u m) → (f : Tree) (r : Place) → Inside r (mark c f) → Held-before f r
-unfolding Held-before
-mark-held c same f r i u m h =
-    let a = in-mark c f i in
-    (a .0, a .1, sym (same (a .0) u m) ∙ sym (ap (λ (x : Place). x .it .held u m) (a .2)) ∙ h)
-
-act-held : (t : ℕ) (s : Step) (f : Tree) (r : Place) → Inside r (act t s f) → Held-before f r
-unfolding Held-before
-act-held t (T n) f r i u m h = (r, i, h)
-act-held t (C n k) f r i u m h = (r, i, h)
-act-held t (R n) f r i u m h = (r, i, h)
-act-held t (U n b) f r i u m h = mark-held _ (λ x. written-held t b (x .it) (numbered n (x .it))) f r i u m h
-act-held t (D n) f r i u m h = mark-held _ (λ x. deleted-held t (x .it) (numbered n (x .it))) f r i u m h
-act-held t (I m' kind b n k) f r i u m h = go (in-put (numbered n) (seen-by t) k new (λ a. a) [] f i)
-  where
-    new : Marked
-    new = inserted-by t (record { number = m'; kind = kind; content = b })
-
-    go : Inside r f ⊎ New (numbered n) (seen-by t) k new (λ a. a) r [] f → (x : Place) × Inside x f × (x .it .held u m ≡ true)
-    go (inl x) = (r, x, h)
-    go (inr x) = absurd (false≢true (sym (ap (λ (z : Place). z .it .held u m) (x .3)) ∙ h))
-act-held t (TT n) f r i u m h = (r, i, h)
-act-held t (RR n) f r i u m h = (r, i, h)
-act-held t (UU n a b) f r i u m h = mark-held _ (λ x. written-held t b (x .it) (renamed t n a x)) f r i u m h
 
 grant-released : (o : ℕ → Bool) (t : ℕ) (ls : List Lock) (f : Tree) → o t ≡ true → Released o f → Released o (grant t ls f)
 unfolding Released grant
@@ -69,8 +38,12 @@ grant-released o t ls f e k r i u m h =
     go x j false p h = k x j u m h
 
 step-released : (o : ℕ → Bool) (t : ℕ) (s : Step) (ls : List Lock) (f : Tree) → o t ≡ true → Released o f → Released o (after-step t s ls f)
-unfolding Released Held-before
-step-released o t s ls f e k = grant-released o t ls (act t s f) e (λ r i u m h. let x = act-held t s f r i u m h in k (x .0) (x .1) u m (x .2))
+unfolding Released
+step-released o t s ls f e k = grant-released o t ls (act t s f) e (λ r i u m h. go r u m h (act-places t s f r i))
+  where
+    go : (r : Place) (u : ℕ) (m : Mode) → r .it .held u m ≡ true → Old-place f r ⊎ New-place t s r → o u ≡ true
+    go r u m h (inl x) = k (x .0) (x .1) u m (rw (x .4) at h)
+    go r u m h (inr x) = absurd (false≢true (rw (x .2) at h))
 
 -- the ends of a transaction ------------------------------------------------------------------------
 

@@ -29,7 +29,7 @@ use Rattle.serializability.specs.Laws.Seen.{seen, unheld-absent}
 use Rattle.serializability.specs.Laws.Acts.{act-shown, act-hidden}
 use Rattle.serializability.specs.Laws.Keeping.{act-covered, grant-covered}
 use Rattle.serializability.specs.Laws.Standing.{Standing, standing-carried, no-wait-compatible}
-use Rattle.serializability.specs.Laws.Granting.{after-step, step-carries, step-standing, Known-place, step-places}
+use Rattle.serializability.specs.Laws.Granting.{after-step, step-carries, step-standing, Old-place, New-place, act-places, step-place}
 
 -- the locks of a log
 abbrev pub locks-of : List Entry → List Lock
@@ -53,6 +53,13 @@ lock-entry (y ∷ l) k i = go (List·Memᴰ·append-cases (y .held) i) (λ j. lo
 abbrev pub holds : (ℕ → List Entry) → ℕ → List Lock
 holds log u = locks-of (log u)
 
+-- the log of u brought in the number m
+abbrev pub Brought : (ℕ → List Entry) → ℕ → ℕ → Type 0
+Brought log m u = (y : Entry) × List·Memᴰ y (log u) × (has m (inserts (y .step)) ≡ true)
+
+pub brought-as : (log : ℕ → List Entry) {m n u v : ℕ} → m ≡ n → u ≡ v → Brought log n v → Brought log m u
+brought-as log e i b = rw (e, i) b
+
 -- c is the committed document, log what each open transaction did so far
 pub record Good (c : Document) (log : ℕ → List Entry) (M : State) : Type 0 where
   pub closed : (u : ℕ) → M .header .is-open u ≡ false → log u ≡ []
@@ -60,7 +67,7 @@ pub record Good (c : Document) (log : ℕ → List Entry) (M : State) : Type 0 w
   pub covered : Covered (holds log) (M .tree)
   pub standing : (u : ℕ) (y : Entry) → List·Memᴰ y (log u) → Standing (M .tree) u (y .step) (y .held)
   -- a node that a transaction inserted is one that its log brought in
-  pub brought : (r : Place) → Inside r (M .tree) → (r .it .inserter ≡ nobody → ⊥) → (y : Entry) × List·Memᴰ y (log (r .it .inserter)) × (has (number-of r) (inserts (y .step)) ≡ true)
+  pub brought : (r : Place) → Inside r (M .tree) → (r .it .inserter ≡ nobody → ⊥) → Brought log (number-of r) (r .it .inserter)
   pub serial : (b : List ℕ) → Distinct b → Serial c b log (document-of (λ u. has u b) (M .tree))
 
 -- whoever has a log is open
@@ -180,18 +187,16 @@ module _ (c : Document) (log : ℕ → List Entry) (M : State) (g : Good c log M
       go (inl j) = standing-carried f _ (g .covered .distinct) u (y .step) (y .held) (g .standing u y j) (λ r k h. step-carries t s (needs s d) u f r k)
       go (inr j) = rw (j .0, j .1) (step-standing t s (at (target s) d .above) f (at-target .0) (at-target .1) (at-target .2) (at-target .3))
 
-  step-brought : (r : Place) → Inside r (after-step t s (needs s d) f) → (r .it .inserter ≡ nobody → ⊥)
-      → (y : Entry) × List·Memᴰ y (noted t x log (r .it .inserter)) × (has (number-of r) (inserts (y .step)) ≡ true)
-  step-brought r i ne = go (step-places t s (needs s d) f r i)
+  step-brought : (r : Place) → Inside r (after-step t s (needs s d) f) → (r .it .inserter ≡ nobody → ⊥) → Brought (noted t x log) (number-of r) (r .it .inserter)
+  step-brought r i ne =
+      let a = step-place t s (needs s d) f r i in
+      brought-as (noted t x log) (a .2) (a .3) (go (a .0) (λ e. ne (a .3 ∙ e)) (act-places t s f (a .0) (a .1)))
     where
-      moved : (u : ℕ) → r .it .inserter ≡ u → (y : Entry) → List·Memᴰ y (noted t x log u) → List·Memᴰ y (noted t x log (r .it .inserter))
-      moved u e y m = rw e m
-
-      go : Known-place t s f r → (y : Entry) × List·Memᴰ y (noted t x log (r .it .inserter)) × (has (number-of r) (inserts (y .step)) ≡ true)
-      go (inl w) =
-          let y = g .brought (w .0) (w .1) (λ e. ne (w .3 ∙ e)) in
-          (y .0, moved (w .0 .it .inserter) (w .3) (y .0) (kept-noted (w .0 .it .inserter) (y .1)), ap (λ m. has m (inserts (y .0 .step))) (w .2) ∙ y .2)
-      go (inr w) = (x, moved t (w .1) x last-noted, w .0)
+      go : (z : Place) → (z .it .inserter ≡ nobody → ⊥) → Old-place f z ⊎ New-place t s z → Brought (noted t x log) (number-of z) (z .it .inserter)
+      go z nz (inl w) =
+          let y = g .brought (w .0) (w .1) (λ e. nz (w .3 ∙ e)) in
+          brought-as (noted t x log) (w .2) (w .3) (y .0, kept-noted (w .0 .it .inserter) (y .1), y .2)
+      go z nz (inr w) = brought-as (noted t x log) refl (w .1) (x, last-noted, w .0)
 
   -- a granted step keeps all this
   pub step-good : Good c (noted t x log) (stepped t s M)
