@@ -16,6 +16,7 @@ use Rattle.tree.specs.Laws.Amend.{rows-amend-same, in-amend-same}
 use Rattle.tree.specs.Laws.View.{rows-rest}
 use Rattle.tree.specs.Laws.Put.{in-put, New}
 use Rattle.tree.specs.Laws.Distinct.{distinct-one}
+use Rattle.commute.specs.Laws.Tests.{cond-same}
 
 abbrev pub number : Node → ℕ
 number a = a .number
@@ -72,11 +73,6 @@ at-only d u n h r m e = one-line d u r (at n d) m (at-line n d h .0) (e ∙ sym 
 -- the node of a line after `rewrite t b`
 abbrev pub rewritten : (Line → Bool) → List ℕ → Line → Node
 rewritten t b r = cond (t r) (with-content (r .it) b) (r .it)
-
--- what is read off alike in both cases
-pub cond-same : {A B : Type 0} (h : A → B) (x : Bool) (a a' : A) → h a ≡ h a' → h (cond x a a') ≡ h a'
-cond-same h true a a' e = e
-cond-same h false a a' e = refl
 
 pub rewritten-number : (t : Line → Bool) (b : List ℕ) (r : Line) → rewritten t b r .number ≡ r .it .number
 rewritten-number t b r = cond-same number (t r) (with-content (r .it) b) (r .it) refl

@@ -5,7 +5,7 @@ use mathlib.Core.Bool.{Bool, cond}
 use mathlib.Core.List.{List, []}
 use Rattle.tree.specs.Forest.{put}
 use Rattle.tree.specs.Steps.{Step, T, C, R, U, D, I, TT, RR, UU, inserts}
-use Rattle.commute.specs.Laws.Lines.{cond-same}
+use Rattle.commute.specs.Laws.Tests.{cond-same}
 use Rattle.protocol.specs.State.{Marked, Tree, numbered, seen-by, written-by, deleted-by, inserted-by, mark, renamed, act}
 use Rattle.serializability.specs.Laws.Shown.{Place}
 use Rattle.serializability.specs.Laws.Numbers.{number-of}

@@ -14,7 +14,7 @@ use Rattle.tree.specs.Laws.Rows.{Each, each-above}
 use Rattle.tree.specs.Laws.Put.{in-put, New}
 use Rattle.locks.specs.Needs.{Lock, locks, needs}
 use Rattle.protocol.specs.State.{nobody, Marked, Tree, numbered, number-held, seen-by, callers-document, written-by, deleted-by, inserted-by, granted-to, mark, mark-node, renamed, act, grant, writer-of}
-use Rattle.commute.specs.Laws.Lines.{cond-same}
+use Rattle.commute.specs.Laws.Tests.{cond-same}
 use Rattle.serializability.specs.Laws.Edited.{keeps-written, keeps-deleted}
 use Rattle.serializability.specs.Laws.Shown.{Place, Inside, path, numbers-of}
 use Rattle.serializability.specs.Laws.Numbers.{number-of, marked-above, in-mark, marked-numbers, mark-distinct, put-distinct}
