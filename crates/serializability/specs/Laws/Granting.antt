@@ -3,7 +3,7 @@ use mathlib.Core.Path.{_≡_, refl, sym, ap, ap₂, _∙_}
 use Prim.Native.Nat.{ℕ}
 use mathlib.Core.Bool.{Bool, true, false, cond, _||_, false≢true, or-true}
 use mathlib.Core.List.{List, [], _∷_, List·Memᴰ, List·Memᴰ·head, List·Memᴰ·tail, List·Memᴰ·not-nil, List·Memᴰ·eq-of-singleton}
-use mathlib.Core.Logic.{_⊎_, inl, inr}
+use mathlib.Core.Logic.{_⊎_, inl, ⊎-elim, ⊎-map}
 use lib.Dec.{eqb}
 use borrow.Author.Tests.{eqb-true, eq-eqb}
 use Rattle.tree.specs.Lists.{has}
@@ -13,6 +13,7 @@ use Rattle.tree.specs.Laws.Lists.{has-in}
 use Rattle.tree.specs.Laws.Put.{put-in, put-new, in-put, New}
 use Rattle.locks.specs.Modes.{Mode, index, no-mode, among, union}
 use Rattle.locks.specs.Needs.{Lock, locks}
+use Rattle.commute.specs.Laws.Tests.{by-test}
 use Rattle.protocol.specs.State.{Marked, Tree, numbered, seen-by, modes-on, granted-to, mark, act, grant}
 use Rattle.serializability.specs.Laws.Edited.{new-node, Deed, looks, marks, adds, deed}
 use Rattle.serializability.specs.Laws.Shown.{Place, Inside, path, numbers-of}
@@ -43,19 +44,12 @@ act-carries t s u f r i = go (deed t s f)
 modes-granted : (ls : List Lock) (l : Lock) → List·Memᴰ l ls → modes-on ls (l .0) (l .1) ≡ true
 modes-granted [] l m = absurd (List·Memᴰ·not-nil m)
 modes-granted (x ∷ ls) l (List·Memᴰ·head e) = rw (eq-eqb (x .0) (l .0) (ap (λ (z : Lock). z .0) (sym e)), eq-eqb (index (l .1)) (index (x .1)) (ap (λ (z : Lock). index (z .1)) e))
-modes-granted (x ∷ ls) l (List·Memᴰ·tail m) = go (eqb (x .0) (l .0)) (modes-granted ls l m)
-  where
-    go : (b : Bool) → modes-on ls (l .0) (l .1) ≡ true → cond b (union (among (x .1 ∷ [])) (modes-on ls (l .0))) (modes-on ls (l .0)) (l .1) ≡ true
-    go true h = rw h (or-true (among (x .1 ∷ []) (l .1)))
-    go false h = h
+modes-granted (x ∷ ls) l (List·Memᴰ·tail m) = by-test (eqb (x .0) (l .0))
+    (λ e. rw (e, modes-granted ls l m) (or-true (among (x .1 ∷ []) (l .1)))) (λ e. rw e (modes-granted ls l m))
 
 grant-carries : (t : ℕ) (ls : List Lock) (u : ℕ) (f : Tree) (r : Place) → Inside r f → Carried u (grant t ls f) r
 unfolding grant
-grant-carries t ls u f r i = carried-by-mark (λ x. granted-to t ls (x .it)) (λ x. refl) u (λ x a h. keep (x .it) a (eqb u t) h) (λ x. refl) f r i
-  where
-    keep : (x : Marked) (a : Mode) (b : Bool) → x .held u a ≡ true → cond b (union (x .held u) (modes-on ls (x .now .number))) (x .held u) a ≡ true
-    keep x a true h = rw h
-    keep x a false h = h
+grant-carries t ls u f r i = carried-by-mark (λ x. granted-to t ls (x .it)) (λ x. refl) u (λ x a h. by-test (eqb u t) (λ e. rw (e, h)) (λ e. rw e h)) (λ x. refl) f r i
 
 -- t was granted the lock on its node
 grant-there : (t : ℕ) (ls : List Lock) (f : Tree) (l : Lock) → List·Memᴰ l ls → (r : Place) → Inside r f → number-of r ≡ l .0
@@ -121,14 +115,11 @@ step-standing t s p f r i e o = record {
         (g .place, g .inside, g .number ∙ a .2, g .above ∙ ap numbers-of (a .3) ∙ sym (carried-path N), g .inserter (a .4))
 
     bits : (l : Lock) → List·Memᴰ l ls → (x : Place) × Inside x (after-step t s ls f) × (number-of x ≡ l .0) × (x .it .held t (l .1) ≡ true)
-    bits l m = go (lock-place s p l m)
-      where
-        go : (has (l .0) (target s ∷ p) ≡ true) ⊎ (has (l .0) (inserts s) ≡ true) → (x : Place) × Inside x (after-step t s ls f) × (number-of x ≡ l .0) × (x .it .held t (l .1) ≡ true)
-        go (inl y) =
-            let b = ancestor-place f i (l .0) (rw (e, o) y) in
-            let a = act-carries t s t f (b .0) (b .1) in
-            grant-there t ls (act t s f) l m (a .place) (a .inside) (a .number ∙ b .2)
-        go (inr y) = let a = act-inserts t s (l .0) y f r i e in grant-there t ls (act t s f) l m (a .0) (a .1) (a .2)
+    bits l m = ⊎-elim
+        (λ y. let b = ancestor-place f i (l .0) (rw (e, o) y) in
+        let a = act-carries t s t f (b .0) (b .1) in
+        grant-there t ls (act t s f) l m (a .place) (a .inside) (a .number ∙ b .2))
+        (λ y. let a = act-inserts t s (l .0) y f r i e in grant-there t ls (act t s f) l m (a .0) (a .1) (a .2)) (lock-place s p l m)
 
 -- the places afterwards: those before, and the new one --------------------------------------------
 
@@ -146,17 +137,13 @@ New-place t s r = (has (number-of r) (inserts s) ≡ true) × (r .it .inserter �
 pub act-places : (t : ℕ) (s : Step) (f : Tree) (r : Place) → Inside r (act t s f) → Old-place f r ⊎ New-place t s r
 act-places t s f r i = go (deed t s f) i
   where
-    added : (m kind : ℕ) (b : List ℕ) (n k : ℕ) → Inside r f ⊎ New (numbered n) (seen-by t) k (new-node t m kind b) (λ a. a) r [] f
-        → Old-place f r ⊎ New-place t (I m kind b n k) r
-    added m kind b n k (inl x) = inl (r, x, refl, refl, refl)
-    added m kind b n k (inr x) = inr (rw (x .3, eq-eqb m m refl), rw (x .3), rw (x .3))
-
     go : {s : Step} {g : Tree} → Deed t f s g → Inside r g → Old-place f r ⊎ New-place t s r
     go (looks e) i = inl (r, i, refl, refl, refl)
     go (marks c k e) i =
         let a = in-mark c f i in
         inl (a .0, a .1, ap number-of (a .2) ∙ k .number (a .0), ap inserter-of (a .2) ∙ k .inserter (a .0), ap (λ (z : Place). z .it .held) (a .2) ∙ k .held (a .0))
-    go (adds m kind b n k) i = added m kind b n k (in-put (numbered n) (seen-by t) k (new-node t m kind b) (λ a. a) [] f i)
+    go (adds m kind b n k) i = ⊎-map (λ x. (r, x, refl, refl, refl)) (λ x. (rw (x .3, eq-eqb m m refl), rw (x .3), rw (x .3)))
+        (in-put (numbered n) (seen-by t) k (new-node t m kind b) (λ a. a) [] f i)
 
 -- a granted lock changes no number and no inserter
 pub step-place : (t : ℕ) (s : Step) (ls : List Lock) (f : Tree) (r : Place) → Inside r (after-step t s ls f)
