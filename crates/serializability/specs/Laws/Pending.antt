@@ -6,14 +6,13 @@ use mathlib.Core.List.{List, [], _∷_, map, append-nil, List·Memᴰ, List·Mem
 use mathlib.Core.Logic.{_⊎_, inl, inr}
 use lib.Dec.{eqb}
 use borrow.Author.Tests.{eqb-true, eqb-false, eq-eqb, not-true, not-false}
-use Rattle.tree.specs.Lists.{any, every, has, keep, same, distinct}
+use Rattle.tree.specs.Lists.{any, every, has, keep, same}
 use Rattle.tree.specs.Forest.{row}
 use Rattle.tree.specs.Document.{Node, Document, Line, lines, here, at}
 use Rattle.tree.specs.Steps.{Step, D, inserts, with-content}
 use Rattle.tree.specs.Laws.Tests.{and-left, and-right, or-left, or-right, refuted}
 use Rattle.tree.specs.Laws.Compare.{same-equal, same-self}
-use Rattle.tree.specs.Laws.Lists.{any-at, at-any, has-in, in-has, in-keep, keep-in, map-self}
-use Rattle.tree.specs.Laws.Distinct.{distinct-keep}
+use Rattle.tree.specs.Laws.Lists.{any-at, at-any, has-in, in-has, in-keep}
 use Rattle.tree.specs.Laws.Rows.{Each, each-above}
 use Rattle.tree.specs.Laws.View.{view-agree}
 use Rattle.locks.specs.Modes.{Mode, LW}
@@ -23,7 +22,7 @@ use Rattle.commute.specs.Laws.Runs.{Entry, Run, run-append, run-one-end}
 use Rattle.commute.specs.Laws.Orders as orders
 use Rattle.protocol.specs.State.{nobody, State, Marked, Tree, transactions, done-by, shown, as-shown, document-of, held-document, writer-of, saved-of}
 use Rattle.protocol.specs.History.{inserted, pending-in}
-use Rattle.serializability.specs.Laws.WaitSet.{transaction-in}
+use Rattle.serializability.specs.Laws.WaitSet.{has-kept, kept-distinct}
 use Rattle.serializability.specs.Laws.Shown.{Place, Inside, path, numbers-of}
 use Rattle.serializability.specs.Laws.Numbers.{number-of}
 use Rattle.locks.specs.Laws.Places.{path-locked}
@@ -59,10 +58,6 @@ inserted-in (x ∷ l) m i = go (List·Memᴰ·append-cases (inserts (x .step)) i
 -- nothing passes, so each fails
 none-at : {A : Type 0} (t : A → Bool) (l : List A) → any t l ≡ false → {a : A} → List·Memᴰ a l → t a ≡ false
 none-at t l h {a} m = refuted (t a) (λ e. true≢false (sym (at-any t l m e) ∙ h))
-
--- some of the transactions are distinct
-pub some-distinct : (S : ℕ → Bool) → distinct (keep S transactions) ≡ true
-some-distinct S = ap distinct (sym (map-self (λ n. n) (keep S transactions) (λ a m. refl))) ∙ distinct-keep (λ n. n) S transactions refl
 
 -- nobody, and one transaction -------------------------------------------------------------------
 
@@ -171,15 +166,11 @@ module _ (c : Document) (log : ℕ → List Entry) (M : State) (g : Good c log M
   open-ones = keep (M .header .is-open) transactions
 
   open-is : (u : ℕ) → has u open-ones ≡ M .header .is-open u
-  open-is u = go (M .header .is-open u) refl
-    where
-      go : (x : Bool) → M .header .is-open u ≡ x → has u open-ones ≡ x
-      go true e = in-has u open-ones (keep-in (M .header .is-open) transactions (transaction-in u (g .numbered u e)) e)
-      go false e = refuted _ (λ h. true≢false (sym (in-keep (M .header .is-open) transactions (has-in u open-ones h) .1) ∙ e))
+  open-is u = has-kept (M .header .is-open) u (g .numbered u)
 
   pub quiet-held : ((t : ℕ) → List·Memᴰ t transactions → pending-in committed (steps (log t)) (with-only t) ≡ false) → held-document M ≡ committed
   quiet-held q =
-      let r : Run committed (orders.logs log open-ones) (document-of (λ u. has u open-ones) f) = rw c-committed at (g .serial open-ones (some-distinct (M .header .is-open)) .run) in
+      let r : Run committed (orders.logs log open-ones) (document-of (λ u. has u open-ones) f) = rw c-committed at (g .serial open-ones (kept-distinct (M .header .is-open)) .run) in
       held-shown c log M g ∙ document-same (M .header .is-open) (λ u. has u open-ones) f (λ u. sym (open-is u))
       ∙ run-one-end committed (orders.logs log open-ones) _ committed r (idle-logs open-ones idle)
     where

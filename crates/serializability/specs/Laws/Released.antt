@@ -3,7 +3,7 @@ use mathlib.Core.Path.{_≡_, refl, sym, ap, _∙_}
 use Prim.Native.Nat.{ℕ}
 use mathlib.Core.Bool.{Bool, true, false, cond, not, _&&_, _||_, false≢true, or-true}
 use mathlib.Core.List.{List, [], _∷_, List·Memᴰ}
-use mathlib.Core.Logic.{_⊎_, inl, inr}
+use mathlib.Core.Logic.{⊎-elim}
 use lib.Dec.{eqb}
 use borrow.Author.Tests.{eqb-true}
 use Rattle.tree.specs.Lists.{any}
@@ -11,6 +11,7 @@ use Rattle.tree.specs.Document.{Document, node-0-alone}
 use Rattle.tree.specs.Steps.{Step}
 use Rattle.locks.specs.Modes.{Mode, union}
 use Rattle.locks.specs.Needs.{Lock, needs}
+use Rattle.commute.specs.Laws.Tests.{by-test}
 use Rattle.protocol.specs.State.{State, Marked, Tree, nodes, seen-by, modes-on, granted-to}
 use Rattle.protocol.specs.State.{none-of, lasting, undone, act, grant, commit-tree, abort-tree, tree-of, start-state}
 use Rattle.protocol.specs.Calls.{Call, next}
@@ -19,7 +20,7 @@ use Rattle.serializability.specs.Theorem.{reached}
 use Rattle.serializability.specs.Laws.Outcomes.{every-call}
 use Rattle.serializability.specs.Laws.Shown.{Place, Inside}
 use Rattle.serializability.specs.Laws.Numbers.{in-mark, in-part, node-place}
-use Rattle.serializability.specs.Laws.Granting.{after-step, Old-place, New-place, act-places}
+use Rattle.serializability.specs.Laws.Granting.{after-step, act-places}
 use Rattle.serializability.specs.Laws.Tracking.{load-unmarked}
 
 Released : (ℕ → Bool) → Tree → Type 0
@@ -31,29 +32,18 @@ grant-released : (o : ℕ → Bool) (t : ℕ) (ls : List Lock) (f : Tree) → o 
 unfolding Released grant
 grant-released o t ls f e k r i u m h =
     let a = in-mark (λ x. granted-to t ls (x .it)) f i in
-    go (a .0) (a .1) (eqb u t) refl (rw (a .2) at h)
-  where
-    go : (x : Place) → Inside x f → (b : Bool) → eqb u t ≡ b → cond b (union (x .it .held u) (modes-on ls (x .it .now .number))) (x .it .held u) m ≡ true → o u ≡ true
-    go x j true p h = rw (eqb-true u t p) e
-    go x j false p h = k x j u m h
+    by-test (eqb u t) (λ p. rw (eqb-true u t p) e) (λ p. k (a .0) (a .1) u m (rw (a .2, p) at h))
 
 step-released : (o : ℕ → Bool) (t : ℕ) (s : Step) (ls : List Lock) (f : Tree) → o t ≡ true → Released o f → Released o (after-step t s ls f)
 unfolding Released
-step-released o t s ls f e k = grant-released o t ls (act t s f) e (λ r i u m h. go r u m h (act-places t s f r i))
-  where
-    go : (r : Place) (u : ℕ) (m : Mode) → r .it .held u m ≡ true → Old-place f r ⊎ New-place t s r → o u ≡ true
-    go r u m h (inl x) = k (x .0) (x .1) u m (rw (x .4) at h)
-    go r u m h (inr x) = absurd (false≢true (rw (x .2) at h))
+step-released o t s ls f e k = grant-released o t ls (act t s f) e (λ r i u m h.
+    ⊎-elim (λ x. k (x .0) (x .1) u m (rw (x .4) at h)) (λ x. absurd (false≢true (rw (x .2) at h))) (act-places t s f r i))
 
 -- the ends of a transaction ------------------------------------------------------------------------
 
 -- t holds nothing, the others what they held
 none-other : (t : ℕ) (a : Marked) (u : ℕ) (m : Mode) → none-of t (a .held) u m ≡ true → (eqb u t ≡ false) × (a .held u m ≡ true)
-none-other t a u m h = go (eqb u t) refl h
-  where
-    go : (b : Bool) → eqb u t ≡ b → cond b (λ x. false) (a .held u) m ≡ true → (eqb u t ≡ false) × (a .held u m ≡ true)
-    go true e x = absurd (false≢true x)
-    go false e x = (e, x)
+none-other t a u m h = by-test (eqb u t) (λ e. absurd (false≢true (rw e at h))) (λ e. (e, rw e at h))
 
 commit-released : (o : ℕ → Bool) (t : ℕ) (f : Tree) → Released o f → Released (λ u. not (eqb u t) && o u) (commit-tree t f)
 unfolding Released commit-tree

@@ -2,15 +2,16 @@
 -- of transactions with the caller in it.
 use mathlib.Core.Path.{_≡_, refl, sym, ap, _∙_}
 use Prim.Native.Nat.{ℕ}
-use mathlib.Core.Bool.{Bool, true, false, not, _&&_, _||_, false≢true, true≢false}
+use mathlib.Core.Bool.{Bool, true, false, not, _&&_, _||_, false≢true, true≢false, or-true}
 use mathlib.Core.List.{List, [], _∷_, map}
+use mathlib.Core.Logic.{⊎-elim}
 use lib.Dec.{eqb}
-use borrow.Author.Tests.{eqb-true}
+use borrow.Author.Tests.{eqb-true, eq-eqb, ne-eqb}
 use Rattle.tree.specs.Lists.{every, has, leads, keep}
 use Rattle.tree.specs.Forest.{row, rows, view}
 use Rattle.tree.specs.Document.{Node, Line, lines, select, here}
 use Rattle.tree.specs.Steps.{Step, U, D, UU, target, inserts, with-content}
-use Rattle.tree.specs.Laws.Tests.{and-left, and-right, refuted}
+use Rattle.tree.specs.Laws.Tests.{and-left, and-right, or-cases, refuted}
 use Rattle.tree.specs.Laws.Lists.{keep-map, keep-keep, keep-same, in-keep, map-map, map-same}
 use Rattle.tree.specs.Laws.Rows.{of-rows}
 use Rattle.tree.specs.Laws.View.{rows-view, in-view}
@@ -84,21 +85,11 @@ unheld-absent sh text f m h = refuted _ (λ e.
 
 module _ (t : ℕ) (nz : t ≡ nobody → ⊥) (S : ℕ → Bool) (st : S t ≡ true) where
   local-done : (u : ℕ) → local t u ≡ true → done-by S u ≡ true
-  local-done u h = go (eqb u nobody) refl (eqb u t) refl h
-    where
-      go : (a : Bool) → eqb u nobody ≡ a → (b : Bool) → eqb u t ≡ b → (a || b) ≡ true → (a || S u) ≡ true
-      go true p b q i = refl
-      go false p true q i = rw (eqb-true u t q) st
-      go false p false q i = absurd (false≢true i)
+  local-done u h = ⊎-elim (λ p. rw p) (λ q. rw (eqb-true u t q, st) (or-true (eqb t nobody))) (or-cases (eqb u nobody) (eqb u t) h)
 
   local-deleted : (u : ℕ) → local t u ≡ true → not (not (eqb u nobody) && S u) ≡ not (eqb u t)
-  local-deleted u h = go (eqb u nobody) refl (eqb u t) refl h
-    where
-      go : (a : Bool) → eqb u nobody ≡ a → (b : Bool) → eqb u t ≡ b → (a || b) ≡ true → not (not a && S u) ≡ not b
-      go true p true q i = absurd (nz (sym (eqb-true u t q) ∙ eqb-true u nobody p))
-      go true p false q i = refl
-      go false p true q i = rw (eqb-true u t q, st)
-      go false p false q i = absurd (false≢true i)
+  local-deleted u h = ⊎-elim (λ (p : eqb u nobody ≡ true). rw (p, ne-eqb u t (λ q. nz (sym q ∙ eqb-true u nobody p))))
+      (λ q. rw (eqb-true u t q, st, ne-eqb t nobody nz, eq-eqb t t refl)) (or-cases (eqb u nobody) (eqb u t) h)
 
   -- where t alone left marks the set shows what t sees
   pub own-shown : (a : Marked) → own t a ≡ true → shown S a ≡ seen-by t a

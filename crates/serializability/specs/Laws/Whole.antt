@@ -4,7 +4,7 @@ use mathlib.Core.Path.{_≡_, refl, sym, ap, _∙_}
 use Prim.Native.Nat.{ℕ}
 use mathlib.Core.Bool.{Bool, true, false, cond, false≢true, true≢false}
 use mathlib.Core.List.{List, [], _∷_, _++_, List·Memᴰ, List·Memᴰ·head, List·Memᴰ·tail, List·Memᴰ·not-nil, Memᴰ·append-left, Memᴰ·append-right, List·Memᴰ·append-cases}
-use mathlib.Core.Logic.{_⊎_, inl, inr}
+use mathlib.Core.Logic.{_⊎_, inl, inr, ⊎-elim}
 use lib.Dec.{eqb}
 use borrow.Author.Tests.{eqb-true, eq-eqb, ne-eqb, not-false}
 use Rattle.tree.specs.Lists.{any, every, has}
@@ -14,6 +14,7 @@ use Rattle.tree.specs.Laws.Tests.{refuted}
 use Rattle.tree.specs.Laws.Lists.{at-any, any-at, has-in, in-has}
 use Rattle.locks.specs.Needs.{Lock, needs}
 use Rattle.locks.specs.Laws.Compatible.{Compatible}
+use Rattle.commute.specs.Laws.Tests.{by-test, affirmed}
 use Rattle.commute.specs.Laws.Views.{views-same}
 use Rattle.commute.specs.Laws.Classes.{Absent}
 use Rattle.commute.specs.Laws.Runs.{Entry, Valid, Clear}
@@ -44,11 +45,8 @@ in-locks-of (y ∷ l) x (List·Memᴰ·tail m) k i = Memᴰ·append-right (y .he
 -- whose a lock is
 pub lock-entry : (l : List Entry) (k : Lock) → List·Memᴰ k (locks-of l) → (x : Entry) × List·Memᴰ x l × List·Memᴰ k (x .held)
 lock-entry [] k i = absurd (List·Memᴰ·not-nil i)
-lock-entry (y ∷ l) k i = go (List·Memᴰ·append-cases (y .held) i) (λ j. lock-entry l k j)
-  where
-    go : List·Memᴰ k (y .held) ⊎ List·Memᴰ k (locks-of l) → (List·Memᴰ k (locks-of l) → (x : Entry) × List·Memᴰ x l × List·Memᴰ k (x .held)) → (x : Entry) × List·Memᴰ x (y ∷ l) × List·Memᴰ k (x .held)
-    go (inl j) w = (y, List·Memᴰ·head refl, j)
-    go (inr j) w = let a = w j in (a .0, List·Memᴰ·tail (a .1), a .2)
+lock-entry (y ∷ l) k i = ⊎-elim (λ j. (y, List·Memᴰ·head refl, j)) (λ j. let a = lock-entry l k j in (a .0, List·Memᴰ·tail (a .1), a .2))
+    (List·Memᴰ·append-cases (y .held) i)
 
 abbrev pub holds : (ℕ → List Entry) → ℕ → List Lock
 holds log u = locks-of (log u)
@@ -72,11 +70,7 @@ pub record Good (c : Document) (log : ℕ → List Entry) (M : State) : Type 0 w
 
 -- whoever has a log is open
 pub log-open : {c : Document} {log : ℕ → List Entry} {M : State} → Good c log M → (u : ℕ) {y : Entry} → List·Memᴰ y (log u) → M .header .is-open u ≡ true
-log-open {M = M} g u i = go (M .header .is-open u) refl
-  where
-    go : (x : Bool) → M .header .is-open u ≡ x → x ≡ true
-    go true e = refl
-    go false e = absurd (List·Memᴰ·not-nil (rw (g .closed u e) at i))
+log-open g u i = affirmed _ (λ e. List·Memᴰ·not-nil (rw (g .closed u e) at i))
 
 pub nobody-idle : {c : Document} {log : ℕ → List Entry} {M : State} → Good c log M → log nobody ≡ []
 nobody-idle {M = M} g = g .closed nobody (refuted _ (λ e. false≢true (g .numbered nobody e)))
@@ -119,12 +113,10 @@ module _ (c : Document) (log : ℕ → List Entry) (M : State) (g : Good c log M
   hs = not-false _ (ok .there)
 
   compat : (u : ℕ) → (u ≡ t → ⊥) → Compatible (needs s d) (holds log u)
-  compat u ne = go (M .header .is-open u) refl
-    where
-      go : (b : Bool) → M .header .is-open u ≡ b → Compatible (needs s d) (holds log u)
-      go true e = no-wait-compatible t (needs s d) (holds log u) M u (ok .clear) ne e (g .numbered u e)
-          (λ l i. let y = lock-entry (log u) l i in g .standing u (y .0) (y .1) .held l (y .2))
-      go false e = λ q a b i j. absurd (List·Memᴰ·not-nil (rw (g .closed u e) at j))
+  compat u ne = by-test (M .header .is-open u)
+      (λ e. no-wait-compatible t (needs s d) (holds log u) M u (ok .clear) ne e (g .numbered u e)
+      (λ l i. let y = lock-entry (log u) l i in g .standing u (y .0) (y .1) .held l (y .2)))
+      (λ e q a b i j. absurd (List·Memᴰ·not-nil (rw (g .closed u e) at j)))
 
   absent : Absent s c
   unfolding document-of
@@ -143,7 +135,8 @@ module _ (c : Document) (log : ℕ → List Entry) (M : State) (g : Good c log M
 
   -- the step in every document with t, and in every document without
   step-serial : (b : List ℕ) → Distinct b → Serial c b (noted t x log) (document-of (λ u. has u b) (after-step t s (needs s d) f))
-  step-serial b n = rw (grant-shown (λ u. has u b) t (needs s d) (act t s f)) (go (has t b) refl)
+  step-serial b n = rw (grant-shown (λ u. has u b) t (needs s d) (act t s f)) (by-test (has t b) with-t
+      (λ e. rw (act-hidden (holds log) f (g .covered) t nz S e s hs compat) (grant-other c t b log (document-of S f) x e before grantable absent)))
     where
       S : ℕ → Bool
       S u = has u b
@@ -151,8 +144,8 @@ module _ (c : Document) (log : ℕ → List Entry) (M : State) (g : Good c log M
       before : Serial c b log (document-of S f)
       before = g .serial b n
 
-      go : (e : Bool) → has t b ≡ e → Serial c b (noted t x log) (document-of S (act t s f))
-      go true e =
+      with-t : has t b ≡ true → Serial c b (noted t x log) (document-of S (act t s f))
+      with-t e =
           let p = to-front t b e in
           let v : Valid x (document-of S f) =
           let w = views-same s d (document-of S f) (seen (holds log) f (g .covered) t nz S e s hs compat unheld) in
@@ -160,14 +153,9 @@ module _ (c : Document) (log : ℕ → List Entry) (M : State) (g : Good c log M
           rw (act-shown (holds log) f (g .covered) t nz S e s hs compat)
           (reorder c (t ∷ p .0) b (noted t x log) (after s (document-of S f)) (permutation-back (p .1))
           (grant c t (p .0) log (document-of S f) x (reorder c b (t ∷ p .0) log (document-of S f) (p .1) before) v grantable absent))
-      go false e = rw (act-hidden (holds log) f (g .covered) t nz S e s hs compat) (grant-other c t b log (document-of S f) x e before grantable absent)
 
   kept-noted : (u : ℕ) {y : Entry} → List·Memᴰ y (log u) → List·Memᴰ y (noted t x log u)
-  kept-noted u {y} j = go (eqb u t) refl
-    where
-      go : (b : Bool) → eqb u t ≡ b → List·Memᴰ y (cond b (log t ++ (x ∷ [])) (log u))
-      go true e = Memᴰ·append-left {s = log t} (x ∷ []) (rw (eqb-true u t e) at j)
-      go false e = j
+  kept-noted u j = by-test (eqb u t) (λ e. rw e (Memᴰ·append-left {s = log t} (x ∷ []) (rw (eqb-true u t e) at j))) (λ e. rw e j)
 
   more : (u : ℕ) → Within (holds log u) (holds (noted t x log) u)
   more u l i =
@@ -181,11 +169,10 @@ module _ (c : Document) (log : ℕ → List Entry) (M : State) (g : Good c log M
   at-target = target-place (holds log) f (g .covered) t s hs compat
 
   step-stands : (u : ℕ) (y : Entry) → List·Memᴰ y (noted t x log u) → Standing (after-step t s (needs s d) f) u (y .step) (y .held)
-  step-stands u y i = go (in-noted t x log u i)
-    where
-      go : List·Memᴰ y (log u) ⊎ ((u ≡ t) × (y ≡ x)) → Standing (after-step t s (needs s d) f) u (y .step) (y .held)
-      go (inl j) = standing-carried f _ (g .covered .distinct) u (y .step) (y .held) (g .standing u y j) (λ r k h. step-carries t s (needs s d) u f r k)
-      go (inr j) = rw (j .0, j .1) (step-standing t s (at (target s) d .above) f (at-target .0) (at-target .1) (at-target .2) (at-target .3))
+  step-stands u y i = ⊎-elim
+      (λ j. standing-carried f _ (g .covered .distinct) u (y .step) (y .held) (g .standing u y j) (λ r k h. step-carries t s (needs s d) u f r k))
+      (λ j. rw (j .0, j .1) (step-standing t s (at (target s) d .above) f (at-target .0) (at-target .1) (at-target .2) (at-target .3)))
+      (in-noted t x log u i)
 
   step-brought : (r : Place) → Inside r (after-step t s (needs s d) f) → (r .it .inserter ≡ nobody → ⊥) → Brought (noted t x log) (number-of r) (r .it .inserter)
   step-brought r i ne =
