@@ -52,9 +52,10 @@ module _ (t : Line → Bool) (b : List ℕ) where
   ruled-amend p nil h g = h
   ruled-amend p (node a ks fs) h g =
       let q = ruled-parts a ks fs h in
-      ruled-whole (rewritten t b (row a p)) (amend number (rewritten t b) (a .number ∷ p) ks) (amend number (rewritten t b) p fs)
-      (by-test (t (row a p)) (λ e. rw e (g (row a p) (self refl) e)) (λ e. rw e (q .0 .0)),
-        rw (rewritten-kind t b (row a p), kinds-amend (a .number ∷ p) ks) (q .0 .1))
+      ruled-whole (rewritten t b (row a p)) (amend number (rewritten t b) (a .number ∷ p) ks) (amend number (rewritten t b) p fs) (
+        by-test (t (row a p)) (λ e. rw e (g (row a p) (self refl) e)) (λ e. rw e (q .0 .0)),
+        rw (rewritten-kind t b (row a p), kinds-amend (a .number ∷ p) ks) (q .0 .1),
+      )
       (ruled-amend (a .number ∷ p) ks (q .1) (λ r m. g r (inner m))) (ruled-amend p fs (q .2) (λ r m. g r (later m)))
 
 -- removal ----------------------------------------------------------------------------------------

@@ -136,7 +136,7 @@ in-noted t x log v m = ⊎-elim inl
 inserts-once-noted : (l : List Entry) (x : Entry) → Brings-once l → ((y : Entry) → List·Memᴰ y l → Other-numbers x y) → Brings-once (l ++ (x ∷ []))
 inserts-once-noted [] x o n = (λ y i. absurd (List·Memᴰ·not-nil i), tt)
 inserts-once-noted (z ∷ l) x o n = (
-  λ y i m h. ⊎-elim (λ j. o .0 y j m h) 
+  λ y i m h. ⊎-elim (λ j. o .0 y j m h)
       (λ j. n z (List·Memᴰ·head refl) m (rw (List·Memᴰ·eq-of-singleton {a = y} {b = x} j) at h)) (List·Memᴰ·append-cases l i),
   inserts-once-noted l x (o .1) (λ y i. n y (List·Memᴰ·tail i)),
 )

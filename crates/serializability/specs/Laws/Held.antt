@@ -13,7 +13,7 @@ use Rattle.tree.specs.Steps.{D, U, UU}
 use Rattle.tree.specs.Laws.View.{in-view, view-in, view-agree}
 use Rattle.locks.specs.Modes.{LW, LU, LUU}
 use Rattle.locks.specs.Needs.{Lock}
-use Rattle.locks.specs.Laws.Compatible.{node-locked}
+use Rattle.locks.specs.Laws.Compatible.{Locked, node-locked}
 use Rattle.commute.specs.Laws.Tests.{by-test}
 use Rattle.commute.specs.Laws.Lines.{Of, at-line, line-here}
 use Rattle.commute.specs.Laws.Runs.{Entry}
@@ -65,8 +65,13 @@ module _ (c : Document) (log : ℕ → List Entry) (M : State) (g : Good c log M
   holder-open : (u : ℕ) (l : Lock) → List·Memᴰ l (holds log u) → M .header .is-open u ≡ true
   holder-open u l i = log-open g u (lock-entry (log u) l i .1)
 
+  -- who inserted or deleted a node holds LW on it
+  pub marker-LW : (r : Place) → Inside r (M .tree) → (u : ℕ) → (u ≡ nobody → ⊥) → marked-by u (r .it) ≡ true → Locked (number-of r) LW (holds log u)
+  marker-LW r i u nu h =
+      g .covered .guarded r i u nu h (number-of r, LW) (node-locked (D (number-of r)) (numbers-of (r .above)) LW (List·Memᴰ·head refl))
+
   pub marker-open : (r : Place) → Inside r (M .tree) → (u : ℕ) → (u ≡ nobody → ⊥) → marked-by u (r .it) ≡ true → M .header .is-open u ≡ true
-  marker-open r i u nu h = holder-open u (number-of r, LW) (g .covered .guarded r i u nu h (number-of r, LW) (node-locked (D (number-of r)) (numbers-of (r .above)) LW (List·Memᴰ·head refl)))
+  marker-open r i u nu h = holder-open u (number-of r, LW) (marker-LW r i u nu h)
 
   renamer-open : (u : ℕ) (p : List ℕ) → Renames (holds log) u p → M .header .is-open u ≡ true
   renamer-open u [] w = absurd w
