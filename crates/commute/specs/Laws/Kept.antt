@@ -1,14 +1,14 @@
 -- A step leaves what another sees, if their locks do not clash.
 use mathlib.Core.Path.{_≡_, refl, sym, ap, _∙_}
 use Prim.Native.Nat.{ℕ}
-use mathlib.Core.Bool.{Bool, true, false, _||_, false≢true, true≢false}
+use mathlib.Core.Bool.{true, false, _||_, false≢true, true≢false}
 use mathlib.Core.List.{List, [], _∷_}
 use lib.Dec.{eqb}
 use borrow.Author.Tests.{eqb-true, eq-eqb, ne-eqb, not-true, not-false}
-use Rattle.tree.specs.Lists.{any, has}
+use Rattle.tree.specs.Lists.{has}
 use Rattle.tree.specs.Forest.{row}
 use Rattle.tree.specs.Document.{Node, Document, Line, is, here, some?}
-use Rattle.tree.specs.Steps.{Step, T, C, R, U, D, I, TT, RR, UU, target, inserts, fits, unknown, wrong-kind, wrong-content, number-there, misplaced}
+use Rattle.tree.specs.Steps.{Step, D, I, target, inserts, fits, unknown, wrong-kind, wrong-content, number-there, misplaced}
 use Rattle.tree.specs.Steps.{after, remove, rewrite}
 use Rattle.tree.specs.Laws.Tests.{and-left, and-right, or-left, or-right, refuted}
 use Rattle.tree.specs.Laws.Lists.{at-any, has-in, eqb-flip}

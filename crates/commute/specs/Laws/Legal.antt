@@ -1,13 +1,13 @@
 -- A step that fits leaves a legal document legal.
 use mathlib.Core.Path.{_≡_, refl, sym, ap, _∙_}
 use Prim.Native.Nat.{ℕ, suc}
-use mathlib.Core.Bool.{Bool, true, false, cond, not, _&&_, false≢true, true≢false}
+use mathlib.Core.Bool.{Bool, true, false, not, _&&_, false≢true, true≢false}
 use mathlib.Core.List.{List, [], _∷_}
 use lib.ListN.{length}
 use lib.Dec.{eqb, leb}
 use borrow.Author.Tests.{eqb-true, not-false}
 use Rattle.tree.specs.Forest.{nil, node, row, amend, view, put}
-use Rattle.tree.specs.Content.{element-kind, is-name, allowed, takes, children-rule, attributes-first, insert-at}
+use Rattle.tree.specs.Content.{element-kind, is-name, allowed, children-rule, attributes-first, insert-at}
 use Rattle.tree.specs.Document.{Node, Document, Line, lines, is, child, under, select, here, at, kinds, top-kinds, ruled, rooted, legal}
 use Rattle.tree.specs.Steps.{Step, U, D, I, UU, fits, after, placed, is-document, named, rewrite, remove}
 use Rattle.tree.specs.Laws.Tests.{and-left, and-right, refuted}

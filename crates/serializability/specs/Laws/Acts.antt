@@ -4,7 +4,7 @@ use Prim.Native.Nat.{ℕ}
 use mathlib.Core.Bool.{Bool, true, false}
 use mathlib.Core.List.{List}
 use lib.Dec.{eqb}
-use borrow.Author.Tests.{eqb-true, eq-eqb}
+use borrow.Author.Tests.{eq-eqb}
 use Rattle.tree.specs.Lists.{any, every, has}
 use Rattle.tree.specs.Document.{here}
 use Rattle.tree.specs.Steps.{Step, T, C, R, U, D, I, TT, RR, UU, target, after}

@@ -1,7 +1,7 @@
 -- Commit and abort keep the state serializable: a commit moves its log to the committed transactions, an abort drops it.
 use mathlib.Core.Path.{_≡_, refl, sym, ap, _∙_, fun-ext}
 use Prim.Native.Nat.{ℕ}
-use mathlib.Core.Bool.{Bool, true, false, cond, not, _&&_, _||_, true≢false, or-true, or-self-left, and-false}
+use mathlib.Core.Bool.{Bool, true, false, not, _&&_, _||_, true≢false, or-true, or-self-left, and-false}
 use mathlib.Core.List.{List, [], _∷_, map, List·Memᴰ, List·Memᴰ·head, List·Memᴰ·not-nil}
 use mathlib.Core.Logic.{⊎-elim}
 use lib.Dec.{eqb}
@@ -9,12 +9,11 @@ use borrow.Author.Tests.{eqb-true, eqb-false, eq-eqb, ne-eqb, not-true, not-fals
 use Rattle.tree.specs.Lists.{every, has}
 use Rattle.tree.specs.Forest.{view}
 use Rattle.tree.specs.Document.{Document}
-use Rattle.tree.specs.Steps.{D, U, inserts}
+use Rattle.tree.specs.Steps.{D}
 use Rattle.tree.specs.Laws.Tests.{and-left, and-right, or-cases}
 use Rattle.tree.specs.Laws.Lists.{eqb-flip}
 use Rattle.tree.specs.Laws.Rows.{Each, each-above}
 use Rattle.locks.specs.Modes.{Mode, LW}
-use Rattle.locks.specs.Needs.{locks}
 use Rattle.locks.specs.Laws.Compatible.{Locked, Compatible, node-locked}
 use Rattle.locks.specs.Laws.Excludes.{LW-clashes}
 use Rattle.commute.specs.Laws.Tests.{by-test, affirmed}

@@ -1,17 +1,17 @@
 -- A granted step leaves every place where it is, and its own locks in the sets of the nodes.
-use mathlib.Core.Path.{_≡_, refl, sym, ap, ap₂, _∙_}
+use mathlib.Core.Path.{_≡_, refl, sym, ap, _∙_}
 use Prim.Native.Nat.{ℕ}
-use mathlib.Core.Bool.{Bool, true, false, cond, _||_, false≢true, or-true}
+use mathlib.Core.Bool.{true, false≢true, or-true}
 use mathlib.Core.List.{List, [], _∷_, List·Memᴰ, List·Memᴰ·head, List·Memᴰ·tail, List·Memᴰ·not-nil, List·Memᴰ·eq-of-singleton}
 use mathlib.Core.Logic.{_⊎_, inl, ⊎-elim, ⊎-map}
 use lib.Dec.{eqb}
-use borrow.Author.Tests.{eqb-true, eq-eqb}
+use borrow.Author.Tests.{eq-eqb}
 use Rattle.tree.specs.Lists.{has}
 use Rattle.tree.specs.Forest.{row}
-use Rattle.tree.specs.Steps.{Step, I, target, inserts}
+use Rattle.tree.specs.Steps.{Step, target, inserts}
 use Rattle.tree.specs.Laws.Lists.{has-in}
-use Rattle.tree.specs.Laws.Put.{put-in, put-new, in-put, New}
-use Rattle.locks.specs.Modes.{Mode, index, no-mode, among, union}
+use Rattle.tree.specs.Laws.Put.{put-in, put-new, in-put}
+use Rattle.locks.specs.Modes.{Mode, index, no-mode, among}
 use Rattle.locks.specs.Needs.{Lock, locks}
 use Rattle.commute.specs.Laws.Tests.{by-test}
 use Rattle.protocol.specs.State.{Marked, Tree, numbered, seen-by, modes-on, granted-to, mark, act, grant}

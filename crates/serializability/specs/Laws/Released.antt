@@ -1,18 +1,17 @@
 -- Only open transactions hold locks: commit and abort empty their sets.
-use mathlib.Core.Path.{_≡_, refl, sym, ap, _∙_}
+use mathlib.Core.Path.{_≡_, sym, ap, _∙_}
 use Prim.Native.Nat.{ℕ}
-use mathlib.Core.Bool.{Bool, true, false, cond, not, _&&_, _||_, false≢true, or-true}
+use mathlib.Core.Bool.{Bool, true, false, not, _&&_, false≢true, or-true}
 use mathlib.Core.List.{List, [], _∷_, List·Memᴰ}
 use mathlib.Core.Logic.{⊎-elim}
 use lib.Dec.{eqb}
 use borrow.Author.Tests.{eqb-true}
-use Rattle.tree.specs.Lists.{any}
 use Rattle.tree.specs.Document.{Document, node-0-alone}
 use Rattle.tree.specs.Steps.{Step}
-use Rattle.locks.specs.Modes.{Mode, union}
-use Rattle.locks.specs.Needs.{Lock, needs}
+use Rattle.locks.specs.Modes.{Mode}
+use Rattle.locks.specs.Needs.{Lock}
 use Rattle.commute.specs.Laws.Tests.{by-test}
-use Rattle.protocol.specs.State.{State, Marked, Tree, nodes, seen-by, modes-on, granted-to}
+use Rattle.protocol.specs.State.{State, Marked, Tree, nodes, seen-by, granted-to}
 use Rattle.protocol.specs.State.{none-of, lasting, undone, act, grant, commit-tree, abort-tree, tree-of, start-state}
 use Rattle.protocol.specs.Calls.{Call, next}
 use Rattle.protocol.specs.History.{state-after}

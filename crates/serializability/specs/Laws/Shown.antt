@@ -1,5 +1,5 @@
 -- What a set of transactions shows of the tree after a step, a grant of locks, a commit, an abort and a load.
-use mathlib.Core.Path.{_≡_, refl, sym, ap, ap₂, _∙_}
+use mathlib.Core.Path.{_≡_, refl, sym, ap, _∙_}
 use Prim.Native.Nat.{ℕ}
 use mathlib.Core.Bool.{Bool, true, false, cond, not, _&&_, _||_, false≢true, or-true, and-false}
 use mathlib.Core.List.{List, [], _∷_, map}

@@ -2,7 +2,7 @@
 -- to the one that the tree shows of them. A granted step keeps this.
 use mathlib.Core.Path.{_≡_, refl, sym, ap, _∙_}
 use Prim.Native.Nat.{ℕ}
-use mathlib.Core.Bool.{Bool, true, false, cond, false≢true, true≢false}
+use mathlib.Core.Bool.{Bool, true, false, false≢true, true≢false}
 use mathlib.Core.List.{List, [], _∷_, _++_, List·Memᴰ, List·Memᴰ·head, List·Memᴰ·tail, List·Memᴰ·not-nil, Memᴰ·append-left, Memᴰ·append-right, List·Memᴰ·append-cases}
 use mathlib.Core.Logic.{_⊎_, inl, inr, ⊎-elim}
 use lib.Dec.{eqb}
@@ -71,9 +71,6 @@ pub record Good (c : Document) (log : ℕ → List Entry) (M : State) : Type 0 w
 -- whoever has a log is open
 pub log-open : {c : Document} {log : ℕ → List Entry} {M : State} → Good c log M → (u : ℕ) {y : Entry} → List·Memᴰ y (log u) → M .header .is-open u ≡ true
 log-open g u i = affirmed _ (λ e. List·Memᴰ·not-nil (rw (g .closed u e) at i))
-
-pub nobody-idle : {c : Document} {log : ℕ → List Entry} {M : State} → Good c log M → log nobody ≡ []
-nobody-idle {M = M} g = g .closed nobody (refuted _ (λ e. false≢true (g .numbered nobody e)))
 
 -- a granted step -------------------------------------------------------------------------------
 
