@@ -2,9 +2,9 @@ pub mod Outcomes
 pub mod WaitSet
 pub mod OneCall
 pub mod Logs
-pub mod Edited
 pub mod Shown
 pub mod Numbers
+pub mod Edited
 pub mod Marks
 pub mod Seen
 pub mod Acts

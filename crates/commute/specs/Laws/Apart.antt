@@ -1,7 +1,7 @@
 -- Where two nodes of a document stand, and which lines are near the one and not the other.
 use mathlib.Core.Path.{_≡_, refl, sym, ap, _∙_}
 use Prim.Native.Nat.{ℕ}
-use mathlib.Core.Bool.{Bool, true, false, _||_, false≢true, true≢false}
+use mathlib.Core.Bool.{true, false, false≢true, true≢false}
 use mathlib.Core.List.{List, [], _∷_}
 use mathlib.Core.Logic.{_⊎_, inl, inr}
 use lib.Dec.{eqb}
@@ -10,6 +10,7 @@ use Rattle.tree.specs.Lists.{has, leads}
 use Rattle.tree.specs.Document.{Document, Line, is, child, under, here, at}
 use Rattle.tree.specs.Laws.Tests.{refuted}
 use Rattle.tree.specs.Laws.Rows.{line, parent-row, nested, Nested}
+use Rattle.commute.specs.Laws.Tests.{by-test}
 use Rattle.commute.specs.Laws.Lines.{number, Of, Unique, at-only}
 use Rattle.commute.specs.Laws.Views.{Reach, itself, children, subtree, within}
 
@@ -26,15 +27,12 @@ module _ (d : Document) (u : Unique d) where
 
   child-not-under : (n x : ℕ) → here n d ≡ true → here x d ≡ true → has x (n ∷ path n d) ≡ false → leads n (path x d) ≡ false
       → (r : Line) → Of r d → child n r ≡ true → under x r ≡ false
-  child-not-under n x hn hx f g r m c = go (eqb (r .it .number) x) refl
+  child-not-under n x hn hx f g r m c = by-test (eqb (r .it .number) x)
+      (λ e. absurd (true≢false (sym c ∙ ap (leads n) (path-of x hx r m (eqb-true _ x e)) ∙ g))) (λ e. rw e (below (parent-row number m)))
     where
       below : (r .above ≡ []) ⊎ ((s : Line) × Of s d × (r .above ≡ line number s)) → has x (r .above) ≡ false
       below (inl e) = absurd (false≢true (rw e at c))
       below (inr s) = rw (s .2) (not-under n x hn f (s .0) (s .1) (rw (s .2) at c))
-
-      go : (t : Bool) → eqb (r .it .number) x ≡ t → (t || has x (r .above)) ≡ false
-      go true e = absurd (true≢false (sym c ∙ ap (leads n) (path-of x hx r m (eqb-true _ x e)) ∙ g))
-      go false e = below (parent-row number m)
 
   pub under-not-under : (n x : ℕ) → here n d ≡ true → here x d ≡ true → has x (n ∷ path n d) ≡ false → has n (x ∷ path x d) ≡ false
       → (r : Line) → Of r d → under n r ≡ true → under x r ≡ false

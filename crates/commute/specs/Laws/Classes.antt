@@ -6,6 +6,7 @@ use mathlib.Core.List.{List, [], _∷_}
 use Rattle.tree.specs.Lists.{has}
 use Rattle.tree.specs.Document.{Document, Line, is, under, here, at}
 use Rattle.tree.specs.Steps.{Step, T, C, R, U, D, I, TT, RR, UU, target, inserts, after, named, rewrite}
+use Rattle.tree.specs.Laws.Tests.{and-left, and-right}
 use Rattle.locks.specs.Modes.{LW, clash}
 use Rattle.locks.specs.Needs.{Need, need}
 use Rattle.locks.specs.Laws.Compatible.{clashing, excludes}
@@ -84,36 +85,11 @@ reads-contents (UU n a b) h = write (rename n a b)
 
 -- the table ---------------------------------------------------------------------------
 
--- LW on a node keeps every step off it and off all below it
-pub all-off-LW : (s : Step) → excludes (LW ∷ []) (need s) ≡ true
-unfolding clash
-all-off-LW (T n) = refl
-all-off-LW (C n k) = refl
-all-off-LW (R n) = refl
-all-off-LW (U n b) = refl
-all-off-LW (D n) = refl
-all-off-LW (I m kind b n k) = refl
-all-off-LW (TT n) = refl
-all-off-LW (RR n) = refl
-all-off-LW (UU n a b) = refl
-
 -- who sees the children of a node keeps them from being removed; who sees its subtree keeps all of it
 abbrev pub bars-removal : Reach → Need → Need → Bool
 bars-removal itself w v = true
 bars-removal children w v = clashing (w .node) (v .parent)
 bars-removal subtree w v = excludes (w .node) v
-
-pub removal-barred : (s : Step) (n : ℕ) → bars-removal (reach s) (need s) (need (D n)) ≡ true
-unfolding clash
-removal-barred (T n) x = refl
-removal-barred (C n k) x = refl
-removal-barred (R n) x = refl
-removal-barred (U n b) x = refl
-removal-barred (D n) x = refl
-removal-barred (I m kind b n k) x = refl
-removal-barred (TT n) x = refl
-removal-barred (RR n) x = refl
-removal-barred (UU n a b) x = refl
 
 -- and from getting a new one
 abbrev pub bars-insertion : Reach → Need → Need → Bool
@@ -121,17 +97,23 @@ bars-insertion itself w v = true
 bars-insertion children w v = clashing (w .node) (v .node)
 bars-insertion subtree w v = excludes (w .node) v
 
-pub insertion-barred : (s : Step) (m kind : ℕ) (b : List ℕ) (n k : ℕ) → bars-insertion (reach s) (need s) (need (I m kind b n k)) ≡ true
+barred : (s : Step) → (bars-removal (reach s) (need s) (need (D 0)) && bars-insertion (reach s) (need s) (need (I 0 0 [] 0 0))) ≡ true
 unfolding clash
-insertion-barred (T n) m' kind' b' n' k' = refl
-insertion-barred (C n k) m' kind' b' n' k' = refl
-insertion-barred (R n) m' kind' b' n' k' = refl
-insertion-barred (U n b) m' kind' b' n' k' = refl
-insertion-barred (D n) m' kind' b' n' k' = refl
-insertion-barred (I m kind b n k) m' kind' b' n' k' = refl
-insertion-barred (TT n) m' kind' b' n' k' = refl
-insertion-barred (RR n) m' kind' b' n' k' = refl
-insertion-barred (UU n a b) m' kind' b' n' k' = refl
+barred (T n) = refl
+barred (C n k) = refl
+barred (R n) = refl
+barred (U n b) = refl
+barred (D n) = refl
+barred (I m kind b n k) = refl
+barred (TT n) = refl
+barred (RR n) = refl
+barred (UU n a b) = refl
+
+pub removal-barred : (s : Step) → bars-removal (reach s) (need s) (need (D 0)) ≡ true
+removal-barred s = and-left _ _ (barred s)
+
+pub insertion-barred : (s : Step) → bars-insertion (reach s) (need s) (need (I 0 0 [] 0 0)) ≡ true
+insertion-barred s = and-right (bars-removal (reach s) (need s) (need (D 0))) _ (barred s)
 
 -- who sees or writes contents keeps them from being written
 abbrev pub bars-writing : Reach → Reach → Need → Need → Bool

@@ -13,10 +13,11 @@ use Rattle.tree.specs.Laws.Lists.{eqb-flip}
 use Rattle.locks.specs.Modes.{LW}
 use Rattle.locks.specs.Needs.{needs, locks}
 use Rattle.locks.specs.Laws.Compatible.{Compatible, compatible-symmetric, new-locked, off-path}
+use Rattle.locks.specs.Laws.Excludes.{LW-excludes}
 use Rattle.commute.specs.Laws.Lines.{Of, Unique, at-line, line-here, in-remove}
 use Rattle.commute.specs.Laws.Views.{itself, within, reach, within-by-number, Same, rewrite-shapes, insert-whole, shapes-some, shapes-above}
 use Rattle.commute.specs.Laws.Classes.{Rewriting, Class, reading, rewriting, removing, inserting, class, touched, written, after-rewriting}
-use Rattle.commute.specs.Laws.Classes.{touched-within, write, all-off-LW, Absent}
+use Rattle.commute.specs.Laws.Classes.{touched-within, write, Absent}
 use Rattle.commute.specs.Laws.Apart.{path, path-of}
 use Rattle.commute.specs.Laws.Edits.{remove-rewrite, remove-remove, rewrite-rewrite, rewrite-insert, remove-insert, insert-insert}
 use Rattle.commute.specs.Laws.Kept.{fits-here, fits-absent, other, new-line-unseen, clear-of-removal, untouched, same-kept}
@@ -105,7 +106,7 @@ module _ (d : Document) (u : Unique d) where
       go (inserting m kind b n k) g h c =
           let o =
           off-path m (LW ∷ []) (needs (I m kind b n k) d) (new-locked (I m kind b n k) (path n d) m (rw (eq-eqb m m refl))) s _
-          (compatible-symmetric _ _ c) (all-off-LW s) in
+          (compatible-symmetric _ _ c) (LW-excludes s) in
           let i = insert-whole (record { number = m; kind = kind; content = b }) n k (is (target s)) d (λ r o' e. eqb-flip (target s) m (or-left _ _ o)) in
           (sym (ap some? i) ∙ h, ap (λ (l : List Line). first l .above) i)
 

@@ -1,27 +1,28 @@
 -- A step leaves what another sees, if their locks do not clash.
 use mathlib.Core.Path.{_≡_, refl, sym, ap, _∙_}
 use Prim.Native.Nat.{ℕ}
-use mathlib.Core.Bool.{Bool, true, false, _||_, false≢true, true≢false}
+use mathlib.Core.Bool.{true, false, _||_, false≢true, true≢false}
 use mathlib.Core.List.{List, [], _∷_}
 use lib.Dec.{eqb}
 use borrow.Author.Tests.{eqb-true, eq-eqb, ne-eqb, not-true, not-false}
-use Rattle.tree.specs.Lists.{any, has}
+use Rattle.tree.specs.Lists.{has}
 use Rattle.tree.specs.Forest.{row}
 use Rattle.tree.specs.Document.{Node, Document, Line, is, here, some?}
-use Rattle.tree.specs.Steps.{Step, T, C, R, U, D, I, TT, RR, UU, target, inserts, fits, unknown, wrong-kind, wrong-content, number-there, misplaced}
+use Rattle.tree.specs.Steps.{Step, D, I, target, inserts, fits, unknown, wrong-kind, wrong-content, number-there, misplaced}
 use Rattle.tree.specs.Steps.{after, remove, rewrite}
 use Rattle.tree.specs.Laws.Tests.{and-left, and-right, or-left, or-right, refuted}
 use Rattle.tree.specs.Laws.Lists.{at-any, has-in, eqb-flip}
 use Rattle.locks.specs.Modes.{LW, clash}
 use Rattle.locks.specs.Needs.{need, needs}
 use Rattle.locks.specs.Laws.Compatible.{Compatible, compatible-symmetric, excludes, node-locked, new-locked, off-node, off-parent, off-path, off-new}
+use Rattle.locks.specs.Laws.Excludes.{LW-excludes}
 use Rattle.commute.specs.Laws.Lines.{Of, Unique, not-here, insert}
 use Rattle.commute.specs.Laws.Views.{Reach, itself, children, subtree, within, reach, within-by-number, Whole, whole-shapes, Views, Same}
 use Rattle.commute.specs.Laws.Views.{views-same, rewrite-shapes}
 use Rattle.commute.specs.Laws.Views.{rewrite-whole, remove-whole, insert-whole, shapes-some}
 use Rattle.commute.specs.Laws.Classes.{Rewriting, Class, reading, rewriting, removing, inserting, class, touched, written, after-rewriting}
 use Rattle.commute.specs.Laws.Classes.{touched-within, Contents, reads-contents}
-use Rattle.commute.specs.Laws.Classes.{all-off-LW, bars-removal, removal-barred, bars-insertion, insertion-barred, bars-writing, writing-barred}
+use Rattle.commute.specs.Laws.Classes.{bars-removal, removal-barred, bars-insertion, insertion-barred, bars-writing, writing-barred}
 use Rattle.commute.specs.Laws.Classes.{Absent, new-need}
 use Rattle.commute.specs.Laws.Apart.{path, path-of, not-under, under-not-under, Clear-of, clear-of}
 
@@ -64,10 +65,10 @@ module _ (d : Document) (u : Unique d) where
   -- s against the removal of x
   module _ (s : Step) (hs : here (target s) d ≡ true) (x : ℕ) (hx : here x d ≡ true) (c : Compatible (needs s d) (needs (D x) d)) where
     off-removed : has x (target s ∷ path (target s) d) ≡ false
-    off-removed = off-path x (LW ∷ []) (needs (D x) d) (node-locked (D x) (path x d)) s (path (target s) d) (compatible-symmetric _ _ c) (all-off-LW s)
+    off-removed = off-path x (LW ∷ []) (needs (D x) d) (node-locked (D x) (path x d)) s (path (target s) d) (compatible-symmetric _ _ c) (LW-excludes s)
 
     pub clear-of-removal : Clear-of d u (reach s) (target s) x
-    clear-of-removal = go (reach s) (removal-barred s x)
+    clear-of-removal = go (reach s) (removal-barred s)
       where
         go : (q : Reach) → bars-removal q (need s) (need (D x)) ≡ true → Clear-of d u q (target s) x
         go itself e = off-removed
@@ -96,7 +97,7 @@ module _ (d : Document) (u : Unique d) where
 
     -- the new line is not within the reach of s
     pub new-line-unseen : within (reach s) (target s) (row new (n ∷ path n d)) ≡ false
-    new-line-unseen = go (reach s) (insertion-barred s m kind b n k)
+    new-line-unseen = go (reach s) (insertion-barred s)
       where
         go : (q : Reach) → bars-insertion q (need s) (need (I m kind b n k)) ≡ true → within q (target s) (row new (n ∷ path n d)) ≡ false
         go itself e = other

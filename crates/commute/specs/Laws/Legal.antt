@@ -1,17 +1,18 @@
 -- A step that fits leaves a legal document legal.
 use mathlib.Core.Path.{_≡_, refl, sym, ap, _∙_}
 use Prim.Native.Nat.{ℕ, suc}
-use mathlib.Core.Bool.{Bool, true, false, cond, not, _&&_, false≢true, true≢false}
+use mathlib.Core.Bool.{Bool, true, false, not, _&&_, false≢true, true≢false}
 use mathlib.Core.List.{List, [], _∷_}
 use lib.ListN.{length}
 use lib.Dec.{eqb, leb}
 use borrow.Author.Tests.{eqb-true, not-false}
 use Rattle.tree.specs.Forest.{nil, node, row, amend, view, put}
-use Rattle.tree.specs.Content.{element-kind, is-name, allowed, takes, children-rule, attributes-first, insert-at}
+use Rattle.tree.specs.Content.{element-kind, is-name, allowed, children-rule, attributes-first, insert-at}
 use Rattle.tree.specs.Document.{Node, Document, Line, lines, is, child, under, select, here, at, kinds, top-kinds, ruled, rooted, legal}
 use Rattle.tree.specs.Steps.{Step, U, D, I, UU, fits, after, placed, is-document, named, rewrite, remove}
 use Rattle.tree.specs.Laws.Tests.{and-left, and-right, refuted}
 use Rattle.tree.specs.Laws.Rows.{self}
+use Rattle.commute.specs.Laws.Tests.{by-test}
 use Rattle.commute.specs.Laws.Lines.{number, Unique, at-only, rewritten-number, rewritten-kind, insert}
 use Rattle.commute.specs.Laws.Classes.{Rewriting, update, rename, Class, reading, rewriting, removing, inserting, class, touched, written}
 use Rattle.commute.specs.Laws.Classes.{after-rewriting}
@@ -56,11 +57,7 @@ ruled-rewriting d u (rename n a b) g h = ruled-amend (λ r. under n r && named a
 
 childless : (kind : ℕ) → children-rule kind [] ≡ true
 unfolding children-rule attributes-first
-childless kind = go (eqb kind element-kind)
-  where
-    go : (c : Bool) → cond c true true ≡ true
-    go true = refl
-    go false = refl
+childless kind = by-test (eqb kind element-kind) (λ e. rw e) (λ e. rw e)
 
 ruled-insertion : (m kind : ℕ) (b : List ℕ) (n k : ℕ) (d : Document) → Unique d → fits (I m kind b n k) d ≡ true → ruled d ≡ true
     → ruled (insert (record { number = m; kind = kind; content = b }) n k d) ≡ true

@@ -3,7 +3,6 @@ use mathlib.Core.Path.{_≡_, refl, sym, _∙_}
 use Prim.Native.Nat.{ℕ}
 use mathlib.Core.Bool.{Bool, true, false, cond, not, false≢true, true≢false}
 use mathlib.Core.List.{List, [], _∷_, map, List·Memᴰ, List·Memᴰ·head, List·Memᴰ·not-nil}
-use mathlib.Core.Logic.{_⊎_, inl, inr}
 use lib.Dec.{eqb}
 use borrow.Author.Tests.{eqb-true, eq-eqb, not-true}
 use Rattle.tree.specs.Lists.{keep, distinct}
@@ -12,10 +11,10 @@ use Rattle.tree.specs.Document.{Node, Document, Line, lines, is, under, select,
 use Rattle.tree.specs.Steps.{with-content, rewrite, remove}
 use Rattle.tree.specs.Laws.Lists.{every-not, keep-same, keep-in, in-keep}
 use Rattle.tree.specs.Laws.Rows.{In, to-rows, of-rows}
-use Rattle.tree.specs.Laws.Amend.{rows-amend-same, in-amend-same}
+use Rattle.tree.specs.Laws.Amend.{rows-amend-same}
 use Rattle.tree.specs.Laws.View.{rows-rest}
-use Rattle.tree.specs.Laws.Put.{in-put, New}
 use Rattle.tree.specs.Laws.Distinct.{distinct-one}
+use Rattle.commute.specs.Laws.Tests.{cond-same}
 
 abbrev pub number : Node → ℕ
 number a = a .number
@@ -74,25 +73,14 @@ abbrev pub rewritten : (Line → Bool) → List ℕ → Line → Node
 rewritten t b r = cond (t r) (with-content (r .it) b) (r .it)
 
 pub rewritten-number : (t : Line → Bool) (b : List ℕ) (r : Line) → rewritten t b r .number ≡ r .it .number
-rewritten-number t b r = go (t r)
-  where
-    go : (c : Bool) → cond c (with-content (r .it) b) (r .it) .number ≡ r .it .number
-    go true = refl
-    go false = refl
+rewritten-number t b r = cond-same number (t r) (with-content (r .it) b) (r .it) refl
 
 pub rewritten-kind : (t : Line → Bool) (b : List ℕ) (r : Line) → rewritten t b r .kind ≡ r .it .kind
-rewritten-kind t b r = go (t r)
-  where
-    go : (c : Bool) → cond c (with-content (r .it) b) (r .it) .kind ≡ r .it .kind
-    go true = refl
-    go false = refl
+rewritten-kind t b r = cond-same (λ (a : Node). a .kind) (t r) (with-content (r .it) b) (r .it) refl
 
 pub lines-rewrite : (t : Line → Bool) (b : List ℕ) (d : Document) → lines (rewrite t b d) ≡ map (λ r. row (rewritten t b r) (r .above)) (lines d)
 unfolding lines
 lines-rewrite t b d = rows-amend-same number (rewritten t b) (rewritten-number t b) [] d
-
-pub in-rewrite : (t : Line → Bool) (b : List ℕ) (d : Document) {r : Line} → Of r (rewrite t b d) → (s : Line) × Of s d × (r ≡ row (rewritten t b s) (s .above))
-in-rewrite t b d m = in-amend-same number (rewritten t b) (rewritten-number t b) [] d m
 
 -- removal --------------------------------------------------------------------------------
 
@@ -113,12 +101,3 @@ in-remove n d {r} m =
 -- `node` as the k-th child of n
 abbrev pub insert : Node → ℕ → ℕ → Document → Document
 insert a n k d = put (λ x. eqb (x .number) n) (λ x. true) k a d
-
--- a line was there, or is the new one
-pub in-insert : (a : Node) (n k : ℕ) (d : Document) {r : Line} → Of r (insert a n k d)
-    → Of r d ⊎ ((s : Line) × Of s d × (s .it .number ≡ n) × (r ≡ row a (n ∷ s .above)))
-in-insert a n k d {r} m = go (in-put (λ x. eqb (x .number) n) (λ x. true) k a number [] d m)
-  where
-    go : Of r d ⊎ New (λ x. eqb (x .number) n) (λ x. true) k a number r [] d → Of r d ⊎ ((s : Line) × Of s d × (s .it .number ≡ n) × (r ≡ row a (n ∷ s .above)))
-    go (inl i) = inl i
-    go (inr i) = inr (i .0, i .1, eqb-true _ n (i .2), rw (← eqb-true _ n (i .2)) (i .3))

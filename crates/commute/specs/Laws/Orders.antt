@@ -1,13 +1,14 @@
 -- Orders of transactions: the logs of transactions whose locks do not clash may be run in any order.
 use mathlib.Core.Path.{_≡_, refl, sym, ap, _∙_}
 use Prim.Native.Nat.{ℕ}
-use mathlib.Core.Bool.{Bool, true, false, cond, _||_, false≢true, true≢false, or-true}
+use mathlib.Core.Bool.{true, false, _||_, false≢true, true≢false, or-true}
 use mathlib.Core.List.{List, [], _∷_, _++_, map, append-nil, append-assoc, List·Memᴰ, Memᴰ·append-left, Memᴰ·append-right}
+use mathlib.Core.Logic.{⊎-elim}
 use lib.Dec.{eqb}
 use borrow.Author.Tests.{eqb-true, eqb-false, eq-eqb}
 use Rattle.tree.specs.Lists.{has, distinct, joined}
 use Rattle.tree.specs.Document.{Document}
-use Rattle.tree.specs.Laws.Tests.{or-left, or-right, or-swap}
+use Rattle.tree.specs.Laws.Tests.{or-left, or-right, or-swap, or-cases, refuted}
 use Rattle.tree.specs.Laws.Lists.{eqb-flip, map-append}
 use Rattle.commute.specs.Laws.Lines.{Unique}
 use Rattle.commute.specs.Laws.Runs.{Entry, Run, run-split, run-append, unique-run, run-valid, All-clear, Brings-once, All-absent, absent-run, exchange}
@@ -25,18 +26,10 @@ abbrev pub Distinct : List ℕ → Type 0
 Distinct a = distinct a ≡ true
 
 pub distinct-head : (t : ℕ) (a : List ℕ) → Distinct (t ∷ a) → has t a ≡ false
-distinct-head t a h = go (has t a) h
-  where
-    go : (b : Bool) → cond b false (distinct a) ≡ true → b ≡ false
-    go true e = absurd (false≢true e)
-    go false e = refl
+distinct-head t a h = refuted _ (λ e. false≢true (rw e at h))
 
 pub distinct-tail : (t : ℕ) (a : List ℕ) → Distinct (t ∷ a) → Distinct a
-distinct-tail t a h = go (has t a) h
-  where
-    go : (b : Bool) → cond b false (distinct a) ≡ true → distinct a ≡ true
-    go true e = absurd (false≢true e)
-    go false e = e
+distinct-tail t a h = rw (distinct-head t a h) at h
 
 pub distinct-cons : (t : ℕ) (a : List ℕ) → has t a ≡ false → Distinct a → Distinct (t ∷ a)
 distinct-cons t a h e = rw h e
@@ -70,11 +63,8 @@ permutation-back (then p q) = then (permutation-back q) (permutation-back p)
 -- any transaction of the list can stand first, and the first can stand last
 pub to-front : (t : ℕ) (a : List ℕ) → has t a ≡ true → (b : List ℕ) × Permutation a (t ∷ b)
 to-front t [] h = absurd (false≢true h)
-to-front t (u ∷ a) h = go (eqb u t) refl h (λ i. to-front t a i)
-  where
-    go : (e : Bool) → eqb u t ≡ e → (e || has t a) ≡ true → (has t a ≡ true → (b : List ℕ) × Permutation a (t ∷ b)) → (b : List ℕ) × Permutation (u ∷ a) (t ∷ b)
-    go true e i f = (a, rw (eqb-true u t e) (permutation-self (t ∷ a)))
-    go false e i f = let g = f i in (u ∷ g .0, then (behind u (g .1)) (exchanged u t))
+to-front t (u ∷ a) h = ⊎-elim (λ e. (a, rw (eqb-true u t e) (permutation-self (t ∷ a))))
+    (λ i. let g = to-front t a i in (u ∷ g .0, then (behind u (g .1)) (exchanged u t))) (or-cases (eqb u t) (has t a) h)
 
 pub to-back : (t : ℕ) (a : List ℕ) → Permutation (t ∷ a) (a ++ (t ∷ []))
 to-back t [] = permutation-self (t ∷ [])
@@ -95,11 +85,8 @@ module _ (log : ℕ → List Entry) where
 
   in-logs : (t : ℕ) (a : List ℕ) → has t a ≡ true → {y : Entry} → List·Memᴰ y (log t) → List·Memᴰ y (logs a)
   in-logs t [] h m = absurd (false≢true h)
-  in-logs t (u ∷ a) h {y} m = go (eqb u t) refl h (λ i. in-logs t a i m)
-    where
-      go : (e : Bool) → eqb u t ≡ e → (e || has t a) ≡ true → (has t a ≡ true → List·Memᴰ y (logs a)) → List·Memᴰ y (log u ++ logs a)
-      go true e i f = Memᴰ·append-left {s = log u} (logs a) (rw (eqb-true u t e) m)
-      go false e i f = Memᴰ·append-right (log u) (f i)
+  in-logs t (u ∷ a) h m = ⊎-elim (λ e. Memᴰ·append-left {s = log u} (logs a) (rw (eqb-true u t e) m))
+      (λ i. Memᴰ·append-right (log u) (in-logs t a i m)) (or-cases (eqb u t) (has t a) h)
 
   -- the locks of different transactions do not clash, and none inserts a number twice
   pub record Apart : Type 0 where

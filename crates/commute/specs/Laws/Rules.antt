@@ -1,21 +1,22 @@
 -- The rules of contents and children, before and after each of the three edits.
 use mathlib.Core.Path.{_≡_, refl, sym, ap, _∙_}
 use Prim.Native.Nat.{ℕ, zero, suc, _-_, _≤_}
-use mathlib.Core.Bool.{Bool, true, false, cond, not, _&&_, false≢true}
+use mathlib.Core.Bool.{Bool, true, false, not, _&&_}
 use mathlib.Core.List.{List, [], _∷_, _++_, append-nil, Memᴰ·append-left, Memᴰ·append-right}
-use mathlib.Core.Logic.{_⊎_, inl, inr}
+use mathlib.Core.Logic.{⊎-elim}
 use lib.ListN.{length, take, drop}
-use lib.Dec.{eqb, leb}
+use lib.Dec.{eqb}
 use native.Mathlib.Omega.{arith}
-use borrow.Author.Tests.{eqb-true, eq-eqb, leb-true, le-leb}
+use borrow.Author.Tests.{eqb-true, eq-eqb, leb-true, le-leb, not-true}
 use Rattle.tree.specs.Lists.{every, leads, keep, distinct}
 use Rattle.tree.specs.Forest.{nil, node, row, rows, amend, view, place, put}
 use Rattle.tree.specs.Content.{element-kind, attribute-kind, allowed, takes, attributes-first, children-rule, insert-at}
 use Rattle.tree.specs.Document.{Node, Document, Line, child, numbers, kinds, top-kinds, ruled}
 use Rattle.tree.specs.Laws.Tests.{and-left, and-right, refuted}
 use Rattle.tree.specs.Laws.Lists.{keep-append, keep-none}
-use Rattle.tree.specs.Laws.Rows.{In, self, inner, later, line, parent-row, to-rows, of-rows}
+use Rattle.tree.specs.Laws.Rows.{In, self, inner, later, parent-row, to-rows, of-rows}
 use Rattle.tree.specs.Laws.Distinct.{head-new, head-apart, distinct-left, distinct-right, distinct-apart}
+use Rattle.commute.specs.Laws.Tests.{by-test}
 use Rattle.commute.specs.Laws.Lines.{number, line-number, rewritten, rewritten-kind}
 
 -- the parts of the rules ---------------------------------------------------------------------
@@ -51,15 +52,11 @@ module _ (t : Line → Bool) (b : List ℕ) where
   ruled-amend p nil h g = h
   ruled-amend p (node a ks fs) h g =
       let q = ruled-parts a ks fs h in
-      ruled-whole (rewritten t b (row a p)) (amend number (rewritten t b) (a .number ∷ p) ks) (amend number (rewritten t b) p fs)
-      (go (t (row a p)) refl (q .0), rw (rewritten-kind t b (row a p), kinds-amend (a .number ∷ p) ks) (q .0 .1))
+      ruled-whole (rewritten t b (row a p)) (amend number (rewritten t b) (a .number ∷ p) ks) (amend number (rewritten t b) p fs) (
+        by-test (t (row a p)) (λ e. rw e (g (row a p) (self refl) e)) (λ e. rw e (q .0 .0)),
+        rw (rewritten-kind t b (row a p), kinds-amend (a .number ∷ p) ks) (q .0 .1),
+      )
       (ruled-amend (a .number ∷ p) ks (q .1) (λ r m. g r (inner m))) (ruled-amend p fs (q .2) (λ r m. g r (later m)))
-    where
-      go : (c : Bool) → t (row a p) ≡ c → Ruled-node a ks
-          → allowed (cond c (record { number = a .number; kind = a .kind; content = b }) a .kind)
-          (cond c (record { number = a .number; kind = a .kind; content = b }) a .content) ≡ true
-      go true e i = g (row a p) (self refl) e
-      go false e i = i .0
 
 -- removal ----------------------------------------------------------------------------------------
 
@@ -82,57 +79,37 @@ sublist-length (dropped x s) = let i = sublist-length s in omega arith
 no-attributes : (l : List ℕ) → every (λ x. not (eqb x attribute-kind)) l ≡ true → attributes-first l ≡ true
 unfolding attributes-first
 no-attributes [] h = refl
-no-attributes (x ∷ l) h = go (eqb x attribute-kind) h
-  where
-    go : (c : Bool) → (not c && every (λ y. not (eqb y attribute-kind)) l) ≡ true
-        → cond c (attributes-first l) (every (λ y. not (eqb y attribute-kind)) l) ≡ true
-    go true e = absurd (false≢true e)
-    go false e = e
+no-attributes (x ∷ l) h = rw (not-true (eqb x attribute-kind) (and-left _ _ h)) (and-right (not (eqb x attribute-kind)) _ h)
 
 sublist-attributes : {l k : List ℕ} → Sublist l k → attributes-first k ≡ true → attributes-first l ≡ true
 unfolding attributes-first
 sublist-attributes none h = h
-sublist-attributes (kept x {l} {k} s) h = go (eqb x attribute-kind) h (sublist-attributes s)
-  where
-    go : (c : Bool) → cond c (attributes-first k) (every (λ y. not (eqb y attribute-kind)) k) ≡ true → (attributes-first k ≡ true → attributes-first l ≡ true)
-        → cond c (attributes-first l) (every (λ y. not (eqb y attribute-kind)) l) ≡ true
-    go true e f = f e
-    go false e f = sublist-every (λ y. not (eqb y attribute-kind)) s e
-sublist-attributes (dropped x {l} {k} s) h = go (eqb x attribute-kind) h (sublist-attributes s)
-  where
-    go : (c : Bool) → cond c (attributes-first k) (every (λ y. not (eqb y attribute-kind)) k) ≡ true
-        → (attributes-first k ≡ true → attributes-first l ≡ true) → attributes-first l ≡ true
-    go true e f = f e
-    go false e f = f (no-attributes k e)
+sublist-attributes (kept x s) h = by-test (eqb x attribute-kind) (λ e. rw e (sublist-attributes s (rw e at h)))
+    (λ e. rw e (sublist-every (λ y. not (eqb y attribute-kind)) s (rw e at h)))
+sublist-attributes (dropped x {k = k} s) h = by-test (eqb x attribute-kind) (λ e. sublist-attributes s (rw e at h))
+    (λ e. sublist-attributes s (no-attributes k (rw e at h)))
 
 sublist-rule : (kind : ℕ) {l k : List ℕ} → Sublist l k → children-rule kind k ≡ true → children-rule kind l ≡ true
 unfolding children-rule
-sublist-rule kind {l} {k} s h = rw (sublist-every (takes kind) s (and-left _ _ h)) (go (eqb kind element-kind) (and-right (every (takes kind) k) _ h))
-  where
-    go : (c : Bool) → cond c (attributes-first k) (leb (length k) 1) ≡ true → cond c (attributes-first l) (leb (length l) 1) ≡ true
-    go true e = sublist-attributes s e
-    go false e = le-leb (length l) 1 (omega (arith, sublist-length s, leb-true (length k) 1 e))
+sublist-rule kind {l} {k} s h =
+    let r = and-right (every (takes kind) k) _ h in
+    rw (sublist-every (takes kind) s (and-left _ _ h)) (by-test (eqb kind element-kind) (λ e. rw e (sublist-attributes s (rw e at r)))
+    (λ e. rw e (le-leb (length l) 1 (omega (arith, sublist-length s, leb-true (length k) 1 (rw e at r))))))
 
 module _ (shown : Node → Bool) where
   kinds-view : (f : Document) → Sublist (top-kinds (view shown (λ a. a) f)) (top-kinds f)
   unfolding view
   kinds-view nil = none
-  kinds-view (node a ks fs) = go (shown a) (kinds-view fs)
-    where
-      go : (c : Bool) → Sublist (top-kinds (view shown (λ x. x) fs)) (top-kinds fs)
-          → Sublist (top-kinds (cond c (node a (view shown (λ x. x) ks) (view shown (λ x. x) fs)) (view shown (λ x. x) fs))) (a .kind ∷ top-kinds fs)
-      go true s = kept (a .kind) s
-      go false s = dropped (a .kind) s
+  kinds-view (node a ks fs) = by-test (shown a) (λ e. rw e (kept (a .kind) (kinds-view fs))) (λ e. rw e (dropped (a .kind) (kinds-view fs)))
 
   pub ruled-view : (f : Document) → ruled f ≡ true → ruled (view shown (λ a. a) f) ≡ true
   unfolding view
   ruled-view nil h = h
-  ruled-view (node a ks fs) h = let q = ruled-parts a ks fs h in go (shown a) (q .0) (ruled-view ks (q .1)) (ruled-view fs (q .2))
-    where
-      go : (c : Bool) → Ruled-node a ks → ruled (view shown (λ x. x) ks) ≡ true → ruled (view shown (λ x. x) fs) ≡ true
-          → ruled (cond c (node a (view shown (λ x. x) ks) (view shown (λ x. x) fs)) (view shown (λ x. x) fs)) ≡ true
-      go true i u v = ruled-whole a (view shown (λ x. x) ks) (view shown (λ x. x) fs) (i .0, sublist-rule (a .kind) (kinds-view ks) (i .1)) u v
-      go false i u v = v
+  ruled-view (node a ks fs) h =
+      let q = ruled-parts a ks fs h in
+      by-test (shown a)
+      (λ e. rw e (ruled-whole a (view shown (λ x. x) ks) (view shown (λ x. x) fs) (q .0 .0, sublist-rule (a .kind) (kinds-view ks) (q .0 .1))
+      (ruled-view ks (q .1)) (ruled-view fs (q .2)))) (λ e. rw e (ruled-view fs (q .2)))
 
 -- insertion ------------------------------------------------------------------------------------
 
@@ -184,26 +161,20 @@ module _ (parent : Node → Bool) (k : ℕ) (new : Node) where
   ruled-put nil h n g = h
   ruled-put (node a ks fs) h n g =
       let q = ruled-parts a ks fs h in
-      go (parent a) refl (q .0) (ruled-put ks (q .1) n (λ b js m. g b js (below m))) (ruled-put fs (q .2) n (λ b js m. g b js (beside m)))
-    where
-      go : (c : Bool) → parent a ≡ c → Ruled-node a ks → ruled (put parent (λ x. true) k new ks) ≡ true → ruled (put parent (λ x. true) k new fs) ≡ true
-          → ruled (node a (cond c (place (λ x. true) k new (put parent (λ x. true) k new ks)) (put parent (λ x. true) k new ks))
-          (put parent (λ x. true) k new fs)) ≡ true
-      go true e i u v = ruled-whole a (place (λ x. true) k new (put parent (λ x. true) k new ks)) (put parent (λ x. true) k new fs)
-          (i .0, rw (kinds-inserted k (put parent (λ x. true) k new ks), kinds-put ks) (g a ks at-top e))
-          (ruled-place k (put parent (λ x. true) k new ks) u n) v
-      go false e i u v = ruled-whole a (put parent (λ x. true) k new ks) (put parent (λ x. true) k new fs) (i .0, rw (kinds-put ks) (i .1)) u v
+      let ks' = put parent (λ x. true) k new ks in
+      let u : ruled ks' ≡ true = ruled-put ks (q .1) n (λ b js m. g b js (below m)) in
+      let v = ruled-put fs (q .2) n (λ b js m. g b js (beside m)) in
+      by-test (parent a)
+      (λ e. rw e (ruled-whole a (place (λ x. true) k new ks') _ (q .0 .0, rw (kinds-inserted k ks', kinds-put ks) (g a ks at-top e)) (ruled-place k ks' u n) v))
+      (λ e. rw e (ruled-whole a ks' _ (q .0 .0, rw (kinds-put ks) (q .0 .1)) u v))
 
 -- the children of a node -----------------------------------------------------------------------
 
 module _ (n : ℕ) where
   -- without n in the forest or right above it no line is a child of n
   no-children : (p : List ℕ) (f : Document) → leads n p ≡ false → ((r : Line) → In number r p f → r .it .number ≡ n → ⊥) → keep (child n) (rows number p f) ≡ []
-  no-children p f h g = keep-none (child n) (rows number p f) (λ r m. go r (parent-row number (of-rows number r p f m)))
-    where
-      go : (r : Line) → (r .above ≡ p) ⊎ ((s : Line) × In number s p f × (r .above ≡ line number s)) → child n r ≡ false
-      go r (inl e) = rw e h
-      go r (inr s) = rw (s .2) (refuted (eqb (s .0 .it .number) n) (λ e. g (s .0) (s .1) (eqb-true _ n e)))
+  no-children p f h g = keep-none (child n) (rows number p f) (λ r m. ⊎-elim (λ e. rw e h)
+      (λ s. rw (s .2) (refuted (eqb (s .0 .it .number) n) (λ e. g (s .0) (s .1) (eqb-true _ n e)))) (parent-row number (of-rows number r p f m)))
 
   -- right below n, and without n in the forest, the topmost nodes are its children
   top-children : (p : List ℕ) (f : Document) → leads n p ≡ true → ((r : Line) → In number r p f → r .it .number ≡ n → ⊥)

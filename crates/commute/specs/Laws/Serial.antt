@@ -1,10 +1,10 @@
 -- Transactions run one after another, in any order; a granted step, commit and abort.
 use mathlib.Core.Path.{_≡_, refl, sym, _∙_}
 use Prim.Native.Nat.{ℕ}
-use mathlib.Core.Bool.{Bool, true, false, cond, or-true}
+use mathlib.Core.Bool.{false, cond, or-true}
 use mathlib.Core.List.{List, [], _∷_, _++_, List·Memᴰ, List·Memᴰ·head, List·Memᴰ·tail, List·Memᴰ·not-nil, List·Memᴰ·append-cases}
 use mathlib.Core.List.{List·Memᴰ·eq-of-singleton}
-use mathlib.Core.Logic.{_⊎_, inl, inr}
+use mathlib.Core.Logic.{_⊎_, inl, inr, ⊎-elim, ⊎-map}
 use lib.Dec.{eqb}
 use borrow.Author.Tests.{eqb-true, eq-eqb}
 use Rattle.tree.specs.Lists.{has}
@@ -12,9 +12,10 @@ use Rattle.tree.specs.Document.{Document}
 use Rattle.tree.specs.Steps.{after}
 use Rattle.tree.specs.Laws.Tests.{or-left, or-right, or-cases}
 use Rattle.locks.specs.Laws.Compatible.{compatible-symmetric}
+use Rattle.commute.specs.Laws.Tests.{by-test}
 use Rattle.commute.specs.Laws.Lines.{Unique}
 use Rattle.commute.specs.Laws.Classes.{Absent}
-use Rattle.commute.specs.Laws.Runs.{Entry, Valid, Run, run-split, run-append, unique-run, Clear, All-clear, Other-numbers, Brings-once, All-absent}
+use Rattle.commute.specs.Laws.Runs.{Entry, Valid, Run, run-split, run-append, unique-run, Clear, All-clear, Other-numbers, Brings-once}
 use Rattle.commute.specs.Laws.Orders.{Permutation, permuted-has, permuted-distinct, permutation-back, to-back, Distinct, distinct-head}
 use Rattle.commute.specs.Laws.Orders.{distinct-tail, distinct-cons, logs, logs-last, Apart, None-there, rest-not-there, any-order}
 
@@ -78,11 +79,7 @@ replaced t l log v = cond (eqb v t) l (log v)
 
 pub in-replaced : (t : ℕ) (l : List Entry) (log : ℕ → List Entry) (v : ℕ) {y : Entry} → List·Memᴰ y (replaced t l log v)
     → List·Memᴰ y (log v) ⊎ ((v ≡ t) × List·Memᴰ y l)
-in-replaced t l log v {y} m = go (eqb v t) refl m
-  where
-    go : (e : Bool) → eqb v t ≡ e → List·Memᴰ y (cond e l (log v)) → List·Memᴰ y (log v) ⊎ ((v ≡ t) × List·Memᴰ y l)
-    go true e i = inr (eqb-true v t e, i)
-    go false e i = inl i
+in-replaced t l log v m = by-test (eqb v t) (λ e. inr (eqb-true v t e, rw e at m)) (λ e. inl (rw e at m))
 
 -- the log of a transaction that is not among them does not matter
 logs-replaced : (t : ℕ) (l : List Entry) (log : ℕ → List Entry) (a : List ℕ) → has t a ≡ false → logs (replaced t l log) a ≡ logs log a
@@ -90,22 +87,14 @@ logs-replaced t l log [] h = refl
 logs-replaced t l log (v ∷ a) h = rw (or-left (eqb v t) (has t a) h, logs-replaced t l log a (or-right (eqb v t) (has t a) h))
 
 once-replaced : (t : ℕ) (l : List Entry) (log : ℕ → List Entry) → ((v : ℕ) → Brings-once (log v)) → Brings-once l → (v : ℕ) → Brings-once (replaced t l log v)
-once-replaced t l log s o v = go (eqb v t)
-  where
-    go : (e : Bool) → Brings-once (cond e l (log v))
-    go true = o
-    go false = s v
+once-replaced t l log s o v = by-test (eqb v t) (λ e. rw e o) (λ e. rw e (s v))
 
 -- the log of t is emptied
 abbrev pub emptied : ℕ → (ℕ → List Entry) → ℕ → List Entry
 emptied t log = replaced t [] log
 
 pub in-emptied : (t : ℕ) (log : ℕ → List Entry) (v : ℕ) {y : Entry} → List·Memᴰ y (emptied t log v) → List·Memᴰ y (log v)
-in-emptied t log v {y} m = go (in-replaced t [] log v m)
-  where
-    go : List·Memᴰ y (log v) ⊎ ((v ≡ t) × List·Memᴰ y []) → List·Memᴰ y (log v)
-    go (inl i) = i
-    go (inr i) = absurd (List·Memᴰ·not-nil (i .1))
+in-emptied t log v m = ⊎-elim (λ i. i) (λ i. absurd (List·Memᴰ·not-nil (i .1))) (in-replaced t [] log v m)
 
 pub forget : (d : Document) (t : ℕ) (a : List ℕ) (log : ℕ → List Entry) (h : Document) → has t a ≡ false → Serial d a log h
     → Serial d a (emptied t log) h
@@ -127,13 +116,10 @@ idle d t a log h w e s = record {
   unique = s .unique;
   distinct = distinct-cons t a w (s .distinct);
   apart = s .apart;
-  none-there = λ v i. go v (or-cases (eqb t v) (has v a) i);
+  none-there = λ v i y m. ⊎-elim (λ j. absurd (List·Memᴰ·not-nil (rw (← eqb-true t v j, e) at m))) (λ j. s .none-there v j y m)
+      (or-cases (eqb t v) (has v a) i);
   run = rw e (s .run);
 }
-  where
-    go : (v : ℕ) → (eqb t v ≡ true) ⊎ (has v a ≡ true) → All-absent (log v) d
-    go v (inl i) y m = absurd (List·Memᴰ·not-nil (rw (← eqb-true t v i, e) at m))
-    go v (inr i) y m = s .none-there v i y m
 
 -- a granted step ---------------------------------------------------------------------------------
 
@@ -143,23 +129,17 @@ noted t x log = replaced t (log t ++ (x ∷ [])) log
 
 pub in-noted : (t : ℕ) (x : Entry) (log : ℕ → List Entry) (v : ℕ) {y : Entry} → List·Memᴰ y (noted t x log v)
     → List·Memᴰ y (log v) ⊎ ((v ≡ t) × (y ≡ x))
-in-noted t x log v {y} m = go (in-replaced t (log t ++ (x ∷ [])) log v m)
-  where
-    more : v ≡ t → List·Memᴰ y (log t) ⊎ List·Memᴰ y (x ∷ []) → List·Memᴰ y (log v) ⊎ ((v ≡ t) × (y ≡ x))
-    more e (inl i) = inl (rw e i)
-    more e (inr i) = inr (e, List·Memᴰ·eq-of-singleton i)
-
-    go : List·Memᴰ y (log v) ⊎ ((v ≡ t) × List·Memᴰ y (log t ++ (x ∷ []))) → List·Memᴰ y (log v) ⊎ ((v ≡ t) × (y ≡ x))
-    go (inl i) = inl i
-    go (inr i) = more (i .0) (List·Memᴰ·append-cases (log t) (i .1))
+in-noted t x log v m = ⊎-elim inl
+    (λ i. ⊎-map (λ j. rw (i .0) j) (λ j. (i .0, List·Memᴰ·eq-of-singleton j)) (List·Memᴰ·append-cases (log t) (i .1)))
+    (in-replaced t (log t ++ (x ∷ [])) log v m)
 
 inserts-once-noted : (l : List Entry) (x : Entry) → Brings-once l → ((y : Entry) → List·Memᴰ y l → Other-numbers x y) → Brings-once (l ++ (x ∷ []))
 inserts-once-noted [] x o n = (λ y i. absurd (List·Memᴰ·not-nil i), tt)
-inserts-once-noted (z ∷ l) x o n = (λ y i. go y (List·Memᴰ·append-cases l i), inserts-once-noted l x (o .1) (λ y i. n y (List·Memᴰ·tail i)))
-  where
-    go : (y : Entry) → List·Memᴰ y l ⊎ List·Memᴰ y (x ∷ []) → Other-numbers y z
-    go y (inl i) m h = o .0 y i m h
-    go y (inr i) m h = n z (List·Memᴰ·head refl) m (rw (List·Memᴰ·eq-of-singleton i) at h)
+inserts-once-noted (z ∷ l) x o n = (
+  λ y i m h. ⊎-elim (λ j. o .0 y j m h)
+      (λ j. n z (List·Memᴰ·head refl) m (rw (List·Memᴰ·eq-of-singleton {a = y} {b = x} j) at h)) (List·Memᴰ·append-cases l i),
+  inserts-once-noted l x (o .1) (λ y i. n y (List·Memᴰ·tail i)),
+)
 
 -- x may be granted to t: no lock of another transaction clashes with its locks, and what it inserts was not inserted before by t
 pub record Grantable (t : ℕ) (log : ℕ → List Entry) (x : Entry) : Type 0 where
@@ -183,11 +163,7 @@ apart-noted t log x s g = record {
 
 none-there-noted : (t : ℕ) (log : ℕ → List Entry) (x : Entry) (a : List ℕ) (d : Document) → None-there log a d → Absent (x .step) d
     → None-there (noted t x log) a d
-none-there-noted t log x a d w n v i y m = go (in-noted t x log v m)
-  where
-    go : List·Memᴰ y (log v) ⊎ ((v ≡ t) × (y ≡ x)) → Absent (y .step) d
-    go (inl p) = w v i y p
-    go (inr p) = rw (p .1) n
+none-there-noted t log x a d w n v i y m = ⊎-elim (λ p. w v i y p) (λ p. rw (p .1) n) (in-noted t x log v m)
 
 -- x is granted to t, which is among the transactions: x is valid on what they leave, and is then done too
 pub grant : (d : Document) (t : ℕ) (a : List ℕ) (log : ℕ → List Entry) (h : Document) (x : Entry) → Serial d (t ∷ a) log h

@@ -14,6 +14,7 @@ use Rattle.tree.specs.Steps.{Step, I, fits, after, remove, rewrite}
 use Rattle.tree.specs.Laws.Lists.{map-map, count}
 use Rattle.tree.specs.Laws.Put.{put-kept, put-count}
 use Rattle.tree.specs.Laws.Distinct.{distinct-count, count-distinct, distinct-keep}
+use Rattle.commute.specs.Laws.Tests.{by-test}
 use Rattle.commute.specs.Laws.Lines.{number, line-number, Unique, rewritten, rewritten-number, lines-rewrite, lines-remove, insert}
 use Rattle.commute.specs.Laws.Classes.{Class, reading, rewriting, removing, inserting, class, touched, written, after-rewriting}
 use Rattle.commute.specs.Laws.Kept.{fits-absent}
@@ -38,18 +39,14 @@ count-absent m d h = go (keep (is m) (lines d)) h
 
 pub unique-insert : (a : Node) (n k : ℕ) (d : Document) → Unique d → here (a .number) d ≡ false → Unique (insert a n k d)
 unfolding lines
-unique-insert a n k d u h = count-distinct line-number (lines (insert a n k d)) (λ q. go q (eqb (a .number) q) refl)
+unique-insert a n k d u h = count-distinct line-number (lines (insert a n k d)) (λ q. by-test (eqb (a .number) q) (added q) (λ e. rw (put-kept (λ x. eqb (x .number) n) (λ x. true) k a number (is q) [] d (λ s m j. e)) (distinct-count line-number (lines d) u q)))
   where
-    go : (q : ℕ) (t : Bool) → eqb (a .number) q ≡ t → count (is q) (lines (insert a n k d)) ≤ 1
-    go q true e =
+    added : (q : ℕ) → eqb (a .number) q ≡ true → count (is q) (lines (insert a n k d)) ≤ 1
+    added q e =
         let i : count (is q) (lines (insert a n k d)) ≡ count (is n) (lines d) + count (is q) (lines d) =
         put-count (λ x. eqb (x .number) n) (λ x. true) k a number (is q) [] d (λ s m j. e) in
         let z : count (is q) (lines d) ≡ 0 = count-absent q d (rw (← eqb-true (a .number) q e) h) in
         rw (i, z) (omega (arith, distinct-count line-number (lines d) u n))
-    go q false e =
-        let i : keep (is q) (lines (insert a n k d)) ≡ keep (is q) (lines d) =
-        put-kept (λ x. eqb (x .number) n) (λ x. true) k a number (is q) [] d (λ s m j. e) in
-        rw i (distinct-count line-number (lines d) u q)
 
 pub unique-after : (d : Document) → Unique d → (p : Step) → fits p d ≡ true → Unique (after p d)
 unique-after d u p g = go (class p) g

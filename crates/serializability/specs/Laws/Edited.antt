@@ -1,43 +1,50 @@
--- What a write and a deletion leave of a node's marks.
+-- What a granted step does to the tree: nothing, other marks that leave numbers, inserters and locks, or a new node.
 use mathlib.Core.Path.{_≡_, refl}
 use Prim.Native.Nat.{ℕ}
-use mathlib.Core.Bool.{Bool, true, false, cond}
-use mathlib.Core.List.{List}
-use Rattle.locks.specs.Modes.{Mode}
-use Rattle.protocol.specs.State.{Marked, written-by, deleted-by, writer-of}
+use mathlib.Core.Bool.{Bool, cond}
+use mathlib.Core.List.{List, []}
+use Rattle.tree.specs.Forest.{put}
+use Rattle.tree.specs.Steps.{Step, T, C, R, U, D, I, TT, RR, UU, inserts}
+use Rattle.commute.specs.Laws.Tests.{cond-same}
+use Rattle.protocol.specs.State.{Marked, Tree, numbered, seen-by, written-by, deleted-by, inserted-by, mark, renamed, act}
+use Rattle.serializability.specs.Laws.Shown.{Place}
+use Rattle.serializability.specs.Laws.Numbers.{number-of}
 
--- t wrote b, or did not
-module _ (t : ℕ) (b : List ℕ) (a : Marked) where
-  pub written-number : (x : Bool) → cond x (written-by t b a) a .now .number ≡ a .now .number
-  written-number true = refl
-  written-number false = refl
+pub record Keeps (c : Place → Marked) : Type 0 where
+  pub number : (r : Place) → c r .now .number ≡ number-of r
+  pub inserter : (r : Place) → c r .inserter ≡ r .it .inserter
+  pub held : (r : Place) → c r .held ≡ r .it .held
 
-  pub written-inserter : (x : Bool) → cond x (written-by t b a) a .inserter ≡ a .inserter
-  written-inserter true = refl
-  written-inserter false = refl
+-- an edit of the nodes that pass a test
+pub keeps-where : (test : Place → Bool) (e : Marked → Marked) → Keeps (λ r. e (r .it)) → Keeps (λ r. cond (test r) (e (r .it)) (r .it))
+keeps-where test e k = record {
+  number = λ r. cond-same (λ (a : Marked). a .now .number) (test r) (e (r .it)) (r .it) (k .number r);
+  inserter = λ r. cond-same (λ (a : Marked). a .inserter) (test r) (e (r .it)) (r .it) (k .inserter r);
+  held = λ r. cond-same (λ (a : Marked). a .held) (test r) (e (r .it)) (r .it) (k .held r);
+}
 
-  pub written-deleter : (x : Bool) → cond x (written-by t b a) a .deleter ≡ a .deleter
-  written-deleter true = refl
-  written-deleter false = refl
+pub keeps-written : (t : ℕ) (b : List ℕ) (test : Place → Bool) → Keeps (λ r. cond (test r) (written-by t b (r .it)) (r .it))
+keeps-written t b test = keeps-where test (written-by t b) (record { number = λ r. refl; inserter = λ r. refl; held = λ r. refl })
 
-  pub written-held : (x : Bool) (u : ℕ) (m : Mode) → cond x (written-by t b a) a .held u m ≡ a .held u m
-  written-held true u m = refl
-  written-held false u m = refl
+pub keeps-deleted : (t : ℕ) (test : Place → Bool) → Keeps (λ r. cond (test r) (deleted-by t (r .it)) (r .it))
+keeps-deleted t test = keeps-where test (deleted-by t) (record { number = λ r. refl; inserter = λ r. refl; held = λ r. refl })
 
--- t deleted it, or did not
-module _ (t : ℕ) (a : Marked) where
-  pub deleted-number : (x : Bool) → cond x (deleted-by t a) a .now .number ≡ a .now .number
-  deleted-number true = refl
-  deleted-number false = refl
+-- the new node of t
+abbrev pub new-node : ℕ → ℕ → ℕ → List ℕ → Marked
+new-node t m kind b = inserted-by t (record { number = m; kind = kind; content = b })
 
-  pub deleted-inserter : (x : Bool) → cond x (deleted-by t a) a .inserter ≡ a .inserter
-  deleted-inserter true = refl
-  deleted-inserter false = refl
+pub data Deed (t : ℕ) (f : Tree) : Step → Tree → Type 0 where
+  looks : {s : Step} → inserts s ≡ [] → Deed t f s f
+  marks : {s : Step} (c : Place → Marked) → Keeps c → inserts s ≡ [] → Deed t f s (mark c f)
+  adds : (m kind : ℕ) (b : List ℕ) (n k : ℕ) → Deed t f (I m kind b n k) (put (numbered n) (seen-by t) k (new-node t m kind b) f)
 
-  pub deleted-writer : (x : Bool) → writer-of (cond x (deleted-by t a) a .update) ≡ writer-of (a .update)
-  deleted-writer true = refl
-  deleted-writer false = refl
-
-  pub deleted-held : (x : Bool) (u : ℕ) (m : Mode) → cond x (deleted-by t a) a .held u m ≡ a .held u m
-  deleted-held true u m = refl
-  deleted-held false u m = refl
+pub deed : (t : ℕ) (s : Step) (f : Tree) → Deed t f s (act t s f)
+deed t (T n) f = looks refl
+deed t (C n k) f = looks refl
+deed t (R n) f = looks refl
+deed t (U n b) f = marks _ (keeps-written t b (λ r. numbered n (r .it))) refl
+deed t (D n) f = marks _ (keeps-deleted t (λ r. numbered n (r .it))) refl
+deed t (I m kind b n k) f = adds m kind b n k
+deed t (TT n) f = looks refl
+deed t (RR n) f = looks refl
+deed t (UU n a b) f = marks _ (keeps-written t b (renamed t n a)) refl

@@ -1,36 +1,37 @@
 -- Commit and abort keep the state serializable: a commit moves its log to the committed transactions, an abort drops it.
 use mathlib.Core.Path.{_≡_, refl, sym, ap, _∙_, fun-ext}
 use Prim.Native.Nat.{ℕ}
-use mathlib.Core.Bool.{Bool, true, false, cond, not, _&&_, _||_, true≢false, or-true}
+use mathlib.Core.Bool.{Bool, true, false, not, _&&_, _||_, true≢false, or-true, or-self-left, and-false}
 use mathlib.Core.List.{List, [], _∷_, map, List·Memᴰ, List·Memᴰ·head, List·Memᴰ·not-nil}
-use mathlib.Core.Logic.{_⊎_, inl, inr}
+use mathlib.Core.Logic.{⊎-elim}
 use lib.Dec.{eqb}
 use borrow.Author.Tests.{eqb-true, eqb-false, eq-eqb, ne-eqb, not-true, not-false}
 use Rattle.tree.specs.Lists.{every, has}
 use Rattle.tree.specs.Forest.{view}
 use Rattle.tree.specs.Document.{Document}
-use Rattle.tree.specs.Steps.{D, U, inserts}
-use Rattle.tree.specs.Laws.Tests.{and-left, and-right}
+use Rattle.tree.specs.Steps.{D}
+use Rattle.tree.specs.Laws.Tests.{and-left, and-right, or-cases}
+use Rattle.tree.specs.Laws.Lists.{eqb-flip}
 use Rattle.tree.specs.Laws.Rows.{Each, each-above}
 use Rattle.locks.specs.Modes.{Mode, LW}
-use Rattle.locks.specs.Needs.{locks}
 use Rattle.locks.specs.Laws.Compatible.{Locked, Compatible, node-locked}
 use Rattle.locks.specs.Laws.Excludes.{LW-clashes}
+use Rattle.commute.specs.Laws.Tests.{by-test, affirmed}
 use Rattle.commute.specs.Laws.Runs.{Entry, Run, run-one-end}
 use Rattle.commute.specs.Laws.Orders.{Distinct, permuted-has, permuted-distinct, permutation-back, to-front, distinct-head, distinct-tail, distinct-cons}
 use Rattle.commute.specs.Laws.Serial.{Serial, reorder, commit, emptied, in-emptied, forget, idle}
 use Rattle.protocol.specs.State.{nobody, State, Marked, Tree, seen-by, document-of, without, none-of, lasting, undone, commit-tree, abort-tree, closed, writer-of}
 use Rattle.serializability.specs.Laws.Shown.{Place, Inside, path, numbers-of, plus, minus, writer-without, commit-shown, abort-shown}
 use Rattle.serializability.specs.Laws.Numbers.{number-of, seen-as, in-part, part-in, part-distinct}
-use Rattle.serializability.specs.Laws.Marks.{Within, Guarded, Renames, Authored, Covered}
+use Rattle.serializability.specs.Laws.Marks.{marked-by, Guarded, Authored, author-more, Covered}
 use Rattle.serializability.specs.Laws.Standing.{Standing, Carried, standing-carried}
-use Rattle.serializability.specs.Laws.Whole.{locks-of, in-locks-of, lock-entry, holds, Good}
+use Rattle.serializability.specs.Laws.Whole.{locks-of, in-locks-of, lock-entry, holds, Brought, brought-as, Good}
 
 -- what an end of t does to the marks
 pub record Ending (t : ℕ) (stays : Marked → Bool) (g : Marked → Marked) : Type 0 where
   pub number : (a : Marked) → g a .now .number ≡ a .now .number
   -- only what t marked goes
-  pub cut : (a : Marked) → stays a ≡ false → (eqb (a .inserter) t || eqb (a .deleter) t) ≡ true
+  pub cut : (a : Marked) → stays a ≡ false → marked-by t a ≡ true
   -- the marks of t go, and no new ones come
   pub inserter : (a : Marked) (u : ℕ) → (u ≡ nobody → ⊥) → stays a ≡ true → eqb (g a .inserter) u ≡ true → (eqb (a .inserter) u ≡ true) × (u ≡ t → ⊥)
   pub deleter : (a : Marked) (u : ℕ) → (u ≡ nobody → ⊥) → stays a ≡ true → eqb (g a .deleter) u ≡ true → (eqb (a .deleter) u ≡ true) × (u ≡ t → ⊥)
@@ -75,54 +76,37 @@ module _ (c : Document) (log : ℕ → List Entry) (M : State) (g : Good c log M
   numbers-same [] = refl
   numbers-same (a ∷ p) = rw (end .number a, numbers-same p)
 
-  renames-other : (u : ℕ) (p : List ℕ) → (u ≡ t → ⊥) → Renames (holds log) u p → Renames (holds log') u p
-  renames-other u [] ne w = w
-  renames-other u (q ∷ p) ne (inl w) = inl (λ l i. rw (holds-other u ne) (w l i))
-  renames-other u (q ∷ p) ne (inr w) = inr (renames-other u p ne w)
-
   end-covered : Covered (holds log') rest
   end-covered = record { distinct = part-distinct stays h (end .number) f (g .covered .distinct); guarded = gd; authored = au }
     where
       gd : (r : Place) → Inside r rest → Guarded (holds log') (r .it) (r .above)
-      gd r i u nu m l j = step (eqb (h (a .0 .it) .inserter) u) refl (rw (a .3) at m)
-        where
-          a : (s : Place) × Inside s f × (every stays (path s) ≡ true) × (r ≡ seen-as stays h s)
-          a = in-part stays h f i
-
-          give : (u ≡ t → ⊥) → (eqb (a .0 .it .inserter) u || eqb (a .0 .it .deleter) u) ≡ true → List·Memᴰ l (holds log' u)
-          give ne w = rw (holds-other u ne) (g .covered .guarded (a .0) (a .1) u nu w l (rw (a .3, end .number (a .0 .it), numbers-same (a .0 .above)) at j))
-
-          step : (x : Bool) → eqb (h (a .0 .it) .inserter) u ≡ x → (eqb (h (a .0 .it) .inserter) u || eqb (h (a .0 .it) .deleter) u) ≡ true → List·Memᴰ l (holds log' u)
-          step true x y = let w = end .inserter (a .0 .it) u nu (and-left _ _ (a .2)) x in give (w .1) (rw (w .0))
-          step false x y = let w = end .deleter (a .0 .it) u nu (and-left _ _ (a .2)) (rw x at y) in give (w .1) (rw (w .0, or-true (eqb (a .0 .it .inserter) u)))
+      gd r i u nu m l j =
+          let a = in-part stays h f i in
+          let s = a .0 .it in
+          let give : (u ≡ t → ⊥) → marked-by u s ≡ true → List·Memᴰ l (holds log' u) =
+          λ ne w. rw (holds-other u ne) (g .covered .guarded (a .0) (a .1) u nu w l (rw (a .3, end .number s, numbers-same (a .0 .above)) at j)) in
+          ⊎-elim (λ x. let w = end .inserter s u nu (and-left _ _ (a .2)) x in give (w .1) (rw (w .0)))
+          (λ x. let w = end .deleter s u nu (and-left _ _ (a .2)) x in give (w .1) (rw (w .0, or-true (eqb (s .inserter) u))))
+          (or-cases (eqb (h s .inserter) u) (eqb (h s .deleter) u) (rw (a .3) at m))
 
       au : (r : Place) → Inside r rest → Authored (holds log') (r .it) (r .above)
-      au r i u nu m = rw (a .3, end .number (a .0 .it), numbers-same (a .0 .above)) (step (g .covered .authored (a .0) (a .1) u nu (w .0)))
-        where
-          a : (s : Place) × Inside s f × (every stays (path s) ≡ true) × (r ≡ seen-as stays h s)
-          a = in-part stays h f i
-
-          w : (eqb (writer-of (a .0 .it .update)) u ≡ true) × (u ≡ t → ⊥)
-          w = end .writer (a .0 .it) u nu (rw (a .3) at m)
-
-          step : (eqb (a .0 .it .inserter) u ≡ true) ⊎ (Within (locks (U (number-of (a .0)) []) (numbers-of (a .0 .above))) (holds log u) ⊎ Renames (holds log) u (numbers-of (path (a .0))))
-              → (eqb (h (a .0 .it) .inserter) u ≡ true) ⊎ (Within (locks (U (number-of (a .0)) []) (numbers-of (a .0 .above))) (holds log' u) ⊎ Renames (holds log') u (numbers-of (path (a .0))))
-          step (inl x) = inl (end .inserter-stays (a .0 .it) u (w .1) x)
-          step (inr (inl x)) = inr (inl (λ l j. rw (holds-other u (w .1)) (x l j)))
-          step (inr (inr x)) = inr (inr (renames-other u (numbers-of (path (a .0))) (w .1) x))
+      au r i u nu m =
+          let a = in-part stays h f i in
+          let s = a .0 .it in
+          let w = end .writer s u nu (rw (a .3) at m) in
+          rw (a .3, end .number s, numbers-same (a .0 .above)) (author-more (holds log) (holds log') u (λ l x. rw (holds-other u (w .1)) x)
+          _ _ (end .inserter-stays s u (w .1)) (s .now .number) (numbers-of (a .0 .above)) (g .covered .authored (a .0) (a .1) u nu (w .0)))
 
   -- where another transaction locked all of a path nothing goes
   path-stays : (u : ℕ) → (u ≡ t → ⊥) → (l : List Marked) → Each (λ a. a) (Guarded (holds log)) l → ((q : ℕ) → has q (numbers-of l) ≡ true → (m : Mode) × Locked q m (holds log u)) → every stays l ≡ true
   path-stays u ne [] k w = refl
-  path-stays u ne (a ∷ p) k w = rw (go (stays a) refl, path-stays u ne p (k .1) (λ q z. w q (rw (z, or-true (eqb (a .now .number) q)))))
-    where
-      go : (x : Bool) → stays a ≡ x → stays a ≡ true
-      go true x = x
-      go false x =
-          let v = w (a .now .number) (rw (eq-eqb (a .now .number) (a .now .number) refl)) in
-          let lw : Locked (a .now .number) LW (holds log t) =
-          k .0 t nz (end .cut a x) (a .now .number, LW) (node-locked (D (a .now .number)) (numbers-of p) LW (List·Memᴰ·head refl)) in
-          absurd (true≢false (sym (LW-clashes (v .0)) ∙ logs-compatible g u t ne (a .now .number) (v .0) LW (v .1) lw))
+  path-stays u ne (a ∷ p) k w =
+      let here : stays a ≡ true = affirmed _ (λ x.
+      let v = w (a .now .number) (rw (eq-eqb (a .now .number) (a .now .number) refl)) in
+      let lw : Locked (a .now .number) LW (holds log t) =
+      k .0 t nz (end .cut a x) (a .now .number, LW) (node-locked (D (a .now .number)) (numbers-of p) LW (List·Memᴰ·head refl)) in
+      true≢false (sym (LW-clashes (v .0)) ∙ logs-compatible g u t ne (a .now .number) (v .0) LW (v .1) lw)) in
+      rw (here, path-stays u ne p (k .1) (λ q z. w q (rw (z, or-true (eqb (a .now .number) q)))))
 
   end-standing : (u : ℕ) (y : Entry) → List·Memᴰ y (log' u) → Standing rest u (y .step) (y .held)
   end-standing u y i = standing-carried f rest (g .covered .distinct) u (y .step) (y .held) (g .standing u y (in-emptied t log u i)) carry
@@ -143,27 +127,25 @@ module _ (c : Document) (log : ℕ → List Entry) (M : State) (g : Good c log M
             inserter = λ e. eqb-true _ u (end .inserter-stays (r .it) u ne (eq-eqb _ u e));
           }
 
-  end-brought : (r : Place) → Inside r rest → (r .it .inserter ≡ nobody → ⊥) → (y : Entry) × List·Memᴰ y (log' (r .it .inserter)) × (has (number-of r) (inserts (y .step)) ≡ true)
+  end-brought : (r : Place) → Inside r rest → (r .it .inserter ≡ nobody → ⊥) → Brought log' (number-of r) (r .it .inserter)
   end-brought r i nu =
       let a = in-part stays h f i in
       let w = end .inserter (a .0 .it) (r .it .inserter) nu (and-left _ _ (a .2)) (eq-eqb _ _ (ap (λ (z : Place). z .it .inserter) (sym (a .3)))) in
-      let e : a .0 .it .inserter ≡ r .it .inserter = eqb-true _ _ (w .0) in
-      let y = g .brought (a .0) (a .1) (λ z. nu (sym e ∙ z)) in
-      (y .0, moved (a .0 .it .inserter) (r .it .inserter) e (w .1) (y .0) (y .1), ap (λ m. has m (inserts (y .0 .step))) (ap number-of (a .3) ∙ end .number (a .0 .it)) ∙ y .2)
-    where
-      moved : (v u : ℕ) → v ≡ u → (u ≡ t → ⊥) → (y : Entry) → List·Memᴰ y (log v) → List·Memᴰ y (log' u)
-      moved v u e ne y m = rw (emptied-other t log u ne, ← e) m
+      let e : r .it .inserter ≡ a .0 .it .inserter = sym (eqb-true _ _ (w .0)) in
+      let y = g .brought (a .0) (a .1) (λ z. nu (e ∙ z)) in
+      brought-as log' (ap number-of (a .3) ∙ end .number (a .0 .it)) e
+      (y .0, rw (emptied-other t log (a .0 .it .inserter) (λ z. w .1 (e ∙ z))) (y .1), y .2)
 
   -- the rest of what is claimed of the state, from the documents
   end-good : (c' : Document) → ((b : List ℕ) → Distinct b → Serial c' b log' (document-of (λ u. has u b) rest)) → Good c' log' (closed t rest M)
-  end-good c' serial = record { closed = shut; numbered = λ u e. g .numbered u (and-right (not (eqb u t)) _ e); covered = end-covered; standing = end-standing; brought = end-brought; serial = serial }
-    where
-      shut : (u : ℕ) → (not (eqb u t) && M .header .is-open u) ≡ false → log' u ≡ []
-      shut u e = go (eqb u t) refl e
-        where
-          go : (x : Bool) → eqb u t ≡ x → (not x && M .header .is-open u) ≡ false → cond x [] (log u) ≡ []
-          go true x y = refl
-          go false x y = g .closed u y
+  end-good c' serial = record {
+    closed = λ u e. by-test (eqb u t) (λ x. rw x) (λ x. rw x (g .closed u (rw x at e)));
+    numbered = λ u e. g .numbered u (and-right (not (eqb u t)) _ e);
+    covered = end-covered;
+    standing = end-standing;
+    brought = end-brought;
+    serial = serial;
+  }
 
 -- the documents -----------------------------------------------------------------------------------
 
@@ -171,29 +153,18 @@ pub document-same : (S S' : ℕ → Bool) (f : Tree) → ((u : ℕ) → S u ≡ 
 document-same S S' f h = ap (λ (X : ℕ → Bool). document-of X f) (fun-ext h)
 
 eqb-sym : (t u : ℕ) → eqb t u ≡ eqb u t
-eqb-sym t u = go (eqb u t) refl
-  where
-    go : (e : Bool) → eqb u t ≡ e → eqb t u ≡ e
-    go true e = eq-eqb t u (sym (eqb-true u t e))
-    go false e = ne-eqb t u (λ x. eqb-false u t e (sym x))
+eqb-sym t u = by-test (eqb u t) (λ e. rw (e, eq-eqb t u (sym (eqb-true u t e)))) (λ e. rw (e, eqb-flip u t e))
 
 -- of a transaction with an empty log, from the lists without it to all
 all-orders : (c : Document) (t : ℕ) (log : ℕ → List Entry) (f : Tree) → log t ≡ [] → ((b : List ℕ) → Distinct b → has t b ≡ false → Serial c b log (document-of (λ u. has u b) f))
     → ((b : List ℕ) → document-of (λ u. has u (t ∷ b)) f ≡ document-of (λ u. has u b) f) → (b : List ℕ) → Distinct b → Serial c b log (document-of (λ u. has u b) f)
-all-orders c t log f e s k b n = go (has t b) refl
-  where
-    go : (x : Bool) → has t b ≡ x → Serial c b log (document-of (λ u. has u b) f)
-    go true x =
-        let p = to-front t b x in
-        let m : Distinct (t ∷ p .0) = permuted-distinct (p .1) n in
-        rw (document-same (λ u. has u b) (λ u. has u (t ∷ p .0)) f (λ u. sym (permuted-has (p .1) u)) ∙ k (p .0))
-        (reorder c (t ∷ p .0) b log (document-of (λ u. has u (p .0)) f) (permutation-back (p .1))
-        (idle c t (p .0) log (document-of (λ u. has u (p .0)) f) (distinct-head t (p .0) m) e (s (p .0) (distinct-tail t (p .0) m) (distinct-head t (p .0) m))))
-    go false x = s b n x
-
-or-twice : (a b : Bool) → (a || (a || b)) ≡ (a || b)
-or-twice true b = refl
-or-twice false b = refl
+all-orders c t log f e s k b n = by-test (has t b) (λ x.
+    let p = to-front t b x in
+    let m : Distinct (t ∷ p .0) = permuted-distinct (p .1) n in
+    rw (document-same (λ u. has u b) (λ u. has u (t ∷ p .0)) f (λ u. sym (permuted-has (p .1) u)) ∙ k (p .0))
+    (reorder c (t ∷ p .0) b log (document-of (λ u. has u (p .0)) f) (permutation-back (p .1))
+    (idle c t (p .0) log (document-of (λ u. has u (p .0)) f) (distinct-head t (p .0) m) e (s (p .0) (distinct-tail t (p .0) m) (distinct-head t (p .0) m)))))
+    (s b n)
 
 module _ (c : Document) (log : ℕ → List Entry) (M : State) (g : Good c log M) (t : ℕ) (nz : t ≡ nobody → ⊥) where
   abbrev tree : Tree
@@ -210,25 +181,17 @@ module _ (c : Document) (log : ℕ → List Entry) (M : State) (g : Good c log M
 
       own : (b : List ℕ) → document-of (λ u. has u (t ∷ b)) (commit-tree t tree) ≡ document-of (λ u. has u b) (commit-tree t tree)
       own b = commit-shown t nz (λ u. has u (t ∷ b)) tree
-          ∙ document-same (plus t (λ u. has u (t ∷ b))) (plus t (λ u. has u b)) tree (λ u. rw (eqb-sym t u) (or-twice (eqb u t) (has u b)))
+          ∙ document-same (plus t (λ u. has u (t ∷ b))) (plus t (λ u. has u b)) tree (λ u. rw (eqb-sym t u) (or-self-left (eqb u t) (has u b)))
           ∙ sym (commit-shown t nz (λ u. has u b) tree)
 
   abort-serial : (b : List ℕ) → Distinct b → Serial c b (emptied t log) (document-of (λ u. has u b) (abort-tree t tree))
   abort-serial = all-orders c t (emptied t log) (abort-tree t tree) (emptied-own t log) others own
     where
       off : (b : List ℕ) (u : ℕ) → has t b ≡ false → (not (eqb u t) && has u b) ≡ has u b
-      off b u w = go (eqb u t) refl
-        where
-          go : (x : Bool) → eqb u t ≡ x → (not x && has u b) ≡ has u b
-          go true x = sym (ap (λ z. has z b) (eqb-true u t x) ∙ w)
-          go false x = refl
+      off b u w = by-test (eqb u t) (λ x. rw (eqb-true u t x, w, and-false (not (eqb t t)))) (λ x. rw x)
 
       without : (b : List ℕ) (u : ℕ) → (not (eqb u t) && (eqb t u || has u b)) ≡ (not (eqb u t) && has u b)
-      without b u = rw (eqb-sym t u) (go (eqb u t))
-        where
-          go : (x : Bool) → (not x && (x || has u b)) ≡ (not x && has u b)
-          go true = refl
-          go false = refl
+      without b u = rw (eqb-sym t u) (by-test (eqb u t) (λ x. rw x) (λ x. rw x))
 
       others : (b : List ℕ) → Distinct b → has t b ≡ false → Serial c b (emptied t log) (document-of (λ u. has u b) (abort-tree t tree))
       others b n w = rw (abort-shown t nz (λ u. has u b) tree, document-same (minus t (λ u. has u b)) (λ u. has u b) tree (λ u. off b u w)) (forget c t b log (document-of (λ u. has u b) tree) w (g .serial b n))
@@ -239,11 +202,8 @@ module _ (c : Document) (log : ℕ → List Entry) (M : State) (g : Good c log M
 -- both ends ---------------------------------------------------------------------------------------
 
 without-is : (t x u : ℕ) → (u ≡ nobody → ⊥) → eqb (without t x) u ≡ true → (eqb x u ≡ true) × (u ≡ t → ⊥)
-without-is t x u nu h = go (eqb x t) refl h
-  where
-    go : (e : Bool) → eqb x t ≡ e → eqb (cond e nobody x) u ≡ true → (eqb x u ≡ true) × (u ≡ t → ⊥)
-    go true e i = absurd (nu (sym (eqb-true nobody u i)))
-    go false e i = (i, λ q. eqb-false x t e (eqb-true x u i ∙ q))
+without-is t x u nu h = by-test (eqb x t) (λ e. absurd (nu (sym (eqb-true nobody u (rw e at h)))))
+    (λ e. let i : eqb x u ≡ true = rw e at h in (i, λ q. eqb-false x t e (eqb-true x u i ∙ q)))
 
 without-keeps : (t x u : ℕ) → (u ≡ t → ⊥) → eqb x u ≡ true → eqb (without t x) u ≡ true
 without-keeps t x u ne h = rw (ne-eqb x t (λ e. ne (sym (eqb-true x u h) ∙ e)), h)

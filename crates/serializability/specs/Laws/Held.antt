@@ -1,9 +1,9 @@
 -- The documents of a state that is in step with its logs: marks are those of open transactions, and the held document is what they show.
 use mathlib.Core.Path.{_≡_, refl, sym, ap, _∙_}
 use Prim.Native.Nat.{ℕ}
-use mathlib.Core.Bool.{Bool, true, false, not, _||_}
+use mathlib.Core.Bool.{Bool, true, not}
 use mathlib.Core.List.{List, [], _∷_, List·Memᴰ, List·Memᴰ·head}
-use mathlib.Core.Logic.{_⊎_, inl, inr}
+use mathlib.Core.Logic.{⊎-elim}
 use lib.Dec.{eqb}
 use borrow.Author.Tests.{eqb-false, eq-eqb}
 use Rattle.tree.specs.Lists.{every}
@@ -12,14 +12,15 @@ use Rattle.tree.specs.Document.{Document, Line, here, at}
 use Rattle.tree.specs.Steps.{D, U, UU}
 use Rattle.tree.specs.Laws.View.{in-view, view-in, view-agree}
 use Rattle.locks.specs.Modes.{LW, LU, LUU}
-use Rattle.locks.specs.Needs.{Lock, locks}
-use Rattle.locks.specs.Laws.Compatible.{node-locked}
+use Rattle.locks.specs.Needs.{Lock}
+use Rattle.locks.specs.Laws.Compatible.{Locked, node-locked}
+use Rattle.commute.specs.Laws.Tests.{by-test}
 use Rattle.commute.specs.Laws.Lines.{Of, at-line, line-here}
 use Rattle.commute.specs.Laws.Runs.{Entry}
 use Rattle.protocol.specs.State.{nobody, State, Tree, deleted-in, done-by, shown, as-shown, document-of, held-document, writer-of}
 use Rattle.serializability.specs.Laws.Shown.{Place, Inside, path, numbers-of}
 use Rattle.serializability.specs.Laws.Numbers.{number-of, Distinct, one-place}
-use Rattle.serializability.specs.Laws.Marks.{Within, Renames}
+use Rattle.serializability.specs.Laws.Marks.{marked-by, inserter-marks, Renames}
 use Rattle.serializability.specs.Laws.Whole.{lock-entry, holds, Good, log-open}
 
 -- lines and places --------------------------------------------------------------------------
@@ -64,36 +65,33 @@ module _ (c : Document) (log : ℕ → List Entry) (M : State) (g : Good c log M
   holder-open : (u : ℕ) (l : Lock) → List·Memᴰ l (holds log u) → M .header .is-open u ≡ true
   holder-open u l i = log-open g u (lock-entry (log u) l i .1)
 
-  pub marker-open : (r : Place) → Inside r (M .tree) → (u : ℕ) → (u ≡ nobody → ⊥) → (eqb (r .it .inserter) u || eqb (r .it .deleter) u) ≡ true → M .header .is-open u ≡ true
-  marker-open r i u nu h = holder-open u (number-of r, LW) (g .covered .guarded r i u nu h (number-of r, LW) (node-locked (D (number-of r)) (numbers-of (r .above)) LW (List·Memᴰ·head refl)))
+  -- who inserted or deleted a node holds LW on it
+  pub marker-LW : (r : Place) → Inside r (M .tree) → (u : ℕ) → (u ≡ nobody → ⊥) → marked-by u (r .it) ≡ true → Locked (number-of r) LW (holds log u)
+  marker-LW r i u nu h =
+      g .covered .guarded r i u nu h (number-of r, LW) (node-locked (D (number-of r)) (numbers-of (r .above)) LW (List·Memᴰ·head refl))
+
+  pub marker-open : (r : Place) → Inside r (M .tree) → (u : ℕ) → (u ≡ nobody → ⊥) → marked-by u (r .it) ≡ true → M .header .is-open u ≡ true
+  marker-open r i u nu h = holder-open u (number-of r, LW) (marker-LW r i u nu h)
 
   renamer-open : (u : ℕ) (p : List ℕ) → Renames (holds log) u p → M .header .is-open u ≡ true
   renamer-open u [] w = absurd w
-  renamer-open u (q ∷ p) (inl w) = holder-open u (q, LUU) (w (q, LUU) (node-locked (UU q [] []) p LUU (List·Memᴰ·head refl)))
-  renamer-open u (q ∷ p) (inr w) = renamer-open u p w
+  renamer-open u (q ∷ p) w =
+      ⊎-elim (λ x. holder-open u (q, LUU) (x (q, LUU) (node-locked (UU q [] []) p LUU (List·Memᴰ·head refl)))) (renamer-open u p) w
 
   pub writer-open : (r : Place) → Inside r (M .tree) → (u : ℕ) → (u ≡ nobody → ⊥) → eqb (writer-of (r .it .update)) u ≡ true → M .header .is-open u ≡ true
-  writer-open r i u nu h = go (g .covered .authored r i u nu h)
-    where
-      go : (eqb (r .it .inserter) u ≡ true) ⊎ (Within (locks (U (number-of r) []) (numbers-of (r .above))) (holds log u) ⊎ Renames (holds log) u (numbers-of (path r))) → M .header .is-open u ≡ true
-      go (inl e) = marker-open r i u nu (rw e)
-      go (inr (inl w)) = holder-open u (number-of r, LU) (w (number-of r, LU) (node-locked (U (number-of r) []) (numbers-of (r .above)) LU (List·Memᴰ·head refl)))
-      go (inr (inr w)) = renamer-open u (numbers-of (path r)) w
+  writer-open r i u nu h = ⊎-elim (λ e. marker-open r i u nu (rw e)) (⊎-elim
+      (λ w. holder-open u (number-of r, LU) (w (number-of r, LU) (node-locked (U (number-of r) []) (numbers-of (r .above)) LU (List·Memᴰ·head refl))))
+      (renamer-open u (numbers-of (path r)))) (g .covered .authored r i u nu h)
 
   -- a mark is nobody's or of an open transaction
+  open-done : (u : ℕ) → ((u ≡ nobody → ⊥) → M .header .is-open u ≡ true) → done-by (M .header .is-open) u ≡ true
+  open-done u h = by-test (eqb u nobody) (λ e. rw e) (λ e. rw e (h (eqb-false u nobody e)))
+
   pub inserter-done : (r : Place) → Inside r (M .tree) → done-by (M .header .is-open) (r .it .inserter) ≡ true
-  inserter-done r i = go (eqb (r .it .inserter) nobody) refl
-    where
-      go : (x : Bool) → eqb (r .it .inserter) nobody ≡ x → (x || M .header .is-open (r .it .inserter)) ≡ true
-      go true e = refl
-      go false e = marker-open r i (r .it .inserter) (eqb-false _ nobody e) (rw (eq-eqb (r .it .inserter) (r .it .inserter) refl))
+  inserter-done r i = open-done (r .it .inserter) (λ nu. marker-open r i (r .it .inserter) nu (inserter-marks (r .it)))
 
   pub writer-done : (r : Place) → Inside r (M .tree) → done-by (M .header .is-open) (writer-of (r .it .update)) ≡ true
-  writer-done r i = go (eqb (writer-of (r .it .update)) nobody) refl
-    where
-      go : (x : Bool) → eqb (writer-of (r .it .update)) nobody ≡ x → (x || M .header .is-open (writer-of (r .it .update))) ≡ true
-      go true e = refl
-      go false e = writer-open r i (writer-of (r .it .update)) (eqb-false _ nobody e) (eq-eqb (writer-of (r .it .update)) (writer-of (r .it .update)) refl)
+  writer-done r i = let u = writer-of (r .it .update) in open-done u (λ nu. writer-open r i u nu (eq-eqb u u refl))
 
   -- the held document is what the open transactions show
   pub held-shown : held-document M ≡ document-of (M .header .is-open) (M .tree)

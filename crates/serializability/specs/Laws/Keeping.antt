@@ -3,40 +3,39 @@ use mathlib.Core.Path.{_≡_, refl, sym}
 use Prim.Native.Nat.{ℕ}
 use mathlib.Core.Bool.{Bool, true, false, cond, _||_, false≢true, or-true}
 use mathlib.Core.List.{List, [], _∷_, List·Memᴰ}
-use mathlib.Core.Logic.{_⊎_, inl, inr}
+use mathlib.Core.Logic.{_⊎_, inl, inr, ⊎-elim, ⊎-map}
 use lib.Dec.{eqb}
 use borrow.Author.Tests.{eqb-true, eq-eqb}
 use Rattle.tree.specs.Lists.{has}
 use Rattle.tree.specs.Forest.{row, put}
 use Rattle.tree.specs.Document.{Node, here, at}
 use Rattle.tree.specs.Steps.{Step, T, C, R, U, D, I, TT, RR, UU, target, inserts}
+use Rattle.tree.specs.Laws.Tests.{or-cases}
 use Rattle.tree.specs.Laws.Rows.{Each, each-above}
 use Rattle.tree.specs.Laws.Put.{in-put, New}
 use Rattle.locks.specs.Needs.{Lock, locks, needs}
 use Rattle.protocol.specs.State.{nobody, Marked, Tree, numbered, number-held, seen-by, callers-document, written-by, deleted-by, inserted-by, granted-to, mark, mark-node, renamed, act, grant, writer-of}
-use Rattle.serializability.specs.Laws.Edited.{written-number, written-inserter, written-deleter, deleted-number, deleted-inserter, deleted-writer}
+use Rattle.commute.specs.Laws.Tests.{by-test, cond-same}
+use Rattle.serializability.specs.Laws.Edited.{keeps-written, keeps-deleted}
 use Rattle.serializability.specs.Laws.Shown.{Place, Inside, path, numbers-of}
-use Rattle.serializability.specs.Laws.Numbers.{number-of, marked-above, in-mark, marked-numbers, mark-distinct, put-distinct}
-use Rattle.serializability.specs.Laws.Marks.{Within, Guarded, Renames, Authored, Covered, above-is}
+use Rattle.serializability.specs.Laws.Numbers.{number-of, in-mark, marked-numbers, mark-distinct, put-distinct}
+use Rattle.serializability.specs.Laws.Marks.{Within, marked-by, Guarded, Renames, Authored, Covered, author-more, above-is}
 use Rattle.serializability.specs.Laws.Seen.{Compatible-step}
 use Rattle.serializability.specs.Laws.Acts.{renamed-under}
 use Rattle.locks.specs.Laws.Places.{insertion-guards, U-locks, UU-locks}
 
 -- locks are only added
 module _ (holds holds' : ℕ → List Lock) (more : (u : ℕ) → Within (holds u) (holds' u)) where
-  renames-more : (u : ℕ) (p : List ℕ) → Renames holds u p → Renames holds' u p
-  renames-more u [] w = w
-  renames-more u (q ∷ p) (inl w) = inl (λ l i. more u l (w l i))
-  renames-more u (q ∷ p) (inr w) = inr (renames-more u p w)
-
   module _ (f : Tree) (cov : Covered holds f) (t : ℕ) where
     -- a node's deleter and writer are as they were, or are t, with the locks for it
     Deleted : (Place → Marked) → Place → Type 0
     Deleted c r = (c r .deleter ≡ r .it .deleter) ⊎ ((c r .deleter ≡ t) × Within (locks (D (number-of r)) (numbers-of (r .above))) (holds' t))
 
+    abbrev Writes : Place → Type 0
+    Writes r = Within (locks (U (number-of r) []) (numbers-of (r .above))) (holds' t) ⊎ Renames holds' t (numbers-of (path r))
+
     Written : (Place → Marked) → Place → Type 0
-    Written c r = (writer-of (c r .update) ≡ writer-of (r .it .update))
-        ⊎ ((writer-of (c r .update) ≡ t) × (Within (locks (U (number-of r) []) (numbers-of (r .above))) (holds' t) ⊎ Renames holds' t (numbers-of (path r))))
+    Written c r = (writer-of (c r .update) ≡ writer-of (r .it .update)) ⊎ ((writer-of (c r .update) ≡ t) × Writes r)
 
     mark-covered : (c : Place → Marked) → ((r : Place) → c r .now .number ≡ number-of r) → ((r : Place) → c r .inserter ≡ r .it .inserter)
         → ((r : Place) → Inside r f → Deleted c r) → ((r : Place) → Inside r f → Written c r) → Covered holds' (mark c f)
@@ -44,89 +43,47 @@ module _ (holds holds' : ℕ → List Lock) (more : (u : ℕ) → Within (holds 
     mark-covered c sn si del wri = record { distinct = mark-distinct c sn f (cov .distinct); guarded = gd; authored = au }
       where
         gd : (r : Place) → Inside r (mark c f) → Guarded holds' (r .it) (r .above)
-        gd r i u nu h l j = go (rw (a .2) at h)
-          where
-            a : (s : Place) × Inside s f × (r ≡ row (c s) (marked-above c (s .above)))
-            a = in-mark c f i
-
-            s : Place
-            s = a .0
-
-            j' : List·Memᴰ l (locks (D (number-of s)) (numbers-of (s .above)))
-            j' = rw (a .2, sn s, marked-numbers c sn (s .above)) at j
-
-            old : (eqb (s .it .inserter) u || eqb (s .it .deleter) u) ≡ true → List·Memᴰ l (holds' u)
-            old e = more u l (cov .guarded s (a .1) u nu e l j')
-
-            case : eqb (s .it .inserter) u ≡ false → eqb (c s .deleter) u ≡ true → Deleted c s → List·Memᴰ l (holds' u)
-            case e g (inl x) = old (rw (← x, g) (or-true (eqb (s .it .inserter) u)))
-            case e g (inr x) = rw (← eqb-true t u (rw (x .0) at g)) (x .1 l j')
-
-            go : (eqb (c s .inserter) u || eqb (c s .deleter) u) ≡ true → List·Memᴰ l (holds' u)
-            go g = step (eqb (s .it .inserter) u) refl (rw (si s) at g)
-              where
-                step : (b : Bool) → eqb (s .it .inserter) u ≡ b → (b || eqb (c s .deleter) u) ≡ true → List·Memᴰ l (holds' u)
-                step true e x = old (rw e)
-                step false e x = case e x (del s (a .1))
+        gd r i u nu h l j =
+            let a = in-mark c f i in
+            let s = a .0 in
+            let j' : List·Memᴰ l (locks (D (number-of s)) (numbers-of (s .above))) = rw (a .2, sn s, marked-numbers c sn (s .above)) at j in
+            let old : marked-by u (s .it) ≡ true → List·Memᴰ l (holds' u) = λ e. more u l (cov .guarded s (a .1) u nu e l j') in
+            ⊎-elim (λ e. old (rw e)) (λ (e : eqb (c s .deleter) u ≡ true). ⊎-elim (λ (x : c s .deleter ≡ s .it .deleter). old (rw (← x, e) (or-true (eqb (s .it .inserter) u))))
+            (λ x. rw (← eqb-true t u (rw (x .0) at e)) (x .1 l j')) (del s (a .1))) (or-cases (eqb (s .it .inserter) u) (eqb (c s .deleter) u) (rw (a .2, si s) at h))
 
         au : (r : Place) → Inside r (mark c f) → Authored holds' (r .it) (r .above)
-        au r i u nu h = rw (a .2, si s, sn s, marked-numbers c sn (s .above)) (case (rw (a .2) at h) (wri s (a .1)))
-          where
-            a : (s : Place) × Inside s f × (r ≡ row (c s) (marked-above c (s .above)))
-            a = in-mark c f i
-
-            s : Place
-            s = a .0
-
-            Goal : Type 0
-            Goal = (eqb (s .it .inserter) u ≡ true) ⊎ (Within (locks (U (number-of s) []) (numbers-of (s .above))) (holds' u) ⊎ Renames holds' u (numbers-of (path s)))
-
-            old : (eqb (s .it .inserter) u ≡ true) ⊎ (Within (locks (U (number-of s) []) (numbers-of (s .above))) (holds u) ⊎ Renames holds u (numbers-of (path s))) → Goal
-            old (inl x) = inl x
-            old (inr (inl x)) = inr (inl (λ l j. more u l (x l j)))
-            old (inr (inr x)) = inr (inr (renames-more u (numbers-of (path s)) x))
-
-            case : eqb (writer-of (c s .update)) u ≡ true → Written c s → Goal
-            case g (inl x) = old (cov .authored s (a .1) u nu (rw x at g))
-            case g (inr x) = rw (← eqb-true t u (rw (x .0) at g)) (inr (x .1))
+        au r i u nu h =
+            let a = in-mark c f i in
+            let s = a .0 in
+            let g : eqb (writer-of (c s .update)) u ≡ true = rw (a .2) at h in
+            rw (a .2, si s, sn s, marked-numbers c sn (s .above)) (⊎-elim
+            (λ x. author-more holds holds' u (more u) _ _ (λ e. e) (number-of s) (numbers-of (s .above)) (cov .authored s (a .1) u nu (rw x at g)))
+            (λ x. rw (← eqb-true t u (rw (x .0) at g)) (inr (x .1))) (wri s (a .1)))
 
     -- t wrote where a test says so, with the locks for it
-    write-covered : (test : Place → Bool) (b : List ℕ)
-        → ((r : Place) → Inside r f → test r ≡ true → Within (locks (U (number-of r) []) (numbers-of (r .above))) (holds' t) ⊎ Renames holds' t (numbers-of (path r)))
+    write-covered : (test : Place → Bool) (b : List ℕ) → ((r : Place) → Inside r f → test r ≡ true → Writes r)
         → Covered holds' (mark (λ r. cond (test r) (written-by t b (r .it)) (r .it)) f)
     unfolding Deleted Written
-    write-covered test b h = mark-covered _ (λ r. written-number t b (r .it) (test r)) (λ r. written-inserter t b (r .it) (test r)) (λ r i. inl (written-deleter t b (r .it) (test r))) (λ r i. writer r (test r) (h r i))
-      where
-        writer : (r : Place) (x : Bool) → (x ≡ true → Within (locks (U (number-of r) []) (numbers-of (r .above))) (holds' t) ⊎ Renames holds' t (numbers-of (path r)))
-            → (writer-of (cond x (written-by t b (r .it)) (r .it) .update) ≡ writer-of (r .it .update))
-            ⊎ ((writer-of (cond x (written-by t b (r .it)) (r .it) .update) ≡ t) × (Within (locks (U (number-of r) []) (numbers-of (r .above))) (holds' t) ⊎ Renames holds' t (numbers-of (path r))))
-        writer r true k = inr (refl, k refl)
-        writer r false k = inl refl
+    write-covered test b h = mark-covered _ (keeps-written t b test .number) (keeps-written t b test .inserter)
+        (λ r i. inl (cond-same (λ (a : Marked). a .deleter) (test r) (written-by t b (r .it)) (r .it) refl))
+        (λ r i. by-test (test r) (λ e. rw e (inr (refl, h r i e))) (λ e. rw e (inl refl)))
 
-    delete-covered : (n : ℕ) → ((r : Place) → Inside r f → number-of r ≡ n → Within (locks (D (number-of r)) (numbers-of (r .above))) (holds' t)) → Covered holds' (mark-node n (deleted-by t) f)
+    delete-covered : (n : ℕ) → ((r : Place) → Inside r f → number-of r ≡ n → Within (locks (D (number-of r)) (numbers-of (r .above))) (holds' t))
+        → Covered holds' (mark-node n (deleted-by t) f)
     unfolding Deleted Written
-    delete-covered n h = mark-covered _ (λ r. deleted-number t (r .it) (numbered n (r .it))) (λ r. deleted-inserter t (r .it) (numbered n (r .it)))
-        (λ r i. deleter r (numbered n (r .it)) (λ e. h r i (eqb-true _ n e))) (λ r i. inl (deleted-writer t (r .it) (numbered n (r .it))))
-      where
-        deleter : (r : Place) (x : Bool) → (x ≡ true → Within (locks (D (number-of r)) (numbers-of (r .above))) (holds' t))
-            → (cond x (deleted-by t (r .it)) (r .it) .deleter ≡ r .it .deleter)
-            ⊎ ((cond x (deleted-by t (r .it)) (r .it) .deleter ≡ t) × Within (locks (D (number-of r)) (numbers-of (r .above))) (holds' t))
-        deleter r true k = inr (refl, k refl)
-        deleter r false k = inl refl
+    delete-covered n h =
+        let k = keeps-deleted t (λ r. numbered n (r .it)) in
+        mark-covered _ (k .number) (k .inserter)
+        (λ r i. by-test (numbered n (r .it)) (λ e. rw e (inr (refl, h r i (eqb-true _ n e)))) (λ e. rw e (inl refl)))
+        (λ r i. inl (cond-same (λ (a : Marked). writer-of (a .update)) (numbered n (r .it)) (deleted-by t (r .it)) (r .it) refl))
 
     -- other locks, the same marks
     same-covered : Covered holds' f
     same-covered = record {
       distinct = cov .distinct;
       guarded = λ r i u nu h l j. more u l (cov .guarded r i u nu h l j);
-      authored = λ r i u nu h. go r u (cov .authored r i u nu h);
+      authored = λ r i u nu h. author-more holds holds' u (more u) _ _ (λ e. e) (number-of r) (numbers-of (r .above)) (cov .authored r i u nu h);
     }
-      where
-        go : (r : Place) (u : ℕ) → (eqb (r .it .inserter) u ≡ true) ⊎ (Within (locks (U (number-of r) []) (numbers-of (r .above))) (holds u) ⊎ Renames holds u (numbers-of (path r)))
-            → (eqb (r .it .inserter) u ≡ true) ⊎ (Within (locks (U (number-of r) []) (numbers-of (r .above))) (holds' u) ⊎ Renames holds' u (numbers-of (path r)))
-        go r u (inl x) = inl x
-        go r u (inr (inl x)) = inr (inl (λ l j. more u l (x l j)))
-        go r u (inr (inr x)) = inr (inr (renames-more u (numbers-of (path r)) x))
 
     -- t inserted a node whose number nobody had, with the locks for its deletion
     insert-covered : (n k : ℕ) (new : Node) → number-held (new .number) f ≡ false
@@ -142,11 +99,7 @@ module _ (holds holds' : ℕ → List Lock) (more : (u : ℕ) → Within (holds 
         Put r = New (numbered n) (seen-by t) k (inserted-by t new) (λ a. a) r [] f
 
         inserter-is : (u : ℕ) → (u ≡ nobody → ⊥) → (eqb t u || eqb nobody u) ≡ true → t ≡ u
-        inserter-is u nu h = step (eqb t u) refl h
-          where
-            step : (x : Bool) → eqb t u ≡ x → (x || eqb nobody u) ≡ true → t ≡ u
-            step true x y = eqb-true t u x
-            step false x y = absurd (nu (sym (eqb-true nobody u y)))
+        inserter-is u nu h = ⊎-elim (eqb-true t u) (λ e. absurd (nu (sym (eqb-true nobody u e)))) (or-cases (eqb t u) (eqb nobody u) h)
 
         gd : (r : Place) → Inside r f ⊎ Put r → Guarded holds' (r .it) (r .above)
         gd r (inl i) u nu h l j = same-covered .guarded r i u nu h l j
@@ -174,11 +127,9 @@ module _ (holds holds' : ℕ → List Lock) (more : (u : ℕ) → Within (holds 
         where
           found : (l : List Marked) → Each (λ x. x) (λ x p. Inside (row x p) f) l → has n (numbers-of l) ≡ true → Renames holds' t (numbers-of l)
           found [] g h = absurd (false≢true h)
-          found (x ∷ p) g h = step (eqb (x .now .number) n) refl h (λ j. found p (g .1) j)
-            where
-              step : (y : Bool) → eqb (x .now .number) n ≡ y → (y || has n (numbers-of p)) ≡ true → (has n (numbers-of p) ≡ true → Renames holds' t (numbers-of p)) → Renames holds' t (x .now .number ∷ numbers-of p)
-              step true y j below = inl (λ l m. w l (UU-locks n [] [] a b _ l (rw (eqb-true _ n y, above-is holds f cov t (UU n a b) hs c (row x p) (g .0) (eqb-true _ n y)) at m)))
-              step false y j below = inr (below j)
+          found (x ∷ p) g h = ⊎-map
+              (λ y l m. w l (UU-locks n [] [] a b _ l (rw (eqb-true _ n y, above-is holds f cov t (UU n a b) hs c (row x p) (g .0) (eqb-true _ n y)) at m)))
+              (found p (g .1)) (or-cases (eqb (x .now .number) n) (has n (numbers-of p)) h)
 
 -- locks in the nodes are no marks
 pub grant-covered : (holds : ℕ → List Lock) (t : ℕ) (ls : List Lock) (f : Tree) → Covered holds f → Covered holds (grant t ls f)

@@ -1,5 +1,5 @@
 -- A log with more in its entries than the history tells: each of the history's logs is read off it.
-use mathlib.Core.Path.{_≡_, refl, sym, _∙_, fun-ext}
+use mathlib.Core.Path.{_≡_, refl, sym, fun-ext}
 use Prim.Native.Nat.{ℕ}
 use mathlib.Core.Bool.{Bool, true, false, cond}
 use mathlib.Core.List.{List, [], _∷_, _++_, map, append-nil}
@@ -7,6 +7,7 @@ use lib.Dec.{eqb}
 use borrow.Author.Tests.{eqb-true}
 use Rattle.tree.specs.Lists.{joined}
 use Rattle.tree.specs.Laws.Lists.{map-append, map-map}
+use Rattle.commute.specs.Laws.Tests.{by-test}
 use Rattle.protocol.specs.Calls.{Call, start, load, begin, commit, abort, step, write, unreadable, stands-for}
 use Rattle.protocol.specs.History.{Log, with-log, logged}
 
@@ -16,11 +17,7 @@ module _ {X E : Type 0} (g : X → E) where
   read-off L = record { first = L .first; committed = map (map g) (L .committed); open-log = λ u. map g (L .open-log u) }
 
   map-log : (t : ℕ) (l : List X) (log : ℕ → List X) → _≡_ {A = ℕ → List E} (λ u. map g (with-log t l log u)) (with-log t (map g l) (λ u. map g (log u)))
-  map-log t l log = fun-ext (λ u. go u (eqb u t))
-    where
-      go : (u : ℕ) (b : Bool) → map g (cond b l (log u)) ≡ cond b (map g l) (map g (log u))
-      go u true = refl
-      go u false = refl
+  map-log t l log = fun-ext (λ u. by-test (eqb u t) (λ e. rw e) (λ e. rw e))
 
   if-read : (b : Bool) (L K : Log X) (L' : Log E) → read-off L ≡ L' → read-off (cond b L K) ≡ cond b L' (read-off K)
   if-read true L K L' e = e
@@ -50,11 +47,7 @@ module _ {X E : Type 0} (g : X → E) where
 
 -- a log with the same entries of t is the log
 pub with-log-same : {E : Type 0} (t : ℕ) (l : List E) (log : ℕ → List E) → l ≡ log t → with-log t l log ≡ log
-with-log-same t l log e = fun-ext (λ u. go u (eqb u t) refl)
-  where
-    go : (u : ℕ) (b : Bool) → eqb u t ≡ b → cond b l (log u) ≡ log u
-    go u true i = rw (eqb-true u t i) e
-    go u false i = refl
+with-log-same t l log e = fun-ext (λ u. by-test (eqb u t) (λ i. rw (i, eqb-true u t i) e) (λ i. rw i))
 
 -- a call that is not granted, with no step in it
 pub logged-none : {E : Type 0} (c : Call) (L : Log E) → logged c false [] L ≡ L

@@ -3,20 +3,21 @@ use mathlib.Core.Path.{_≡_, refl, sym, ap, _∙_}
 use Prim.Native.Nat.{ℕ}
 use mathlib.Core.Bool.{Bool, true, false, _&&_, _||_, false≢true, true≢false, or-true}
 use mathlib.Core.List.{List, [], _∷_, List·Memᴰ}
-use mathlib.Core.Logic.{_⊎_, inl, inr}
+use mathlib.Core.Logic.{_⊎_, inl, inr, ⊎-elim, ⊎-map}
 use lib.Dec.{eqb}
 use borrow.Author.Tests.{eqb-true, eqb-false, eq-eqb, ne-eqb}
 use Rattle.tree.specs.Lists.{every, has, leads}
 use Rattle.tree.specs.Forest.{row}
 use Rattle.tree.specs.Document.{Line, here, at}
 use Rattle.tree.specs.Steps.{Step, U, D, UU, target}
-use Rattle.tree.specs.Laws.Tests.{and-left}
+use Rattle.tree.specs.Laws.Tests.{and-left, or-left, or-right, or-cases}
 use Rattle.tree.specs.Laws.Rows.{Each, each-above}
 use Rattle.tree.specs.Laws.View.{in-view}
 use Rattle.locks.specs.Modes.{LU, LW, LUU}
 use Rattle.locks.specs.Needs.{Lock, need, locks, needs}
 use Rattle.locks.specs.Laws.Compatible.{Compatible, compatible-symmetric, All-locked, node-locked, clashing, excludes, off-node, off-parent, off-path}
 use Rattle.locks.specs.Laws.Excludes.{LW-excludes}
+use Rattle.commute.specs.Laws.Tests.{by-test, affirmed}
 use Rattle.commute.specs.Laws.Lines.{at-line}
 use Rattle.protocol.specs.State.{nobody, Marked, Tree, seen-by, callers-document, writer-of}
 use Rattle.serializability.specs.Laws.Shown.{Place, Inside, path, numbers-of, local}
@@ -33,42 +34,56 @@ compatible-within l k k' c w q a b x y = c q a b x (w (q, b) y)
 abbrev pub own : ℕ → Marked → Bool
 own t a = local t (a .inserter) && local t (a .deleter)
 
+-- u inserted or deleted it
+abbrev pub marked-by : ℕ → Marked → Bool
+marked-by u a = eqb (a .inserter) u || eqb (a .deleter) u
+
+pub inserter-marks : (a : Marked) → marked-by (a .inserter) a ≡ true
+inserter-marks a = rw (eq-eqb (a .inserter) (a .inserter) refl)
+
+pub deleter-marks : (a : Marked) → marked-by (a .deleter) a ≡ true
+deleter-marks a = rw (eq-eqb (a .deleter) (a .deleter) refl) (or-true (eqb (a .inserter) (a .deleter)))
+
 -- the locks that each transaction holds
 module _ (holds : ℕ → List Lock) where
   -- who inserted or deleted the node holds the locks of its deletion
   abbrev pub Guarded : Marked → List Marked → Type 0
-  Guarded a p = (u : ℕ) → (u ≡ nobody → ⊥) → (eqb (a .inserter) u || eqb (a .deleter) u) ≡ true → Within (locks (D (a .now .number)) (numbers-of p)) (holds u)
+  Guarded a p = (u : ℕ) → (u ≡ nobody → ⊥) → marked-by u a ≡ true → Within (locks (D (a .now .number)) (numbers-of p)) (holds u)
 
   -- u holds the locks of UU on the first of these nodes, or on one above it
   abbrev pub Renames : ℕ → List ℕ → Type 0
   Renames u [] = ⊥
   Renames u (q ∷ p) = Within (locks (UU q [] []) p) (holds u) ⊎ Renames u p
 
-  -- who wrote the node inserted it, or holds the locks of its update, or those of UU on it or above
+  -- u may write the node n: it inserted it, or holds the locks of its update, or those of UU on it or above
+  abbrev pub Author : ℕ → Bool → ℕ → List ℕ → Type 0
+  Author u inserted n q = (inserted ≡ true) ⊎ (Within (locks (U n []) q) (holds u) ⊎ Renames u (n ∷ q))
+
   abbrev pub Authored : Marked → List Marked → Type 0
-  Authored a p = (u : ℕ) → (u ≡ nobody → ⊥) → eqb (writer-of (a .update)) u ≡ true
-      → (eqb (a .inserter) u ≡ true) ⊎ (Within (locks (U (a .now .number) []) (numbers-of p)) (holds u) ⊎ Renames u (numbers-of (a ∷ p)))
+  Authored a p = (u : ℕ) → (u ≡ nobody → ⊥) → eqb (writer-of (a .update)) u ≡ true → Author u (eqb (a .inserter) u) (a .now .number) (numbers-of p)
 
   pub record Covered (f : Tree) : Type 0 where
     pub distinct : Distinct f
     pub guarded : (r : Place) → Inside r f → Guarded (r .it) (r .above)
     pub authored : (r : Place) → Inside r f → Authored (r .it) (r .above)
 
+-- with more locks
+module _ (holds holds' : ℕ → List Lock) (u : ℕ) (more : Within (holds u) (holds' u)) where
+  renames-more : (p : List ℕ) → Renames holds u p → Renames holds' u p
+  renames-more [] w = w
+  renames-more (q ∷ p) w = ⊎-map (λ x l i. more l (x l i)) (renames-more p) w
+
+  pub author-more : (b b' : Bool) → (b ≡ true → b' ≡ true) → (n : ℕ) (q : List ℕ) → Author holds u b n q → Author holds' u b' n q
+  author-more b b' k n q w = ⊎-map k (⊎-map (λ x l i. more l (x l i)) (renames-more (n ∷ q))) w
+
 -- somebody else's mark
-foreign : (t : ℕ) (a : Marked) → own t a ≡ false → (u : ℕ) × (u ≡ nobody → ⊥) × (u ≡ t → ⊥) × ((eqb (a .inserter) u || eqb (a .deleter) u) ≡ true)
-foreign t a h = go (local t (a .inserter)) refl h
+foreign : (t : ℕ) (a : Marked) → own t a ≡ false → (u : ℕ) × (u ≡ nobody → ⊥) × (u ≡ t → ⊥) × (marked-by u a ≡ true)
+foreign t a h = by-test (local t (a .inserter))
+    (λ p. let w = away (a .deleter) (rw p at h) in (a .deleter, w .0, w .1, deleter-marks a))
+    (λ p. let w = away (a .inserter) p in (a .inserter, w .0, w .1, inserter-marks a))
   where
     away : (u : ℕ) → local t u ≡ false → (u ≡ nobody → ⊥) × (u ≡ t → ⊥)
-    away u i = both (eqb u nobody) refl (eqb u t) refl i
-      where
-        both : (x : Bool) → eqb u nobody ≡ x → (y : Bool) → eqb u t ≡ y → (x || y) ≡ false → (u ≡ nobody → ⊥) × (u ≡ t → ⊥)
-        both true p y q j = absurd (true≢false j)
-        both false p true q j = absurd (true≢false j)
-        both false p false q j = (eqb-false u nobody p, eqb-false u t q)
-
-    go : (x : Bool) → local t (a .inserter) ≡ x → (x && local t (a .deleter)) ≡ false → (u : ℕ) × (u ≡ nobody → ⊥) × (u ≡ t → ⊥) × ((eqb (a .inserter) u || eqb (a .deleter) u) ≡ true)
-    go true p i = let w = away (a .deleter) i in (a .deleter, w .0, w .1, rw (eq-eqb (a .deleter) (a .deleter) refl) (or-true (eqb (a .inserter) (a .deleter))))
-    go false p i = let w = away (a .inserter) p in (a .inserter, w .0, w .1, rw (eq-eqb (a .inserter) (a .inserter) refl))
+    away u i = (eqb-false u nobody (or-left _ _ i), eqb-false u t (or-right (eqb u nobody) _ i))
 
 -- a step of t on a node of its document, compatible with what the others hold
 module _ (holds : ℕ → List Lock) (f : Tree) (cov : Covered holds f) (t : ℕ) (s : Step) (hs : here (target s) (callers-document t f) ≡ true)
@@ -101,14 +116,11 @@ module _ (holds : ℕ → List Lock) (f : Tree) (cov : Covered holds f) (t : ℕ
 
   -- on the node and above it only t left marks
   own-here : (a : Marked) (p : List Marked) → Guarded holds a p → has (a .now .number) (n₀ ∷ P) ≡ true → own t a ≡ true
-  own-here a p g h = go (own t a) refl
-    where
-      go : (x : Bool) → own t a ≡ x → x ≡ true
-      go true e = refl
-      go false e =
-          let w = foreign t a e in
-          let locked : All-locked (a .now .number) (LW ∷ []) (holds (w .0)) = λ m i. g (w .0) (w .1) (w .3) (a .now .number, m) (node-locked (D (a .now .number)) (numbers-of p) m i) in
-          absurd (true≢false (sym h ∙ off-path (a .now .number) (LW ∷ []) (holds (w .0)) locked s P (compatible-symmetric _ _ (compat (w .0) (w .2))) (LW-excludes s)))
+  own-here a p g h = affirmed _ (λ e.
+      let w = foreign t a e in
+      let locked : All-locked (a .now .number) (LW ∷ []) (holds (w .0)) =
+      λ m i. g (w .0) (w .1) (w .3) (a .now .number, m) (node-locked (D (a .now .number)) (numbers-of p) m i) in
+      true≢false (sym h ∙ off-path (a .now .number) (LW ∷ []) (holds (w .0)) locked s P (compatible-symmetric _ _ (compat (w .0) (w .2))) (LW-excludes s)))
 
   own-all : (l : List Marked) → Each (λ a. a) Known l → ((q : ℕ) → has q (numbers-of l) ≡ true → has q (n₀ ∷ P) ≡ true) → every (own t) l ≡ true
   own-all [] g h = refl
@@ -126,31 +138,24 @@ module _ (holds : ℕ → List Lock) (f : Tree) (cov : Covered holds f) (t : ℕ
     where
       go : (o : List Marked) → leads n₀ (numbers-of o) ≡ true → Each (λ a. a) Known (r .it ∷ o) → every (own t) (r .it ∷ o) ≡ true
       go [] l g = absurd (false≢true l)
-      go (a ∷ p) l g = rw (mine (own t (r .it)) refl, own-node (row a p) (g .1 .0 .1) (eqb-true (a .now .number) n₀ l))
-        where
-          mine : (x : Bool) → own t (r .it) ≡ x → own t (r .it) ≡ true
-          mine true q = q
-          mine false q =
-              let w = foreign t (r .it) q in
-              absurd (true≢false (sym l ∙ off-parent n₀ (need s .node) (locks s P) (node-locked s P) (D (number-of r)) (a .now .number ∷ numbers-of p)
-              (compatible-within (locks s P) (holds (w .0)) _ (compat (w .0) (w .2)) (g .0 .0 (w .0) (w .1) (w .3))) c))
+      go (a ∷ p) l g =
+          let mine : own t (r .it) ≡ true = affirmed _ (λ q.
+          let w = foreign t (r .it) q in
+          true≢false (sym l ∙ off-parent n₀ (need s .node) (locks s P) (node-locked s P) (D (number-of r)) (a .now .number ∷ numbers-of p)
+          (compatible-within (locks s P) (holds (w .0)) _ (compat (w .0) (w .2)) (g .0 .0 (w .0) (w .1) (w .3))) c)) in
+          rw (mine, own-node (row a p) (g .1 .0 .1) (eqb-true (a .now .number) n₀ l))
 
   -- where it is locked so that nothing below it is inserted or deleted
   module _ (c : excludes (need s .node) (need (D 0)) ≡ true) where
     own-below : (l : List Marked) → Each (λ a. a) Known l → has n₀ (numbers-of l) ≡ true → every (own t) l ≡ true
     own-below [] g h = refl
-    own-below (a ∷ p) g h = go (eqb (a .now .number) n₀) refl h (λ i. own-below p (g .1) i)
-      where
-        mine : (x : Bool) → own t a ≡ x → own t a ≡ true
-        mine true q = q
-        mine false q =
-            let w = foreign t a q in
-            absurd (true≢false (sym h ∙ off-path n₀ (need s .node) (locks s P) (node-locked s P) (D (a .now .number)) (numbers-of p)
-            (compatible-within (locks s P) (holds (w .0)) _ (compat (w .0) (w .2)) (g .0 .0 (w .0) (w .1) (w .3))) c))
-
-        go : (b : Bool) → eqb (a .now .number) n₀ ≡ b → (b || has n₀ (numbers-of p)) ≡ true → (has n₀ (numbers-of p) ≡ true → every (own t) p ≡ true) → (own t a && every (own t) p) ≡ true
-        go true e i rest = own-node (row a p) (g .0 .1) (eqb-true (a .now .number) n₀ e)
-        go false e i rest = rw (mine (own t a) refl, rest i)
+    own-below (a ∷ p) g h =
+        let mine : own t a ≡ true = affirmed _ (λ q.
+        let w = foreign t a q in
+        true≢false (sym h ∙ off-path n₀ (need s .node) (locks s P) (node-locked s P) (D (a .now .number)) (numbers-of p)
+        (compatible-within (locks s P) (holds (w .0)) _ (compat (w .0) (w .2)) (g .0 .0 (w .0) (w .1) (w .3))) c)) in
+        ⊎-elim (λ e. own-node (row a p) (g .0 .1) (eqb-true (a .now .number) n₀ e)) (λ i. rw (mine, own-below p (g .1) i))
+        (or-cases (eqb (a .now .number) n₀) (has n₀ (numbers-of p)) h)
 
     pub own-subtree : (r : Place) → Inside r f → has n₀ (numbers-of (path r)) ≡ true → every (own t) (path r) ≡ true
     own-subtree r i h = own-below (path r) (known r i) h
@@ -160,23 +165,19 @@ module _ (holds : ℕ → List Lock) (f : Tree) (cov : Covered holds f) (t : ℕ
   -- where nobody else can have written, t wrote, or nobody
   writer-local : (r : Place) → Inside r f → own t (r .it) ≡ true → ((u : ℕ) → (u ≡ t → ⊥) → Renames holds u (numbers-of (path r)) → ⊥)
       → ((u : ℕ) → (u ≡ t → ⊥) → Within (locks (U (number-of r) []) (numbers-of (r .above))) (holds u) → ⊥) → local t (writer-of (r .it .update)) ≡ true
-  writer-local r i o x y = go (eqb u nobody) refl (eqb u t) refl
+  writer-local r i o x y = affirmed _ (λ e.
+      let p = eqb-false u nobody (or-left _ _ e) in
+      case p (eqb-false u t (or-right (eqb u nobody) _ e)) (cov .authored r i u p (eq-eqb u u refl)))
     where
       u : ℕ
       u = writer-of (r .it .update)
 
-      case : (u ≡ nobody → ⊥) → (u ≡ t → ⊥)
-          → (eqb (r .it .inserter) u ≡ true) ⊎ (Within (locks (U (number-of r) []) (numbers-of (r .above))) (holds u) ⊎ Renames holds u (numbers-of (path r))) → ⊥
+      case : (u ≡ nobody → ⊥) → (u ≡ t → ⊥) → Author holds u (eqb (r .it .inserter) u) (number-of r) (numbers-of (r .above)) → ⊥
       case a b (inl e) =
           let z : local t (r .it .inserter) ≡ false = rw (eqb-true (r .it .inserter) u e, ne-eqb u nobody a, ne-eqb u t b) in
           true≢false (sym (and-left _ _ o) ∙ z)
       case a b (inr (inl e)) = y u b e
       case a b (inr (inr e)) = x u b e
-
-      go : (a : Bool) → eqb u nobody ≡ a → (b : Bool) → eqb u t ≡ b → (a || b) ≡ true
-      go true p b q = refl
-      go false p true q = refl
-      go false p false q = absurd (case (eqb-false u nobody p) (eqb-false u t q) (cov .authored r i u (eqb-false u nobody p) (eq-eqb u u refl)))
 
   module _ (c : excludes (LUU ∷ []) (need s) ≡ true) where
     -- nobody else holds LUU on the node or above
@@ -199,11 +200,9 @@ module _ (holds : ℕ → List Lock) (f : Tree) (cov : Covered holds f) (t : ℕ
       renames-below u ne [] w g h = w
       renames-below u ne (a ∷ p) (inl w) g h =
           true≢false (sym h ∙ off-path n₀ (need s .node) (locks s P) (node-locked s P) (UU (a .now .number) [] []) (numbers-of p) (compatible-within (locks s P) (holds u) _ (compat u ne) w) cuu)
-      renames-below u ne (a ∷ p) (inr w) g h = go (eqb (a .now .number) n₀) refl h (λ i. renames-below u ne p w (g .1) i)
-        where
-          go : (e : Bool) → eqb (a .now .number) n₀ ≡ e → (e || has n₀ (numbers-of p)) ≡ true → (has n₀ (numbers-of p) ≡ true → ⊥) → ⊥
-          go true e i rest = renames-above u ne (numbers-of p) w (λ q j. rw (← above-is (row a p) (g .0 .1) (eqb-true (a .now .number) n₀ e), j) (or-true (eqb n₀ q)))
-          go false e i rest = rest i
+      renames-below u ne (a ∷ p) (inr w) g h = ⊎-elim
+          (λ e. renames-above u ne (numbers-of p) w (λ q j. rw (← above-is (row a p) (g .0 .1) (eqb-true (a .now .number) n₀ e), j) (or-true (eqb n₀ q))))
+          (λ i. renames-below u ne p w (g .1) i) (or-cases (eqb (a .now .number) n₀) (has n₀ (numbers-of p)) h)
 
       pub writer-subtree : (r : Place) → Inside r f → has n₀ (numbers-of (path r)) ≡ true → local t (writer-of (r .it .update)) ≡ true
       writer-subtree r i h = writer-local r i (and-left _ _ (own-subtree cd r i h))

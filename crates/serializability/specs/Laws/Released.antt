@@ -1,27 +1,25 @@
 -- Only open transactions hold locks: commit and abort empty their sets.
-use mathlib.Core.Path.{_≡_, refl, sym, ap, _∙_}
+use mathlib.Core.Path.{_≡_, sym, ap, _∙_}
 use Prim.Native.Nat.{ℕ}
-use mathlib.Core.Bool.{Bool, true, false, cond, not, _&&_, _||_, false≢true, or-true}
+use mathlib.Core.Bool.{Bool, true, false, not, _&&_, false≢true, or-true}
 use mathlib.Core.List.{List, [], _∷_, List·Memᴰ}
-use mathlib.Core.Logic.{_⊎_, inl, inr}
+use mathlib.Core.Logic.{⊎-elim}
 use lib.Dec.{eqb}
 use borrow.Author.Tests.{eqb-true}
-use Rattle.tree.specs.Lists.{any}
 use Rattle.tree.specs.Document.{Document, node-0-alone}
-use Rattle.tree.specs.Steps.{Step, T, C, R, U, D, I, TT, RR, UU, done}
-use Rattle.tree.specs.Laws.Put.{in-put, New}
-use Rattle.locks.specs.Modes.{Mode, union}
-use Rattle.locks.specs.Needs.{Lock, needs}
-use Rattle.protocol.specs.State.{State, Marked, Tree, is-transaction, transactions, nodes, numbered, seen-by, callers-document, inserted-by, modes-on, granted-to}
-use Rattle.protocol.specs.State.{none-of, lasting, undone, mark, renamed, act, grant, commit-tree, abort-tree, tree-of, start-state}
+use Rattle.tree.specs.Steps.{Step}
+use Rattle.locks.specs.Modes.{Mode}
+use Rattle.locks.specs.Needs.{Lock}
+use Rattle.commute.specs.Laws.Tests.{by-test}
+use Rattle.protocol.specs.State.{State, Marked, Tree, nodes, seen-by, granted-to}
+use Rattle.protocol.specs.State.{none-of, lasting, undone, act, grant, commit-tree, abort-tree, tree-of, start-state}
 use Rattle.protocol.specs.Calls.{Call, next}
 use Rattle.protocol.specs.History.{state-after}
 use Rattle.serializability.specs.Theorem.{reached}
 use Rattle.serializability.specs.Laws.Outcomes.{every-call}
-use Rattle.serializability.specs.Laws.Edited.{written-held, deleted-held}
 use Rattle.serializability.specs.Laws.Shown.{Place, Inside}
 use Rattle.serializability.specs.Laws.Numbers.{in-mark, in-part, node-place}
-use Rattle.serializability.specs.Laws.Granting.{after-step}
+use Rattle.serializability.specs.Laws.Granting.{after-step, act-places}
 use Rattle.serializability.specs.Laws.Tracking.{load-unmarked}
 
 Released : (ℕ → Bool) → Tree → Type 0
@@ -29,58 +27,22 @@ Released o f = (r : Place) → Inside r f → (u : ℕ) (m : Mode) → r .it .he
 
 -- a granted step ---------------------------------------------------------------------------------
 
--- what a place holds after an edit that gives no locks, it held before
-Held-before : Tree → Place → Type 0
-Held-before f r = (u : ℕ) (m : Mode) → r .it .held u m ≡ true → (x : Place) × Inside x f × (x .it .held u m ≡ true)
-
-mark-held : (c : Place → Marked) → ((x : Place) (u : ℕ) (m : Mode) → c x .held u m ≡ x .it .held u m) → (f : Tree) (r : Place) → Inside r (mark c f) → Held-before f r
-unfolding Held-before
-mark-held c same f r i u m h =
-    let a = in-mark c f i in
-    (a .0, a .1, sym (same (a .0) u m) ∙ sym (ap (λ (x : Place). x .it .held u m) (a .2)) ∙ h)
-
-act-held : (t : ℕ) (s : Step) (f : Tree) (r : Place) → Inside r (act t s f) → Held-before f r
-unfolding Held-before
-act-held t (T n) f r i u m h = (r, i, h)
-act-held t (C n k) f r i u m h = (r, i, h)
-act-held t (R n) f r i u m h = (r, i, h)
-act-held t (U n b) f r i u m h = mark-held _ (λ x. written-held t b (x .it) (numbered n (x .it))) f r i u m h
-act-held t (D n) f r i u m h = mark-held _ (λ x. deleted-held t (x .it) (numbered n (x .it))) f r i u m h
-act-held t (I m' kind b n k) f r i u m h = go (in-put (numbered n) (seen-by t) k new (λ a. a) [] f i)
-  where
-    new : Marked
-    new = inserted-by t (record { number = m'; kind = kind; content = b })
-
-    go : Inside r f ⊎ New (numbered n) (seen-by t) k new (λ a. a) r [] f → (x : Place) × Inside x f × (x .it .held u m ≡ true)
-    go (inl x) = (r, x, h)
-    go (inr x) = absurd (false≢true (sym (ap (λ (z : Place). z .it .held u m) (x .3)) ∙ h))
-act-held t (TT n) f r i u m h = (r, i, h)
-act-held t (RR n) f r i u m h = (r, i, h)
-act-held t (UU n a b) f r i u m h = mark-held _ (λ x. written-held t b (x .it) (renamed t n a x)) f r i u m h
-
 grant-released : (o : ℕ → Bool) (t : ℕ) (ls : List Lock) (f : Tree) → o t ≡ true → Released o f → Released o (grant t ls f)
 unfolding Released grant
 grant-released o t ls f e k r i u m h =
     let a = in-mark (λ x. granted-to t ls (x .it)) f i in
-    go (a .0) (a .1) (eqb u t) refl (rw (a .2) at h)
-  where
-    go : (x : Place) → Inside x f → (b : Bool) → eqb u t ≡ b → cond b (union (x .it .held u) (modes-on ls (x .it .now .number))) (x .it .held u) m ≡ true → o u ≡ true
-    go x j true p h = rw (eqb-true u t p) e
-    go x j false p h = k x j u m h
+    by-test (eqb u t) (λ p. rw (eqb-true u t p) e) (λ p. k (a .0) (a .1) u m (rw (a .2, p) at h))
 
 step-released : (o : ℕ → Bool) (t : ℕ) (s : Step) (ls : List Lock) (f : Tree) → o t ≡ true → Released o f → Released o (after-step t s ls f)
-unfolding Released Held-before
-step-released o t s ls f e k = grant-released o t ls (act t s f) e (λ r i u m h. let x = act-held t s f r i u m h in k (x .0) (x .1) u m (x .2))
+unfolding Released
+step-released o t s ls f e k = grant-released o t ls (act t s f) e (λ r i u m h.
+    ⊎-elim (λ x. k (x .0) (x .1) u m (rw (x .4) at h)) (λ x. absurd (false≢true (rw (x .2) at h))) (act-places t s f r i))
 
 -- the ends of a transaction ------------------------------------------------------------------------
 
 -- t holds nothing, the others what they held
 none-other : (t : ℕ) (a : Marked) (u : ℕ) (m : Mode) → none-of t (a .held) u m ≡ true → (eqb u t ≡ false) × (a .held u m ≡ true)
-none-other t a u m h = go (eqb u t) refl h
-  where
-    go : (b : Bool) → eqb u t ≡ b → cond b (λ x. false) (a .held u) m ≡ true → (eqb u t ≡ false) × (a .held u m ≡ true)
-    go true e x = absurd (false≢true x)
-    go false e x = (e, x)
+none-other t a u m h = by-test (eqb u t) (λ e. absurd (false≢true (rw e at h))) (λ e. (e, rw e at h))
 
 commit-released : (o : ℕ → Bool) (t : ℕ) (f : Tree) → Released o f → Released (λ u. not (eqb u t) && o u) (commit-tree t f)
 unfolding Released commit-tree

@@ -2,24 +2,24 @@
 -- of transactions with the caller in it.
 use mathlib.Core.Path.{_≡_, refl, sym, ap, _∙_}
 use Prim.Native.Nat.{ℕ}
-use mathlib.Core.Bool.{Bool, true, false, not, _&&_, _||_, false≢true, true≢false}
+use mathlib.Core.Bool.{Bool, true, false, not, _&&_, false≢true, true≢false, or-true}
 use mathlib.Core.List.{List, [], _∷_, map}
+use mathlib.Core.Logic.{⊎-elim}
 use lib.Dec.{eqb}
-use borrow.Author.Tests.{eqb-true}
+use borrow.Author.Tests.{eqb-true, eq-eqb, ne-eqb}
 use Rattle.tree.specs.Lists.{every, has, leads, keep}
 use Rattle.tree.specs.Forest.{row, rows, view}
 use Rattle.tree.specs.Document.{Node, Line, lines, select, here}
-use Rattle.tree.specs.Steps.{Step, T, C, R, U, D, I, TT, RR, UU, target, inserts, with-content}
-use Rattle.tree.specs.Laws.Tests.{and-left, and-right, refuted}
+use Rattle.tree.specs.Steps.{Step, U, D, UU, target, inserts, with-content}
+use Rattle.tree.specs.Laws.Tests.{and-left, and-right, or-cases, refuted}
 use Rattle.tree.specs.Laws.Lists.{keep-map, keep-keep, keep-same, in-keep, map-map, map-same}
 use Rattle.tree.specs.Laws.Rows.{of-rows}
 use Rattle.tree.specs.Laws.View.{rows-view, in-view}
-use Rattle.locks.specs.Needs.{Lock, needs}
-use Rattle.locks.specs.Laws.Compatible.{Compatible}
-use Rattle.locks.specs.Laws.Excludes.{kth-child, new-child, children-kept, numbers-below, cells-below, names-below, subtree-kept}
-use Rattle.locks.specs.Laws.Excludes.{reads as reads-node, reads-below, renames-below, content-LUU, contents-LUU, content-kept, contents-kept}
+use Rattle.locks.specs.Needs.{Lock, need, needs}
+use Rattle.locks.specs.Laws.Compatible.{Compatible, excludes}
 use Rattle.commute.specs.Laws.Lines.{at-line}
-use Rattle.commute.specs.Laws.Views.{shape, Shapes, Whole, Reach, itself, children, subtree, within, reach, reads, Views}
+use Rattle.commute.specs.Laws.Classes.{update, rename, bars-removal, removal-barred, Contents, reads-contents, bars-writing, writing-barred}
+use Rattle.commute.specs.Laws.Views.{shape, Shapes, Whole, Reach, itself, children, subtree, within, reach, Views}
 use Rattle.protocol.specs.State.{nobody, Marked, Tree, number-held, seen-by, done-by, shown, as-shown, callers-document, document-of, writer-of}
 use Rattle.serializability.specs.Laws.Shown.{Place, Inside, path, numbers-of, local}
 use Rattle.serializability.specs.Laws.Numbers.{number-of, place-held}
@@ -85,21 +85,11 @@ unheld-absent sh text f m h = refuted _ (λ e.
 
 module _ (t : ℕ) (nz : t ≡ nobody → ⊥) (S : ℕ → Bool) (st : S t ≡ true) where
   local-done : (u : ℕ) → local t u ≡ true → done-by S u ≡ true
-  local-done u h = go (eqb u nobody) refl (eqb u t) refl h
-    where
-      go : (a : Bool) → eqb u nobody ≡ a → (b : Bool) → eqb u t ≡ b → (a || b) ≡ true → (a || S u) ≡ true
-      go true p b q i = refl
-      go false p true q i = rw (eqb-true u t q) st
-      go false p false q i = absurd (false≢true i)
+  local-done u h = ⊎-elim (λ p. rw p) (λ q. rw (eqb-true u t q, st) (or-true (eqb t nobody))) (or-cases (eqb u nobody) (eqb u t) h)
 
   local-deleted : (u : ℕ) → local t u ≡ true → not (not (eqb u nobody) && S u) ≡ not (eqb u t)
-  local-deleted u h = go (eqb u nobody) refl (eqb u t) refl h
-    where
-      go : (a : Bool) → eqb u nobody ≡ a → (b : Bool) → eqb u t ≡ b → (a || b) ≡ true → not (not a && S u) ≡ not b
-      go true p true q i = absurd (nz (sym (eqb-true u t q) ∙ eqb-true u nobody p))
-      go true p false q i = refl
-      go false p true q i = rw (eqb-true u t q, st)
-      go false p false q i = absurd (false≢true i)
+  local-deleted u h = ⊎-elim (λ (p : eqb u nobody ≡ true). rw (p, ne-eqb u t (λ q. nz (sym q ∙ eqb-true u nobody p))))
+      (λ q. rw (eqb-true u t q, st, ne-eqb t nobody nz, eq-eqb t t refl)) (or-cases (eqb u nobody) (eqb u t) h)
 
   -- where t alone left marks the set shows what t sees
   pub own-shown : (a : Marked) → own t a ≡ true → shown S a ≡ seen-by t a
@@ -120,30 +110,23 @@ module _ (holds : ℕ → List Lock) (f : Tree) (cov : Covered holds f) (t : ℕ
   -- what the step sees has no marks of others
   pub own-seen : (s : Step) → here (target s) (callers-document t f) ≡ true → Compatible-step s
       → (r : Place) → Inside r f → places (reach s) (target s) r ≡ true → every (own t) (path r) ≡ true
-  own-seen (T n) hs c r i e = own-node holds f cov t (T n) hs c r i (eqb-true _ n e)
-  own-seen (C n k) hs c r i e = own-child holds f cov t (C n k) hs c (children-kept (kth-child n k)) r i e
-  own-seen (R n) hs c r i e = own-node holds f cov t (R n) hs c r i (eqb-true _ n e)
-  own-seen (U n b) hs c r i e = own-node holds f cov t (U n b) hs c r i (eqb-true _ n e)
-  own-seen (D n) hs c r i e = own-node holds f cov t (D n) hs c r i (eqb-true _ n e)
-  own-seen (I m kind b n k) hs c r i e = own-child holds f cov t (I m kind b n k) hs c (children-kept (new-child m kind b n k)) r i e
-  own-seen (TT n) hs c r i e = own-subtree holds f cov t (TT n) hs c (subtree-kept (numbers-below n)) r i e
-  own-seen (RR n) hs c r i e = own-subtree holds f cov t (RR n) hs c (subtree-kept (cells-below n)) r i e
-  own-seen (UU n a b) hs c r i e = own-subtree holds f cov t (UU n a b) hs c (subtree-kept (names-below n a b)) r i e
+  own-seen s hs c r i e = go (reach s) (removal-barred s) e
+    where
+      go : (q : Reach) → bars-removal q (need s) (need (D 0)) ≡ true → places q (target s) r ≡ true → every (own t) (path r) ≡ true
+      go itself b e = own-node holds f cov t s hs c r i (eqb-true _ (target s) e)
+      go children b e = own-child holds f cov t s hs c b r i e
+      go subtree b e = own-subtree holds f cov t s hs c b r i e
 
-  -- what the step reads nobody else wrote
-  pub own-read : (s : Step) → here (target s) (callers-document t f) ≡ true → Compatible-step s → reads s ≡ true
+  -- the contents that the step reads or writes nobody else wrote
+  pub own-read : {s : Step} → Contents s → here (target s) (callers-document t f) ≡ true → Compatible-step s
       → (r : Place) → Inside r f → places (reach s) (target s) r ≡ true → local t (writer-of (r .it .update)) ≡ true
-  own-read (T n) hs c z r i e = absurd (false≢true z)
-  own-read (C n k) hs c z r i e = absurd (false≢true z)
-  own-read (R n) hs c z r i e = writer-node holds f cov t (R n) hs c (content-LUU (reads-node n)) (content-kept (reads-node n)) r i (eqb-true _ n e)
-  own-read (U n b) hs c z r i e = absurd (false≢true z)
-  own-read (D n) hs c z r i e = absurd (false≢true z)
-  own-read (I m kind b n k) hs c z r i e = absurd (false≢true z)
-  own-read (TT n) hs c z r i e = absurd (false≢true z)
-  own-read (RR n) hs c z r i e = writer-subtree holds f cov t (RR n) hs c (contents-LUU (reads-below n)) (subtree-kept (cells-below n))
-      (contents-kept (reads-below n) .0) (contents-kept (reads-below n) .1) r i e
-  own-read (UU n a b) hs c z r i e = writer-subtree holds f cov t (UU n a b) hs c (contents-LUU (renames-below n a b)) (subtree-kept (names-below n a b))
-      (contents-kept (renames-below n a b) .0) (contents-kept (renames-below n a b) .1) r i e
+  own-read {s} z hs c r i e = go (reach s) (removal-barred s) (writing-barred z (update 0 [])) (writing-barred z (rename 0 [] [])) e
+    where
+      go : (q : Reach) → bars-removal q (need s) (need (D 0)) ≡ true → bars-writing q itself (need s) (need (U 0 [])) ≡ true
+          → bars-writing q subtree (need s) (need (UU 0 [] [])) ≡ true → places q (target s) r ≡ true → local t (writer-of (r .it .update)) ≡ true
+      go itself b u v e = writer-node holds f cov t s hs c v u r i (eqb-true _ (target s) e)
+      go children b u v e = absurd (false≢true u)
+      go subtree b u v e = writer-subtree holds f cov t s hs c (and-right (excludes (need s .node) (need (UU 0 [] []))) _ v) b u (and-left _ _ v) r i e
 
   pub seen : (S : ℕ → Bool) → S t ≡ true → (s : Step) → here (target s) (callers-document t f) ≡ true → Compatible-step s
       → ((m : ℕ) → has m (inserts s) ≡ true → number-held m f ≡ false) → Views s (callers-document t f) (document-of S f)
@@ -155,6 +138,6 @@ module _ (holds : ℕ → List Lock) (f : Tree) (cov : Covered holds f) (t : ℕ
         (λ r i e. own-path t nz S st (path r) (own-seen s hs c r i e));
     contents = λ z. agree-whole (seen-by t) (shown S) (λ a. a .now .content) (λ a. as-shown S a .content) f (reach s) (target s)
         (λ r i e. own-path t nz S st (path r) (own-seen s hs c r i e))
-        (λ r i e. ap (λ (x : Node). x .content) (own-content t nz S st (r .it) (own-read s hs c z r i e)));
+        (λ r i e. ap (λ (x : Node). x .content) (own-content t nz S st (r .it) (own-read (reads-contents s z) hs c r i e)));
     absent = λ m h. unheld-absent (shown S) (λ a. as-shown S a .content) f m (new m h) ∙ sym (unheld-absent (seen-by t) (λ a. a .now .content) f m (new m h));
   }

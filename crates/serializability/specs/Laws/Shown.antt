@@ -1,20 +1,22 @@
 -- What a set of transactions shows of the tree after a step, a grant of locks, a commit, an abort and a load.
-use mathlib.Core.Path.{_≡_, refl, sym, ap, ap₂, _∙_}
+use mathlib.Core.Path.{_≡_, refl, sym, ap, _∙_}
 use Prim.Native.Nat.{ℕ}
 use mathlib.Core.Bool.{Bool, true, false, cond, not, _&&_, _||_, false≢true, or-true, and-false}
 use mathlib.Core.List.{List, [], _∷_, map}
+use mathlib.Core.Logic.{_⊎_, inl, inr}
 use lib.Dec.{eqb}
 use borrow.Author.Tests.{eqb-true, eq-eqb, ne-eqb}
 use Rattle.tree.specs.Lists.{any, every, has}
 use Rattle.tree.specs.Forest.{nil, node, Row, row, amend, view, put}
 use Rattle.tree.specs.Document.{Node, Document, is, under}
 use Rattle.tree.specs.Steps.{with-content, is-named, named, rewrite, remove}
-use Rattle.tree.specs.Laws.Tests.{and-left}
+use Rattle.tree.specs.Laws.Tests.{and-left, or-cases}
 use Rattle.tree.specs.Laws.Lists.{any-map}
 use Rattle.tree.specs.Laws.Rows.{In, self, inner, later}
 use Rattle.tree.specs.Laws.View.{view-view, view-agree, view-amend}
 use Rattle.tree.specs.Laws.Put.{view-put, view-put-hidden}
 use Rattle.locks.specs.Needs.{Lock}
+use Rattle.commute.specs.Laws.Tests.{cond-same}
 use Rattle.protocol.specs.State.{nobody, Marked, Tree, numbered, seen-by, done-by, shown, as-shown, document-of, written-by, deleted-by, inserted-by, granted-to, writer-of, saved-of, Update, unwritten, update-without}
 use Rattle.protocol.specs.State.{without, lasting, undone, mark, mark-node, renamed, grant, commit-tree, abort-tree, tree-of}
 
@@ -79,43 +81,31 @@ module _ (t : ℕ) (nz : t ≡ nobody → ⊥) (S : ℕ → Bool) where
   -- with t: what the plain step does ------------------------------------------------------
 
   module _ (st : S t ≡ true) where
-    pub U-shown : (n : ℕ) (b : List ℕ) (f : Tree) → document-of S (mark-node n (written-by t b) f) ≡ rewrite (is n) b (document-of S f)
+    -- t wrote b where a test says so, which is a test of what the set shows
+    write-shown : (test : Place → Bool) (test' : Row Node ℕ → Bool) (b : List ℕ) (f : Tree)
+        → ((r : Place) → Inside r f → every (shown S) (path r) ≡ true → test r ≡ test' (row (as-shown S (r .it)) (numbers-of (r .above))))
+        → document-of S (mark (λ r. cond (test r) (written-by t b (r .it)) (r .it)) f) ≡ rewrite test' b (document-of S f)
     unfolding document-of
-    U-shown n b f = view-amend (λ a. a) (shown S) (shown S) (λ a. refl) (shown S) (as-shown S) (as-shown S) c (λ a. a .number) c' numbers-of (λ a q e. refl) [] f refl
-        (λ r i e. sight (r .it) (numbered n (r .it))) (λ r i e. words (r .it) (numbers-of (r .above)) (numbered n (r .it)) refl)
+    write-shown test test' b f h = view-amend (λ a. a) (shown S) (shown S) (λ a. refl) (shown S) (as-shown S) (as-shown S) _ (λ a. a .number) _ numbers-of
+        (λ a q e. refl) [] f refl (λ r i e. cond-same (shown S) (test r) (written-by t b (r .it)) (r .it) refl)
+        (λ r i e. rw (h r i e) (words (r .it) (test' (row (as-shown S (r .it)) (numbers-of (r .above))))))
       where
-        c : Place → Marked
-        c r = cond (numbered n (r .it)) (written-by t b (r .it)) (r .it)
+        words : (a : Marked) (x : Bool) → as-shown S (cond x (written-by t b a) a) ≡ cond x (with-content (as-shown S a) b) (as-shown S a)
+        words a true = rw (done-own t S st)
+        words a false = refl
 
-        c' : Row Node ℕ → Node
-        c' r = cond (is n r) (with-content (r .it) b) (r .it)
-
-        sight : (a : Marked) (x : Bool) → shown S (cond x (written-by t b a) a) ≡ shown S a
-        sight a true = refl
-        sight a false = refl
-
-        words : (a : Marked) (q : List ℕ) (x : Bool) → numbered n a ≡ x → as-shown S (cond x (written-by t b a) a) ≡ cond x (with-content (as-shown S a) b) (as-shown S a)
-        words a q true e = rw (done-own t S st)
-        words a q false e = refl
+    pub U-shown : (n : ℕ) (b : List ℕ) (f : Tree) → document-of S (mark-node n (written-by t b) f) ≡ rewrite (is n) b (document-of S f)
+    U-shown n b f = write-shown (λ r. numbered n (r .it)) (is n) b f (λ r i e. refl)
 
     pub D-shown : (n : ℕ) (f : Tree) → document-of S (mark-node n (deleted-by t) f) ≡ remove n (document-of S f)
     unfolding document-of
-    D-shown n f = view-mark s' (shown S) (as-shown S) (as-shown S) c [] f (λ r i. sight (r .it) (numbered n (r .it)) refl) (λ r i e. words (r .it) (numbered n (r .it)))
+    D-shown n f = view-mark (λ a. shown S a && not (eqb (a .now .number) n)) (shown S) (as-shown S) (as-shown S) _ [] f
+        (λ r i. sight (r .it) (numbered n (r .it))) (λ r i e. cond-same (as-shown S) (numbered n (r .it)) (deleted-by t (r .it)) (r .it) refl)
         ∙ sym (view-view (shown S) (as-shown S) (λ a. not (eqb (a .number) n)) (λ a. a) f)
       where
-        c : Place → Marked
-        c r = cond (numbered n (r .it)) (deleted-by t (r .it)) (r .it)
-
-        s' : Marked → Bool
-        s' a = shown S a && not (eqb (a .now .number) n)
-
-        sight : (a : Marked) (x : Bool) → numbered n a ≡ x → shown S (cond x (deleted-by t a) a) ≡ (shown S a && not x)
-        sight a true e = rw (ne-eqb t 0 nz, st, and-false (shown S a)) (and-false (done-by S (a .inserter)))
-        sight a false e = and-true (shown S a)
-
-        words : (a : Marked) (x : Bool) → as-shown S (cond x (deleted-by t a) a) ≡ as-shown S a
-        words a true = refl
-        words a false = refl
+        sight : (a : Marked) (x : Bool) → shown S (cond x (deleted-by t a) a) ≡ (shown S a && not x)
+        sight a true = rw (ne-eqb t 0 nz, st, and-false (shown S a)) (and-false (done-by S (a .inserter)))
+        sight a false = and-true (shown S a)
 
     -- among the parent's children t sees those that are shown
     pub I-shown : (n k : ℕ) (new : Node) (f : Tree)
@@ -126,74 +116,41 @@ module _ (t : ℕ) (nz : t ≡ nobody → ⊥) (S : ℕ → Bool) where
         (rw (done-own t S st)) (λ a e. refl) [] f (λ s r i e j o. sym (h r (s .it) (s .above) j o (eqb-true (s .it .now .number) n e)) ∙ and-true (shown S (r .it)))
 
     -- in the subtree of n t sees what is shown, with the contents as they are now
-    pub UU-shown : (n : ℕ) (a b : List ℕ) (f : Tree)
-        → ((r : Place) → Inside r f → has n (numbers-of (path r)) ≡ true → (every (shown S) (path r) ≡ every (seen-by t) (path r)) × (as-shown S (r .it) ≡ r .it .now))
+    pub UU-shown : (n : ℕ) (a b : List ℕ) (f : Tree) → ((r : Place) → Inside r f → has n (numbers-of (path r)) ≡ true
+        → (every (shown S) (path r) ≡ every (seen-by t) (path r)) × (as-shown S (r .it) ≡ r .it .now))
         → document-of S (mark (λ r. cond (renamed t n a r) (written-by t b (r .it)) (r .it)) f) ≡ rewrite (λ r. under n r && named a r) b (document-of S f)
-    unfolding document-of
-    UU-shown n a b f h = view-amend (λ x. x) (shown S) (shown S) (λ x. refl) (shown S) (as-shown S) (as-shown S) c (λ x. x .number) c' numbers-of (λ x q e. refl) [] f refl
-        (λ r i e. sight (r .it) (renamed t n a r)) words
+    UU-shown n a b f h = write-shown (renamed t n a) (λ r. under n r && named a r) b f
+        (λ r i v. ap (λ x. every (seen-by t) (path r) && x && is-named a (r .it .now)) (numbers (path r)) ∙ test r i v (has n (numbers-of (path r))) refl)
       where
-        c : Place → Marked
-        c r = cond (renamed t n a r) (written-by t b (r .it)) (r .it)
-
-        c' : Row Node ℕ → Node
-        c' r = cond (under n r && named a r) (with-content (r .it) b) (r .it)
-
-        sight : (x : Marked) (y : Bool) → shown S (cond y (written-by t b x) x) ≡ shown S x
-        sight x true = refl
-        sight x false = refl
-
-        tests : (x y z : Bool) → x ≡ true → (x && y && z) ≡ (y && z)
-        tests true y z e = refl
-        tests false y z e = absurd (false≢true e)
-
         numbers : (p : List Marked) → any (numbered n) p ≡ has n (numbers-of p)
         numbers p = sym (any-map (λ q. eqb q n) (λ x. x .now .number) p)
 
-        content : (x : Marked) (y : Bool) → as-shown S (cond y (written-by t b x) x) ≡ cond y (with-content (as-shown S x) b) (as-shown S x)
-        content x true = rw (done-own t S st)
-        content x false = refl
-
-        seen-line : Place → Row Node ℕ
-        seen-line r = row (as-shown S (r .it)) (numbers-of (r .above))
-
         -- t sees there what is shown, so its test is the plain one
-        test : (r : Place) → Inside r f → every (shown S) (path r) ≡ true → (y : Bool) → has n (numbers-of (path r)) ≡ y → renamed t n a r ≡ (y && named a (seen-line r))
-        test r i v true e =
-            let q = h r i e in
-            tests (every (seen-by t) (path r)) (any (numbered n) (path r)) (is-named a (r .it .now)) (sym (q .0) ∙ v)
-            ∙ ap₂ (λ (x : Bool) (z : Node). x && is-named a z) (numbers (path r) ∙ e) (sym (q .1))
-        test r i v false e =
-            ap (λ x. every (seen-by t) (path r) && x && is-named a (r .it .now)) (numbers (path r) ∙ e) ∙ rw (and-false (every (seen-by t) (path r)))
-
-        words : (r : Place) → Inside r f → every (shown S) (path r) ≡ true → as-shown S (c r) ≡ c' (seen-line r)
-        words r i v =
-            ap (λ x. as-shown S (cond x (written-by t b (r .it)) (r .it))) (test r i v (has n (numbers-of (path r))) refl)
-            ∙ content (r .it) (has n (numbers-of (path r)) && named a (seen-line r))
+        test : (r : Place) → Inside r f → every (shown S) (path r) ≡ true → (y : Bool) → has n (numbers-of (path r)) ≡ y
+            → (every (seen-by t) (path r) && y && is-named a (r .it .now)) ≡ (y && is-named a (as-shown S (r .it)))
+        test r i v true e = let q = h r i e in rw (sym (q .0) ∙ v) (ap (is-named a) (sym (q .1)))
+        test r i v false e = rw (and-false (every (seen-by t) (path r)))
 
   -- without t: nothing ---------------------------------------------------------------------
 
   module _ (st : S t ≡ false) where
     -- t wrote over what was committed, or over its own
     before-shown : (b : List ℕ) (a : Marked) → local t (writer-of (a .update)) ≡ true → as-shown S (written-by t b a) ≡ as-shown S a
-    before-shown b a h = ap (with-content (a .now)) (rw (done-other t S nz st) (go (eqb (writer-of (a .update)) 0) refl (eqb (writer-of (a .update)) t) refl h))
+    before-shown b a h = ap (with-content (a .now)) (rw (done-other t S nz st) (go (eqb (writer-of (a .update)) 0) (or-cases (eqb (writer-of (a .update)) 0) _ h)))
       where
-        go : (x : Bool) → eqb (writer-of (a .update)) 0 ≡ x → (y : Bool) → eqb (writer-of (a .update)) t ≡ y → (x || y) ≡ true
+        go : (x : Bool) → (x ≡ true) ⊎ (eqb (writer-of (a .update)) t ≡ true)
             → cond x (a .now .content) (saved-of (a .update)) ≡ cond (x || S (writer-of (a .update))) (a .now .content) (saved-of (a .update))
-        go true p y q i = refl
-        go false p true q i = rw (eqb-true (writer-of (a .update)) t q, st)
-        go false p false q i = absurd (false≢true i)
+        go true i = refl
+        go false (inl i) = absurd (false≢true i)
+        go false (inr i) = rw (eqb-true (writer-of (a .update)) t i, st)
 
     -- t wrote where a test says so
     pub write-hidden : (test : Place → Bool) (b : List ℕ) (f : Tree) → ((r : Place) → Inside r f → test r ≡ true → local t (writer-of (r .it .update)) ≡ true)
         → document-of S (mark (λ r. cond (test r) (written-by t b (r .it)) (r .it)) f) ≡ document-of S f
     unfolding document-of
-    write-hidden test b f h = view-mark (shown S) (shown S) (as-shown S) (as-shown S) _ [] f (λ r i. sight (r .it) (test r)) (λ r i e. words (r .it) (test r) (h r i))
+    write-hidden test b f h = view-mark (shown S) (shown S) (as-shown S) (as-shown S) _ [] f
+        (λ r i. cond-same (shown S) (test r) (written-by t b (r .it)) (r .it) refl) (λ r i e. words (r .it) (test r) (h r i))
       where
-        sight : (a : Marked) (x : Bool) → shown S (cond x (written-by t b a) a) ≡ shown S a
-        sight a true = refl
-        sight a false = refl
-
         words : (a : Marked) (x : Bool) → (x ≡ true → local t (writer-of (a .update)) ≡ true) → as-shown S (cond x (written-by t b a) a) ≡ as-shown S a
         words a true k = before-shown b a (k refl)
         words a false k = refl
@@ -201,23 +158,17 @@ module _ (t : ℕ) (nz : t ≡ nobody → ⊥) (S : ℕ → Bool) where
     pub D-hidden : (n : ℕ) (f : Tree) → ((r : Place) → Inside r f → r .it .now .number ≡ n → local t (r .it .deleter) ≡ true)
         → document-of S (mark-node n (deleted-by t) f) ≡ document-of S f
     unfolding document-of
-    D-hidden n f h = view-mark (shown S) (shown S) (as-shown S) (as-shown S) _ [] f (λ r i. sight (r .it) (numbered n (r .it)) (λ e. h r i (eqb-true _ n e))) (λ r i e. words (r .it) (numbered n (r .it)))
+    D-hidden n f h = view-mark (shown S) (shown S) (as-shown S) (as-shown S) _ [] f (λ r i. sight (r .it) (numbered n (r .it)) (λ e. h r i (eqb-true _ n e)))
+        (λ r i e. cond-same (as-shown S) (numbered n (r .it)) (deleted-by t (r .it)) (r .it) refl)
       where
-        was-shown : (a : Marked) → local t (a .deleter) ≡ true → shown S (deleted-by t a) ≡ shown S a
-        was-shown a l = rw st (ap (λ z. done-by S (a .inserter) && z) (step (eqb (a .deleter) 0) refl (eqb (a .deleter) t) refl l))
-          where
-            step : (x : Bool) → eqb (a .deleter) 0 ≡ x → (y : Bool) → eqb (a .deleter) t ≡ y → (x || y) ≡ true → not (not (eqb t 0) && false) ≡ not (not x && S (a .deleter))
-            step true p y q i = rw (and-false (not (eqb t 0)))
-            step false p true q i = rw (eqb-true (a .deleter) t q, st, and-false (not (eqb t 0)))
-            step false p false q i = absurd (false≢true i)
+        was-shown : (a : Marked) (x : Bool) → (x ≡ true) ⊎ (eqb (a .deleter) t ≡ true) → not (not (eqb t 0) && false) ≡ not (not x && S (a .deleter))
+        was-shown a true i = rw (and-false (not (eqb t 0)))
+        was-shown a false (inl i) = absurd (false≢true i)
+        was-shown a false (inr i) = rw (eqb-true (a .deleter) t i, st, and-false (not (eqb t 0)))
 
         sight : (a : Marked) (x : Bool) → (x ≡ true → local t (a .deleter) ≡ true) → shown S (cond x (deleted-by t a) a) ≡ shown S a
-        sight a true k = was-shown a (k refl)
+        sight a true k = rw st (ap (λ z. done-by S (a .inserter) && z) (was-shown a (eqb (a .deleter) 0) (or-cases (eqb (a .deleter) 0) _ (k refl))))
         sight a false k = refl
-
-        words : (a : Marked) (x : Bool) → as-shown S (cond x (deleted-by t a) a) ≡ as-shown S a
-        words a true = refl
-        words a false = refl
 
     pub I-hidden : (n k : ℕ) (new : Node) (f : Tree) → document-of S (put (numbered n) (seen-by t) k (inserted-by t new) f) ≡ document-of S f
     unfolding document-of

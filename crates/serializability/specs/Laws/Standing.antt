@@ -1,21 +1,22 @@
 -- The nodes of a granted step stand in the tree, with its locks in their sets, until its transaction ends.
 use mathlib.Core.Path.{_≡_, refl, sym, ap, ap₂, _∙_}
 use Prim.Native.Nat.{ℕ}
-use mathlib.Core.Bool.{Bool, true, false, not, _&&_, _||_, false≢true, true≢false, or-true}
+use mathlib.Core.Bool.{Bool, true, false, not, _&&_, false≢true, true≢false, or-true}
 use mathlib.Core.List.{List, [], _∷_, List·Memᴰ, List·Memᴰ·head}
-use mathlib.Core.Logic.{_⊎_, inl, inr}
+use mathlib.Core.Logic.{⊎-elim}
 use lib.Dec.{eqb}
 use borrow.Author.Tests.{eqb-true, eq-eqb, ne-eqb, not-true}
 use Rattle.tree.specs.Lists.{any, has}
 use Rattle.tree.specs.Forest.{row}
 use Rattle.tree.specs.Steps.{Step, target, inserts}
-use Rattle.tree.specs.Laws.Tests.{refuted}
+use Rattle.tree.specs.Laws.Tests.{or-cases, refuted}
 use Rattle.tree.specs.Laws.Lists.{at-any, every-not}
 use Rattle.tree.specs.Laws.Rows.{Each, each-above}
 use Rattle.locks.specs.Modes.{Mode, LW, modes, clash}
 use Rattle.locks.specs.Needs.{Lock, locks}
 use Rattle.locks.specs.Laws.Clash.{every-mode}
 use Rattle.locks.specs.Laws.Compatible.{Locked, Compatible, new-locked}
+use Rattle.commute.specs.Laws.Tests.{affirmed}
 use Rattle.commute.specs.Laws.Classes.{new-need}
 use Rattle.protocol.specs.State.{State, Marked, Tree, numbered, nodes, is-transaction}
 use Rattle.protocol.specs.Calls.{clashes, blocks, wait-set}
@@ -39,13 +40,9 @@ pub record Standing (f : Tree) (u : ℕ) (s : Step) (hs : List Lock) : Type 0 wh
 path-place : (f : Tree) (l : List Marked) → Each (λ a. a) (λ a p. Inside (row a p) f) l → (q : ℕ) → has q (numbers-of l) ≡ true
     → (r : Place) × Inside r f × (number-of r ≡ q) × ((x : ℕ) → has x (numbers-of (path r)) ≡ true → has x (numbers-of l) ≡ true)
 path-place f [] g q h = absurd (false≢true h)
-path-place f (a ∷ p) g q h = go (eqb (a .now .number) q) refl h (λ i. path-place f p (g .1) q i)
-  where
-    go : (b : Bool) → eqb (a .now .number) q ≡ b → (b || has q (numbers-of p)) ≡ true
-        → (has q (numbers-of p) ≡ true → (r : Place) × Inside r f × (number-of r ≡ q) × ((x : ℕ) → has x (numbers-of (path r)) ≡ true → has x (numbers-of p) ≡ true))
-        → (r : Place) × Inside r f × (number-of r ≡ q) × ((x : ℕ) → has x (numbers-of (path r)) ≡ true → has x (numbers-of (a ∷ p)) ≡ true)
-    go true e i rest = (row a p, g .0, eqb-true _ q e, λ x h. h)
-    go false e i rest = let b = rest i in (b .0, b .1, b .2, λ x y. rw (b .3 x y) (or-true (eqb (a .now .number) x)))
+path-place f (a ∷ p) g q h = ⊎-elim (λ e. (row a p, g .0, eqb-true _ q e, λ x h. h))
+    (λ i. let b = path-place f p (g .1) q i in (b .0, b .1, b .2, λ x y. rw (b .3 x y) (or-true (eqb (a .now .number) x))))
+    (or-cases (eqb (a .now .number) q) (has q (numbers-of p)) h)
 
 pub ancestor-place : (f : Tree) {r : Place} → Inside r f → (q : ℕ) → has q (numbers-of (path r)) ≡ true
     → (s : Place) × Inside s f × (number-of s ≡ q) × ((x : ℕ) → has x (numbers-of (path s)) ≡ true → has x (numbers-of (path r)) ≡ true)
@@ -54,7 +51,9 @@ ancestor-place f {r} i q h = path-place f (path r) (each-above (λ a. a) (λ a p
 -- where a step locked a node, it locked all above it
 pub covers : (f : Tree) → Distinct f → (u : ℕ) (s : Step) (hs : List Lock) → Standing f u s hs → (l : Lock) → List·Memᴰ l hs
     → (r : Place) → Inside r f → number-of r ≡ l .0 → (q : ℕ) → has q (numbers-of (path r)) ≡ true → (a : Mode) × Locked q a hs
-covers f d u s hs g l m r i e q h = rw (g .locked) (go (lock-place s P l (rw (g .locked) at m)))
+covers f d u s hs g l m r i e q h = rw (g .locked) (⊎-elim
+    (λ y. let b = ancestor-place f (g .inside) (l .0) (rw (← g .number) at y) in on-path (b .3 q (rw (one-place f d i (b .1) (e ∙ sym (b .2))) at h)))
+    (λ y. below-new (g .new (l .0) y) y) (lock-place s P l (rw (g .locked) at m)))
   where
     P : List ℕ
     P = numbers-of (g .node .above)
@@ -63,26 +62,15 @@ covers f d u s hs g l m r i e q h = rw (g .locked) (go (lock-place s P l (rw (g 
     on-path y = path-locked s P q (rw (g .number) at y)
 
     below-new : (x : (r : Place) × Inside r f × (number-of r ≡ l .0) × (numbers-of (r .above) ≡ numbers-of (path (g .node))) × (r .it .inserter ≡ u)) → has (l .0) (inserts s) ≡ true → (a : Mode) × Locked q a (locks s P)
-    below-new x b = step (eqb (number-of r) q) refl h
-      where
-        step : (y : Bool) → eqb (number-of r) q ≡ y → (y || has q (numbers-of (r .above))) ≡ true → (a : Mode) × Locked q a (locks s P)
-        step true y z = (LW, rw (sym e ∙ eqb-true (number-of r) q y) at (new-locked s P (l .0) b LW (rw (new-need s (l .0) b) (List·Memᴰ·head refl))))
-        step false y z = on-path (rw (ap (λ (w : Place). numbers-of (w .above)) (one-place f d i (x .1) (e ∙ sym (x .2))) ∙ x .3) at z)
-
-    go : (has (l .0) (target s ∷ P) ≡ true) ⊎ (has (l .0) (inserts s) ≡ true) → (a : Mode) × Locked q a (locks s P)
-    go (inl y) =
-        let b = ancestor-place f (g .inside) (l .0) (rw (← g .number) at y) in
-        on-path (b .3 q (rw (one-place f d i (b .1) (e ∙ sym (b .2))) at h))
-    go (inr y) = below-new (g .new (l .0) y) y
+    below-new x b = ⊎-elim
+        (λ y. (LW, rw (sym e ∙ eqb-true (number-of r) q y) at (new-locked s P (l .0) b LW (rw (new-need s (l .0) b) (List·Memᴰ·head refl)))))
+        (λ z. on-path (rw (ap (λ (w : Place). numbers-of (w .above)) (one-place f d i (x .1) (e ∙ sym (x .2))) ∙ x .3) at z))
+        (or-cases (eqb (number-of r) q) (has q (numbers-of (r .above))) h)
 
 -- a step that does not wait ------------------------------------------------------------------
 
 any-mode : (t : Mode → Bool) (a : Mode) → t a ≡ true → any t modes ≡ true
-any-mode t a h = go (any t modes) refl
-  where
-    go : (x : Bool) → any t modes ≡ x → x ≡ true
-    go true e = refl
-    go false e = absurd (true≢false (sym h ∙ not-true (t a) (every-mode (λ m. not (t m)) (every-not t modes ∙ ap not e) a)))
+any-mode t a h = affirmed _ (λ e. true≢false (sym h ∙ not-true (t a) (every-mode (λ m. not (t m)) (every-not t modes ∙ ap not e) a)))
 
 -- locks that clash on no node with what u holds there are compatible with the locks of u
 unblocked-compatible : (ls hs : List Lock) (u : ℕ) (f : Tree) → ((l : Lock) → List·Memᴰ l hs → (r : Place) × Inside r f × (number-of r ≡ l .0) × (r .it .held u (l .1) ≡ true))
@@ -99,10 +87,7 @@ pub no-wait-compatible : (t : ℕ) (ls hs : List Lock) (M : State) (u : ℕ) →
     → ((l : Lock) → List·Memᴰ l hs → (r : Place) × Inside r (M .tree) × (number-of r ≡ l .0) × (r .it .held u (l .1) ≡ true)) → Compatible ls hs
 unfolding wait-set
 no-wait-compatible t ls hs M u w ne o tr link = unblocked-compatible ls hs u (M .tree) link
-    (go (any (clashes ls u) (nodes (M .tree))) (sum-empty (blocks t ls M) (eqb-true _ 0 w) u tr))
-  where
-    go : (x : Bool) → (M .header .is-open u && not (eqb u t) && x) ≡ false → x ≡ false
-    go x e = rw (o, ne-eqb u t ne) at e
+    (rw (o, ne-eqb u t ne) at (sum-empty (blocks t ls M) (eqb-true _ 0 w) u tr))
 
 -- after an edit ------------------------------------------------------------------------------
 

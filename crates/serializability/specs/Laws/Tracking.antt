@@ -3,7 +3,7 @@ use mathlib.Core.Path.{_≡_, refl, sym, ap, _∙_}
 use Prim.Native.Nat.{ℕ}
 use mathlib.Core.Bool.{true, false, false≢true, true≢false}
 use mathlib.Core.List.{List, [], _∷_, map, append-nil, List·Memᴰ·not-nil}
-use mathlib.Core.Logic.{_⊎_, inl, inr}
+use mathlib.Core.Logic.{⊎-elim}
 use lib.Dec.{eqb}
 use borrow.Author.Tests.{eqb-true, ne-eqb}
 use Rattle.tree.specs.Lists.{every, has, joined}
@@ -138,16 +138,12 @@ module _ (L : Log Entry) (M : State) (tr : Tracks L M) where
   begin-good : (t : ℕ) → is-transaction t ≡ true → M .header .is-open t ≡ false → Good (tr .c) (with-log t [] (L .open-log)) (opened t M)
   begin-good t h e = rw (with-log-same t [] (L .open-log) (sym (tr .good .closed t e))) (record {
     closed = λ u x. tr .good .closed u (or-right (eqb u t) _ x);
-    numbered = λ u x. go u (or-cases (eqb u t) _ x);
+    numbered = λ u x. ⊎-elim (λ y. rw (eqb-true u t y) h) (tr .good .numbered u) (or-cases (eqb u t) (M .header .is-open u) x);
     covered = tr .good .covered;
     standing = tr .good .standing;
     brought = tr .good .brought;
     serial = tr .good .serial;
   })
-    where
-      go : (u : ℕ) → (eqb u t ≡ true) ⊎ (M .header .is-open u ≡ true) → is-transaction u ≡ true
-      go u (inl x) = rw (eqb-true u t x) h
-      go u (inr x) = tr .good .numbered u x
 
   commit-tracks : (t : ℕ) → is-transaction t ≡ true → Tracks (with-commit t L) (closed t (commit-tree t (M .tree)) M)
   commit-tracks t h =

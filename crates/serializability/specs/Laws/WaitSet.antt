@@ -1,13 +1,17 @@
--- The bits of a wait set are the transactions that block.
+-- The bits of a wait set are the transactions that block; lists of transactions.
 use mathlib.Core.Path.{_≡_, refl, sym, ap, _∙_}
 use Prim.Native.Nat.{ℕ, zero, suc, _+_, _-_, _*_, _/_, _%_, _^_, _<_, _≤_}
-use mathlib.Core.Bool.{Bool, true, false, cond}
+use mathlib.Core.Bool.{Bool, true, false, cond, true≢false}
 use mathlib.Core.List.{List, [], _∷_, List·Memᴰ, List·Memᴰ·head, List·Memᴰ·tail}
 use native.Mathlib.Omega.{arith}
 use native.Mathlib.Nat.{zero-div}
 use lib.Dec.{eqb, leb}
 use borrow.Author.Tests.{eqb-true, eqb-false, leb-true}
-use Rattle.tree.specs.Laws.Tests.{and-left, and-right}
+use Rattle.tree.specs.Lists.{has, keep, distinct}
+use Rattle.tree.specs.Laws.Tests.{and-left, and-right, refuted}
+use Rattle.tree.specs.Laws.Lists.{has-in, in-has, in-keep, keep-in, map-self}
+use Rattle.tree.specs.Laws.Distinct.{distinct-keep}
+use Rattle.commute.specs.Laws.Tests.{by-test}
 use Rattle.protocol.specs.State.{transactions, is-transaction}
 use Rattle.protocol.specs.Calls.{sum-of-bits}
 use Rattle.locks.specs.Words.{word}
@@ -70,11 +74,8 @@ numbers-from i (suc n) = i ∷ numbers-from (suc i) n
 
 in-numbers-from : (n i u : ℕ) → i ≤ u → u < i + n → List·Memᴰ u (numbers-from i n)
 in-numbers-from zero i u l h = absurd (omega arith)
-in-numbers-from (suc n) i u l h = go (eqb u i) refl (λ k. in-numbers-from n (suc i) u k (omega arith))
-  where
-    go : (b : Bool) → eqb u i ≡ b → (suc i ≤ u → List·Memᴰ u (numbers-from (suc i) n)) → List·Memᴰ u (i ∷ numbers-from (suc i) n)
-    go true e rest = List·Memᴰ·head (eqb-true u i e)
-    go false e rest = List·Memᴰ·tail (rest (omega (arith, eqb-false u i e)))
+in-numbers-from (suc n) i u l h = by-test (eqb u i) (λ e. List·Memᴰ·head (eqb-true u i e))
+    (λ e. List·Memᴰ·tail (in-numbers-from n (suc i) u (omega (arith, eqb-false u i e)) (omega arith)))
 
 -- the numbers 1 to 16 are all listed
 pub transaction-in : (u : ℕ) → is-transaction u ≡ true → List·Memᴰ u transactions
@@ -82,3 +83,11 @@ transaction-in u h =
     let low : 1 ≤ u = leb-true 1 u (and-left (leb 1 u) (leb u 16) h) in
     let high : u ≤ 16 = leb-true u 16 (and-right (leb 1 u) (leb u 16) h) in
     in-numbers-from 16 1 u low (omega arith)
+
+-- those of a set of transactions, listed
+pub has-kept : (S : ℕ → Bool) (u : ℕ) → (S u ≡ true → is-transaction u ≡ true) → has u (keep S transactions) ≡ S u
+has-kept S u h = by-test (S u) (λ e. rw e (in-has u (keep S transactions) (keep-in S transactions (transaction-in u (h e)) e)))
+    (λ e. rw e (refuted _ (λ i. true≢false (sym (in-keep S transactions (has-in u (keep S transactions) i) .1) ∙ e))))
+
+pub kept-distinct : (S : ℕ → Bool) → distinct (keep S transactions) ≡ true
+kept-distinct S = ap distinct (sym (map-self (λ n. n) (keep S transactions) (λ a m. refl))) ∙ distinct-keep (λ n. n) S transactions refl

@@ -2,9 +2,9 @@
 -- to the one that the tree shows of them. A granted step keeps this.
 use mathlib.Core.Path.{_≡_, refl, sym, ap, _∙_}
 use Prim.Native.Nat.{ℕ}
-use mathlib.Core.Bool.{Bool, true, false, cond, false≢true, true≢false}
+use mathlib.Core.Bool.{Bool, true, false, false≢true, true≢false}
 use mathlib.Core.List.{List, [], _∷_, _++_, List·Memᴰ, List·Memᴰ·head, List·Memᴰ·tail, List·Memᴰ·not-nil, Memᴰ·append-left, Memᴰ·append-right, List·Memᴰ·append-cases}
-use mathlib.Core.Logic.{_⊎_, inl, inr}
+use mathlib.Core.Logic.{_⊎_, inl, inr, ⊎-elim}
 use lib.Dec.{eqb}
 use borrow.Author.Tests.{eqb-true, eq-eqb, ne-eqb, not-false}
 use Rattle.tree.specs.Lists.{any, every, has}
@@ -14,6 +14,7 @@ use Rattle.tree.specs.Laws.Tests.{refuted}
 use Rattle.tree.specs.Laws.Lists.{at-any, any-at, has-in, in-has}
 use Rattle.locks.specs.Needs.{Lock, needs}
 use Rattle.locks.specs.Laws.Compatible.{Compatible}
+use Rattle.commute.specs.Laws.Tests.{by-test, affirmed}
 use Rattle.commute.specs.Laws.Views.{views-same}
 use Rattle.commute.specs.Laws.Classes.{Absent}
 use Rattle.commute.specs.Laws.Runs.{Entry, Valid, Clear}
@@ -29,7 +30,7 @@ use Rattle.serializability.specs.Laws.Seen.{seen, unheld-absent}
 use Rattle.serializability.specs.Laws.Acts.{act-shown, act-hidden}
 use Rattle.serializability.specs.Laws.Keeping.{act-covered, grant-covered}
 use Rattle.serializability.specs.Laws.Standing.{Standing, standing-carried, no-wait-compatible}
-use Rattle.serializability.specs.Laws.Granting.{after-step, step-carries, step-standing, Known-place, step-places}
+use Rattle.serializability.specs.Laws.Granting.{after-step, step-carries, step-standing, Old-place, New-place, act-places, step-place}
 
 -- the locks of a log
 abbrev pub locks-of : List Entry → List Lock
@@ -44,14 +45,18 @@ in-locks-of (y ∷ l) x (List·Memᴰ·tail m) k i = Memᴰ·append-right (y .he
 -- whose a lock is
 pub lock-entry : (l : List Entry) (k : Lock) → List·Memᴰ k (locks-of l) → (x : Entry) × List·Memᴰ x l × List·Memᴰ k (x .held)
 lock-entry [] k i = absurd (List·Memᴰ·not-nil i)
-lock-entry (y ∷ l) k i = go (List·Memᴰ·append-cases (y .held) i) (λ j. lock-entry l k j)
-  where
-    go : List·Memᴰ k (y .held) ⊎ List·Memᴰ k (locks-of l) → (List·Memᴰ k (locks-of l) → (x : Entry) × List·Memᴰ x l × List·Memᴰ k (x .held)) → (x : Entry) × List·Memᴰ x (y ∷ l) × List·Memᴰ k (x .held)
-    go (inl j) w = (y, List·Memᴰ·head refl, j)
-    go (inr j) w = let a = w j in (a .0, List·Memᴰ·tail (a .1), a .2)
+lock-entry (y ∷ l) k i = ⊎-elim (λ j. (y, List·Memᴰ·head refl, j)) (λ j. let a = lock-entry l k j in (a .0, List·Memᴰ·tail (a .1), a .2))
+    (List·Memᴰ·append-cases (y .held) i)
 
 abbrev pub holds : (ℕ → List Entry) → ℕ → List Lock
 holds log u = locks-of (log u)
+
+-- the log of u brought in the number m
+abbrev pub Brought : (ℕ → List Entry) → ℕ → ℕ → Type 0
+Brought log m u = (y : Entry) × List·Memᴰ y (log u) × (has m (inserts (y .step)) ≡ true)
+
+pub brought-as : (log : ℕ → List Entry) {m n u v : ℕ} → m ≡ n → u ≡ v → Brought log n v → Brought log m u
+brought-as log e i b = rw (e, i) b
 
 -- c is the committed document, log what each open transaction did so far
 pub record Good (c : Document) (log : ℕ → List Entry) (M : State) : Type 0 where
@@ -60,19 +65,12 @@ pub record Good (c : Document) (log : ℕ → List Entry) (M : State) : Type 0 w
   pub covered : Covered (holds log) (M .tree)
   pub standing : (u : ℕ) (y : Entry) → List·Memᴰ y (log u) → Standing (M .tree) u (y .step) (y .held)
   -- a node that a transaction inserted is one that its log brought in
-  pub brought : (r : Place) → Inside r (M .tree) → (r .it .inserter ≡ nobody → ⊥) → (y : Entry) × List·Memᴰ y (log (r .it .inserter)) × (has (number-of r) (inserts (y .step)) ≡ true)
+  pub brought : (r : Place) → Inside r (M .tree) → (r .it .inserter ≡ nobody → ⊥) → Brought log (number-of r) (r .it .inserter)
   pub serial : (b : List ℕ) → Distinct b → Serial c b log (document-of (λ u. has u b) (M .tree))
 
 -- whoever has a log is open
 pub log-open : {c : Document} {log : ℕ → List Entry} {M : State} → Good c log M → (u : ℕ) {y : Entry} → List·Memᴰ y (log u) → M .header .is-open u ≡ true
-log-open {M = M} g u i = go (M .header .is-open u) refl
-  where
-    go : (x : Bool) → M .header .is-open u ≡ x → x ≡ true
-    go true e = refl
-    go false e = absurd (List·Memᴰ·not-nil (rw (g .closed u e) at i))
-
-pub nobody-idle : {c : Document} {log : ℕ → List Entry} {M : State} → Good c log M → log nobody ≡ []
-nobody-idle {M = M} g = g .closed nobody (refuted _ (λ e. false≢true (g .numbered nobody e)))
+log-open g u i = affirmed _ (λ e. List·Memᴰ·not-nil (rw (g .closed u e) at i))
 
 -- a granted step -------------------------------------------------------------------------------
 
@@ -112,12 +110,10 @@ module _ (c : Document) (log : ℕ → List Entry) (M : State) (g : Good c log M
   hs = not-false _ (ok .there)
 
   compat : (u : ℕ) → (u ≡ t → ⊥) → Compatible (needs s d) (holds log u)
-  compat u ne = go (M .header .is-open u) refl
-    where
-      go : (b : Bool) → M .header .is-open u ≡ b → Compatible (needs s d) (holds log u)
-      go true e = no-wait-compatible t (needs s d) (holds log u) M u (ok .clear) ne e (g .numbered u e)
-          (λ l i. let y = lock-entry (log u) l i in g .standing u (y .0) (y .1) .held l (y .2))
-      go false e = λ q a b i j. absurd (List·Memᴰ·not-nil (rw (g .closed u e) at j))
+  compat u ne = by-test (M .header .is-open u)
+      (λ e. no-wait-compatible t (needs s d) (holds log u) M u (ok .clear) ne e (g .numbered u e)
+      (λ l i. let y = lock-entry (log u) l i in g .standing u (y .0) (y .1) .held l (y .2)))
+      (λ e q a b i j. absurd (List·Memᴰ·not-nil (rw (g .closed u e) at j)))
 
   absent : Absent s c
   unfolding document-of
@@ -136,7 +132,8 @@ module _ (c : Document) (log : ℕ → List Entry) (M : State) (g : Good c log M
 
   -- the step in every document with t, and in every document without
   step-serial : (b : List ℕ) → Distinct b → Serial c b (noted t x log) (document-of (λ u. has u b) (after-step t s (needs s d) f))
-  step-serial b n = rw (grant-shown (λ u. has u b) t (needs s d) (act t s f)) (go (has t b) refl)
+  step-serial b n = rw (grant-shown (λ u. has u b) t (needs s d) (act t s f)) (by-test (has t b) with-t
+      (λ e. rw (act-hidden (holds log) f (g .covered) t nz S e s hs compat) (grant-other c t b log (document-of S f) x e before grantable absent)))
     where
       S : ℕ → Bool
       S u = has u b
@@ -144,8 +141,8 @@ module _ (c : Document) (log : ℕ → List Entry) (M : State) (g : Good c log M
       before : Serial c b log (document-of S f)
       before = g .serial b n
 
-      go : (e : Bool) → has t b ≡ e → Serial c b (noted t x log) (document-of S (act t s f))
-      go true e =
+      with-t : has t b ≡ true → Serial c b (noted t x log) (document-of S (act t s f))
+      with-t e =
           let p = to-front t b e in
           let v : Valid x (document-of S f) =
           let w = views-same s d (document-of S f) (seen (holds log) f (g .covered) t nz S e s hs compat unheld) in
@@ -153,14 +150,9 @@ module _ (c : Document) (log : ℕ → List Entry) (M : State) (g : Good c log M
           rw (act-shown (holds log) f (g .covered) t nz S e s hs compat)
           (reorder c (t ∷ p .0) b (noted t x log) (after s (document-of S f)) (permutation-back (p .1))
           (grant c t (p .0) log (document-of S f) x (reorder c b (t ∷ p .0) log (document-of S f) (p .1) before) v grantable absent))
-      go false e = rw (act-hidden (holds log) f (g .covered) t nz S e s hs compat) (grant-other c t b log (document-of S f) x e before grantable absent)
 
   kept-noted : (u : ℕ) {y : Entry} → List·Memᴰ y (log u) → List·Memᴰ y (noted t x log u)
-  kept-noted u {y} j = go (eqb u t) refl
-    where
-      go : (b : Bool) → eqb u t ≡ b → List·Memᴰ y (cond b (log t ++ (x ∷ [])) (log u))
-      go true e = Memᴰ·append-left {s = log t} (x ∷ []) (rw (eqb-true u t e) at j)
-      go false e = j
+  kept-noted u j = by-test (eqb u t) (λ e. rw e (Memᴰ·append-left {s = log t} (x ∷ []) (rw (eqb-true u t e) at j))) (λ e. rw e j)
 
   more : (u : ℕ) → Within (holds log u) (holds (noted t x log) u)
   more u l i =
@@ -174,24 +166,21 @@ module _ (c : Document) (log : ℕ → List Entry) (M : State) (g : Good c log M
   at-target = target-place (holds log) f (g .covered) t s hs compat
 
   step-stands : (u : ℕ) (y : Entry) → List·Memᴰ y (noted t x log u) → Standing (after-step t s (needs s d) f) u (y .step) (y .held)
-  step-stands u y i = go (in-noted t x log u i)
-    where
-      go : List·Memᴰ y (log u) ⊎ ((u ≡ t) × (y ≡ x)) → Standing (after-step t s (needs s d) f) u (y .step) (y .held)
-      go (inl j) = standing-carried f _ (g .covered .distinct) u (y .step) (y .held) (g .standing u y j) (λ r k h. step-carries t s (needs s d) u f r k)
-      go (inr j) = rw (j .0, j .1) (step-standing t s (at (target s) d .above) f (at-target .0) (at-target .1) (at-target .2) (at-target .3))
+  step-stands u y i = ⊎-elim
+      (λ j. standing-carried f _ (g .covered .distinct) u (y .step) (y .held) (g .standing u y j) (λ r k h. step-carries t s (needs s d) u f r k))
+      (λ j. rw (j .0, j .1) (step-standing t s (at (target s) d .above) f (at-target .0) (at-target .1) (at-target .2) (at-target .3)))
+      (in-noted t x log u i)
 
-  step-brought : (r : Place) → Inside r (after-step t s (needs s d) f) → (r .it .inserter ≡ nobody → ⊥)
-      → (y : Entry) × List·Memᴰ y (noted t x log (r .it .inserter)) × (has (number-of r) (inserts (y .step)) ≡ true)
-  step-brought r i ne = go (step-places t s (needs s d) f r i)
+  step-brought : (r : Place) → Inside r (after-step t s (needs s d) f) → (r .it .inserter ≡ nobody → ⊥) → Brought (noted t x log) (number-of r) (r .it .inserter)
+  step-brought r i ne =
+      let a = step-place t s (needs s d) f r i in
+      brought-as (noted t x log) (a .2) (a .3) (go (a .0) (λ e. ne (a .3 ∙ e)) (act-places t s f (a .0) (a .1)))
     where
-      moved : (u : ℕ) → r .it .inserter ≡ u → (y : Entry) → List·Memᴰ y (noted t x log u) → List·Memᴰ y (noted t x log (r .it .inserter))
-      moved u e y m = rw e m
-
-      go : Known-place t s f r → (y : Entry) × List·Memᴰ y (noted t x log (r .it .inserter)) × (has (number-of r) (inserts (y .step)) ≡ true)
-      go (inl w) =
-          let y = g .brought (w .0) (w .1) (λ e. ne (w .3 ∙ e)) in
-          (y .0, moved (w .0 .it .inserter) (w .3) (y .0) (kept-noted (w .0 .it .inserter) (y .1)), ap (λ m. has m (inserts (y .0 .step))) (w .2) ∙ y .2)
-      go (inr w) = (x, moved t (w .1) x last-noted, w .0)
+      go : (z : Place) → (z .it .inserter ≡ nobody → ⊥) → Old-place f z ⊎ New-place t s z → Brought (noted t x log) (number-of z) (z .it .inserter)
+      go z nz (inl w) =
+          let y = g .brought (w .0) (w .1) (λ e. nz (w .3 ∙ e)) in
+          brought-as (noted t x log) (w .2) (w .3) (y .0, kept-noted (w .0 .it .inserter) (y .1), y .2)
+      go z nz (inr w) = brought-as (noted t x log) refl (w .1) (x, last-noted, w .0)
 
   -- a granted step keeps all this
   pub step-good : Good c (noted t x log) (stepped t s M)
