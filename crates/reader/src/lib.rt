@@ -21,7 +21,7 @@ pub enum Reference {
     NoEntity(usize),
 }
 
-// What a part of the input leads to: the cursor behind it and the number of nodes; or a cause and its offset.
+// What a part of the input leads to: the cursor behind it and how many nodes may still come; or a cause and its offset.
 pub enum Read {
     Past(Cursor, usize),
     Refused(u8, usize),
@@ -41,7 +41,8 @@ pub enum Part {
     Wrong(usize),
 }
 
-// A start tag: the cursor behind it and the number of nodes, where content follows and where the element is empty; or a cause and its offset.
+// A start tag: the cursor behind it and how many nodes may still come, where content follows and where the element is empty; or a cause and
+// its offset.
 pub enum Tag {
     Opened(Cursor, usize),
     Emptied(Cursor, usize),
@@ -54,7 +55,7 @@ pub enum End {
     Mismatch(usize),
 }
 
-// Inside the document: the cursor, the number of open elements and the number of nodes; or a cause and its offset.
+// Inside the document: the cursor, the number of open elements and how many nodes may still come; or a cause and its offset.
 pub enum Child {
     At(Cursor, usize, usize),
     Stopped(u8, usize),
