@@ -5,7 +5,6 @@ use super::End;
 use super::Prolog;
 use super::Read;
 use super::Tag;
-use super::is_name_start;
 ghost use mathlib.Core.Path.{_≡_};
 ghost use Prim.Native.Nat.{_<_, _≤_};
 ghost use lib.ListN.{length, getD};
@@ -68,7 +67,7 @@ impl Cursor {
         if b == b'/' {
             return self.end(s, names, depth, spare);
         }
-        if !is_name_start(b) {
+        if !tree::name_start(b) {
             return Child::Stopped(4, at);
         }
         if spare == 0 {
@@ -111,7 +110,7 @@ impl Cursor {
             return Prolog::NoRoot(name);
         }
         let b = s[name];
-        if is_name_start(b) {
+        if tree::name_start(b) {
             return Prolog::Root(Cursor { at: name });
         }
         Prolog::NoRoot(name)

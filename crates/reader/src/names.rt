@@ -1,5 +1,4 @@
 // The names of the attributes of a start tag, kept as offsets in the order of the names: a name is found by halving, whatever they are.
-use super::is_name_byte;
 use super::peek;
 use ordering::Order;
 use ordering::Place;
@@ -21,7 +20,7 @@ fn order(s: &[u8], from: usize, to: usize, other: usize) -> Order
     let word = &s[from..to];
     let n = ordering::agreement(s, other, word);
     let next = peek(s, other + n);
-    let more = is_name_byte(next);
+    let more = tree::name_byte(next);
     if n == to - from {
         if more {
             return Order::Before;

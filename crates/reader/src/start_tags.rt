@@ -4,7 +4,6 @@ use super::Equals;
 use super::Part;
 use super::Read;
 use super::Tag;
-use super::is_name_start;
 use super::names::enter;
 ghost use mathlib.Core.Path.{_≡_};
 ghost use Prim.Native.Nat.{_+_, _<_, _≤_};
@@ -65,7 +64,7 @@ impl Cursor {
         if at == from {
             return Part::Wrong(at);
         }
-        if is_name_start(b) {
+        if tree::name_start(b) {
             return Part::Attribute(behind);
         }
         Part::Wrong(at)

@@ -25,8 +25,7 @@ use Rattle.reader.specs.declared.Reference.{Reference}
 use Rattle.reader.specs.declared.Reference.the-variants.{Byte, NoEntity}
 use Rattle.reader.specs.declared.Read.{Read}
 use Rattle.reader.specs.declared.Read.the-variants.{Past, Refused}
-use Rattle.reader.specs.Classes.{plain, literal, begins}
-use Rattle.reader.specs.Laws.Bytes.{plain-above}
+use Rattle.reader.specs.Classes.{literal, begins}
 use Rattle.reader.specs.Steps.{Refers, refers, no-entity, Character, one-byte, by-reference, Characters, CharactersRead, characters-past}
 use Rattle.reader.specs.Steps.{characters-refused}
 
@@ -128,28 +127,27 @@ module _ (stop k b : ℕ) where
   unfolding begins
   begins-reference e = rw (eq-eqb b ampersand e)
 
-  module _ (n : b ≡ ampersand → ⊥) where
-    pub begins-plain : (b ≡ greater-than → ⊥) → plain b ≡ begins stop k b
-    unfolding begins literal
-    begins-plain m = rw (ne-eqb b ampersand n, ne-eqb b greater-than m) (go (plain b) (eqb stop less-than))
-      where
-        go : (x y : Bool) → x ≡ (x && not (y && false && eqb k 2))
-        go true true = refl
-        go true false = refl
-        go false y = refl
+  pub begins-markup : b ≡ less-than → false ≡ begins stop k b
+  unfolding begins literal text-byte
+  begins-markup e = rw e
 
-    module _ (m : b ≡ greater-than) where
-      pub begins-value : (stop ≡ less-than → ⊥) → true ≡ begins stop k b
-      unfolding begins literal plain text-byte
-      begins-value e = rw (m, ne-eqb stop less-than e)
+  pub begins-literal : (b ≡ ampersand → ⊥) → (b ≡ less-than → ⊥) → (b ≡ greater-than → ⊥) → text-byte b ≡ begins stop k b
+  unfolding begins literal
+  begins-literal n l m = rw (ne-eqb b ampersand n, ne-eqb b less-than l, ne-eqb b greater-than m) (go (text-byte b) (eqb stop less-than))
+    where
+      go : (x y : Bool) → x ≡ (x && not false && not false && not (y && false && eqb k 2))
+      go true true = refl
+      go true false = refl
+      go false y = refl
 
-      pub begins-text : stop ≡ less-than → not (eqb k 2) ≡ begins stop k b
-      unfolding begins literal plain text-byte
-      begins-text e = rw (m, e)
+  module _ (m : b ≡ greater-than) where
+    pub begins-value : (stop ≡ less-than → ⊥) → true ≡ begins stop k b
+    unfolding begins literal text-byte
+    begins-value e = rw (m, ne-eqb stop less-than e)
 
--- letters and what else is above >
-pub begins-above : (stop k b : ℕ) → greater-than < b → leb b 126 ≡ begins stop k b
-begins-above stop k b h = plain-above b (λ e. omega arith) (λ e. omega arith) (omega arith) ∙ begins-plain stop k b (λ e. omega arith) (λ e. omega arith)
+    pub begins-text : stop ≡ less-than → not (eqb k 2) ≡ begins stop k b
+    unfolding begins literal text-byte
+    begins-text e = rw (m, e)
 
 module _ (k b : ℕ) where
   pub brackets-none : (b ≡ right-bracket → ⊥) → 0 ≡ brackets k b

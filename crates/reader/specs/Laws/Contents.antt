@@ -23,7 +23,7 @@ use Rattle.xml.specs.Laws.Tokens.{Wording}
 use Rattle.reader.specs.declared.Cursor.{Cursor}
 use Rattle.reader.specs.declared.Read.{Read}
 use Rattle.reader.specs.declared.Read.the-variants.{Past, Refused}
-use Rattle.reader.specs.Classes.{plain, literal, begins}
+use Rattle.reader.specs.Classes.{literal, begins}
 use Rattle.reader.specs.Steps.{Characters, CharactersRead, characters-past, characters-refused, Contents, ContentRead, content-past, content-refused}
 
 module _ (s : List ℕ) (stop at spare : ℕ) where
@@ -99,7 +99,7 @@ module _ (s : List ℕ) (stop at spare : ℕ) where
 
 module _ (n : Name) (ns : List Name) where
   pub text-characters : Characters less-than (in-text n ns) (text-reference n ns) (behind-open n ns)
-  unfolding step literal plain text-literal text-byte births
+  unfolding step literal text-literal text-byte births
   text-characters = record {
     plainly = λ k b o h. rw h;
     refers-to = λ k. refl;
@@ -113,7 +113,7 @@ module _ (n : Name) (ns : List Name) where
   }
 
   pub text-contents : Contents less-than (content n ns) (in-text n ns) (text-reference n ns) (behind-open n ns)
-  unfolding step literal plain text-literal text-byte
+  unfolding step literal text-literal text-byte
   text-contents = record {
     inner = text-characters;
     depth = depth (n ∷ ns);
@@ -127,7 +127,7 @@ module _ (n : Name) (ns : List Name) where
 
 -- where the byte is not the quote
 literal-value : (q : Quote) (k b : ℕ) → (b ≡ mark q → ⊥) → literal (mark q) k b ≡ value-literal q b
-unfolding literal value-literal plain
+unfolding literal value-literal
 literal-value double k b o = rw (ne-eqb b (mark double) o)
 literal-value single k b o = rw (ne-eqb b (mark single) o)
 
