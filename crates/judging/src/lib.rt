@@ -5,7 +5,7 @@ use reader::Prolog;
 use reader::Tag;
 ghost use mathlib.Core.Path.{_≡_};
 ghost use mathlib.Core.List.{[], _∷_};
-ghost use Prim.Native.Nat.{_+_, _≤_};
+ghost use Prim.Native.Nat.{_+_, _-_, _≤_};
 ghost use lib.ListN.{length, getD};
 ghost use Rattle.xml.specs.Laws.Automaton.{at-start, epilog, closed, tag-name};
 ghost use Rattle.xml.specs.Laws.Judge.{judgement};
@@ -17,33 +17,33 @@ ghost use Rattle.reader.specs.Children.{Beginning, Deep};
 ghost use Rattle.reader.specs.Prolog.{RootRead};
 ghost use Rattle.judging.specs.Judged.{verdict, DeclaredRead};
 
-// The number of nodes, node 0 included; or a cause and its offset.
+// How many nodes more there could be; or a cause and its offset.
 pub enum Judged {
     Accepted(usize),
     Rejected(u8, usize),
 }
 
 // Behind the root element, to the end of the input.
-fn behind_root(c: Cursor, s: &[u8], nodes: usize) -> Judged
-    requires { ⌜ (c .at ≤ length (now s)) × (nodes ≤ 1024) ⌝ }
-    ensures { λ r. ⌜ Leads (now (s .entry)) epilog nodes (c .at) (verdict r) ⌝ }
+fn behind_root(c: Cursor, s: &[u8], spare: usize) -> Judged
+    requires { ⌜ c .at ≤ length (now s) ⌝ }
+    ensures { λ r. ⌜ Leads (now (s .entry)) epilog spare (c .at) (verdict r) ⌝ }
 {
     let end = c.blanks(s);
     let at = end.at;
     if at < s.len() {
         return Judged::Rejected(4, at);
     }
-    Judged::Accepted(nodes)
+    Judged::Accepted(spare)
 }
 
 // The content of the root element, and what is behind it.
-fn root_content(c: Cursor, s: &[u8], names: &mut [usize; 1024], nodes: usize) -> Judged
-    requires { ⌜ Beginning (now s) (c .at) × Deep (now s) (now names) 1 nodes ⌝ }
-    ensures { λ r. ⌜ Leads (now (s .entry)) (closed (stack (now (s .entry)) (now (names .entry)) 0 1)) nodes (c .at) (verdict r) ⌝ }
+fn root_content(c: Cursor, s: &[u8], names: &mut [usize; 1024], spare: usize) -> Judged
+    requires { ⌜ Beginning (now s) (c .at) × Deep (now s) (now names) 1 spare ⌝ }
+    ensures { λ r. ⌜ Leads (now (s .entry)) (closed (stack (now (s .entry)) (now (names .entry)) 0 1)) spare (c .at) (verdict r) ⌝ }
 {
     let mut i = c.at;
     let mut depth: usize = 1;
-    let mut n = nodes;
+    let mut n = spare;
     while 0 < depth {
         let here = Cursor { at: i };
         match here.child(s, names, depth, n) {
@@ -60,12 +60,12 @@ fn root_content(c: Cursor, s: &[u8], names: &mut [usize; 1024], nodes: usize) ->
 }
 
 // The root element from the first byte of its name on, and what is behind it.
-fn root_element(c: Cursor, s: &[u8]) -> Judged
-    requires { ⌜ Named (now s) (c .at) ⌝ }
-    ensures { λ r. ⌜ scan-at (now (s .entry)) (tag-name [] (getD (now (s .entry)) (c .at) 0 ∷ [])) 2 1 (c .at + 1) ≡ verdict r ⌝ }
+fn root_element(c: Cursor, s: &[u8], spare: usize) -> Judged
+    requires { ⌜ Named (now s) (c .at) × (2 + spare ≤ 1024) ⌝ }
+    ensures { λ r. ⌜ scan-at (now (s .entry)) (tag-name [] (getD (now (s .entry)) (c .at) 0 ∷ [])) spare 1 (c .at + 1) ≡ verdict r ⌝ }
 {
     let mut names = [0usize; 1024];
-    match c.start_tag(s, &mut names, 0, 2) {
+    match c.start_tag(s, &mut names, 0, spare) {
         Tag::Broken(x, j) => Judged::Rejected(x, j),
         Tag::Emptied(next, m) => behind_root(next, s, m),
         Tag::Opened(next, m) => root_content(next, s, &mut names, m),
@@ -104,18 +104,19 @@ fn find_root(s: &[u8]) -> Prolog
     declared(s, &xml::LONG_DECLARATION)
 }
 
-// The whole input, of any length.
-fn unlimited(s: &[u8]) -> Judged
-    ensures { λ r. ⌜ scan at-start 1 0 0 0 (now (s .entry)) ≡ verdict r ⌝ }
+// The whole input, of any length. Node 0 and the root element are always there.
+fn unlimited(s: &[u8], limit: usize) -> Judged
+    requires { ⌜ (2 ≤ limit) × (limit ≤ 1024) ⌝ }
+    ensures { λ r. ⌜ scan at-start (limit - 1) 0 0 0 (now (s .entry)) ≡ verdict r ⌝ }
 {
     match find_root(s) {
         Prolog::NoRoot(j) => Judged::Rejected(4, j),
-        Prolog::Root(c) => root_element(c, s),
+        Prolog::Root(c) => root_element(c, s, limit - 2),
     }
 }
 
 // The limit of 65,536 bytes, on what is said of the first 65,537; long tells whether there are so many.
-fn limit(long: bool, said: Judged) -> Judged
+fn limit_input(long: bool, said: Judged) -> Judged
     ensures { λ r. ⌜ limited long (verdict said) ≡ verdict r ⌝ }
 {
     match said {
@@ -134,13 +135,14 @@ fn limit(long: bool, said: Judged) -> Judged
     }
 }
 
-// What load says of an input.
-pub fn judge(x: &[u8]) -> Judged
-    ensures { λ r. ⌜ judgement (now (x .entry)) ≡ verdict r ⌝ }
+// What load says of an input where `limit` nodes may be held.
+pub fn judge(x: &[u8], limit: usize) -> Judged
+    requires { ⌜ (2 ≤ limit) × (limit ≤ 1024) ⌝ }
+    ensures { λ r. ⌜ judgement limit (now (x .entry)) ≡ verdict r ⌝ }
 {
     if x.len() > 65536 {
         let first = &x[..65537];
-        return limit(true, unlimited(first));
+        return limit_input(true, unlimited(first, limit));
     }
-    limit(false, unlimited(x))
+    limit_input(false, unlimited(x, limit))
 }

@@ -1,5 +1,5 @@
 -- Load: the state is replaced by the document that the input stands for.
-use Prim.Native.Nat.{ℕ, suc, _≤_}
+use Prim.Native.Nat.{ℕ, suc, _+_, _≤_}
 use mathlib.Core.Path.{_≡_}
 use mathlib.Core.Bool.{true, false}
 use mathlib.Core.List.{List}
@@ -7,28 +7,27 @@ use lib.ListN.{length, drop}
 use Rattle.tree.specs.Content.{content-limit}
 use Rattle.tree.specs.Document.{lines}
 use Rattle.protocol.specs.State.{tree-of}
-use Rattle.protocol.specs.Calls.{node-limit, loadable, Input, unreadable, stands-for}
+use Rattle.protocol.specs.Calls.{loadable, Input, unreadable, stands-for}
 use Rattle.layout.specs.Flat.{flat}
 use Rattle.layout.specs.Layout.{state-size, is-open, nodes, Layout}
 use Rattle.xml.specs.Shape.{Shape, size, longest, document}
 use Rattle.xml.specs.Grammar.{Spells}
-use Rattle.xml.specs.Reading.{input-limit, ReadsAs}
+use Rattle.xml.specs.Reading.{input-limit, ReadsWithin}
 
--- the input stands for a document of n nodes, and for nothing else
-pub record Stands (x : List ℕ) (n : ℕ) : Type 0 where
+-- where so many nodes may be held, the input stands for a document that leaves room for so many more, and for nothing else
+pub record Stands (limit : ℕ) (x : List ℕ) (left : ℕ) : Type 0 where
   pub shape : Shape
   pub spelled : Spells x shape
-  pub few : suc (size shape) ≤ node-limit
+  pub few : suc (size shape) ≤ limit
   pub short : longest shape ≤ content-limit
   pub fits : loadable (document shape) ≡ true
-  pub count : n ≡ length (lines (document shape))
-  pub most : n ≤ node-limit
-  pub only : (i : Input) → ReadsAs x i → i ≡ stands-for (document shape) fits
+  pub nodes : left + length (lines (document shape)) ≡ limit
+  pub only : (i : Input) → ReadsWithin limit x i → i ≡ stands-for (document shape) fits
 
 -- the input is refused by this cause at this offset
-pub record Fails (x : List ℕ) (cause offset : ℕ) : Type 0 where
+pub record Fails (limit : ℕ) (x : List ℕ) (cause offset : ℕ) : Type 0 where
   pub most : offset ≤ input-limit
-  pub only : (i : Input) → ReadsAs x i → i ≡ unreadable cause offset
+  pub only : (i : Input) → ReadsWithin limit x i → i ≡ unreadable cause offset
 
 -- nothing is open, and the nodes are those of the input's document
 pub record Replaced (x s s′ : List ℕ) : Type 0 where

@@ -43,7 +43,7 @@ fn empty(s: &mut [u8])
 
 // The nodes replaced by those of the input.
 fn replace(s: &mut [u8], x: &[u8])
-    requires { ⌜ (form (now s) ≡ true) × (any (is-open (now s)) transactions ≡ false) × ((n : ℕ) × Stands (now x) n) ⌝ }
+    requires { ⌜ (form (now s) ≡ true) × (any (is-open (now s)) transactions ≡ false) × ((left : ℕ) × Stands 1024 (now x) left) ⌝ }
     ensures { λ r. ⌜ Replaced (now (x .entry)) (now (s .entry)) (now (s .exit)) ⌝ }
 {
     empty(s);
@@ -60,11 +60,11 @@ pub fn load(s: &mut [u8], x: &[u8]) -> Answer
     if any_open(s) {
         return Answer::Refused(15);
     }
-    match judging::judge(x) {
+    match judging::judge(x, 1024) {
         Judged::Rejected(cause, offset) => Answer::RefusedAt(cause, offset as u32),
-        Judged::Accepted(count) => {
+        Judged::Accepted(left) => {
             replace(s, x);
-            Answer::Count(count as u32)
+            Answer::Count((1024 - left) as u32)
         }
     }
 }

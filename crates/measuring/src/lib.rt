@@ -60,11 +60,11 @@ fn cost(s: &[u8], parent: usize, above: u8, previous: u8, p: usize, kind: u8) ->
 // The names behind the node at p, of kind `kind`, below a node of kind `above` and behind one of kind `before`, if it may be written there.
 fn admit(
     s: &[u8],
-    names: &mut [u16; 1024],
+    names: &mut [usize; 1024],
     kept: usize,
     above: u8,
     before: u8,
-    p: u16,
+    p: usize,
     kind: u8,
 ) -> Admission
     requires { ⌜ (Layout (now s)) × (p < length (nodes (now s))) × (kept < 1024) × Inside (nodes (now s)) (now names) kept
@@ -91,22 +91,23 @@ pub fn measure(s: &[u8], places: &[u16; 1024], count: usize) -> usize
     let mut kinds = [0u8; 1024];
     kinds[0] = table::kind(s, first as usize);
     let mut top: usize = 0;
-    let mut names = [0u16; 1024];
+    let mut names = [0usize; 1024];
     let mut kept: usize = 0;
     let mut sum: usize = 39;
     let mut i: usize = 1;
     while i < count {
-        let p = places[i];
-        let d = table::depth(s, p as usize) as usize;
-        let kind = table::kind(s, p as usize);
+        let here = places[i];
+        let p = here as usize;
+        let d = table::depth(s, p) as usize;
+        let kind = table::kind(s, p);
         let above = kinds[d - 1];
         let before = previous(&kinds, top, d);
         match admit(s, &mut names, kept, above, before, p, kind) {
             Admission::Refused => return 0,
             Admission::Kept(n) => {
                 let parent = path[d - 1] as usize;
-                sum += cost(s, parent, above, before, p as usize, kind);
-                path[d] = p;
+                sum += cost(s, parent, above, before, p, kind);
+                path[d] = here;
                 kinds[d] = kind;
                 top = d;
                 kept = n;

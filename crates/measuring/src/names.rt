@@ -8,7 +8,7 @@ ghost use Prim.Native.Nat.{_<_, _≤_};
 ghost use lib.ListN.{length};
 ghost use Rattle.layout.specs.Layout.{nodes, Layout};
 ghost use Rattle.ordering.specs.Order.{Ordered};
-ghost use Rattle.ordering.specs.Sorted.{Increasing, Belongs, Shifted};
+ghost use Rattle.ordering.specs.Sorted.{Increasing, Belongs};
 ghost use Rattle.committed.specs.Lines.{label-at, Inside};
 ghost use Rattle.measuring.specs.Names.{names-at, Entered, Followed};
 
@@ -36,7 +36,7 @@ fn order(s: &[u8], p: usize, q: usize) -> Order
 }
 
 // Where the name of the node at p belongs among the first count names.
-fn place(s: &[u8], names: &[u16; 1024], count: usize, p: usize) -> Place
+fn place(s: &[u8], names: &[usize; 1024], count: usize, p: usize) -> Place
     requires { ⌜ (Layout (now s)) × (p < length (nodes (now s))) × Inside (nodes (now s)) (now names) count
         × Increasing (names-at (nodes (now s)) (now names)) count ⌝ }
     ensures { λ r. ⌜ Belongs (names-at (nodes (now (s .entry))) (now (names .entry))) count
@@ -46,7 +46,7 @@ fn place(s: &[u8], names: &[u16; 1024], count: usize, p: usize) -> Place
     let mut high = count;
     while low < high {
         let middle = (low + high) / 2;
-        let other = names[middle] as usize;
+        let other = names[middle];
         match order(s, p, other) {
             Order::Same => return Place::Taken,
             Order::Before => {
@@ -62,36 +62,23 @@ fn place(s: &[u8], names: &[u16; 1024], count: usize, p: usize) -> Place
     Place::Free(low)
 }
 
-// The places from `at` on, up to `end`, one further.
-fn make_room(names: &mut [u16; 1024], at: usize, end: usize)
-    requires { ⌜ (at ≤ end) × (end < 1024) × (length (now names) ≡ 1024) ⌝ }
-    ensures { λ r. ⌜ Shifted (now (names .entry)) (now (names .exit)) at end ⌝ }
-{
-    let mut i = end;
-    while at < i {
-        names[i] = names[i - 1];
-        i -= 1;
-    }
-}
-
 // The name of the node at p put among the first count names, unless it is one of them.
-fn enter(s: &[u8], names: &mut [u16; 1024], count: usize, p: u16) -> Admission
+fn enter(s: &[u8], names: &mut [usize; 1024], count: usize, p: usize) -> Admission
     requires { ⌜ (Layout (now s)) × (p < length (nodes (now s))) × (count < 1024) × Inside (nodes (now s)) (now names) count
         × Increasing (names-at (nodes (now s)) (now names)) count ⌝ }
     ensures { λ r. ⌜ Entered (nodes (now (s .entry))) (now (names .entry)) (now (names .exit)) count p r ⌝ }
 {
-    match place(s, names, count, p as usize) {
+    match place(s, names, count, p) {
         Place::Taken => Admission::Refused,
         Place::Free(k) => {
-            make_room(names, k, count);
-            names[k] = p;
+            ordering::insert(names, k, count, p);
             Admission::Kept(count + 1)
         }
     }
 }
 
 // The names behind the node at p, of kind `kind`: those of its attributes are still to come behind an element, and a text leaves them.
-pub fn follow(s: &[u8], names: &mut [u16; 1024], count: usize, p: u16, kind: u8) -> Admission
+pub fn follow(s: &[u8], names: &mut [usize; 1024], count: usize, p: usize, kind: u8) -> Admission
     requires { ⌜ (Layout (now s)) × (p < length (nodes (now s))) × (count < 1024) × Inside (nodes (now s)) (now names) count
         × Increasing (names-at (nodes (now s)) (now names)) count × (kind ≡ label-at (nodes (now s)) p .kind) ⌝ }
     ensures { λ r. ⌜ Followed (nodes (now (s .entry))) (now (names .entry)) (now (names .exit)) count p r ⌝ }

@@ -38,10 +38,12 @@ pub data Belongs (name : ℕ → List ℕ) (n : ℕ) (w : List ℕ) : Place → 
   is-taken : Among name n w → Belongs name n w Taken
   is-free : {k : ℕ} → k ≤ n → Between name n k k w → Belongs name n w (Free k)
 
--- the entries from place `at` on, up to `end`, stand one place further
-pub record Shifted (os os′ : List ℕ) (at end : ℕ) : Type 0 where
+-- v is put at place `at`, the entries from there on, up to `end`, one place further
+pub record Inserted (os os′ : List ℕ) (at end v : ℕ) : Type 0 where
+  pub inside : at ≤ end
   pub as-long : length os′ ≡ length os
   pub ahead : (i : ℕ) → i < at → getD os′ i 0 ≡ getD os i 0
+  pub here : getD os′ at 0 ≡ v
   pub further : (i : ℕ) → at ≤ i → i < end → getD os′ (suc i) 0 ≡ getD os i 0
 
 -- w put among the first n names

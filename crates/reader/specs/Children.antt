@@ -3,7 +3,6 @@ use Prim.Native.Nat.{ℕ, zero, suc, _+_, _-_, _≤_, _<_}
 use mathlib.Core.Path.{_≡_}
 use mathlib.Core.List.{List, [], _∷_}
 use lib.ListN.{length, getD}
-use Rattle.protocol.specs.Calls.{node-limit}
 use Rattle.xml.specs.Bytes.{less-than}
 use Rattle.xml.specs.Grammar.{Name}
 use Rattle.xml.specs.Reading.{node-offset}
@@ -31,17 +30,16 @@ pub record Beginning (s : List ℕ) (at : ℕ) : Type 0 where
   pub inside : at ≤ length s
   pub begins-here : node-offset s at ≡ at
 
--- so many elements are open, their names' offsets at the first places
-pub record Deep (s os : List ℕ) (depth nodes : ℕ) : Type 0 where
+-- so many elements are open, their names' offsets at the first places; there is a place for each of the spare nodes
+pub record Deep (s os : List ℕ) (depth spare : ℕ) : Type 0 where
   pub some : 1 ≤ depth
-  pub room : depth + 1 ≤ nodes
-  pub few : nodes ≤ node-limit
+  pub room : depth + 1 + spare ≤ 1024
   pub long : length os ≡ 1024
   pub names : Placed s os depth
 
 -- where a part of the content leads from a configuration: to so many open elements, their names' offsets in os
-pub data ChildRead (s : List ℕ) (from : Config) (at nodes : ℕ) (os : List ℕ) : Child → Type 0 where
-  child-at : {c : Cursor} {d m : ℕ} → Onward s at nodes c m → d + 1 ≤ m → length os ≡ 1024 → Placed s os d
-      → Goes s from nodes at (closed (stack s os 0 d)) m (c .at)
-      → ChildRead s from at nodes os (At c d m)
-  child-stopped : {x j : ℕ} → Leads s from nodes at (bad x j) → ChildRead s from at nodes os (Stopped x j)
+pub data ChildRead (s : List ℕ) (from : Config) (at spare : ℕ) (os : List ℕ) : Child → Type 0 where
+  child-at : {c : Cursor} {d m : ℕ} → Onward s at spare c m → d + 1 + m ≤ 1024 → length os ≡ 1024 → Placed s os d
+      → Goes s from spare at (closed (stack s os 0 d)) m (c .at)
+      → ChildRead s from at spare os (At c d m)
+  child-stopped : {x j : ℕ} → Leads s from spare at (bad x j) → ChildRead s from at spare os (Stopped x j)

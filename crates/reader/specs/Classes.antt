@@ -5,13 +5,10 @@ use lib.Dec.{eqb}
 use Rattle.tree.specs.Content.{text-byte}
 use Rattle.xml.specs.Bytes.{less-than, greater-than, ampersand}
 
--- a byte of a text that no markup begins with
-unfoldable pub plain : ℕ → Bool
-plain b = text-byte b && not (eqb b less-than) && not (eqb b ampersand)
-
 -- a byte that stands for itself in a value or a text that ends with stop, k bytes ] just before it, if it is not stop
 unfoldable pub literal : ℕ → ℕ → ℕ → Bool
-literal stop k b = plain b && not (eqb stop less-than && eqb b greater-than && eqb k 2)
+literal stop k b =
+    text-byte b && not (eqb b less-than) && not (eqb b ampersand) && not (eqb stop less-than && eqb b greater-than && eqb k 2)
 
 -- a byte that begins a character there
 unfoldable pub begins : ℕ → ℕ → ℕ → Bool

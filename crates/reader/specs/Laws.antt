@@ -1,4 +1,3 @@
-pub mod Bytes
 pub mod Runs
 pub mod Characters
 pub mod Contents

@@ -1,5 +1,5 @@
 -- The way to the root element.
-use Prim.Native.Nat.{ℕ, _+_}
+use Prim.Native.Nat.{ℕ, _+_, _-_, _≤_}
 use mathlib.Core.Path.{_≡_}
 use mathlib.Core.List.{List, [], _∷_}
 use lib.ListN.{getD}
@@ -12,8 +12,9 @@ use Rattle.reader.specs.declared.Prolog.{Prolog}
 use Rattle.reader.specs.declared.Prolog.the-variants.{Root, NoRoot}
 use Rattle.reader.specs.Elements.{Named}
 
--- where the bytes before the root element's name lead from a configuration, node 0 alone counted
+-- where the bytes before the root element's name lead from a configuration
 pub data RootRead (s : List ℕ) (from : Config) (at : ℕ) : Prolog → Type 0 where
-  root-at : {c : Cursor} → Named s (c .at) → ((v : Verdict) → scan-at s (tag-name [] (getD s (c .at) 0 ∷ [])) 2 1 (c .at + 1) ≡ v → Leads s from 1 at v)
+  root-at : {c : Cursor} → Named s (c .at)
+      → ((spare : ℕ) → 1 ≤ spare → (v : Verdict) → scan-at s (tag-name [] (getD s (c .at) 0 ∷ [])) (spare - 1) 1 (c .at + 1) ≡ v → Leads s from spare at v)
       → RootRead s from at (Root c)
-  no-root : {j : ℕ} → Leads s from 1 at (bad 4 j) → RootRead s from at (NoRoot j)
+  no-root : {j : ℕ} → ((spare : ℕ) → Leads s from spare at (bad 4 j)) → RootRead s from at (NoRoot j)

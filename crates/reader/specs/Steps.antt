@@ -4,7 +4,6 @@ use mathlib.Core.Path.{_≡_}
 use mathlib.Core.Bool.{Bool, true, false}
 use mathlib.Core.List.{List, [], _∷_}
 use lib.ListN.{length, getD, drop}
-use Rattle.protocol.specs.Calls.{node-limit}
 use Rattle.tree.specs.Content.{name-start}
 use Rattle.xml.specs.Bytes.{ampersand, brackets, Quote, mark}
 use Rattle.xml.specs.Grammar.{Name}
@@ -57,13 +56,13 @@ pub record Characters (stop : ℕ) (C : ℕ → Config) (R : Words → Config) (
   pub behind : pending (phase D) ≡ 0
 
 -- where the characters from an offset on lead
-pub data CharactersRead (s : List ℕ) (stop at nodes : ℕ) : Read → Type 0 where
+pub data CharactersRead (s : List ℕ) (stop at spare : ℕ) : Read → Type 0 where
   characters-past : {c : Cursor} → at < c .at → c .at ≤ length s → getD s (c .at - 1) 0 ≡ stop
-      → ((C : ℕ → Config) (R : Words → Config) (D : Config) → Characters stop C R D → (v : Verdict) → Leads s D nodes (c .at) v
-      → scan-at s (C 0) nodes 0 at ≡ v)
-      → CharactersRead s stop at nodes (Past c nodes)
-  characters-refused : {x j : ℕ} → ((C : ℕ → Config) (R : Words → Config) (D : Config) → Characters stop C R D → scan-at s (C 0) nodes 0 at ≡ bad x j)
-      → CharactersRead s stop at nodes (Refused x j)
+      → ((C : ℕ → Config) (R : Words → Config) (D : Config) → Characters stop C R D → (v : Verdict) → Leads s D spare (c .at) v
+      → scan-at s (C 0) spare 0 at ≡ v)
+      → CharactersRead s stop at spare (Past c spare)
+  characters-refused : {x j : ℕ} → ((C : ℕ → Config) (R : Words → Config) (D : Config) → Characters stop C R D → scan-at s (C 0) spare 0 at ≡ bad x j)
+      → CharactersRead s stop at spare (Refused x j)
 
 -- a value or a text from the configuration S on, before its first byte
 pub record Contents (stop : ℕ) (S : Config) (C : ℕ → Config) (R : Words → Config) (D : Config) : Type 0 where
@@ -77,31 +76,31 @@ pub record Contents (stop : ℕ) (S : Config) (C : ℕ → Config) (R : Words �
   pub starting : is-over (phase S) ≡ false
 
 -- where a value or a text leads
-pub data ContentRead (s : List ℕ) (stop at nodes : ℕ) : Read → Type 0 where
-  content-past : {c : Cursor} {m : ℕ} → at < c .at → c .at ≤ length s → getD s (c .at - 1) 0 ≡ stop → nodes ≤ m → m ≤ node-limit
-      → ((S : Config) (C : ℕ → Config) (R : Words → Config) (D : Config) → Contents stop S C R D → Goes s S nodes at D m (c .at))
-      → ContentRead s stop at nodes (Past c m)
+pub data ContentRead (s : List ℕ) (stop at spare : ℕ) : Read → Type 0 where
+  content-past : {c : Cursor} {m : ℕ} → at < c .at → c .at ≤ length s → getD s (c .at - 1) 0 ≡ stop → m ≤ spare
+      → ((S : Config) (C : ℕ → Config) (R : Words → Config) (D : Config) → Contents stop S C R D → Goes s S spare at D m (c .at))
+      → ContentRead s stop at spare (Past c m)
   content-refused : {x j : ℕ}
-      → ((S : Config) (C : ℕ → Config) (R : Words → Config) (D : Config) → Contents stop S C R D → Leads s S nodes at (bad x j))
-      → ContentRead s stop at nodes (Refused x j)
+      → ((S : Config) (C : ℕ → Config) (R : Words → Config) (D : Config) → Contents stop S C R D → Leads s S spare at (bad x j))
+      → ContentRead s stop at spare (Refused x j)
 
 -- from behind an attribute's name
 pub data EqualsRead (s : List ℕ) (at : ℕ) : Equals → Type 0 where
   quoted : {c : Cursor} (q : Quote) → at < c .at → c .at ≤ length s → node-offset s (c .at) ≡ c .at - 1
-      → ((n : Name) (ns seen : List Name) (m : ℕ) → m ≤ node-limit → Goes s (before-equals n ns seen) m at (behind-quote n ns seen q) m (c .at))
+      → ((n : Name) (ns seen : List Name) (m : ℕ) → Goes s (before-equals n ns seen) m at (behind-quote n ns seen q) m (c .at))
       → EqualsRead s at (Quoted (mark q) c)
-  no-quote : {j : ℕ} → ((n : Name) (ns seen : List Name) (m : ℕ) → m ≤ node-limit → Leads s (before-equals n ns seen) m at (bad 4 j))
+  no-quote : {j : ℕ} → ((n : Name) (ns seen : List Name) (m : ℕ) → Leads s (before-equals n ns seen) m at (bad 4 j))
       → EqualsRead s at (NoQuote j)
 
 -- from a configuration in a start tag, which may depend on the element, those around it and the attributes so far
 pub data TagRead (s : List ℕ) (F : Name → List Name → List Name → Config) (at : ℕ) : Part → Type 0 where
   tag-open : {c : Cursor} → at < c .at → c .at ≤ length s → node-offset s (c .at) ≡ c .at
-      → ((n : Name) (ns seen : List Name) (m : ℕ) → m ≤ node-limit → Goes s (F n ns seen) m at (content n ns) m (c .at)) → TagRead s F at (Open c)
+      → ((n : Name) (ns seen : List Name) (m : ℕ) → Goes s (F n ns seen) m at (content n ns) m (c .at)) → TagRead s F at (Open c)
   tag-empty : {c : Cursor} → at < c .at → c .at ≤ length s → node-offset s (c .at) ≡ c .at
-      → ((n : Name) (ns seen : List Name) (m : ℕ) → m ≤ node-limit → Goes s (F n ns seen) m at (closed ns) m (c .at)) → TagRead s F at (Empty c)
+      → ((n : Name) (ns seen : List Name) (m : ℕ) → Goes s (F n ns seen) m at (closed ns) m (c .at)) → TagRead s F at (Empty c)
   tag-attribute : {c : Cursor} → at ≤ c .at → c .at < length s → node-offset s (c .at) ≡ c .at → name-start (getD s (c .at) 0) ≡ true
-      → ((n : Name) (ns seen : List Name) (m : ℕ) → m ≤ node-limit → Goes s (F n ns seen) m at (in-tag n ns seen) m (c .at)) → TagRead s F at (Attribute c)
-  tag-wrong : {j : ℕ} → ((n : Name) (ns seen : List Name) (m : ℕ) → m ≤ node-limit → Leads s (F n ns seen) m at (bad 4 j)) → TagRead s F at (Wrong j)
+      → ((n : Name) (ns seen : List Name) (m : ℕ) → Goes s (F n ns seen) m at (in-tag n ns seen) m (c .at)) → TagRead s F at (Attribute c)
+  tag-wrong : {j : ℕ} → ((n : Name) (ns seen : List Name) (m : ℕ) → Leads s (F n ns seen) m at (bad 4 j)) → TagRead s F at (Wrong j)
 
 -- from behind a name or a value
 abbrev pub PartRead : List ℕ → ℕ → Part → Type 0

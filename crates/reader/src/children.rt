@@ -5,7 +5,6 @@ use super::End;
 use super::Prolog;
 use super::Read;
 use super::Tag;
-use super::is_name_start;
 ghost use mathlib.Core.Path.{_≡_};
 ghost use Prim.Native.Nat.{_<_, _≤_};
 ghost use lib.ListN.{length, getD};
@@ -43,22 +42,22 @@ impl Cursor {
     }
 
     // The end tag of the innermost open element, from its slash on.
-    fn end(self, s: &[u8], names: &[usize; 1024], depth: usize, nodes: usize) -> Child
-        requires { ⌜ (self .at < length (now s)) × (getD (now s) (self .at) 0 ≡ 47) × Deep (now s) (now names) depth nodes ⌝ }
-        ensures { λ r. ⌜ ChildRead (now (s .entry)) (opened (stack (now (s .entry)) (now (names .entry)) 0 depth)) (self .at) nodes (now (names .entry)) r ⌝ }
+    fn end(self, s: &[u8], names: &[usize; 1024], depth: usize, spare: usize) -> Child
+        requires { ⌜ (self .at < length (now s)) × (getD (now s) (self .at) 0 ≡ 47) × Deep (now s) (now names) depth spare ⌝ }
+        ensures { λ r. ⌜ ChildRead (now (s .entry)) (opened (stack (now (s .entry)) (now (names .entry)) 0 depth)) (self .at) spare (now (names .entry)) r ⌝ }
     {
         let from = names[depth - 1];
         let next = Cursor { at: self.at + 1 };
         match next.end_tag(s, from) {
             End::Mismatch(j) => Child::Stopped(4, j),
-            End::Behind(c) => Child::At(c, depth - 1, nodes),
+            End::Behind(c) => Child::At(c, depth - 1, spare),
         }
     }
 
     // A tag from behind its <; depth elements are open, the offsets of their names kept at the first places.
-    pub fn tag(self, s: &[u8], names: &mut [usize; 1024], depth: usize, nodes: usize) -> Child
-        requires { ⌜ Behind (now s) (self .at) × Deep (now s) (now names) depth nodes ⌝ }
-        ensures { λ r. ⌜ ChildRead (now (s .entry)) (opened (stack (now (s .entry)) (now (names .entry)) 0 depth)) (self .at) nodes (now (names .exit)) r ⌝ }
+    pub fn tag(self, s: &[u8], names: &mut [usize; 1024], depth: usize, spare: usize) -> Child
+        requires { ⌜ Behind (now s) (self .at) × Deep (now s) (now names) depth spare ⌝ }
+        ensures { λ r. ⌜ ChildRead (now (s .entry)) (opened (stack (now (s .entry)) (now (names .entry)) 0 depth)) (self .at) spare (now (names .exit)) r ⌝ }
     {
         let at = self.at;
         if at >= s.len() {
@@ -66,15 +65,15 @@ impl Cursor {
         }
         let b = s[at];
         if b == b'/' {
-            return self.end(s, names, depth, nodes);
+            return self.end(s, names, depth, spare);
         }
-        if !is_name_start(b) {
+        if !tree::name_start(b) {
             return Child::Stopped(4, at);
         }
-        if nodes == 1024 {
+        if spare == 0 {
             return Child::Stopped(6, at - 1);
         }
-        match self.start_tag(s, names, depth, nodes + 1) {
+        match self.start_tag(s, names, depth, spare - 1) {
             Tag::Opened(c, m) => Child::At(c, depth + 1, m),
             Tag::Emptied(c, m) => Child::At(c, depth, m),
             Tag::Broken(x, j) => Child::Stopped(x, j),
@@ -82,12 +81,12 @@ impl Cursor {
     }
 
     // A text, which may be empty, and the tag behind it.
-    pub fn child(self, s: &[u8], names: &mut [usize; 1024], depth: usize, nodes: usize) -> Child
-        requires { ⌜ Beginning (now s) (self .at) × Deep (now s) (now names) depth nodes ⌝ }
-        ensures { λ r. ⌜ ChildRead (now (s .entry)) (closed (stack (now (s .entry)) (now (names .entry)) 0 depth)) (self .at) nodes (now (names .exit)) r ⌝ }
+    pub fn child(self, s: &[u8], names: &mut [usize; 1024], depth: usize, spare: usize) -> Child
+        requires { ⌜ Beginning (now s) (self .at) × Deep (now s) (now names) depth spare ⌝ }
+        ensures { λ r. ⌜ ChildRead (now (s .entry)) (closed (stack (now (s .entry)) (now (names .entry)) 0 depth)) (self .at) spare (now (names .exit)) r ⌝ }
     {
         let at = self.at;
-        match self.content(s, b'<', at, nodes) {
+        match self.content(s, b'<', at, spare) {
             Read::Refused(x, j) => Child::Stopped(x, j),
             Read::Past(c, m) => c.tag(s, names, depth, m),
         }
@@ -111,7 +110,7 @@ impl Cursor {
             return Prolog::NoRoot(name);
         }
         let b = s[name];
-        if is_name_start(b) {
+        if tree::name_start(b) {
             return Prolog::Root(Cursor { at: name });
         }
         Prolog::NoRoot(name)

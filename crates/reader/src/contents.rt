@@ -11,10 +11,10 @@ ghost use Rattle.xml.specs.Reading.{node-offset};
 ghost use Rattle.reader.specs.Steps.{CharactersRead, ContentRead};
 
 impl Cursor {
-    // The characters of a value or a text, from the first on, up to the byte that ends it.
-    pub fn characters(self, s: &[u8], stop: u8, nodes: usize) -> Read
-        requires { ⌜ (self .at ≤ length (now s)) × (nodes ≤ 1024) ⌝ }
-        ensures { λ r. ⌜ CharactersRead (now (s .entry)) stop (self .at) nodes r ⌝ }
+    // The characters of a value or a text, from the first on, up to the byte that ends it; spare nodes may still come.
+    pub fn characters(self, s: &[u8], stop: u8, spare: usize) -> Read
+        requires { ⌜ self .at ≤ length (now s) ⌝ }
+        ensures { λ r. ⌜ CharactersRead (now (s .entry)) stop (self .at) spare r ⌝ }
     {
         let mut i = self.at;
         let mut count: usize = 0;
@@ -22,7 +22,7 @@ impl Cursor {
         while i < s.len() {
             let b = s[i];
             if b == stop {
-                return Read::Past(Cursor { at: i + 1 }, nodes);
+                return Read::Past(Cursor { at: i + 1 }, spare);
             }
             if !may_stand(b, stop, k) {
                 return Read::Refused(4, i);
@@ -50,9 +50,9 @@ impl Cursor {
     }
 
     // A value or a text, which may be empty, up to the byte that ends it; begin is the offset of its node.
-    pub fn content(self, s: &[u8], stop: u8, begin: usize, nodes: usize) -> Read
-        requires { ⌜ (self .at ≤ length (now s)) × (nodes ≤ 1024) × (begin ≡ node-offset (now s) (self .at)) ⌝ }
-        ensures { λ r. ⌜ ContentRead (now (s .entry)) stop (self .at) nodes r ⌝ }
+    pub fn content(self, s: &[u8], stop: u8, begin: usize, spare: usize) -> Read
+        requires { ⌜ (self .at ≤ length (now s)) × (begin ≡ node-offset (now s) (self .at)) ⌝ }
+        ensures { λ r. ⌜ ContentRead (now (s .entry)) stop (self .at) spare r ⌝ }
     {
         let at = self.at;
         if at >= s.len() {
@@ -60,14 +60,14 @@ impl Cursor {
         }
         let b = s[at];
         if b == stop {
-            return Read::Past(Cursor { at: at + 1 }, nodes);
+            return Read::Past(Cursor { at: at + 1 }, spare);
         }
         if !may_stand(b, stop, 0) {
             return Read::Refused(4, at);
         }
-        if nodes == 1024 {
+        if spare == 0 {
             return Read::Refused(6, begin);
         }
-        self.characters(s, stop, nodes + 1)
+        self.characters(s, stop, spare - 1)
     }
 }

@@ -7,9 +7,8 @@ mod tokens;
 
 ghost use mathlib.Core.Path.{_≡_};
 ghost use lib.ListN.{getD};
-ghost use Rattle.tree.specs.Content.{name-start, name-byte};
 ghost use Rattle.xml.specs.Bytes.{blank, brackets};
-ghost use Rattle.reader.specs.Classes.{plain, begins};
+ghost use Rattle.reader.specs.Classes.{begins};
 
 pub struct Cursor {
     pub at: usize,
@@ -21,7 +20,7 @@ pub enum Reference {
     NoEntity(usize),
 }
 
-// What a part of the input leads to: the cursor behind it and the number of nodes; or a cause and its offset.
+// What a part of the input leads to: the cursor behind it and how many nodes may still come; or a cause and its offset.
 pub enum Read {
     Past(Cursor, usize),
     Refused(u8, usize),
@@ -41,7 +40,8 @@ pub enum Part {
     Wrong(usize),
 }
 
-// A start tag: the cursor behind it and the number of nodes, where content follows and where the element is empty; or a cause and its offset.
+// A start tag: the cursor behind it and how many nodes may still come, where content follows and where the element is empty; or a cause and
+// its offset.
 pub enum Tag {
     Opened(Cursor, usize),
     Emptied(Cursor, usize),
@@ -54,7 +54,7 @@ pub enum End {
     Mismatch(usize),
 }
 
-// Inside the document: the cursor, the number of open elements and the number of nodes; or a cause and its offset.
+// Inside the document: the cursor, the number of open elements and how many nodes may still come; or a cause and its offset.
 pub enum Child {
     At(Cursor, usize, usize),
     Stopped(u8, usize),
@@ -78,56 +78,6 @@ pub fn is_blank(b: u8) -> bool
     b == 32
 }
 
-// Classes of bytes by comparisons: a table in a constant would be laid out anew at each lookup. Small letters, the most frequent, come first.
-pub fn is_name_start(b: u8) -> bool
-    ensures { λ r. ⌜ r ≡ name-start b ⌝ }
-{
-    if b >= b'a' {
-        return b <= b'z';
-    }
-    if b > b'Z' {
-        return b == b'_';
-    }
-    b >= b'A'
-}
-
-pub fn is_name_byte(b: u8) -> bool
-    ensures { λ r. ⌜ r ≡ name-byte b ⌝ }
-{
-    if b >= b'a' {
-        return b <= b'z';
-    }
-    if b >= b'A' {
-        return is_name_start(b);
-    }
-    if b >= b'0' {
-        return b <= b'9';
-    }
-    if b == b'-' {
-        return true;
-    }
-    b == b'.'
-}
-
-// A byte of a text but < and &.
-pub fn is_plain(b: u8) -> bool
-    ensures { λ r. ⌜ r ≡ plain b ⌝ }
-{
-    if b == b'<' {
-        return false;
-    }
-    if b == b'&' {
-        return false;
-    }
-    if b >= b' ' {
-        return b <= b'~';
-    }
-    if b == 9 {
-        return true;
-    }
-    b == 10
-}
-
 // The byte at an offset, 0 behind the end.
 pub fn peek(s: &[u8], at: usize) -> u8
     ensures { λ r. ⌜ r ≡ getD (now (s .entry)) at 0 ⌝ }
@@ -135,18 +85,22 @@ pub fn peek(s: &[u8], at: usize) -> u8
     if at < s.len() { s[at] } else { 0 }
 }
 
-// Whether a byte may begin a character of a value or a text that ends with stop, k bytes ] just before it.
+// Whether a byte may begin a character of a value or a text that ends with stop, k bytes ] just before it. Letters, the most frequent, come
+// first.
 fn may_stand(b: u8, stop: u8, k: usize) -> bool
     ensures { λ r. ⌜ r ≡ begins stop k b ⌝ }
 {
     if b > b'>' {
-        return b <= b'~';
+        return tree::text_byte(b);
     }
     if b == b'&' {
         return true;
     }
+    if b == b'<' {
+        return false;
+    }
     if b != b'>' {
-        return is_plain(b);
+        return tree::text_byte(b);
     }
     if stop != b'<' {
         return true;

@@ -1,5 +1,4 @@
 // The names of the attributes of a start tag, kept as offsets in the order of the names: a name is found by halving, whatever they are.
-use super::is_name_byte;
 use super::peek;
 use ordering::Order;
 use ordering::Place;
@@ -9,7 +8,7 @@ ghost use lib.ListN.{length};
 ghost use Rattle.tree.specs.Content.{name-byte};
 ghost use Rattle.xml.specs.Laws.Tokens.{name-at};
 ghost use Rattle.ordering.specs.Order.{Ordered};
-ghost use Rattle.ordering.specs.Sorted.{Increasing, Belongs, Shifted};
+ghost use Rattle.ordering.specs.Sorted.{Increasing, Belongs};
 ghost use Rattle.reader.specs.Steps.{Run};
 ghost use Rattle.reader.specs.Elements.{Placed, Kept, attribute-names, EnterRead};
 
@@ -21,7 +20,7 @@ fn order(s: &[u8], from: usize, to: usize, other: usize) -> Order
     let word = &s[from..to];
     let n = ordering::agreement(s, other, word);
     let next = peek(s, other + n);
-    let more = is_name_byte(next);
+    let more = tree::name_byte(next);
     if n == to - from {
         if more {
             return Order::Before;
@@ -63,18 +62,6 @@ fn place(s: &[u8], names: &[usize; 1024], lo: usize, count: usize, from: usize, 
     Place::Free(low)
 }
 
-// The offsets from place `at` on, up to `end`, one place further.
-fn make_room(names: &mut [usize; 1024], at: usize, end: usize)
-    requires { ⌜ (at ≤ end) × (end < 1024) × (length (now names) ≡ 1024) ⌝ }
-    ensures { λ r. ⌜ Shifted (now (names .entry)) (now (names .exit)) at end ⌝ }
-{
-    let mut i = end;
-    while at < i {
-        names[i] = names[i - 1];
-        i -= 1;
-    }
-}
-
 // A name put among the count names whose offsets stand from lo on, unless it is one of them.
 pub fn enter(
     s: &[u8],
@@ -92,8 +79,7 @@ pub fn enter(
     match place(s, names, lo, count, from, to) {
         Place::Taken => false,
         Place::Free(k) => {
-            make_room(names, lo + k, lo + count);
-            names[lo + k] = from;
+            ordering::insert(names, lo + k, lo + count, from);
             true
         }
     }

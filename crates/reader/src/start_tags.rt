@@ -4,7 +4,6 @@ use super::Equals;
 use super::Part;
 use super::Read;
 use super::Tag;
-use super::is_name_start;
 use super::names::enter;
 ghost use mathlib.Core.Path.{_≡_};
 ghost use Prim.Native.Nat.{_+_, _<_, _≤_};
@@ -65,7 +64,7 @@ impl Cursor {
         if at == from {
             return Part::Wrong(at);
         }
-        if is_name_start(b) {
+        if tree::name_start(b) {
             return Part::Attribute(behind);
         }
         Part::Wrong(at)
@@ -93,14 +92,14 @@ impl Cursor {
         names: &mut [usize; 1024],
         lo: usize,
         count: usize,
-        nodes: usize,
+        spare: usize,
     ) -> Read
-        requires { ⌜ Attributed (now s) (self .at) nodes × (lo + count + 1 ≤ nodes) × Placed (now s) (now names) (lo + count)
+        requires { ⌜ Attributed (now s) (self .at) × (lo + count + 1 + spare ≤ 1024) × Placed (now s) (now names) (lo + count)
             × Increasing (attribute-names (now s) (now names) lo) count × (length (now names) ≡ 1024) ⌝ }
-        ensures { λ r. ⌜ AttributeEnters (now (s .entry)) (now (names .entry)) (now (names .exit)) lo count (self .at) nodes r ⌝ }
+        ensures { λ r. ⌜ AttributeEnters (now (s .entry)) (now (names .entry)) (now (names .exit)) lo count (self .at) spare r ⌝ }
     {
         let at = self.at;
-        if nodes == 1024 {
+        if spare == 0 {
             return Read::Refused(6, at);
         }
         let end = self.name(s);
@@ -115,19 +114,19 @@ impl Cursor {
             Equals::NoQuote(j) => Read::Refused(4, j),
             Equals::Quoted(q, next) => {
                 let begin = next.at - 1;
-                next.content(s, q, begin, nodes + 1)
+                next.content(s, q, begin, spare - 1)
             }
         }
     }
 
     // A start tag from behind its name on; the offsets of its attributes' names are kept from lo on.
-    fn attributes(self, s: &[u8], names: &mut [usize; 1024], lo: usize, nodes: usize) -> Tag
-        requires { ⌜ (self .at ≤ length (now s)) × (lo + 1 ≤ nodes) × (nodes ≤ 1024) × Placed (now s) (now names) lo × (length (now names) ≡ 1024) ⌝ }
-        ensures { λ r. ⌜ AttributesRead (now (s .entry)) (self .at) nodes r × Kept lo (now (names .entry)) (now (names .exit)) ⌝ }
+    fn attributes(self, s: &[u8], names: &mut [usize; 1024], lo: usize, spare: usize) -> Tag
+        requires { ⌜ (self .at ≤ length (now s)) × (lo + 1 + spare ≤ 1024) × Placed (now s) (now names) lo × (length (now names) ≡ 1024) ⌝ }
+        ensures { λ r. ⌜ AttributesRead (now (s .entry)) (self .at) spare r × Kept lo (now (names .entry)) (now (names .exit)) ⌝ }
     {
         let mut i = self.at;
         let mut count: usize = 0;
-        let mut n = nodes;
+        let mut n = spare;
         loop {
             let here = Cursor { at: i };
             match here.part(s) {
@@ -149,9 +148,9 @@ impl Cursor {
     }
 
     // A start tag from the first byte of its name on; the offset of the name is kept at place depth.
-    pub fn start_tag(self, s: &[u8], names: &mut [usize; 1024], depth: usize, nodes: usize) -> Tag
-        requires { ⌜ Named (now s) (self .at) × (depth + 2 ≤ nodes) × (nodes ≤ 1024) × Placed (now s) (now names) depth × (length (now names) ≡ 1024) ⌝ }
-        ensures { λ r. ⌜ ElementRead (now (s .entry)) (self .at) nodes r × Kept depth (now (names .entry)) (now (names .exit)) × (getD (now (names .exit)) depth 0 ≡ self .at) ⌝ }
+    pub fn start_tag(self, s: &[u8], names: &mut [usize; 1024], depth: usize, spare: usize) -> Tag
+        requires { ⌜ Named (now s) (self .at) × (depth + 2 + spare ≤ 1024) × Placed (now s) (now names) depth × (length (now names) ≡ 1024) ⌝ }
+        ensures { λ r. ⌜ ElementRead (now (s .entry)) (self .at) spare r × Kept depth (now (names .entry)) (now (names .exit)) × (getD (now (names .exit)) depth 0 ≡ self .at) ⌝ }
     {
         let at = self.at;
         names[depth] = at;
@@ -159,6 +158,6 @@ impl Cursor {
         if end.at - at > 32 {
             return Tag::Broken(5, at + 32);
         }
-        end.attributes(s, names, depth + 1, nodes)
+        end.attributes(s, names, depth + 1, spare)
     }
 }

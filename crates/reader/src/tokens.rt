@@ -2,7 +2,6 @@
 use super::Cursor;
 use super::Reference;
 use super::is_blank;
-use super::is_name_byte;
 use super::peek;
 ghost use Prim.Native.Nat.{_≤_};
 ghost use lib.ListN.{length, drop};
@@ -36,7 +35,7 @@ impl Cursor {
         let mut i = self.at;
         while i < s.len() {
             let b = s[i];
-            if !is_name_byte(b) {
+            if !tree::name_byte(b) {
                 break;
             }
             i += 1;

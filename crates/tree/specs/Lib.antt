@@ -4,6 +4,5 @@ pub mod Forest
 pub mod Content
 pub mod Document
 pub mod Steps
-pub mod Classes
 pub mod Examples
 pub mod Laws

@@ -1,47 +1,72 @@
 // Which bytes are a name, a text, the content of a kind, and which kind may stand under which.
 ghost use mathlib.Core.Path.{_≡_};
-ghost use Prim.Native.Nat.{_≤_, _<_};
+ghost use mathlib.Core.Bool.{cond};
+ghost use Prim.Native.Nat.{_≤_};
 ghost use lib.ListN.{length, drop};
 ghost use Rattle.tree.specs.Lists.{every};
 ghost use Rattle.tree.specs.Content.{name-start, name-byte, text-byte, is-name, is-text, allowed, takes};
-ghost use Rattle.tree.specs.Classes.{class-of, in-class};
 
-mod classes;
-
-use classes::CLASSES;
-
-pub fn class(x: u8) -> u8
-    ensures { λ r. ⌜ r ≡ class-of x ⌝ }
-{
-    CLASSES[x as usize]
-}
-
+// Classes of bytes by comparisons: a table in a constant would be laid out anew at each lookup. Small letters, the most frequent, come first.
 pub fn name_start(x: u8) -> bool
     ensures { λ r. ⌜ r ≡ name-start x ⌝ }
 {
-    class(x) % 2 == 1
+    if x >= b'a' {
+        return x <= b'z';
+    }
+    if x > b'Z' {
+        return x == b'_';
+    }
+    x >= b'A'
 }
 
 pub fn name_byte(x: u8) -> bool
     ensures { λ r. ⌜ r ≡ name-byte x ⌝ }
 {
-    class(x) / 2 % 2 == 1
+    if x >= b'a' {
+        return x <= b'z';
+    }
+    if x >= b'A' {
+        return name_start(x);
+    }
+    if x >= b'0' {
+        return x <= b'9';
+    }
+    if x == b'-' {
+        return true;
+    }
+    x == b'.'
 }
 
 pub fn text_byte(x: u8) -> bool
     ensures { λ r. ⌜ r ≡ text-byte x ⌝ }
 {
-    class(x) / 4 % 2 == 1
+    if x >= b' ' {
+        return x <= b'~';
+    }
+    if x == 9 {
+        return true;
+    }
+    x == 10
 }
 
-// Whether all bytes from a place on are of a class.
-fn all_in(b: &[u8], from: usize, weight: u8) -> bool
-    requires { ⌜ (0 < weight) × (from ≤ length (now b)) ⌝ }
-    ensures { λ r. ⌜ r ≡ every (in-class weight) (drop from (now (b .entry))) ⌝ }
+// Whether a byte may stand in a text, or else in a name.
+fn stands(x: u8, text: bool) -> bool
+    ensures { λ r. ⌜ r ≡ cond text text-byte name-byte x ⌝ }
+{
+    if text {
+        return text_byte(x);
+    }
+    name_byte(x)
+}
+
+// Whether all bytes from a place on do.
+fn all_stand(b: &[u8], from: usize, text: bool) -> bool
+    requires { ⌜ from ≤ length (now b) ⌝ }
+    ensures { λ r. ⌜ r ≡ every (cond text text-byte name-byte) (drop from (now (b .entry))) ⌝ }
 {
     let mut i = from;
     while i < b.len() {
-        if class(b[i]) / weight % 2 != 1 {
+        if !stands(b[i], text) {
             return false;
         }
         i += 1;
@@ -61,7 +86,7 @@ pub fn is_name(b: &[u8]) -> bool
     if !name_start(b[0]) {
         return false;
     }
-    all_in(b, 1, 2)
+    all_stand(b, 1, false)
 }
 
 pub fn is_text(b: &[u8]) -> bool
@@ -73,7 +98,7 @@ pub fn is_text(b: &[u8]) -> bool
     if b.len() > 32 {
         return false;
     }
-    all_in(b, 0, 4)
+    all_stand(b, 0, true)
 }
 
 // The content that a node of a kind may have.

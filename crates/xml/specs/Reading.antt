@@ -23,9 +23,9 @@ Viable p = (t : List ℕ) × (f : Shape) × Spells (p ++ t) f
 abbrev pub LongContent : Shape → Type 0
 LongContent f = content-limit < longest f
 
--- cause 6: there is a 1,025th node, node 0 counted
-abbrev pub ManyNodes : Shape → Type 0
-ManyNodes f = node-limit < suc (size f)
+-- cause 6: more nodes than the limit, node 0 counted
+abbrev pub ManyNodes : ℕ → Shape → Type 0
+ManyNodes limit f = limit < suc (size f)
 
 -- these bytes lead to it, however the input goes on. Unique Att Spec is left out here: a name that repeats another and must
 -- therefore go on has no further byte before that byte is there
@@ -48,26 +48,34 @@ abbrev pub node-offset : List ℕ → ℕ → ℕ
 node-offset s zero = zero
 node-offset s (suc i) = cond (opener (getD s i 0)) i (suc i)
 
--- a cause that applies to the input s, with its offset
-pub data Fault (s : List ℕ) : (cause offset : ℕ) → Type 0 where
+-- a cause that applies to the input s where so many nodes may be held, with its offset
+pub data FaultWithin (limit : ℕ) (s : List ℕ) : (cause offset : ℕ) → Type 0 where
   -- "the first byte that no document of this grammar can have after those before it, or the length if input ends too soon"
-  wrong-byte : {i : ℕ} → i < length s → Viable (take i s) → ¬ (Viable (take (suc i) s)) → Fault s 4 i
-  too-soon : Viable s → ((f : Shape) → ¬ (Spells s f)) → Fault s 4 (length s)
+  wrong-byte : {i : ℕ} → i < length s → Viable (take i s) → ¬ (Viable (take (suc i) s)) → FaultWithin limit s 4 i
+  too-soon : Viable s → ((f : Shape) → ¬ (Spells s f)) → FaultWithin limit s 4 (length s)
   -- "offset 65,536 of a longer one is refused as 4"
-  too-long : input-limit < length s → Fault s 4 input-limit
+  too-long : input-limit < length s → FaultWithin limit s 4 input-limit
   -- "the byte giving the 33rd, or a & in its place, even if no reference follows"
-  long-content : {i : ℕ} → FirstForced LongContent s i → Fault s 5 i
+  long-content : {i : ℕ} → FirstForced LongContent s i → FaultWithin limit s 5 i
   -- "a < with a name's first byte after it, the first byte of an attribute's name, an opening quote with a byte after it that a value
   -- may begin with, or the first byte of text"
-  many-nodes : {i : ℕ} → FirstForced ManyNodes s i → Fault s 6 (node-offset s i)
+  many-nodes : {i : ℕ} → FirstForced (ManyNodes limit) s i → FaultWithin limit s 6 (node-offset s i)
 
 -- "the earliest offset; at one offset 4, 5, 6"
 pub record Earlier (cause offset cause′ offset′ : ℕ) : Type 0 where
   pub offsets : offset ≤ offset′
   pub causes : offset ≡ offset′ → cause ≤ cause′
 
-pub data ReadsAs (s : List ℕ) : Input → Type 0 where
-  accepted : {f : Shape} → Spells s f → ((cause offset : ℕ) → ¬ (Fault s cause offset)) → (h : loadable (document f) ≡ true)
-      → ReadsAs s (stands-for (document f) h)
-  refused : {cause offset : ℕ} → Fault s cause offset → ((cause′ offset′ : ℕ) → Fault s cause′ offset′ → Earlier cause offset cause′ offset′)
-      → ReadsAs s (unreadable cause offset)
+pub data ReadsWithin (limit : ℕ) (s : List ℕ) : Input → Type 0 where
+  accepted : {f : Shape} → Spells s f → ((cause offset : ℕ) → ¬ (FaultWithin limit s cause offset)) → (h : loadable (document f) ≡ true)
+      → ReadsWithin limit s (stands-for (document f) h)
+  refused : {cause offset : ℕ} → FaultWithin limit s cause offset
+      → ((cause′ offset′ : ℕ) → FaultWithin limit s cause′ offset′ → Earlier cause offset cause′ offset′)
+      → ReadsWithin limit s (unreadable cause offset)
+
+-- "a 1,025th node"
+abbrev pub Fault : List ℕ → (cause offset : ℕ) → Type 0
+Fault s = FaultWithin node-limit s
+
+abbrev pub ReadsAs : List ℕ → Input → Type 0
+ReadsAs s = ReadsWithin node-limit s

@@ -10,20 +10,20 @@ slice-aggregate-first c = taken-length _ (c .before .before .before .args .x .no
 unlimited-requires : tie.Need-unlimited-requires
 unlimited-requires c κs = search needs
 
-limit-requires : tie.Need-limit-requires
-limit-requires c κs = search needs
+limit-input-requires : tie.Need-limit-input-requires
+limit-input-requires c κs = search needs
 
 returns : tie.Need-returns
-returns c = judged-long _ _ _ (c .before .before .before .if1 .taken) (c .before .unlimited .ensures) (c .limit .ensures)
+returns c = judged-long _ _ _ _ (c .before .before .before .if1 .taken) (c .before .unlimited .ensures) (c .limit-input .ensures)
 
 unlimited-requires-2 : tie.Need-unlimited-requires-2
 unlimited-requires-2 c κs = search needs
 
-limit-requires-2 : tie.Need-limit-requires-2
-limit-requires-2 c κs = search needs
+limit-input-requires-2 : tie.Need-limit-input-requires-2
+limit-input-requires-2 c κs = search needs
 
 returns-2 : tie.Need-returns-2
-returns-2 c = judged-short _ _ _ (c .before .before .if1 .left) (c .before .unlimited2 .ensures) (c .limit2 .ensures)
+returns-2 c = judged-short _ _ _ _ (c .before .before .if1 .left) (c .before .unlimited2 .ensures) (c .limit-input2 .ensures)
 
 pub judge-spec : {M : Type 1} → statement M
 judge-spec =
@@ -31,8 +31,8 @@ judge-spec =
     (tie.spec
     slice-aggregate-first
     unlimited-requires
-    limit-requires
+    limit-input-requires
     returns
     unlimited-requires-2
-    limit-requires-2
+    limit-input-requires-2
     returns-2)

@@ -12,10 +12,10 @@ use Rattle.judging.proofs.root_content.Statement.{statement}
 use Rattle.judging.proofs.root_content.Tie as tie
 
 abbrev Inv-loop : tie.InvT-loop
-Inv-loop s names₀ nodes i₀ depth₀ n₀ names i depth n = (i ≤ length s) × ContentTo s names₀ names i₀ nodes i depth n
+Inv-loop s names₀ spare i₀ depth₀ n₀ names i depth n = (i ≤ length s) × ContentTo s names₀ names i₀ spare i depth n
 
 abbrev μ-loop : tie.MeasureT-loop
-μ-loop s names₀ nodes i₀ depth₀ n₀ names i depth n = length s - i
+μ-loop s names₀ spare i₀ depth₀ n₀ names i depth n = length s - i
 
 loop-holds : tie.Need-loop-holds Inv-loop μ-loop
 loop-holds c = (c .before .pre .0 .inside, content-start _ _ _ _ (c .before .pre .0) (c .before .pre .1))
@@ -68,7 +68,7 @@ loop-again c =
     (z .2, z .0)
 
 behind-root-requires : tie.Need-behind-root-requires Inv-loop μ-loop
-behind-root-requires c κs = (c .before .loop .inv .0, c .before .loop .inv .1 .few)
+behind-root-requires c κs = c .before .loop .inv .0
 
 returns-2 : tie.Need-returns-2 Inv-loop μ-loop
 returns-2 c = content-over _ _ _ _ _ _ _ _ (c .before .before .loop .inv .1) (c .before .loop-test .left) _ (c .behind-root .ensures)

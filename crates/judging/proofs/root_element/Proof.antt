@@ -20,7 +20,7 @@ behind-root-requires : tie.Need-behind-root-requires
 behind-root-requires c κs =
     let args = c .before .before .before .before .before .before .args in
     let start-tag = c .before .before .before .start-tag in
-    emptied-inside (subst (λ (r : Tag). ElementRead (args .s .now) (args .c .at) 2 r) (c .before .next .given .1) (start-tag .ensures .0))
+    emptied-inside (subst (λ (r : Tag). ElementRead (args .s .now) (args .c .at) (args .spare) r) (c .before .next .given .1) (start-tag .ensures .0))
 
 enum-known-next-2 : tie.Need-enum-known-next-2
 enum-known-next-2 c = search needs
@@ -31,29 +31,29 @@ root-content-requires c κs =
     let args = c .before .before .before .before .before .before .before .args in
     let start-tag = c .before .before .before .before .start-tag in
     let next2 = c .before .before .next2 in
-    opened-inside (start-tag .last .1 .1 .0) (start-tag .ensures .1 .as-long ∙ search needs) (start-tag .ensures .2) (omega (arith, pre .inside))
-    (subst (λ (r : Tag). ElementRead (args .s .now) (args .c .at) 2 r) (next2 .given .1) (start-tag .ensures .0))
+    opened-inside (start-tag .last .1 .1 .0) (start-tag .ensures .1 .as-long ∙ search needs) (start-tag .ensures .2) (omega (arith, pre .0 .inside)) (pre .1)
+    (subst (λ (r : Tag). ElementRead (args .s .now) (args .c .at) (args .spare) r) (next2 .given .1) (start-tag .ensures .0))
 
 returns : tie.Need-returns
 returns c =
     let args = c .before .before .before .before .before .before .args in
     let start-tag = c .before .before .before .start-tag in
-    root-broken _ _ (subst (λ (r : Tag). ElementRead (args .s .now) (args .c .at) 2 r) (c .before .x .given .1) (start-tag .ensures .0))
+    root-broken _ _ _ (subst (λ (r : Tag). ElementRead (args .s .now) (args .c .at) (args .spare) r) (c .before .x .given .1) (start-tag .ensures .0))
 
 returns-2 : tie.Need-returns-2
 returns-2 c =
     let args = c .before .before .before .before .before .before .before .args in
     let start-tag = c .before .before .before .before .start-tag in
     let next = c .before .before .next in
-    root-empty _ _ _ (subst (λ (r : Tag). ElementRead (args .s .now) (args .c .at) 2 r) (next .given .1) (start-tag .ensures .0)) (c .behind-root .ensures)
+    root-empty _ _ _ _ (subst (λ (r : Tag). ElementRead (args .s .now) (args .c .at) (args .spare) r) (next .given .1) (start-tag .ensures .0)) (c .behind-root .ensures)
 
 returns-3 : tie.Need-returns-3
 returns-3 c =
     let args = c .before .before .before .before .before .before .before .before .args in
     let start-tag = c .before .before .before .before .before .start-tag in
     let next2 = c .before .before .before .next2 in
-    let read = subst (λ (r : Tag). ElementRead (args .s .now) (args .c .at) 2 r) (next2 .given .1) (start-tag .ensures .0) in
-    root-open _ _ (start-tag .last .1 .1 .0) _ (start-tag .ensures .2) read (c .root-content .ensures)
+    let read = subst (λ (r : Tag). ElementRead (args .s .now) (args .c .at) (args .spare) r) (next2 .given .1) (start-tag .ensures .0) in
+    root-open _ _ _ (start-tag .last .1 .1 .0) _ (start-tag .ensures .2) read (c .root-content .ensures)
 
 pub root-element-spec : {M : Type 1} → statement M
 root-element-spec =

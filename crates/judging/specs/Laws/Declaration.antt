@@ -8,7 +8,6 @@ use lib.Dec.{eqb, leb}
 use lib.ListN.{length, getD, drop, List·getD-eq-default}
 use borrow.Author.Tests.{ne-eqb, eq-eqb, eqb-true, leb-true, leb-false}
 use Rattle.tree.specs.Content.{name-start, content-limit}
-use Rattle.protocol.specs.Calls.{node-limit}
 use Rattle.xml.specs.Bytes.{blank, less-than, short-declaration, long-declaration}
 use Rattle.xml.specs.Laws.Words.{Words, declarations}
 use Rattle.xml.specs.Laws.Automaton.{at-start, behind-first, prolog, behind-root, declaration, step}
@@ -36,22 +35,22 @@ there s i b e h = go (leb (length s) i) refl
 
 module _ (s : List ℕ) where
   -- no declaration
-  plain-start : (getD s 0 0 ≡ less-than → getD s 1 0 ≡ 63 → ⊥) → (k : ℕ) → k ≤ content-limit → scan-at s at-start 1 k 0 ≡ scan-at s prolog 1 k 0
+  plain-start : (getD s 0 0 ≡ less-than → getD s 1 0 ≡ 63 → ⊥) → (m k : ℕ) → k ≤ content-limit → scan-at s at-start m k 0 ≡ scan-at s prolog m k 0
   unfolding step blank
-  plain-start f k m = go (eqb (getD s 0 0) less-than) refl
+  plain-start f m k l = go (eqb (getD s 0 0) less-than) refl
     where
-      go : (t : Bool) → eqb (getD s 0 0) less-than ≡ t → scan-at s at-start 1 k 0 ≡ scan-at s prolog 1 k 0
-      go false e = scan-alike s at-start prolog 1 k 0 (λ h. rw e) refl
+      go : (t : Bool) → eqb (getD s 0 0) less-than ≡ t → scan-at s at-start m k 0 ≡ scan-at s prolog m k 0
+      go false e = scan-alike s at-start prolog m k 0 (λ h. rw e) refl
       go true e =
           let b = eqb-true (getD s 0 0) less-than e in
           let h = there s 0 less-than b (omega arith) in
-          scan-quiet s at-start 1 0 h behind-first (rw b) (omega arith) k (omega arith)
-          ∙ scan-alike s behind-first behind-root 1 k (0 + 1) (λ h. rw (ne-eqb (getD s 1 0) 63 (f b))) refl
-          ∙ sym (scan-quiet s prolog 1 0 h behind-root (rw b) (omega arith) k (omega arith))
+          scan-quiet s at-start m 0 h behind-first (rw b) k (omega arith)
+          ∙ scan-alike s behind-first behind-root m k (0 + 1) (λ h. rw (ne-eqb (getD s 1 0) 63 (f b))) refl
+          ∙ sym (scan-quiet s prolog m 0 h behind-root (rw b) k (omega arith))
 
   pub start-plain : {r : Prolog} → (getD s 0 0 ≡ less-than → getD s 1 0 ≡ 63 → ⊥) → RootRead s prolog 0 r → RootRead s at-start 0 r
-  start-plain f (root-at {c = c} a g) = root-at {c = c} a (λ v y. record { leads = λ k m. plain-start f k m ∙ g v y .leads k m })
-  start-plain f (no-root {j = j} g) = no-root {j = j} (record { leads = λ k m. plain-start f k m ∙ g .leads k m })
+  start-plain f (root-at {c = c} a g) = root-at {c = c} a (λ m x v y. record { leads = λ k l. plain-start f m k l ∙ g m x v y .leads k l })
+  start-plain f (no-root {j = j} g) = no-root {j = j} (λ m. record { leads = λ k l. plain-start f m k l ∙ g m .leads k l })
 
   -- a declaration
   declaring : Wording declaration prolog (λ x. [])
@@ -64,31 +63,31 @@ module _ (s : List ℕ) where
   split (x ∷ y ∷ l) a b = rw (a, b)
 
   module _ (a : getD s 0 0 ≡ less-than) (b : getD s 1 0 ≡ 63) where
-    declared-start : (k : ℕ) → k ≤ content-limit → scan-at s at-start 1 k 0 ≡ Landed s prolog (λ x. []) 1 k 0 (declaration-at s)
+    declared-start : (m k : ℕ) → k ≤ content-limit → scan-at s at-start m k 0 ≡ Landed s prolog (λ x. []) m k 0 (declaration-at s)
     unfolding step blank name-start births tail peak
-    declared-start k m =
-        let l : 1 ≤ node-limit = omega arith in
+    declared-start m k l =
         let o : (x : Words) → k + pending (phase (declaration x)) ≤ content-limit = λ x. omega arith in
         let e : ℕ → extent k [] prolog ≤ content-limit = λ x. omega arith in
         let r = reach declarations (drop 2 s) in
-        let more = landed-more s declaration prolog (λ x. []) 1 k declaring l o e in
-        scan-quiet s at-start 1 0 (there s 0 less-than a (omega arith)) behind-first (rw a) l k (omega arith)
-        ∙ scan-quiet s behind-first 1 1 (there s 1 63 b (omega arith)) (declaration declarations) (rw b) l k (omega arith)
-        ∙ word-scan s declaration prolog (λ x. []) 1 k declaring l o e (drop 2 s) declarations 2 refl
+        let more = landed-more s declaration prolog (λ x. []) m k declaring o e in
+        scan-quiet s at-start m 0 (there s 0 less-than a (omega arith)) behind-first (rw a) k (omega arith)
+        ∙ scan-quiet s behind-first m 1 (there s 1 63 b (omega arith)) (declaration declarations) (rw b) k (omega arith)
+        ∙ word-scan s declaration prolog (λ x. []) m k declaring o e (drop 2 s) declarations 2 refl
         ∙ more 1 r ∙ more 0 (one-more r)
-        ∙ ap (Landed s prolog (λ x. []) 1 k 0) (declarations-at (drop 2 s) ∙ ap declaration-at (split s a b))
+        ∙ ap (Landed s prolog (λ x. []) m k 0) (declarations-at (drop 2 s) ∙ ap declaration-at (split s a b))
 
     pub start-declared : {r : Prolog} (q : Reach) → declaration-at s ≡ q → DeclaredRead s q r → RootRead s at-start 0 r
     unfolding tail
-    start-declared q e (behind-it {k = x} {n = n} (root-at {c = c} d g)) = root-at {c = c} d (λ v y. record {
-      leads = λ k m.
-          let p : 0 + n ≡ n = omega arith in declared-start k m ∙ rw (e, p) (g v y .leads k m);
+    start-declared q e (behind-it {k = x} {n = n} (root-at {c = c} d g)) = root-at {c = c} d (λ m h v y. record {
+      leads = λ k l.
+          let p : 0 + n ≡ n = omega arith in declared-start m k l ∙ rw (e, p) (g m h v y .leads k l);
     })
-    start-declared q e (behind-it {k = x} {n = n} (no-root {j = j} g)) = no-root {j = j} (record {
-      leads = λ k m.
-          let p : 0 + n ≡ n = omega arith in declared-start k m ∙ rw (e, p) (g .leads k m);
+    start-declared q e (behind-it {k = x} {n = n} (no-root {j = j} g)) = no-root {j = j} (λ m. record {
+      leads = λ k l.
+          let p : 0 + n ≡ n = omega arith in declared-start m k l ∙ rw (e, p) (g m .leads k l);
     })
-    start-declared q e (short-of-it {n = n}) = no-root {j = n} (record { leads = λ k m. let p : 0 + n ≡ n = omega arith in declared-start k m ∙ rw (e, p) })
+    start-declared q e (short-of-it {n = n}) =
+        no-root {j = n} (λ m. record { leads = λ k l. let p : 0 + n ≡ n = omega arith in declared-start m k l ∙ rw (e, p) })
 
     pub start-short : {r : Prolog} → getD s 19 0 ≡ 63 → DeclaredRead s (word-at short-declaration 0 s) r → RootRead s at-start 0 r
     unfolding declaration-at

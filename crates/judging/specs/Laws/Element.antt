@@ -4,7 +4,6 @@ use mathlib.Core.Path.{_≡_, refl, sym, _∙_}
 use mathlib.Core.List.{List, [], _∷_}
 use native.Mathlib.Omega.{arith}
 use lib.ListN.{length, getD}
-use Rattle.protocol.specs.Calls.{node-limit}
 use Rattle.xml.specs.Bytes.{blank}
 use Rattle.xml.specs.Laws.Automaton.{epilog, tag-name, closed, step}
 use Rattle.xml.specs.Laws.Judge.{Verdict, fine, bad}
@@ -20,47 +19,45 @@ use Rattle.reader.specs.Children.{Beginning, Deep, ChildRead, child-at, child-s
 use Rattle.reader.specs.Laws.Tags.{no-blank-here}
 
 -- behind the root element
-module _ (s : List ℕ) (at i nodes : ℕ) (r : Run blank s at i) (l : nodes ≤ node-limit) where
-  to-end : Goes s epilog nodes at epilog nodes i
+module _ (s : List ℕ) (at i spare : ℕ) (r : Run blank s at i) where
+  to-end : Goes s epilog spare at epilog spare i
   unfolding step
-  to-end = goes-then (goes-blanks s epilog nodes (λ b e. rw e) refl l at) (goes-same s epilog nodes _ i (sym (r .ends)))
+  to-end = goes-then (goes-blanks s epilog spare (λ b e. rw e) refl at) (goes-same s epilog spare _ i (sym (r .ends)))
 
-  pub epilog-wrong : i < length s → Leads s epilog nodes at (bad 4 i)
+  pub epilog-wrong : i < length s → Leads s epilog spare at (bad 4 i)
   unfolding step
-  epilog-wrong h = to-end .back _ (stops-stuck s epilog nodes i h (rw (no-blank-here s at i r h)))
+  epilog-wrong h = to-end .back _ (stops-stuck s epilog spare i h (rw (no-blank-here s at i r h)))
 
-  pub epilog-over : length s ≤ i → Leads s epilog nodes at (fine nodes)
-  epilog-over h = to-end .back _ (over-end s epilog nodes i h refl)
+  pub epilog-over : length s ≤ i → Leads s epilog spare at (fine spare)
+  epilog-over h = to-end .back _ (over-end s epilog spare i h refl)
 
--- the loop over the content has come to i, with so many open elements and nodes
-pub record ContentTo (s os os′ : List ℕ) (at nodes i deep n : ℕ) : Type 0 where
-  pub comes : Goes s (closed (stack s os 0 1)) nodes at (closed (stack s os′ 0 deep)) n i
+-- the loop over the content has come to i, with so many open elements; n of the spare nodes may still come
+pub record ContentTo (s os os′ : List ℕ) (at spare i deep n : ℕ) : Type 0 where
+  pub comes : Goes s (closed (stack s os 0 1)) spare at (closed (stack s os′ 0 deep)) n i
   pub begins-here : Beginning s i
-  pub room : deep + 1 ≤ n
-  pub few : n ≤ node-limit
+  pub room : deep + 1 + n ≤ 1024
   pub long : length os′ ≡ 1024
   pub names : Placed s os′ deep
 
-pub content-start : (s os : List ℕ) (at nodes : ℕ) → Beginning s at → Deep s os 1 nodes → ContentTo s os os at nodes at 1 nodes
-content-start s os at nodes b d =
-    record { comes = goes-same s (closed (stack s os 0 1)) nodes at at refl; begins-here = b; room = d .room; few = d .few; long = d .long; names = d .names }
+pub content-start : (s os : List ℕ) (at spare : ℕ) → Beginning s at → Deep s os 1 spare → ContentTo s os os at spare at 1 spare
+content-start s os at spare b d =
+    record { comes = goes-same s (closed (stack s os 0 1)) spare at at refl; begins-here = b; room = d .room; long = d .long; names = d .names }
 
-module _ (s os os′ : List ℕ) (at nodes i deep n : ℕ) (t : ContentTo s os os′ at nodes i deep n) where
+module _ (s os os′ : List ℕ) (at spare i deep n : ℕ) (t : ContentTo s os os′ at spare i deep n) where
   pub content-deep : 0 < deep → Deep s os′ deep n
-  content-deep h = record { some = omega arith; room = t .room; few = t .few; long = t .long; names = t .names }
+  content-deep h = record { some = omega arith; room = t .room; long = t .long; names = t .names }
 
   pub content-stopped : {os″ : List ℕ} {x j : ℕ} → ChildRead s (closed (stack s os′ 0 deep)) i n os″ (Stopped x j)
-      → Leads s (closed (stack s os 0 1)) nodes at (bad x j)
+      → Leads s (closed (stack s os 0 1)) spare at (bad x j)
   content-stopped (child-stopped f) = t .comes .back _ f
 
   pub content-turn : {os″ : List ℕ} {c : Cursor} {d m : ℕ} → ChildRead s (closed (stack s os′ 0 deep)) i n os″ (At c d m)
-      → ContentTo s os os″ at nodes (c .at) d m × (i < c .at) × (c .at ≤ length s)
+      → ContentTo s os os″ at spare (c .at) d m × (i < c .at) × (c .at ≤ length s)
   content-turn (child-at o p q r w) = (
     record {
       comes = goes-then (t .comes) w;
       begins-here = record { inside = o .inside; begins-here = o .begins-here };
       room = p;
-      few = o .few;
       long = q;
       names = r;
     },
@@ -68,37 +65,31 @@ module _ (s os os′ : List ℕ) (at nodes i deep n : ℕ) (t : ContentTo s os o
     o .inside,
   )
 
-  pub content-over : deep ≤ 0 → (v : Verdict) → Leads s epilog n i v → Leads s (closed (stack s os 0 1)) nodes at v
+  pub content-over : deep ≤ 0 → (v : Verdict) → Leads s epilog n i v → Leads s (closed (stack s os 0 1)) spare at v
   unfolding stack
   content-over h v y = t .comes .back v (let p : deep ≡ 0 = omega arith in rw p y)
 
 -- the start tag of the root element
-module _ (s : List ℕ) (at : ℕ) where
-  pub root-broken : {x j : ℕ} → ElementRead s at 2 (Broken x j) → scan-at s (tag-name [] (getD s at 0 ∷ [])) 2 1 (at + 1) ≡ bad x j
+module _ (s : List ℕ) (at spare : ℕ) where
+  pub root-broken : {x j : ℕ} → ElementRead s at spare (Broken x j) → scan-at s (tag-name [] (getD s at 0 ∷ [])) spare 1 (at + 1) ≡ bad x j
   root-broken (element-broken f) = f []
 
-  pub root-empty : {c : Cursor} {m : ℕ} (v : Verdict) → ElementRead s at 2 (Emptied c m) → Leads s epilog m (c .at) v
-      → scan-at s (tag-name [] (getD s at 0 ∷ [])) 2 1 (at + 1) ≡ v
+  pub root-empty : {c : Cursor} {m : ℕ} (v : Verdict) → ElementRead s at spare (Emptied c m) → Leads s epilog m (c .at) v
+      → scan-at s (tag-name [] (getD s at 0 ∷ [])) spare 1 (at + 1) ≡ v
   root-empty v (element-emptied o f) y = f [] v y
 
-  pub root-open : {c : Cursor} {m : ℕ} (os : List ℕ) (v : Verdict) → getD os 0 0 ≡ at → ElementRead s at 2 (Opened c m)
+  pub root-open : {c : Cursor} {m : ℕ} (os : List ℕ) (v : Verdict) → getD os 0 0 ≡ at → ElementRead s at spare (Opened c m)
       → Leads s (closed (stack s os 0 1)) m (c .at) v
-      → scan-at s (tag-name [] (getD s at 0 ∷ [])) 2 1 (at + 1) ≡ v
+      → scan-at s (tag-name [] (getD s at 0 ∷ [])) spare 1 (at + 1) ≡ v
   unfolding stack
   root-open os v e (element-opened o f) y = f [] v (rw e at y)
 
-pub emptied-inside : {s : List ℕ} {at nodes m : ℕ} {c : Cursor} → ElementRead s at nodes (Emptied c m) → (c .at ≤ length s) × (m ≤ node-limit)
-emptied-inside (element-emptied o f) = (o .inside, o .few)
+pub emptied-inside : {s : List ℕ} {at spare m : ℕ} {c : Cursor} → ElementRead s at spare (Emptied c m) → c .at ≤ length s
+emptied-inside (element-emptied o f) = o .inside
 
-pub opened-inside : {s : List ℕ} {at m : ℕ} {c : Cursor} (os : List ℕ) → length os ≡ 1024 → getD os 0 0 ≡ at → at ≤ length s → ElementRead s at 2 (Opened c m)
-    → Beginning s (c .at) × Deep s os 1 m
-opened-inside {s} os l e h (element-opened o f) = (
+pub opened-inside : {s : List ℕ} {at spare m : ℕ} {c : Cursor} (os : List ℕ) → length os ≡ 1024 → getD os 0 0 ≡ at → at ≤ length s → 2 + spare ≤ 1024
+    → ElementRead s at spare (Opened c m) → Beginning s (c .at) × Deep s os 1 m
+opened-inside {s} os l e h p (element-opened o f) = (
   record { inside = o .inside; begins-here = o .begins-here },
-  record {
-    some = omega arith;
-    room = omega (arith, o .more);
-    few = o .few;
-    long = l;
-    names = record { placed = λ i k. let z : i ≡ 0 = omega arith in rw (z, e) h };
-  },
+  record { some = omega arith; room = omega (arith, o .fewer); long = l; names = record { placed = λ i k. let z : i ≡ 0 = omega arith in rw (z, e) h } },
 )

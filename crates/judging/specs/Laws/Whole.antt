@@ -1,19 +1,15 @@
--- The whole input and the limit on its length; what the judgement says by the definitions of the grammar.
-use Prim.Native.Nat.{ℕ, suc, _+_, _≤_, _<_}
-use mathlib.Core.Path.{_≡_, refl, sym, ap, _∙_, subst}
+-- The whole input and the limit on its length.
+use Prim.Native.Nat.{ℕ, suc, _+_, _-_, _≤_, _<_}
+use mathlib.Core.Path.{_≡_, refl, sym, ap, _∙_}
 use mathlib.Core.Bool.{Bool, true, false}
 use mathlib.Core.List.{List, [], _∷_}
 use native.Mathlib.Omega.{arith}
 use lib.ListN.{length, getD, take}
 use lib.Seq.{take-all, length-take-le}
 use borrow.Author.Tests.{le-leb, lt-leb, lt-ltb, le-ltb}
-use Rattle.protocol.specs.Calls.{node-limit}
-use Rattle.xml.specs.Shape.{size}
-use Rattle.xml.specs.Reading.{input-limit, ReadsAs, accepted, refused}
+use Rattle.xml.specs.Reading.{input-limit}
 use Rattle.xml.specs.Laws.Automaton.{at-start, tag-name}
 use Rattle.xml.specs.Laws.Judge.{Verdict, fine, bad, judgement}
-use Rattle.xml.specs.Laws.Verdicts.{Means, judgement-means}
-use Rattle.xml.specs.Laws.Loadable.{spelled-loadable, lines-length}
 use Rattle.xml.specs.Laws.Scan.{scan, scan-at, limited, judgement-scan}
 use Rattle.reader.specs.declared.Cursor.{Cursor}
 use Rattle.reader.specs.declared.Prolog.the-variants.{Root, NoRoot}
@@ -21,18 +17,18 @@ use Rattle.reader.specs.Elements.{Named}
 use Rattle.reader.specs.Prolog.{RootRead, root-at, no-root}
 use Rattle.judging.specs.declared.Judged.{Judged}
 use Rattle.judging.specs.declared.Judged.the-variants.{Accepted, Rejected}
-use Rattle.judging.specs.Judged.{verdict, Answers, accepts, rejects}
+use Rattle.judging.specs.Judged.{verdict}
 
 -- from the root element on
-module _ (s : List ℕ) where
-  pub no-root-is : {j : ℕ} → RootRead s at-start 0 (NoRoot j) → scan at-start 1 0 0 0 s ≡ bad 4 j
+module _ (s : List ℕ) (limit : ℕ) where
+  pub no-root-is : {j : ℕ} → RootRead s at-start 0 (NoRoot j) → scan at-start (limit - 1) 0 0 0 s ≡ bad 4 j
   unfolding scan-at
-  no-root-is (no-root f) = f .leads 0 (omega arith)
+  no-root-is (no-root f) = f (limit - 1) .leads 0 (omega arith)
 
-  pub root-is : {c : Cursor} (v : Verdict) → RootRead s at-start 0 (Root c) → scan-at s (tag-name [] (getD s (c .at) 0 ∷ [])) 2 1 (c .at + 1) ≡ v
-      → scan at-start 1 0 0 0 s ≡ v
+  pub root-is : {c : Cursor} (v : Verdict) → 2 ≤ limit → RootRead s at-start 0 (Root c)
+      → scan-at s (tag-name [] (getD s (c .at) 0 ∷ [])) (limit - 2) 1 (c .at + 1) ≡ v → scan at-start (limit - 1) 0 0 0 s ≡ v
   unfolding scan-at
-  root-is v (root-at n f) y = f v y .leads 0 (omega arith)
+  root-is v h (root-at n f) y = let p : limit - 1 - 1 ≡ limit - 2 = omega arith in f (limit - 1) (omega arith) v (rw p y) .leads 0 (omega arith)
 
 pub root-named : {s : List ℕ} {c : Cursor} → RootRead s at-start 0 (Root c) → Named s (c .at)
 root-named (root-at n f) = n
@@ -55,19 +51,9 @@ module _ (long : Bool) (said : Judged) where
 pub taken-length : (n : ℕ) (s : List ℕ) → n ≤ length s → n ≡ length (take n s)
 taken-length n s h = sym (length-take-le n s h)
 
-module _ (s : List ℕ) (u v : Verdict) where
-  pub judged-long : input-limit < length s → scan at-start 1 0 0 0 (take 65537 s) ≡ u → limited true u ≡ v → judgement s ≡ v
-  judged-long h e f = rw (lt-ltb input-limit (length s) h) at (judgement-scan s) ∙ ap (limited true) e ∙ f
+module _ (limit : ℕ) (s : List ℕ) (u v : Verdict) where
+  pub judged-long : input-limit < length s → scan at-start (limit - 1) 0 0 0 (take 65537 s) ≡ u → limited true u ≡ v → judgement limit s ≡ v
+  judged-long h e f = rw (lt-ltb input-limit (length s) h) at (judgement-scan limit s) ∙ ap (limited true) e ∙ f
 
-  pub judged-short : length s ≤ input-limit → scan at-start 1 0 0 0 s ≡ u → limited false u ≡ v → judgement s ≡ v
-  judged-short h e f = rw (le-ltb input-limit (length s) h, take-all (suc input-limit) s (omega arith)) at (judgement-scan s) ∙ ap (limited false) e ∙ f
-
--- THE THEOREM: what is said of an input is what it stands for, or its first fault
-answered : (s : List ℕ) (r : Judged) → Means s (verdict r) → Answers s r
-answered s (Accepted n) m =
-    let few : suc (size (m .shape)) ≤ node-limit = omega (arith, m .few-nodes, m .nodes) in
-    accepts (accepted (m .spelled) (m .no-fault) (spelled-loadable (m .spelled) few (m .short-contents))) (m .nodes ∙ sym (lines-length (m .shape)))
-answered s (Rejected cause offset) m = rejects (refused (m .0) (m .1))
-
-pub judged-answers : (s : List ℕ) (r : Judged) → judgement s ≡ verdict r → Answers s r
-judged-answers s r e = answered s r (subst (Means s) e (judgement-means s))
+  pub judged-short : length s ≤ input-limit → scan at-start (limit - 1) 0 0 0 s ≡ u → limited false u ≡ v → judgement limit s ≡ v
+  judged-short h e f = rw (le-ltb input-limit (length s) h, take-all (suc input-limit) s (omega arith)) at (judgement-scan limit s) ∙ ap (limited false) e ∙ f

@@ -35,27 +35,27 @@ enum-known-cause : tie.Need-enum-known-cause
 enum-known-cause c = search needs
 
 cast-t15 : tie.Need-cast-t15
-cast-t15 c = omega (arith, fails _ _ _ _ (c .before .cause .given .1) (c .before .before .before .judge .ensures) .most)
+cast-t15 c = omega (arith, fails _ (omega arith) _ _ _ _ (c .before .cause .given .1) (c .before .before .before .judge .ensures) .most)
 
-enum-known-count : tie.Need-enum-known-count
-enum-known-count c = search needs
+enum-known-left : tie.Need-enum-known-left
+enum-known-left c = search needs
 
 replace-requires : tie.Need-replace-requires
 replace-requires c κs =
     let o = c .before .before .before .before .before in
     let judge = c .before .before .before .before .judge in
-    let count = c .before .before .count in
+    let count = c .before .before .left in
     let f = o .before .before .before in (
       sym (f .before .formed .ensures) ∙ not-false _ (f .if1 .left),
       sym (o .before .any-open .ensures) ∙ o .if2 .left,
-      (_, stands _ _ _ (count .given .1) (judge .ensures)),
+      (_, stands _ (omega arith) (omega arith) _ _ _ (count .given .1) (judge .ensures)),
     )
 
-cast-t19 : tie.Need-cast-t19
-cast-t19 c =
+sub-t19 : tie.Need-sub-t19
+sub-t19 c =
     let judge = c .before .before .before .before .before .before .before .judge in
-    let count = c .before .before .before .before .before .count in
-    omega (arith, stands _ _ _ (count .given .1) (judge .ensures) .most)
+    let count = c .before .before .before .before .before .left in
+    omega (arith, stands _ (omega arith) (omega arith) _ _ _ (count .given .1) (judge .ensures) .nodes)
 
 same-length-3 : tie.Need-same-length-3
 same-length-3 c = search needs
@@ -64,7 +64,7 @@ returns-3 : tie.Need-returns-3
 returns-3 c = let o = c .before .before .before .before in
     let f = o .before .before .before in
     λ i r. load-failed (sym (f .before .formed .ensures) ∙ not-false _ (f .if1 .left)) (sym (o .before .any-open .ensures) ∙ o .if2 .left) _ _
-    (fails _ _ _ _ (c .before .cause .given .1) (c .before .before .before .judge .ensures)) i r
+    (fails _ (omega arith) _ _ _ _ (c .before .cause .given .1) (c .before .before .before .judge .ensures)) i r
 
 same-length-4 : tie.Need-same-length-4
 same-length-4 c = search needs
@@ -73,12 +73,12 @@ returns-4 : tie.Need-returns-4
 returns-4 c =
     let o = c .before .before .before .before .before .before .before .before in
     let judge = c .before .before .before .before .before .before .before .judge in
-    let count = c .before .before .before .before .before .count in
+    let count = c .before .before .before .before .before .left in
     let replace = c .before .before .replace in
     let f = o .before .before .before in
     let good = sym (f .before .formed .ensures) ∙ not-false _ (f .if1 .left) in
     let none-open = sym (o .before .any-open .ensures) ∙ o .if2 .left in
-    λ i r. load-granted good none-open _ (stands _ _ _ (count .given .1) (judge .ensures)) (replace .ensures) i r
+    λ i r. load-granted good none-open _ (stands _ (omega arith) (omega arith) _ _ _ (count .given .1) (judge .ensures)) (replace .ensures) i r
 
 pub load-spec : {M : Type 1} → statement M
 load-spec =
@@ -93,9 +93,10 @@ load-spec =
     judge-requires
     enum-known-cause
     cast-t15
-    enum-known-count
+    enum-known-left
     replace-requires
-    cast-t19
+    sub-t19
+    (λ c. search needs)
     same-length-3
     returns-3
     same-length-4

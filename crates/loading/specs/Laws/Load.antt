@@ -1,8 +1,9 @@
 -- From what the call leaves to the definition of load.
-use Prim.Native.Nat.{ℕ}
+use Prim.Native.Nat.{ℕ, _-_}
 use mathlib.Core.Path.{_≡_, refl, sym, ap, _∙_}
 use mathlib.Core.Bool.{Bool, true, false, _&&_}
 use mathlib.Core.List.{List}
+use native.Mathlib.Omega.{arith}
 use lib.Dec.{leb}
 use lib.ListN.{length}
 use Rattle.tree.specs.Lists.{any}
@@ -28,7 +29,7 @@ use Rattle.loading.specs.Laws.Opens.{none-open}
 
 -- the function `replace` ---------------------------------------------------------------------
 
-pub begun : {x s s′ : List ℕ} {n : ℕ} {q : ℕ → Bool} → Stands x n → Left s s′ q (flat 0 (tree-of node-0-alone)) → Begun x s′
+pub begun : {x s s′ : List ℕ} {left : ℕ} {q : ℕ → Bool} → Stands node-limit x left → Left s s′ q (flat 0 (tree-of node-0-alone)) → Begun x s′
 begun d k = record { shape = d .shape; spelled = d .spelled; few = d .few; short = d .short; layout = k .layout; alone = k .nodes }
 
 pub replaced : {x s s′ s″ : List ℕ} → any (is-open s) transactions ≡ false → Left s s′ (header s) (flat 0 (tree-of node-0-alone)) → Filled x s′ s″
@@ -59,13 +60,13 @@ module _ {s : List ℕ} (f : form s ≡ true) where
       (λ writing. refl)
 
   module _ (e : any (is-open s) transactions ≡ false) where
-    pub load-failed : {x : List ℕ} (c o : ℕ) → Fails x c o → (i : Input) → ReadsAs x i → Performed s s (RefusedAt c o) (load i)
+    pub load-failed : {x : List ℕ} (c o : ℕ) → Fails node-limit x c o → (i : Input) → ReadsAs x i → Performed s s (RefusedAt c o) (load i)
     unfolding next answer-of
     load-failed c o d i r =
         rw (d .only i r) (performed-stays {o = refused-at c o} {call = load (unreadable c o)}
         (record { formed = f; next = λ M h. rw (asked h e); quiet = refl }) (RefusedAt c o) (λ writing. refl))
 
-    module _ {x s′ : List ℕ} (n : ℕ) (d : Stands x n) (k : Replaced x s s′) where
+    module _ {x s′ : List ℕ} (left : ℕ) (d : Stands node-limit x left) (k : Replaced x s s′) where
       abbrev D : Document
       D = document (d .shape)
 
@@ -78,16 +79,19 @@ module _ {s : List ℕ} (f : form s ≡ true) where
         valid = valid-load D (legal-of D (d .fits));
       }
 
-      grants : Grants s s′ (how-many n) (load (stands-for D (d .fits)))
+      counted : node-limit - left ≡ length (lines D)
+      counted = omega (arith, d .nodes)
+
+      grants : Grants s s′ (how-many (node-limit - left)) (load (stands-for D (d .fits)))
       unfolding next
       grants = record {
         formed = f;
-        outcome = λ M h. rw (asked h e, d .count);
+        outcome = λ M h. rw (asked h e, counted);
         state = λ M h. rw (asked h e) (held h);
         long = k .long;
         behind = k .behind;
       }
 
-      pub load-granted : (i : Input) → ReadsAs x i → Performed s s′ (Count n) (load i)
+      pub load-granted : (i : Input) → ReadsAs x i → Performed s s′ (Count (node-limit - left)) (load i)
       unfolding granted-answer
-      load-granted i r = rw (d .only i r) (performed-grants grants (Count n) refl)
+      load-granted i r = rw (d .only i r) (performed-grants grants (Count (node-limit - left)) refl)

@@ -47,18 +47,18 @@ loop-holds c =
     measuring-start (replicate 1024 0) (replicate 1024 0) (replicate 1024 0) (c4 .pre .1) (omega arith) refl refl refl
     (c .kind .ensures ∙ sym (kind-at _ _))
 
-mul-p : tie.Need-mul-p Inv-loop μ-loop
-mul-p c =
+mul-here : tie.Need-mul-here Inv-loop μ-loop
+mul-here c =
     let c6 = c .before .before .before .before .before .before in
     omega (arith, c6 .pre .1 .room)
 
-element-copy-out-p : tie.Need-element-copy-out-p Inv-loop μ-loop
-element-copy-out-p c =
+element-copy-out-here : tie.Need-element-copy-out-here Inv-loop μ-loop
+element-copy-out-here c =
     let c6 = c .before .before .before .before .before .before in
     omega (arith, c6 .pre .1 .room)
 
-cast-depth : tie.Need-cast-depth Inv-loop μ-loop
-cast-depth c =
+cast-p : tie.Need-cast-p Inv-loop μ-loop
+cast-p c =
     let c2 = c .before .before in
     let c7 = c2 .before .before .before .before .before in
     omega (arith, c7 .pre .1 .inside (c2 .loop .i) (omega arith), c7 .pre .0 .many, c7 .pre .0 .room)
@@ -71,12 +71,6 @@ depth-requires c κs =
 
 cast-d : tie.Need-cast-d Inv-loop μ-loop
 cast-d c = search needs
-
-cast-kind-2 : tie.Need-cast-kind-2 Inv-loop μ-loop
-cast-kind-2 c =
-    let c3 = c .before .before .before in
-    let c8 = c3 .before .before .before .before .before in
-    omega (arith, c8 .pre .1 .inside (c3 .loop .i) (omega arith), c8 .pre .0 .many, c8 .pre .0 .room)
 
 kind-requires-2 : tie.Need-kind-requires-2 Inv-loop μ-loop
 kind-requires-2 c κs =
@@ -162,12 +156,6 @@ cast-parent c =
     omega
     (arith, walk-parent (c16 .pre .1) (c11 .loop .inv .walk) (omega arith) (c8 .depth .ensures), c16 .pre .0 .many, c16 .pre .0 .room)
 
-cast-cost : tie.Need-cast-cost Inv-loop μ-loop
-cast-cost c =
-    let c11 = c .before .before .before .before .before .before .before .before .before .before .before in
-    let c16 = c11 .before .before .before .before .before in
-    omega (arith, c16 .pre .1 .inside (c11 .loop .i) (omega arith), c16 .pre .0 .many, c16 .pre .0 .room)
-
 cost-requires : tie.Need-cost-requires Inv-loop μ-loop
 cost-requires c κs =
     let c7 = c .before .before .before .before .before .before .before in
@@ -251,12 +239,11 @@ measure-spec =
     kind-requires
     array-write-kinds
     loop-holds
-    mul-p
-    element-copy-out-p
-    cast-depth
+    mul-here
+    element-copy-out-here
+    cast-p
     depth-requires
     cast-d
-    cast-kind-2
     kind-requires-2
     sub-above
     array-read-above
@@ -269,7 +256,6 @@ measure-spec =
     mul-parent
     array-read-parent
     cast-parent
-    cast-cost
     cost-requires
     add-sum
     mul-path

@@ -4,14 +4,14 @@ use Prim.Native.Nat.{ℕ, _+_, _≤_, _<_}
 use mathlib.Core.Bool.{false}
 use mathlib.Core.List.{List}
 use native.Mathlib.Omega.{arith}
-use lib.ListN.{length, getD, set, length-set}
+use lib.ListN.{length, getD}
 use borrow.Author.Tests.{ne-eqb}
 use Rattle.tree.specs.Content.{attribute-kind, text-kind}
 use Rattle.xml.specs.Bytes.{used}
 use Rattle.layout.specs.Layout.{Entry}
 use Rattle.ordering.specs.declared.Order.{Order}
 use Rattle.ordering.specs.Order.{Ordered}
-use Rattle.ordering.specs.Sorted.{entries, Increasing, Between, Shifted}
+use Rattle.ordering.specs.Sorted.{entries, Increasing, Between, Inserted}
 use Rattle.ordering.specs.Laws.Sorted.{lists-none, increasing-none}
 use Rattle.ordering.specs.Laws.Entries.{each-entry, entry-added}
 use Rattle.markup.specs.Rows.{Line, names-before, repeated}
@@ -43,16 +43,11 @@ unfolding entries
 ordered-at l os m {w} {r} o = let z : m ≡ 0 + m = omega arith in subst (λ (i : ℕ). Ordered w (label-at l (getD os i 0) .content) r) z o
 
 -- a name put at place k
-module _ {l : List Entry} {os os′ : List ℕ} {n k : ℕ} (p : ℕ) (x : Shifted os os′ k n) (m : k ≤ n) (h : n < 1024) (v : Inside l os n) where
-  pub entered : Increasing (names-at l os) n → Between (names-at l os) n k k (label-at l p .content) → p < length l
-      → Entered l os (set os′ k p) n p (Kept (n + 1))
-  entered i b q = is-entered refl
-      (record {
-        long = length-set os′ k p ∙ x .as-long ∙ v .long;
-        room = omega arith;
-        inside = each-entry p x m (omega (arith, v .long)) (λ o. o < length l) (v .inside) q;
-      })
-      (entry-added (λ o. label-at l o .content) 0 p (omega arith) (omega arith) x m (omega (arith, v .long)) i b)
+pub entered : {l : List Entry} {os os′ : List ℕ} {n k p : ℕ} → Inserted os os′ k n p → n < 1024 → Inside l os n → Increasing (names-at l os) n
+    → Between (names-at l os) n k k (label-at l p .content) → p < length l → Entered l os os′ n p (Kept (n + 1))
+entered {l} x h v i b q = is-entered refl
+    (record { long = x .as-long ∙ v .long; room = omega arith; inside = each-entry x (λ o. o < length l) (v .inside) q })
+    (entry-added (λ o. label-at l o .content) 0 (omega arith) (omega arith) x i b)
 
 module _ {l : List Entry} {os : List ℕ} {n p : ℕ} where
   pub follow-attribute : {os′ : List ℕ} {r : Admission} → label-at l p .kind ≡ attribute-kind → Entered l os os′ n p r

@@ -8,7 +8,7 @@ use lib.Dec.{eqb}
 use lib.ListN.{length, getD, set, length-set}
 use lib.Seq.{getD-set-same, getD-set-other}
 use borrow.Author.Tests.{eqb-true, eqb-false}
-use Rattle.ordering.specs.Sorted.{entries, Increasing, Between, Shifted, Added}
+use Rattle.ordering.specs.Sorted.{entries, Increasing, Between, Inserted, Added}
 use Rattle.ordering.specs.Laws.Sorted.{Side, side, side-before, side-here, side-behind, added}
 
 -- the loop that shifts: those from place i on stand further, those before it as they were
@@ -37,36 +37,30 @@ module _ {os os′ : List ℕ} {end i : ℕ} (v : Shifting os os′ end i) where
           let p : suc j ≡ i → ⊥ = eqb-false (suc j) i e in
           getD-set-other os′ i (suc j) (getD os′ (i - 1) 0) 0 p ∙ v .further j (omega (arith, p)) m
 
-  pub shift-end : {at : ℕ} → at ≡ i → Shifted os os′ at end
-  shift-end e = record { as-long = v .as-long; ahead = λ j l. v .ahead j (omega arith); further = λ j l m. v .further j (omega arith) m }
+  pub shift-end : {at : ℕ} (p : ℕ) → at ≡ i → at ≤ end → end < length os → Inserted os (set os′ at p) at end p
+  shift-end {at} p e h k = record {
+    inside = h;
+    as-long = length-set os′ at p ∙ v .as-long;
+    ahead = λ j l. getD-set-other os′ at j p 0 (λ z. omega arith) ∙ v .ahead j (omega arith);
+    here = getD-set-same os′ at p 0 (omega (arith, v .as-long));
+    further = λ j l m. getD-set-other os′ at (suc j) p 0 (λ z. omega arith) ∙ v .further j (omega arith) m;
+  }
 
--- a new entry at place k, those from there on one place further
-module _ {os os′ : List ℕ} {k n : ℕ} (v : ℕ) (x : Shifted os os′ k n) (m : k ≤ n) (l : n < length os) where
-  new-ahead : (i : ℕ) → i < k → getD (set os′ k v) i 0 ≡ getD os i 0
-  new-ahead i h = getD-set-other os′ k i v 0 (λ e. omega arith) ∙ x .ahead i h
-
-  new-here : getD (set os′ k v) k 0 ≡ v
-  new-here = getD-set-same os′ k v 0 (omega (arith, x .as-long))
-
-  new-further : (i : ℕ) → k ≤ i → i < n → getD (set os′ k v) (suc i) 0 ≡ getD os i 0
-  new-further i h j = getD-set-other os′ k (suc i) v 0 (λ e. omega arith) ∙ x .further i h j
-
-  -- what holds for each entry and the new one
-  pub each-entry : (P : ℕ → Type 0) → ((i : ℕ) → i < n → P (getD os i 0)) → P v → (i : ℕ) → i < n + 1 → P (getD (set os′ k v) i 0)
-  each-entry P e p i h = go i h (side k i)
-    where
-      go : (i : ℕ) → i < n + 1 → Side k i → P (getD (set os′ k v) i 0)
-      go i h (side-before q) = rw (new-ahead i q) (e i (omega arith))
-      go i h side-here = rw new-here p
-      go (suc i) h (side-behind q) = rw (new-further i q (omega arith)) (e i (omega arith))
+-- what holds for each entry and the new one
+pub each-entry : {os os′ : List ℕ} {k n v : ℕ} → Inserted os os′ k n v → (P : ℕ → Type 0) → ((i : ℕ) → i < n → P (getD os i 0)) → P v
+    → (i : ℕ) → i < n + 1 → P (getD os′ i 0)
+each-entry {os} {os′} {k} {n} x P e p i h = go i h (side k i)
+  where
+    go : (i : ℕ) → i < n + 1 → Side k i → P (getD os′ i 0)
+    go i h (side-before q) = rw (x .ahead i q) (e i (omega (arith, x .inside)))
+    go i h side-here = rw (x .here) p
+    go (suc i) h (side-behind q) = rw (x .further i q (omega arith)) (e i (omega arith))
 
 -- the name of the new entry is put among the others
-pub entry-added : (f : ℕ → List ℕ) {os os′ : List ℕ} (lo : ℕ) {at end k n : ℕ} (v : ℕ) → at ≡ lo + k → end ≡ lo + n
-    → Shifted os os′ at end → k ≤ n → lo + n < length os → Increasing (entries f os lo) n → Between (entries f os lo) n k k (f v)
-    → Added (entries f os lo) (entries f (set os′ at v) lo) n (f v)
+pub entry-added : (f : ℕ → List ℕ) {os os′ : List ℕ} (lo : ℕ) {at end k n v : ℕ} → at ≡ lo + k → end ≡ lo + n
+    → Inserted os os′ at end v → Increasing (entries f os lo) n → Between (entries f os lo) n k k (f v)
+    → Added (entries f os lo) (entries f os′ lo) n (f v)
 unfolding entries
-entry-added f {os} {os′} lo {at} {end} {k} {n} v p q x m l s b =
-    added s b m (λ i h. ap f (new-ahead v x (omega arith) (omega arith) (lo + i) (omega arith)))
-    (rw (← p) (ap f (new-here v x (omega arith) (omega arith))))
-    (λ i h j. let z : lo + suc i ≡ suc (lo + i) = omega arith in
-    ap f (rw z (new-further v x (omega arith) (omega arith) (lo + i) (omega arith) (omega arith))))
+entry-added f lo p q x s b =
+    added s b (omega (arith, x .inside)) (λ i h. ap f (x .ahead (lo + i) (omega arith))) (rw (← p) (ap f (x .here)))
+    (λ i h j. let z : lo + suc i ≡ suc (lo + i) = omega arith in ap f (rw z (x .further (lo + i) (omega arith) (omega arith))))

@@ -8,41 +8,39 @@ use lib.Dec.{eqb}
 use lib.ListN.{length, getD}
 use borrow.Author.Tests.{ne-eqb, eqb-true, eqb-false}
 use Rattle.tree.specs.Content.{content-limit, text-byte, text-kind}
-use Rattle.protocol.specs.Calls.{node-limit}
 use Rattle.xml.specs.Bytes.{ampersand, less-than, brackets, Quote, double, single, mark, value-literal, text-literal}
 use Rattle.xml.specs.Grammar.{Name}
-use Rattle.xml.specs.Reading.{opener, node-offset}
+use Rattle.xml.specs.Reading.{node-offset}
 use Rattle.xml.specs.Laws.Words.{Words, entities}
 use Rattle.xml.specs.Laws.Automaton.{Config, behind-part, behind-quote, in-value, value-reference, content, behind-open, in-text, text-reference}
 use Rattle.xml.specs.Laws.Automaton.{Event, born, byte, depth, stuck, move, to, step}
 use Rattle.xml.specs.Laws.Counts.{births, tail, peak}
 use Rattle.xml.specs.Laws.Phases.{phase, is-over, pending}
-use Rattle.xml.specs.Laws.Judge.{Verdict, bad, byte-before}
-use Rattle.xml.specs.Laws.Verdicts.{offset-before, offset-at}
+use Rattle.xml.specs.Laws.Judge.{Verdict, bad}
 use Rattle.xml.specs.Laws.Scan.{scan-at}
-use Rattle.xml.specs.Laws.Goes.{Leads, Goes, goes-step, stops-end, stops-stuck, stops-many, stops-many-before, scan-quiet, scan-byte, scan-born}
+use Rattle.xml.specs.Laws.Goes.{Leads, Goes, goes-step, stops-end, stops-stuck, stops-many, scan-quiet, scan-byte, scan-born}
 use Rattle.xml.specs.Laws.Tokens.{Wording}
 use Rattle.reader.specs.declared.Cursor.{Cursor}
 use Rattle.reader.specs.declared.Read.{Read}
 use Rattle.reader.specs.declared.Read.the-variants.{Past, Refused}
-use Rattle.reader.specs.Classes.{plain, literal, begins}
+use Rattle.reader.specs.Classes.{literal, begins}
 use Rattle.reader.specs.Steps.{Characters, CharactersRead, characters-past, characters-refused, Contents, ContentRead, content-past, content-refused}
 
-module _ (s : List ℕ) (stop at nodes : ℕ) (l : nodes ≤ node-limit) where
-  pub content-end : length s ≤ at → ContentRead s stop at nodes (Refused 4 at)
-  content-end h = content-refused {x = 4} {j = at} (λ S C R D x. stops-end s S nodes at h (x .starting))
+module _ (s : List ℕ) (stop at spare : ℕ) where
+  pub content-end : length s ≤ at → ContentRead s stop at spare (Refused 4 at)
+  content-end h = content-refused {x = 4} {j = at} (λ S C R D x. stops-end s S spare at h (x .starting))
 
   module _ (h : at < length s) where
-    pub content-empty : (c : Cursor) → getD s at 0 ≡ stop → c .at ≡ at + 1 → ContentRead s stop at nodes (Past c nodes)
+    pub content-empty : (c : Cursor) → getD s at 0 ≡ stop → c .at ≡ at + 1 → ContentRead s stop at spare (Past c spare)
     content-empty c e p =
         let u : c .at - 1 ≡ at = omega arith in
-        content-past {c = c} {m = nodes} (omega arith) (omega arith) (rw u e) (omega arith) l
-        (λ S C R D x. rw p (goes-step s S nodes at h D (ap (step true S) e ∙ x .nothing) (x .inner .behind) l))
+        content-past {c = c} {m = spare} (omega arith) (omega arith) (rw u e) (omega arith)
+        (λ S C R D x. rw p (goes-step s S spare at h D (ap (step true S) e ∙ x .nothing) (x .inner .behind)))
 
     module _ (other : getD s at 0 ≡ stop → ⊥) where
-      pub content-wrong : begins stop 0 (getD s at 0) ≡ false → ContentRead s stop at nodes (Refused 4 at)
+      pub content-wrong : begins stop 0 (getD s at 0) ≡ false → ContentRead s stop at spare (Refused 4 at)
       unfolding begins
-      content-wrong e = content-refused {x = 4} {j = at} (λ S C R D x. stops-stuck s S nodes at h (go x (eqb (getD s at 0) ampersand) refl e))
+      content-wrong e = content-refused {x = 4} {j = at} (λ S C R D x. stops-stuck s S spare at h (go x (eqb (getD s at 0) ampersand) refl e))
         where
           go : {S : Config} {C : ℕ → Config} {R : Words → Config} {D : Config} → Contents stop S C R D → (y : Bool) → eqb (getD s at 0) ampersand ≡ y
               → (y || literal stop 0 (getD s at 0)) ≡ false → step true S (getD s at 0) ≡ stuck
@@ -54,57 +52,45 @@ module _ (s : List ℕ) (stop at nodes : ℕ) (l : nodes ≤ node-limit) where
         unfolding begins
         itself n = rw (ne-eqb (getD s at 0) ampersand n) at e
 
-        pub content-many : nodes ≡ node-limit → (begin : ℕ) → begin ≡ node-offset s at → ContentRead s stop at nodes (Refused 6 begin)
+        pub content-many : spare ≡ 0 → (begin : ℕ) → begin ≡ node-offset s at → ContentRead s stop at spare (Refused 6 begin)
         unfolding births tail peak
-        content-many q begin p =
-            content-refused {x = 6} {j = begin} (λ S C R D x. go S C R D x (eqb (getD s at 0) ampersand) refl (opener (byte-before s at)) refl)
+        content-many q begin p = content-refused {x = 6} {j = begin} (λ S C R D x. rw p (go S C R D x (eqb (getD s at 0) ampersand) refl))
           where
             go : (S : Config) (C : ℕ → Config) (R : Words → Config) (D : Config) → Contents stop S C R D → (y : Bool) → eqb (getD s at 0) ampersand ≡ y
-                → (z : Bool) → opener (byte-before s at) ≡ z → Leads s S nodes at (bad 6 begin)
-            go S C R D x true a true o =
-                rw (p, offset-before s at o .0)
-                (stops-many-before s S nodes at h (R entities) (x .depth) (x .kind) []
-                (ap (step true S) (eqb-true (getD s at 0) ampersand a) ∙ x .first-refers) refl q o)
-            go S C R D x true a false o =
-                rw (p, offset-at s at o)
-                (stops-many s S nodes at h (R entities) (x .depth) (x .kind) [] (ap (step true S) (eqb-true (getD s at 0) ampersand a) ∙ x .first-refers) refl q
-                (omega (arith, x .inner .due entities)) o)
-            go S C R D x false a true o =
+                → Leads s S spare at (bad 6 (node-offset s at))
+            go S C R D x true a =
+                stops-many s S spare at h (R entities) (x .depth) (x .kind) [] (ap (step true S) (eqb-true (getD s at 0) ampersand a) ∙ x .first-refers) q
+                (omega (arith, x .inner .due entities))
+            go S C R D x false a =
                 let b = getD s at 0 in
-                rw (p, offset-before s at o .0)
-                (stops-many-before s S nodes at h (C (brackets 0 b)) (x .depth) (x .kind) (byte b ∷ [])
-                (x .first b other (itself (eqb-false b ampersand a))) refl q o)
-            go S C R D x false a false o =
-                let b = getD s at 0 in
-                rw (p, offset-at s at o)
-                (stops-many s S nodes at h (C (brackets 0 b)) (x .depth) (x .kind) (byte b ∷ []) (x .first b other (itself (eqb-false b ampersand a))) refl q
-                (omega (arith, x .inner .calm (brackets 0 b))) o)
+                stops-many s S spare at h (C (brackets 0 b)) (x .depth) (x .kind) (byte b ∷ []) (x .first b other (itself (eqb-false b ampersand a))) q
+                (omega (arith, x .inner .calm (brackets 0 b)))
 
-        module _ (room : nodes < node-limit) where
-          -- the first character is read as any other, with one node more
+        module _ (room : 1 ≤ spare) where
+          -- the first character is read as any other, with one node less to come
           begins-so : {S : Config} {C : ℕ → Config} {R : Words → Config} {D : Config} → Contents stop S C R D → (k : ℕ) → k ≤ content-limit
-              → scan-at s S nodes k at ≡ scan-at s (C 0) (nodes + 1) 0 at
+              → scan-at s S spare k at ≡ scan-at s (C 0) (spare - 1) 0 at
           unfolding births tail peak
           begins-so {S} {C} {R} x k m = go (eqb (getD s at 0) ampersand) refl
             where
-              go : (y : Bool) → eqb (getD s at 0) ampersand ≡ y → scan-at s S nodes k at ≡ scan-at s (C 0) (nodes + 1) 0 at
+              go : (y : Bool) → eqb (getD s at 0) ampersand ≡ y → scan-at s S spare k at ≡ scan-at s (C 0) (spare - 1) 0 at
               go true a =
                   let u = eqb-true (getD s at 0) ampersand a in
-                  scan-born s S nodes at h (R entities) (x .depth) (x .kind) [] (ap (step true S) u ∙ x .first-refers) refl room k m
+                  scan-born s S spare at h (R entities) (x .depth) (x .kind) [] (ap (step true S) u ∙ x .first-refers) refl room k m
                   (omega (arith, x .inner .due entities))
-                  ∙ sym (scan-quiet s (C 0) (nodes + 1) at h (R entities) (ap (step true (C 0)) u ∙ x .inner .refers-to 0) (omega arith) 0
+                  ∙ sym (scan-quiet s (C 0) (spare - 1) at h (R entities) (ap (step true (C 0)) u ∙ x .inner .refers-to 0) 0
                   (omega (arith, x .inner .due entities)))
               go false a =
                   let b = getD s at 0 in
                   let i = itself (eqb-false b ampersand a) in
-                  scan-born s S nodes at h (C (brackets 0 b)) (x .depth) (x .kind) (byte b ∷ []) (x .first b other i) refl room k m
+                  scan-born s S spare at h (C (brackets 0 b)) (x .depth) (x .kind) (byte b ∷ []) (x .first b other i) refl room k m
                   (omega (arith, x .inner .calm (brackets 0 b)))
-                  ∙ sym (scan-byte s (C 0) (nodes + 1) at h (C (brackets 0 b)) b (x .inner .plainly 0 b other i) (x .inner .calm (brackets 0 b))
-                  (omega arith) 0 (omega arith))
+                  ∙ sym (scan-byte s (C 0) (spare - 1) at h (C (brackets 0 b)) b (x .inner .plainly 0 b other i) (x .inner .calm (brackets 0 b))
+                  0 (omega arith))
 
-          pub content-rest : {r : Read} → CharactersRead s stop at (nodes + 1) r → ContentRead s stop at nodes r
+          pub content-rest : {r : Read} → CharactersRead s stop at (spare - 1) r → ContentRead s stop at spare r
           content-rest (characters-past {c = c} a b d f) =
-              content-past {c = c} {m = nodes + 1} a b d (omega arith) (omega arith)
+              content-past {c = c} {m = spare - 1} a b d (omega arith)
               (λ S C R D x. record { back = λ v y. record { leads = λ k m. begins-so x k m ∙ f C R D (x .inner) v y } })
           content-rest (characters-refused {x = x} {j = j} f) =
               content-refused {x = x} {j = j} (λ S C R D y. record { leads = λ k m. begins-so y k m ∙ f C R D (y .inner) })
@@ -113,7 +99,7 @@ module _ (s : List ℕ) (stop at nodes : ℕ) (l : nodes ≤ node-limit) where
 
 module _ (n : Name) (ns : List Name) where
   pub text-characters : Characters less-than (in-text n ns) (text-reference n ns) (behind-open n ns)
-  unfolding step literal plain text-literal text-byte births
+  unfolding step literal text-literal text-byte births
   text-characters = record {
     plainly = λ k b o h. rw h;
     refers-to = λ k. refl;
@@ -127,7 +113,7 @@ module _ (n : Name) (ns : List Name) where
   }
 
   pub text-contents : Contents less-than (content n ns) (in-text n ns) (text-reference n ns) (behind-open n ns)
-  unfolding step literal plain text-literal text-byte
+  unfolding step literal text-literal text-byte
   text-contents = record {
     inner = text-characters;
     depth = depth (n ∷ ns);
@@ -141,7 +127,7 @@ module _ (n : Name) (ns : List Name) where
 
 -- where the byte is not the quote
 literal-value : (q : Quote) (k b : ℕ) → (b ≡ mark q → ⊥) → literal (mark q) k b ≡ value-literal q b
-unfolding literal value-literal plain
+unfolding literal value-literal
 literal-value double k b o = rw (ne-eqb b (mark double) o)
 literal-value single k b o = rw (ne-eqb b (mark single) o)
 

@@ -10,7 +10,6 @@ use lib.ListN.{length, getD, take, drop, drop-of-length-le}
 use lib.Seq.{drop-cons}
 use borrow.Author.Tests.{leb-true, leb-false, ne-eqb}
 use Rattle.tree.specs.Content.{name-byte}
-use Rattle.protocol.specs.Calls.{node-limit}
 use Rattle.xml.specs.Bytes.{blank, greater-than}
 use Rattle.xml.specs.Grammar.{Name}
 use Rattle.xml.specs.Laws.Automaton.{end-name, closed, to, step}
@@ -26,7 +25,7 @@ use Rattle.reader.specs.Elements.{EndRead, end-behind, end-mismatch}
 use Rattle.reader.specs.Laws.Tags.{no-blank-here, no-opener, calm-closed}
 use Rattle.reader.specs.Laws.Names.{name-of, length-name}
 
-module _ (s : List ℕ) (n : Name) (ns : List Name) (m : ℕ) (l : m ≤ node-limit) where
+module _ (s : List ℕ) (n : Name) (ns : List Name) (m : ℕ) where
   -- a byte of the name
   agree-here : (x : ℕ) (w : List ℕ) (at : ℕ) → at < length s → agree (x ∷ w) (drop at s) ≡ cond (eqb (getD s at 0) x) (suc (agree w (drop (suc at) s))) 0
   unfolding agree
@@ -50,7 +49,7 @@ module _ (s : List ℕ) (n : Name) (ns : List Name) (m : ℕ) (l : m ≤ node-li
           next : at < length s → (y : Bool) → eqb (getD s at 0) x ≡ y → Goes s (end-name n ns (x ∷ w)) m at (end-name n ns []) m (at + suc (length w))
           next h true y =
               let a : agree (x ∷ w) (drop at s) ≡ suc (agree w (drop (suc at) s)) = agree-here x w at h ∙ rw y in
-              goes-then (goes-step s (end-name n ns (x ∷ w)) m at h (end-name n ns w) (rw y) refl l)
+              goes-then (goes-step s (end-name n ns (x ∷ w)) m at h (end-name n ns w) (rw y) refl)
               (goes-then (goes-same s (end-name n ns w) m (at + 1) (suc at) (add-one at))
               (goes-then (f (omega arith)) (goes-same s (end-name n ns []) m (suc at + length w) (at + suc (length w)) (omega arith))))
           next h false y = let a : agree (x ∷ w) (drop at s) ≡ 0 = agree-here x w at h ∙ rw y in absurd (omega arith)
@@ -73,7 +72,7 @@ module _ (s : List ℕ) (n : Name) (ns : List Name) (m : ℕ) (l : m ≤ node-li
           next h true y =
               let a : agree (x ∷ w) (drop at s) ≡ suc (agree w (drop (suc at) s)) = agree-here x w at h ∙ rw y in
               let p : at + agree (x ∷ w) (drop at s) ≡ suc at + agree w (drop (suc at) s) = omega arith in
-              rw p (goes-then (goes-step s (end-name n ns (x ∷ w)) m at h (end-name n ns w) (rw y) refl l)
+              rw p (goes-then (goes-step s (end-name n ns (x ∷ w)) m at h (end-name n ns w) (rw y) refl)
               (goes-same s (end-name n ns w) m (at + 1) (suc at) (add-one at))
               .back _ (f (λ z. e (omega arith))))
           next h false y =
@@ -89,29 +88,29 @@ module _ (s : List ℕ) (at from to : ℕ) (r : Run name-byte s from to) (k : �
   pub end-differs : (k ≡ to - from → ⊥) → EndRead s (name-at s from) at (Mismatch (at + k))
   end-differs h =
       end-mismatch {j = at + k}
-      (λ ns m l. rw agreed (part-name s (name-at s from) ns m l (name-at s from) at (λ e. h (agreed ∙ e ∙ length-name s from to r))))
+      (λ ns m. rw agreed (part-name s (name-at s from) ns m (name-at s from) at (λ e. h (agreed ∙ e ∙ length-name s from to r))))
 
   module _ (h : k ≡ to - from) (i : ℕ) (b : Run blank s (at + k) i) where
-    to-close : (ns : List Name) (m : ℕ) → m ≤ node-limit → Goes s (end-name (name-at s from) ns (name-at s from)) m at (end-name (name-at s from) ns []) m i
+    to-close : (ns : List Name) (m : ℕ) → Goes s (end-name (name-at s from) ns (name-at s from)) m at (end-name (name-at s from) ns []) m i
     unfolding step
-    to-close ns m l =
+    to-close ns m =
         let n = name-at s from in
         let e : k ≡ length n = h ∙ sym (length-name s from to r) in
-        goes-then (whole-name s n ns m l n at (sym agreed ∙ e))
+        goes-then (whole-name s n ns m n at (sym agreed ∙ e))
         (goes-then (goes-same s (end-name n ns []) m (at + length n) (at + k) (omega arith))
-        (goes-then (goes-blanks s (end-name n ns []) m (λ x z. rw z) refl l (at + k)) (goes-same s (end-name n ns []) m _ i (sym (b .ends)))))
+        (goes-then (goes-blanks s (end-name n ns []) m (λ x z. rw z) refl (at + k)) (goes-same s (end-name n ns []) m _ i (sym (b .ends)))))
 
     pub end-over : length s ≤ i → EndRead s (name-at s from) at (Mismatch i)
-    end-over o = end-mismatch {j = i} (λ ns m l. to-close ns m l .back _ (stops-end s (end-name (name-at s from) ns []) m i o refl))
+    end-over o = end-mismatch {j = i} (λ ns m. to-close ns m .back _ (stops-end s (end-name (name-at s from) ns []) m i o refl))
 
     module _ (o : i < length s) where
       pub end-unclosed : (getD s i 0 ≡ greater-than → ⊥) → EndRead s (name-at s from) at (Mismatch i)
       unfolding step
-      end-unclosed e = end-mismatch {j = i} (λ ns m l. to-close ns m l .back _
+      end-unclosed e = end-mismatch {j = i} (λ ns m. to-close ns m .back _
           (stops-stuck s (end-name (name-at s from) ns []) m i o (rw (no-blank-here s (at + k) i b o, ne-eqb (getD s i 0) greater-than e))))
 
       pub end-closed : (c : Cursor) → getD s i 0 ≡ greater-than → c .at ≡ i + 1 → EndRead s (name-at s from) at (Behind c)
       unfolding step blank
       end-closed c e p =
           end-behind {c = c} (omega (arith, b .ends)) (omega arith) (rw p (no-opener s i (rw e)))
-          (λ ns m l. goes-then (to-close ns m l) (rw p (goes-step s (end-name (name-at s from) ns []) m i o (closed ns) (rw e) (calm-closed ns) l)))
+          (λ ns m. goes-then (to-close ns m) (rw p (goes-step s (end-name (name-at s from) ns []) m i o (closed ns) (rw e) (calm-closed ns))))

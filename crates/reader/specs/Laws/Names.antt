@@ -5,8 +5,8 @@ use mathlib.Core.Bool.{Bool, true, false, cond, _&&_, false≢true}
 use mathlib.Core.List.{List, [], _∷_}
 use native.Mathlib.Omega.{arith}
 use lib.Dec.{eqb, leb, ltb}
-use lib.ListN.{length, getD, take, drop, set, length-set, List·getD-eq-default}
-use lib.Seq.{length-take-le, getD-drop, getD-take, getD-set-other}
+use lib.ListN.{length, getD, take, drop, List·getD-eq-default}
+use lib.Seq.{length-take-le, getD-drop, getD-take}
 use borrow.Author.Tests.{eqb-true, ltb-true, ltb-false, leb-true, leb-false}
 use Rattle.tree.specs.Lists.{every}
 use Rattle.tree.specs.Content.{name-start, name-byte}
@@ -17,7 +17,7 @@ use Rattle.ordering.specs.Agreement.{Agreement}
 use Rattle.ordering.specs.Order.{Ordered}
 use Rattle.ordering.specs.Laws.Agreeing.{agree-most}
 use Rattle.ordering.specs.Laws.Order.{order-same, order-shorter, order-longer, order-smaller, order-greater}
-use Rattle.ordering.specs.Sorted.{Increasing, Between, Shifted}
+use Rattle.ordering.specs.Sorted.{Increasing, Between, Inserted}
 use Rattle.ordering.specs.Laws.Entries.{each-entry, entry-added}
 use Rattle.reader.specs.Steps.{Run}
 use Rattle.reader.specs.Elements.{Placed, Kept, attribute-names, EnterRead, is-entered}
@@ -136,17 +136,12 @@ module _ (s : List ℕ) (from to other n : ℕ) (a : Run name-byte s from to) (g
 
 -- a name put among the others ------------------------------------------------------------------
 
-module _ {os os′ : List ℕ} {lo count k : ℕ} (at : ℕ) (x : Shifted os os′ (lo + k) (lo + count)) (m : k ≤ count)
-    (l : lo + count < length os) where
-  pub enter-new : {s : List ℕ} → Increasing (attribute-names s os lo) count → Between (attribute-names s os lo) count k k (name-at s at)
-      → Placed s os (lo + count) → at ≤ length s → EnterRead s os (set os′ (lo + k) at) lo count at true
-  enter-new {s} i b p h = is-entered (record {
-    placed = record { placed = each-entry at x (omega arith) l (λ o. o ≤ length s) (p .placed) h };
-    added = entry-added (name-at s) lo at refl refl x m l i b;
-  })
+pub enter-new : {s os os′ : List ℕ} {lo count k at : ℕ} → Inserted os os′ (lo + k) (lo + count) at → Increasing (attribute-names s os lo) count
+    → Between (attribute-names s os lo) count k k (name-at s at) → Placed s os (lo + count) → at ≤ length s → EnterRead s os os′ lo count at true
+enter-new {s} {lo = lo} x i b p h = is-entered (record {
+  placed = record { placed = each-entry x (λ o. o ≤ length s) (p .placed) h };
+  added = entry-added (name-at s) lo refl refl x i b;
+})
 
-  pub enter-kept : Kept lo os (set os′ (lo + k) at)
-  enter-kept = record {
-    as-long = length-set os′ (lo + k) at ∙ x .as-long;
-    kept = λ i h. getD-set-other os′ (lo + k) i at 0 (λ e. omega arith) ∙ x .ahead i (omega arith);
-  }
+pub enter-kept : {os os′ : List ℕ} {lo at end p : ℕ} → lo ≤ at → Inserted os os′ at end p → Kept lo os os′
+enter-kept h x = record { as-long = x .as-long; kept = λ i k. x .ahead i (omega arith) }

@@ -19,35 +19,35 @@ use Rattle.reader.specs.Prolog.{RootRead, root-at, no-root}
 use Rattle.reader.specs.Laws.Tags.{no-blank-here}
 
 module _ (s : List ℕ) (at i : ℕ) (r : Run blank s at i) where
-  to-root : Goes s prolog 1 at prolog 1 i
+  to-root : (m : ℕ) → Goes s prolog m at prolog m i
   unfolding step
-  to-root = goes-then (goes-blanks s prolog 1 (λ b e. rw e) refl (omega arith) at) (goes-same s prolog 1 _ i (sym (r .ends)))
+  to-root m = goes-then (goes-blanks s prolog m (λ b e. rw e) refl at) (goes-same s prolog m _ i (sym (r .ends)))
 
   pub root-over : length s ≤ i → RootRead s prolog at (NoRoot i)
-  root-over h = no-root {j = i} (to-root .back _ (stops-end s prolog 1 i h refl))
+  root-over h = no-root {j = i} (λ m. to-root m .back _ (stops-end s prolog m i h refl))
 
   module _ (h : i < length s) where
     pub root-wrong : (getD s i 0 ≡ less-than → ⊥) → RootRead s prolog at (NoRoot i)
     unfolding step
-    root-wrong e = no-root {j = i} (to-root .back _ (stops-stuck s prolog 1 i h (rw (no-blank-here s at i r h, ne-eqb (getD s i 0) less-than e))))
+    root-wrong e = no-root {j = i} (λ m. to-root m .back _ (stops-stuck s prolog m i h (rw (no-blank-here s at i r h, ne-eqb (getD s i 0) less-than e))))
 
     module _ (e : getD s i 0 ≡ less-than) where
-      to-name : Goes s prolog 1 at behind-root 1 (i + 1)
+      to-name : (m : ℕ) → Goes s prolog m at behind-root m (i + 1)
       unfolding step blank
-      to-name = goes-then to-root (goes-step s prolog 1 i h behind-root (rw e) refl (omega arith))
+      to-name m = goes-then (to-root m) (goes-step s prolog m i h behind-root (rw e) refl)
 
       pub name-over : length s ≤ i + 1 → RootRead s prolog at (NoRoot (i + 1))
-      name-over k = no-root {j = i + 1} (to-name .back _ (stops-end s behind-root 1 (i + 1) k refl))
+      name-over k = no-root {j = i + 1} (λ m. to-name m .back _ (stops-end s behind-root m (i + 1) k refl))
 
       module _ (k : i + 1 < length s) where
         pub name-wrong : name-start (getD s (i + 1) 0) ≡ false → RootRead s prolog at (NoRoot (i + 1))
         unfolding step
-        name-wrong f = no-root {j = i + 1} (to-name .back _ (stops-stuck s behind-root 1 (i + 1) k (rw f)))
+        name-wrong f = no-root {j = i + 1} (λ m. to-name m .back _ (stops-stuck s behind-root m (i + 1) k (rw f)))
 
         pub name-right : (c : Cursor) → name-start (getD s (i + 1) 0) ≡ true → c .at ≡ i + 1 → RootRead s prolog at (Root c)
         unfolding step births tail peak
-        name-right c f p = root-at {c = c} (record { inside = rw p k; starts = rw p f }) (λ v y. to-name .back v (record {
-          leads = λ j m.
-              scan-born s behind-root 1 (i + 1) k (tag-name [] (getD s (i + 1) 0 ∷ [])) 1 element-kind (byte (getD s (i + 1) 0) ∷ []) (rw f) refl
-              (omega arith) j m (omega arith) ∙ (rw p at y);
+        name-right c f p = root-at {c = c} (record { inside = rw p k; starts = rw p f }) (λ m l v y. to-name m .back v (record {
+          leads = λ j k′.
+              scan-born s behind-root m (i + 1) k (tag-name [] (getD s (i + 1) 0 ∷ [])) 1 element-kind (byte (getD s (i + 1) 0) ∷ []) (rw f) refl
+              l j k′ (omega arith) ∙ (rw p at y);
         }))

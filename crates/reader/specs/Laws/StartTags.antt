@@ -9,7 +9,6 @@ use lib.ListN.{length, getD, set, drop, length-set}
 use lib.Seq.{getD-set-same, getD-set-other}
 use borrow.Author.Tests.{eqb-true, eqb-false}
 use Rattle.tree.specs.Content.{content-limit, name-byte}
-use Rattle.protocol.specs.Calls.{node-limit}
 use Rattle.xml.specs.Grammar.{Name}
 use Rattle.xml.specs.Laws.Automaton.{behind-part, tag-name, step}
 use Rattle.xml.specs.Laws.Scan.{scan-at, scan-alike}
@@ -60,54 +59,52 @@ placed-kept s os os′ n p k = record { placed = λ i h. rw (k .kept i h) (p .pl
 
 -- the loop over the attributes -------------------------------------------------------------------
 
-pub attribute-here : {s : List ℕ} {i : ℕ} {r : Part} {c : Cursor} (n : ℕ) → n ≤ node-limit → TagRead s behind-part i r → r ≡ Attribute c
-    → Attributed s (c .at) n × (i ≤ c .at)
-attribute-here {s} {i} n l z ez = go n l (subst (TagRead s behind-part i) ez z)
+pub attribute-here : {s : List ℕ} {i : ℕ} {r : Part} {c : Cursor} → TagRead s behind-part i r → r ≡ Attribute c → Attributed s (c .at) × (i ≤ c .at)
+attribute-here {s} {i} z ez = go (subst (TagRead s behind-part i) ez z)
   where
-    go : {s : List ℕ} {i : ℕ} {c : Cursor} (n : ℕ) → n ≤ node-limit → TagRead s behind-part i (Attribute c)
-        → Attributed s (c .at) n × (i ≤ c .at)
-    go n l (tag-attribute d e g h f) = (record { inside = e; starts = h; begins-here = g; few = l }, d)
+    go : {s : List ℕ} {i : ℕ} {c : Cursor} → TagRead s behind-part i (Attribute c) → Attributed s (c .at) × (i ≤ c .at)
+    go (tag-attribute d e g h f) = (record { inside = e; starts = h; begins-here = g }, d)
 
 -- the attributes so far lead here; the names that were seen are those from place lo on
-pub record AttributesTo (s os : List ℕ) (lo count at nodes i n : ℕ) : Type 0 where
+pub record AttributesTo (s os : List ℕ) (lo count at spare i n : ℕ) : Type 0 where
   pub seen : List Name
   pub lists : Lists (attribute-names s os lo) count seen
-  pub comes : (m : Name) (ns : List Name) → Goes s (behind-part m ns []) nodes at (behind-part m ns seen) n i
+  pub comes : (m : Name) (ns : List Name) → Goes s (behind-part m ns []) spare at (behind-part m ns seen) n i
 
-pub attributes-start : (s os : List ℕ) (lo at nodes : ℕ) → AttributesTo s os lo 0 at nodes at nodes
-attributes-start s os lo at nodes = record {
+pub attributes-start : (s os : List ℕ) (lo at spare : ℕ) → AttributesTo s os lo 0 at spare at spare
+attributes-start s os lo at spare = record {
   seen = [];
   lists = lists-none (attribute-names s os lo);
-  comes = λ m ns. goes-same s (behind-part m ns []) nodes at at refl;
+  comes = λ m ns. goes-same s (behind-part m ns []) spare at at refl;
 }
 
-module _ (s os : List ℕ) (lo count at nodes i n : ℕ) (t : AttributesTo s os lo count at nodes i n) (a : at ≤ i) (b : nodes ≤ n) (l : n ≤ node-limit) where
-  pub attributes-wrong : {j : ℕ} → TagRead s behind-part i (Wrong j) → AttributesRead s at nodes (Broken 4 j)
-  attributes-wrong {j} (tag-wrong f) = attributes-broken {x = 4} {j = j} (λ m ns. t .comes m ns .back _ (f m ns (t .seen) n l))
+module _ (s os : List ℕ) (lo count at spare i n : ℕ) (t : AttributesTo s os lo count at spare i n) (a : at ≤ i) (b : n ≤ spare) where
+  pub attributes-wrong : {j : ℕ} → TagRead s behind-part i (Wrong j) → AttributesRead s at spare (Broken 4 j)
+  attributes-wrong {j} (tag-wrong f) = attributes-broken {x = 4} {j = j} (λ m ns. t .comes m ns .back _ (f m ns (t .seen) n))
 
-  pub attributes-open : {c : Cursor} → TagRead s behind-part i (Open c) → AttributesRead s at nodes (Opened c n)
+  pub attributes-open : {c : Cursor} → TagRead s behind-part i (Open c) → AttributesRead s at spare (Opened c n)
   attributes-open {c} (tag-open d e g f) =
-      attributes-opened {c = c} {m = n} (record { further = omega arith; inside = e; begins-here = g; more = b; few = l })
-      (λ m ns. goes-then (t .comes m ns) (f m ns (t .seen) n l))
+      attributes-opened {c = c} {m = n} (record { further = omega arith; inside = e; begins-here = g; fewer = b })
+      (λ m ns. goes-then (t .comes m ns) (f m ns (t .seen) n))
 
-  pub attributes-empty : {c : Cursor} → TagRead s behind-part i (Empty c) → AttributesRead s at nodes (Emptied c n)
+  pub attributes-empty : {c : Cursor} → TagRead s behind-part i (Empty c) → AttributesRead s at spare (Emptied c n)
   attributes-empty {c} (tag-empty d e g f) =
-      attributes-emptied {c = c} {m = n} (record { further = omega arith; inside = e; begins-here = g; more = b; few = l })
-      (λ m ns. goes-then (t .comes m ns) (f m ns (t .seen) n l))
+      attributes-emptied {c = c} {m = n} (record { further = omega arith; inside = e; begins-here = g; fewer = b })
+      (λ m ns. goes-then (t .comes m ns) (f m ns (t .seen) n))
 
   -- an attribute that is refused
   refused : {c : Cursor} {x j : ℕ} → TagRead s behind-part i (Attribute c) → AttributeRead s (t .seen) (c .at) n (Refused x j)
-      → AttributesRead s at nodes (Broken x j)
+      → AttributesRead s at spare (Broken x j)
   refused {c} {x} {j} (tag-attribute d e g h f) (attribute-refused u) =
-      attributes-broken {x = x} {j = j} (λ m ns. t .comes m ns .back _ (f m ns (t .seen) n l .back _ (u m ns)))
+      attributes-broken {x = x} {j = j} (λ m ns. t .comes m ns .back _ (f m ns (t .seen) n .back _ (u m ns)))
 
   -- one that is read
   past : {c d : Cursor} {m : ℕ} {os′ : List ℕ} → TagRead s behind-part i (Attribute c) → AttributeRead s (t .seen) (c .at) n (Past d m)
-      → Lists (attribute-names s os′ lo) (count + 1) (name-at s (c .at) ∷ t .seen) → AttributesTo s os′ lo (count + 1) at nodes (d .at) m
-  past {c} {d} {m} (tag-attribute p e g h f) (attribute-past q r w x u) y = record {
+      → Lists (attribute-names s os′ lo) (count + 1) (name-at s (c .at) ∷ t .seen) → AttributesTo s os′ lo (count + 1) at spare (d .at) m
+  past {c} {d} {m} (tag-attribute p e g h f) (attribute-past q r w u) y = record {
     seen = name-at s (c .at) ∷ t .seen;
     lists = y;
-    comes = λ nm ns. goes-then (t .comes nm ns) (goes-then (f nm ns (t .seen) n l) (u nm ns));
+    comes = λ nm ns. goes-then (t .comes nm ns) (goes-then (f nm ns (t .seen) n) (u nm ns));
   }
 
   -- an attribute at c, and what is read of it
@@ -119,7 +116,7 @@ module _ (s os : List ℕ) (lo count at nodes i n : ℕ) (t : AttributesTo s os 
     reads : {q′ : Read} → q ≡ q′ → AttributeRead s (t .seen) (c .at) n q′
     reads e = subst (AttributeRead s (t .seen) (c .at) n) e (y .reads (t .seen) (t .lists))
 
-    pub attributes-bad : {x j : ℕ} → q ≡ Refused x j → AttributesRead s at nodes (Broken x j)
+    pub attributes-bad : {x j : ℕ} → q ≡ Refused x j → AttributesRead s at spare (Broken x j)
     attributes-bad e = refused found (reads e)
 
     module _ {d : Cursor} {m : ℕ} (e : q ≡ Past d m) where
@@ -129,15 +126,15 @@ module _ (s os : List ℕ) (lo count at nodes i n : ℕ) (t : AttributesTo s os 
           go : NamesRead s os os′ lo count (c .at) (Past d m) → Entered s os os′ lo count (c .at)
           go (names-past x) = x
 
-      pub attributes-turn : AttributesTo s os′ lo (count + 1) at nodes (d .at) m
+      pub attributes-turn : AttributesTo s os′ lo (count + 1) at spare (d .at) m
       attributes-turn = past found (reads e) (attribute-entered .added .lists (t .seen) (t .lists))
 
-      pub attribute-behind : (i ≤ c .at) × (c .at < d .at) × (d .at ≤ length s) × (n < m) × (m ≤ node-limit)
+      pub attribute-behind : (i ≤ c .at) × (c .at < d .at) × (d .at ≤ length s) × (m < n)
       attribute-behind = go (reads e)
         where
           go : AttributeRead s (t .seen) (c .at) n (Past d m)
-              → (i ≤ c .at) × (c .at < d .at) × (d .at ≤ length s) × (n < m) × (m ≤ node-limit)
-          go (attribute-past a b g h u) = (attribute-here n l z ez .1, a, b, g, h)
+              → (i ≤ c .at) × (c .at < d .at) × (d .at ≤ length s) × (m < n)
+          go (attribute-past a b g u) = (attribute-here z ez .1, a, b, g)
 
 -- from the first byte of the name ------------------------------------------------------------------
 
@@ -145,30 +142,30 @@ naming : (ns : List Name) → Naming (tag-name ns)
 unfolding step
 naming ns = record { next = λ p b e. rw e; calm = λ p. refl }
 
-module _ (s : List ℕ) (at nodes to : ℕ) (x : Named s at) (l : nodes ≤ node-limit) (r : Run name-byte s at to) where
-  pub element-long : content-limit < to - at → ElementRead s at nodes (Broken 5 (at + 32))
+module _ (s : List ℕ) (at spare to : ℕ) (x : Named s at) (r : Run name-byte s at to) where
+  pub element-long : content-limit < to - at → ElementRead s at spare (Broken 5 (at + 32))
   element-long h = element-broken {x = 5} {j = at + 32}
-      (λ ns. name-long s (tag-name ns) nodes (naming ns) l at (x .inside) (start-name (getD s at 0) (x .starts)) (omega (arith, r .ends)))
+      (λ ns. name-long s (tag-name ns) spare (naming ns) at (x .inside) (start-name (getD s at 0) (x .starts)) (omega (arith, r .ends)))
 
   module _ (short : to - at ≤ content-limit) where
     -- behind the name
-    to-part : (ns : List Name) → scan-at s (tag-name ns (getD s at 0 ∷ [])) nodes 1 (at + 1) ≡ scan-at s (behind-part (name-at s at) ns []) nodes (to - at) to
+    to-part : (ns : List Name) → scan-at s (tag-name ns (getD s at 0 ∷ [])) spare 1 (at + 1) ≡ scan-at s (behind-part (name-at s at) ns []) spare (to - at) to
     unfolding step
     to-part ns =
         let p : span name-byte (drop at s) ≡ to - at = omega (arith, r .ends) in
         let q : at + (to - at) ≡ to = omega (arith, r .ends) in
-        (rw (p, q) at (name-short s (tag-name ns) nodes (naming ns) l at (x .inside) (start-name (getD s at 0) (x .starts)) (omega arith)))
-        ∙ scan-alike s (tag-name ns (name-at s at)) (behind-part (name-at s at) ns []) nodes (to - at) to
+        (rw (p, q) at (name-short s (tag-name ns) spare (naming ns) at (x .inside) (start-name (getD s at 0) (x .starts)) (omega arith)))
+        ∙ scan-alike s (tag-name ns (name-at s at)) (behind-part (name-at s at) ns []) spare (to - at) to
         (λ h. rw (rw (← r .ends) at (span-behind name-byte s at (omega (arith, r .ends))))) refl
 
-    pub element-rest : {y : Tag} → AttributesRead s to nodes y → ElementRead s at nodes y
+    pub element-rest : {y : Tag} → AttributesRead s to spare y → ElementRead s at spare y
     element-rest (attributes-opened {c = c} {m = m} o f) =
         element-opened {c = c} {m = m}
-        (record { further = omega (arith, o .further, r .ends); inside = o .inside; begins-here = o .begins-here; more = o .more; few = o .few })
+        (record { further = omega (arith, o .further, r .ends); inside = o .inside; begins-here = o .begins-here; fewer = o .fewer })
         (λ ns v y. to-part ns ∙ f (name-at s at) ns .back v y .leads (to - at) short)
     element-rest (attributes-emptied {c = c} {m = m} o f) =
         element-emptied {c = c} {m = m}
-        (record { further = omega (arith, o .further, r .ends); inside = o .inside; begins-here = o .begins-here; more = o .more; few = o .few })
+        (record { further = omega (arith, o .further, r .ends); inside = o .inside; begins-here = o .begins-here; fewer = o .fewer })
         (λ ns v y. to-part ns ∙ f (name-at s at) ns .back v y .leads (to - at) short)
     element-rest (attributes-broken {x = x} {j = j} f) = element-broken {x = x} {j = j} (λ ns. to-part ns ∙ f (name-at s at) ns .leads (to - at) short)
 

@@ -1,6 +1,6 @@
 use mathlib.Core.Path.{sym, _∙_}
 use borrow.Author.Tests.{not-true, not-false}
-use Rattle.tree.proofs.Table.{name-empty, name-long, name-is}
+use Rattle.tree.proofs.Bytes.{name-empty, name-long, name-is}
 use borrow.Author.Needs.{needs}
 use Rattle.tree.proofs.is_name.Statement.{statement}
 use Rattle.tree.proofs.is_name.Tie as tie
@@ -24,8 +24,8 @@ returns-3 c =
     let name-start = c .before .name-start in
     sym (name-is _ (if1 .left) (if2 .left) ∙ rw (sym (name-start .ensures) ∙ not-true _ (c .if3 .taken)))
 
-all-in-requires : tie.Need-all-in-requires
-all-in-requires c κs = search needs
+all-stand-requires : tie.Need-all-stand-requires
+all-stand-requires c κs = search needs
 
 returns-4 : tie.Need-returns-4
 returns-4 c =
@@ -33,7 +33,7 @@ returns-4 c =
     let if2 = c .before .before .before .before .if2 in
     let name-start = c .before .before .name-start in
     let if3 = c .before .if3 in
-    c .all-in .ensures ∙ sym (name-is _ (if1 .left) (if2 .left) ∙ rw (sym (name-start .ensures) ∙ not-false _ (if3 .left)))
+    c .all-stand .ensures ∙ sym (name-is _ (if1 .left) (if2 .left) ∙ rw (sym (name-start .ensures) ∙ not-false _ (if3 .left)))
 
 pub is-name-spec : {M : Type 1} → statement M
 is-name-spec =
@@ -44,5 +44,5 @@ is-name-spec =
     shared-slice-read-name-start
     name-start-requires
     returns-3
-    all-in-requires
+    all-stand-requires
     returns-4)

@@ -1,15 +1,16 @@
-use Rattle.tree.specs.Classes.{in-class}
-use Rattle.tree.proofs.Table.{in-names}
+use mathlib.Core.Path.{_∙_}
+use Rattle.tree.proofs.Bytes.{name-lower, name-above, name-digit, name-hyphen, name-below}
 use borrow.Author.Needs.{needs}
 use Rattle.tree.proofs.name_byte.Statement.{statement}
 use Rattle.tree.proofs.name_byte.Tie as tie
 
-class-requires : tie.Need-class-requires
-class-requires c κs = search needs
-
-returns : tie.Need-returns
-unfolding in-class
-returns c = rw (c .class .ensures) (in-names (c .before .args .x))
-
 pub name-byte-spec : {M : Type 1} → statement M
-name-byte-spec = tie.close (tie.spec class-requires returns)
+name-byte-spec =
+    tie.close
+    (tie.spec
+    (λ c. name-lower _ (c .if1 .taken))
+    (λ c κs. search needs)
+    (λ c. c .name-start .ensures ∙ name-above _ (c .before .if2 .taken))
+    (λ c. name-digit _ (c .if3 .taken) (c .before .if2 .left))
+    (λ c. name-hyphen _ (c .if4 .taken))
+    (λ c. name-below _ (c .before .if3 .left) (c .if4 .left)))

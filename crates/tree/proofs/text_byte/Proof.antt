@@ -1,15 +1,11 @@
-use Rattle.tree.specs.Classes.{in-class}
-use Rattle.tree.proofs.Table.{in-texts}
-use borrow.Author.Needs.{needs}
+use Rattle.tree.proofs.Bytes.{text-above, text-tab, text-below}
 use Rattle.tree.proofs.text_byte.Statement.{statement}
 use Rattle.tree.proofs.text_byte.Tie as tie
 
-class-requires : tie.Need-class-requires
-class-requires c κs = search needs
-
-returns : tie.Need-returns
-unfolding in-class
-returns c = rw (c .class .ensures) (in-texts (c .before .args .x))
-
 pub text-byte-spec : {M : Type 1} → statement M
-text-byte-spec = tie.close (tie.spec class-requires returns)
+text-byte-spec =
+    tie.close
+    (tie.spec
+    (λ c. text-above _ (c .if1 .taken))
+    (λ c. text-tab _ (c .if2 .taken))
+    (λ c. text-below _ (c .before .if1 .left) (c .if2 .left)))

@@ -1,6 +1,6 @@
 -- Inputs with what the judgement says of them: a table, and one of inputs at the limits, with a theorem each. Tree E, written and read.
 use Prim.Native.String.{String}
-use Prim.Native.Nat.{ℕ, zero, suc, _+_, _≤_, _<_}
+use Prim.Native.Nat.{ℕ, zero, suc, _+_, _-_, _≤_, _<_}
 use mathlib.Core.Path.{_≡_, refl, ap, ap₂, _∙_}
 use mathlib.Core.Bool.{true}
 use mathlib.Core.List.{List, [], _∷_, _++_, map}
@@ -13,7 +13,7 @@ use Rattle.tree.specs.Forest.{rows, view}
 use Rattle.tree.specs.Content.{name-start, name-byte, text-byte, is-name, is-text, allowed, takes, attributes-first, children-rule}
 use Rattle.tree.specs.Document.{lines, ruled, legal}
 use Rattle.tree.specs.Examples.{tree-E}
-use Rattle.protocol.specs.Calls.{stands-for}
+use Rattle.protocol.specs.Calls.{node-limit, stands-for}
 use Rattle.protocol.specs.Examples.{E-loadable}
 use Rattle.tree.specs.Text.{bytes}
 use Rattle.xml.specs.Bytes.{space, blank, value-literal, text-literal, brackets, used}
@@ -30,43 +30,47 @@ use Rattle.xml.specs.Laws.Readings.{accepted-iff}
 use Rattle.xml.specs.Laws.Written.{written-root, written-spells}
 use Rattle.xml.specs.Laws.Expressible.{formed-document}
 
+-- a document of n nodes
+abbrev pub fine-with : ℕ → Verdict
+fine-with n = fine (node-limit - n)
+
 abbrev pub inputs : List (String × Verdict)
 inputs =
     -- document 01: tree E, and the empty input
-    ("<lift rope=\"2\"><speed>6</speed><ramp/></lift>", fine 7)
+    ("<lift rope=\"2\"><speed>6</speed><ramp/></lift>", fine-with 7)
     ∷ ("", bad 4 0)
     -- declarations
-    ∷ ("<?xml version=\"1.0\"?><a/>", fine 2)
-    ∷ ("<?xml version=\"1.0\" encoding=\"UTF-8\"?> <a/> ", fine 2)
+    ∷ ("<?xml version=\"1.0\"?><a/>", fine-with 2)
+    ∷ ("<?xml version=\"1.0\" encoding=\"UTF-8\"?> <a/> ", fine-with 2)
     ∷ ("<?xml version=\"1.1\"?><a/>", bad 4 17)
     ∷ (" <?xml version=\"1.0\"?><a/>", bad 4 2)
     -- the end comes too soon, or something stands behind the root element
     ∷ ("<a>", bad 4 3)
     ∷ ("<a/><b/>", bad 4 4)
     -- tags
-    ∷ ("<a ></a >", fine 2)
+    ∷ ("<a ></a >", fine-with 2)
     ∷ ("<a></b>", bad 4 5)
     ∷ ("<ab></a>", bad 4 7)
-    ∷ ("<a b='1' c=\"'\"/>", fine 6)
+    ∷ ("<a b='1' c=\"'\"/>", fine-with 6)
     ∷ ("<a b='1' b='2'/>", bad 4 10)
-    ∷ ("<a b='1' bb='2'/>", fine 6)
+    ∷ ("<a b='1' bb='2'/>", fine-with 6)
     -- a name that repeats another ends with its 32nd byte, or has a 33rd
     ∷ ("<a abcdefghijabcdefghijabcdefghijab='' abcdefghijabcdefghijabcdefghijab=''/>", bad 4 71)
     ∷ ("<a abcdefghijabcdefghijabcdefghijab='' abcdefghijabcdefghijabcdefghijabc=''/>", bad 5 71)
     -- characters
-    ∷ ("<a>]]&gt;</a>", fine 3)
+    ∷ ("<a>]]&gt;</a>", fine-with 3)
     ∷ ("<a>]]></a>", bad 4 5)
-    ∷ ("<a b=']]>'/>", fine 4)
-    ∷ ("<a>&apos;</a>", fine 3)
+    ∷ ("<a b=']]>'/>", fine-with 4)
+    ∷ ("<a>&apos;</a>", fine-with 3)
     ∷ ("<a>&#9;</a>", bad 4 4)
     -- 32 and 33 bytes of content
-    ∷ ("<a>12345678901234567890123456789012</a>", fine 3)
+    ∷ ("<a>12345678901234567890123456789012</a>", fine-with 3)
     ∷ ("<a>12345678901234567890123456789012&</a>", bad 5 35)
     ∷ ("<a>12345678901234567890123456789012></a>", bad 5 35)
     ∷ ("<a>123456789012345678901234567890]]></a>", bad 4 35)
     ∷ []
 
-pub examples : map (λ (x : String × Verdict). judgement (bytes (x .0))) inputs ≡ map (λ (x : String × Verdict). x .1) inputs
+pub examples : map (λ (x : String × Verdict). judgement node-limit (bytes (x .0))) inputs ≡ map (λ (x : String × Verdict). x .1) inputs
 unfolding judgement judge step tag-step depth follow births tail peak blank value-literal text-literal brackets used name-start name-byte
     text-byte
 examples = refl
@@ -89,14 +93,14 @@ with-elements n rest = bytes "<a>" ++ (times n (bytes "<b/>") ++ bytes rest)
 abbrev pub inputs-at-limits : List Limit
 inputs-at-limits =
     -- document 01: 1,024 nodes load, 1,025 give 6
-    (0, with-elements 1022 "</a>", fine 1024)
+    (0, with-elements 1022 "</a>", fine-with 1024)
     ∷ (0, with-elements 1023 "</a>", bad 6 4091)
     -- the 1,025th begins with a < and a name's first byte, or with a &, whatever follows; a < before another byte begins none
     ∷ (0, with-elements 1022 "<b!", bad 6 4091)
     ∷ (0, with-elements 1022 "&!", bad 6 4091)
     ∷ (0, with-elements 1022 "<!", bad 4 4092)
     -- 65,536 bytes, and one more
-    ∷ (65532, bytes "<a/>", fine 2)
+    ∷ (65532, bytes "<a/>", fine-with 2)
     ∷ (65532, bytes "<a/> ", bad 4 65536)
     -- 4 before 5 and 6 at one offset: a byte too many is the 33rd of a text, or the first of a text that is the 1,025th node
     ∷ (65501, bytes "<a>123456789012345678901234567890123", bad 4 65536)
@@ -107,29 +111,29 @@ inputs-at-limits =
 
 -- the judgement behind n blanks
 abbrev late : ℕ → List ℕ → Verdict
-late zero s = judgement s
-late (suc n) s = judge prolog 1 0 space (suc n) s
+late zero s = judgement node-limit s
+late (suc n) s = judge prolog (node-limit - 1) 0 space (suc n) s
 
-blank-judged : (i : ℕ) (s : List ℕ) → i < input-limit → judge prolog 1 0 space i (space ∷ s) ≡ judge prolog 1 0 space (suc i) s
+blank-judged : (i : ℕ) (s : List ℕ) → i < input-limit → judge prolog (node-limit - 1) 0 space i (space ∷ s) ≡ judge prolog (node-limit - 1) 0 space (suc i) s
 unfolding judge step blank births tail peak
 blank-judged i s h = rw (lt-leb input-limit i h)
 
-late-judged : (n i : ℕ) (s : List ℕ) → i + n ≤ input-limit → judge prolog 1 0 space i (input n s) ≡ judge prolog 1 0 space (i + n) s
-late-judged zero i s h = ap (λ (k : ℕ). judge prolog 1 0 space k s) (omega arith)
+late-judged : (n i : ℕ) (s : List ℕ) → i + n ≤ input-limit → judge prolog (node-limit - 1) 0 space i (input n s) ≡ judge prolog (node-limit - 1) 0 space (i + n) s
+late-judged zero i s h = ap (λ (k : ℕ). judge prolog (node-limit - 1) 0 space k s) (omega arith)
 late-judged (suc n) i s h =
     blank-judged i (input n s) (omega arith) ∙ late-judged n (suc i) s (omega arith)
-    ∙ ap (λ (k : ℕ). judge prolog 1 0 space k s) (omega arith)
+    ∙ ap (λ (k : ℕ). judge prolog (node-limit - 1) 0 space k s) (omega arith)
 
-first-blank : (s : List ℕ) → judgement (space ∷ s) ≡ judge prolog 1 0 space 1 s
+first-blank : (s : List ℕ) → judgement node-limit (space ∷ s) ≡ judge prolog (node-limit - 1) 0 space 1 s
 unfolding judgement judge step blank births tail peak
 first-blank s = refl
 
-is-late : (n : ℕ) (s : List ℕ) → n ≤ input-limit → judgement (input n s) ≡ late n s
+is-late : (n : ℕ) (s : List ℕ) → n ≤ input-limit → judgement node-limit (input n s) ≡ late n s
 is-late zero s h = refl
-is-late (suc n) s h = first-blank (input n s) ∙ late-judged n 1 s (omega arith) ∙ ap (λ (k : ℕ). judge prolog 1 0 space k s) (omega arith)
+is-late (suc n) s h = first-blank (input n s) ∙ late-judged n 1 s (omega arith) ∙ ap (λ (k : ℕ). judge prolog (node-limit - 1) 0 space k s) (omega arith)
 
 all-late : (l : List Limit) → every (λ x. leb (x .0) input-limit) l ≡ true
-    → map (λ (x : Limit). judgement (input (x .0) (x .1))) l ≡ map (λ (x : Limit). late (x .0) (x .1)) l
+    → map (λ (x : Limit). judgement node-limit (input (x .0) (x .1))) l ≡ map (λ (x : Limit). late (x .0) (x .1)) l
 all-late [] h = refl
 all-late (x ∷ l) h =
     ap₂ _∷_ (is-late (x .0) (x .1) (leb-true (x .0) input-limit (left-of _ _ h))) (all-late l (right-of (leb (x .0) input-limit) _ h))
@@ -139,7 +143,7 @@ unfolding judgement judge step tag-step depth follow births tail peak blank valu
     text-byte
 computed = refl
 
-pub limits : map (λ (x : Limit). judgement (input (x .0) (x .1))) inputs-at-limits ≡ map (λ (x : Limit). x .2) inputs-at-limits
+pub limits : map (λ (x : Limit). judgement node-limit (input (x .0) (x .1))) inputs-at-limits ≡ map (λ (x : Limit). x .2) inputs-at-limits
 limits = all-late inputs-at-limits refl ∙ computed
 
 -- tree E of document 01: its text, written and read -----------------------------------------
@@ -162,7 +166,7 @@ formed-E = formed-document tree-E refl (refl, refl, refl)
 -- with the declaration or without, the text stands for tree E with document 01's numbers
 reads-E : (s : List ℕ) → Spells s (below (shape tree-E)) → length s ≤ 100 → ReadsAs s (stands-for tree-E E-loadable)
 unfolding tree-E shape view numbered size longest
-reads-E s x l = accepted-iff s tree-E E-loadable .1 (record {
+reads-E s x l = accepted-iff node-limit (omega arith) (omega arith) s tree-E E-loadable .1 (record {
   shape = below (shape tree-E);
   spelled = x;
   stands = refl;

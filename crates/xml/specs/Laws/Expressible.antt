@@ -316,6 +316,6 @@ read-back (node a ks nil) h e l =
           shape-numbered 0 (node (record { kind = 1; content = [] }) (shape ks) nil)
           ∙ ap₂ (λ (k : ℕ) (c : List ℕ). node (record { kind = k; content = c }) (shape ks) nil) (sym (q .0)) (sym (q .1));
       is-loadable = k;
-      reads = accepted-iff (write (node a ks nil)) (renumbered (node a ks nil)) k .1
+      reads = accepted-iff node-limit (omega arith) (omega arith) (write (node a ks nil)) (renumbered (node a ks nil)) k .1
           (record { shape = shape ks; spelled = x; stands = refl; short-input = p .1; few-nodes = few; short-contents = short });
     }

@@ -5,7 +5,6 @@ use mathlib.Core.Bool.{Bool, true, false}
 use mathlib.Core.List.{List, [], _∷_, _++_}
 use native.Mathlib.Omega.{arith}
 use Rattle.tree.specs.Content.{content-limit}
-use Rattle.protocol.specs.Calls.{node-limit}
 use Rattle.xml.specs.Shape.{Shape, size, longest}
 use Rattle.xml.specs.Grammar.{Parses}
 use Rattle.xml.specs.Reading.{LongContent, ManyNodes, Forces}
@@ -21,12 +20,12 @@ use Rattle.xml.specs.Laws.Completions.{Ending, ending-early, ending-read
 abbrev pub extent : ℕ → List Event → Config → ℕ
 extent k v c = max (peak k v) (tail k v + pending (phase c))
 
-ending-few : {q : Phase} {e : List Event} (n : ℕ) → Ending q e → (is-early q ≡ true → n ≡ 0) → suc n ≤ node-limit → suc (n + births e) ≤ node-limit
+ending-few : {q : Phase} {e : List Event} (limit n : ℕ) → 2 ≤ limit → Ending q e → (is-early q ≡ true → n ≡ 0) → suc n ≤ limit → suc (n + births e) ≤ limit
 unfolding births
-ending-few n ending-early h l = let z : n ≡ 0 = h refl in omega arith
-ending-few n ending-reading h l = omega arith
-ending-few n ending-referring h l = omega arith
-ending-few n ending-over h l = omega arith
+ending-few limit n m ending-early h l = let z : n ≡ 0 = h refl in omega arith
+ending-few limit n m ending-reading h l = omega arith
+ending-few limit n m ending-referring h l = omega arith
+ending-few limit n m ending-over h l = omega arith
 
 ending-short : {q : Phase} {e : List Event} (k : ℕ) → Ending q e → k + pending q ≤ content-limit → peak k e ≤ content-limit
 unfolding peak
@@ -46,7 +45,7 @@ module _ {p : List ℕ} {c : Config} {v : List Event} (r : Reads true at-start p
         subst (λ (d : Config). Accepts false d t (y .after)) (sym (z .1)) (y .second-part),
       )
 
-  pub many-forced : node-limit < suc (births v) → Forces ManyNodes p
+  pub many-forced : {limit : ℕ} → limit < suc (births v) → Forces (ManyNodes limit) p
   many-forced h t f x = let y = told t f x in omega (arith, size-told f, ap births (y .1), births-append v (y .0))
 
   pub long-forced : content-limit < extent 0 v c → Forces LongContent p
@@ -58,12 +57,13 @@ module _ {p : List ℕ} {c : Config} {v : List Event} (r : Reads true at-start p
   shortest : (t : List ℕ) × (f : Shape) × (e : List Event) × Parses false (p ++ t) f × (v ++ e ≡ tell 1 f []) × Ending (phase c) e
   shortest = let x = completion false c in let d = sound (join (loose r) (x .run)) in (x .bytes, d .0, x .events, d .1, d .2, x .short refl)
 
-  pub few-free : suc (births v) ≤ node-limit → ¬ (Forces ManyNodes p)
+  -- the root element is certain from the start
+  pub few-free : {limit : ℕ} → 2 ≤ limit → suc (births v) ≤ limit → ¬ (Forces (ManyNodes limit) p)
   unfolding births
-  few-free h g =
+  few-free {limit} m h g =
       let x = shortest in
       let k = g (x .0) (x .1) (x .3) in
-      let q = ending-few (births v) (x .5) (λ q. ap births (quiet-run r q .1)) h in
+      let q = ending-few limit (births v) m (x .5) (λ q. ap births (quiet-run r q .1)) h in
       omega (arith, size-told (x .1), ap births (x .4), births-append v (x .2))
 
   pub short-free : extent 0 v c ≤ content-limit → ¬ (Forces LongContent p)

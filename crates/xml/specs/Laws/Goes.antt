@@ -7,20 +7,19 @@ use native.Mathlib.Omega.{arith}
 use native.Mathlib.Numerals.{add-one}
 use lib.ListN.{length, drop, getD}
 use Rattle.tree.specs.Content.{content-limit}
-use Rattle.protocol.specs.Calls.{node-limit}
-use Rattle.xml.specs.Reading.{opener}
+use Rattle.xml.specs.Reading.{node-offset}
 use Rattle.xml.specs.Laws.Automaton.{Config, Event, born, byte, stuck, move, to, step}
 use Rattle.xml.specs.Laws.Counts.{births, tail, peak}
 use Rattle.xml.specs.Laws.Phases.{phase, is-over, pending}
 use Rattle.xml.specs.Laws.Forces.{extent}
-use Rattle.xml.specs.Laws.Judge.{Verdict, fine, bad, byte-before}
-use Rattle.xml.specs.Laws.Scan.{scan-at, scan-end, scan-stuck, scan-next, scan-long, scan-many, scan-many-before}
+use Rattle.xml.specs.Laws.Judge.{Verdict, fine, bad}
+use Rattle.xml.specs.Laws.Scan.{scan-at, scan-end, scan-stuck, scan-next, scan-long, scan-many}
 
--- the verdict from c at offset i with n nodes, whatever the length of the last content
+-- the verdict from c at offset i, where n nodes may still come, whatever the length of the last content
 pub record Leads (s : List ℕ) (c : Config) (n i : ℕ) (v : Verdict) : Type 0 where
   pub leads : (k : ℕ) → k ≤ content-limit → scan-at s c n k i ≡ v
 
--- the scan goes on from c at i with n nodes to d at j with m nodes
+-- the scan goes on from c at i to d at j, where m of n nodes may still come
 pub record Goes (s : List ℕ) (c : Config) (n i : ℕ) (d : Config) (m j : ℕ) : Type 0 where
   pub back : (v : Verdict) → Leads s d m j v → Leads s c n i v
 
@@ -42,39 +41,35 @@ module _ (s : List ℕ) (c : Config) (n i : ℕ) where
     stops-stuck e = record { leads = λ k h. scan-stuck s c n k i inside e }
 
     -- a step that tells nothing
-    pub scan-quiet : (d : Config) → step true c (getD s i 0) ≡ to d → n ≤ node-limit → (k : ℕ) → k + pending (phase d) ≤ content-limit
+    pub scan-quiet : (d : Config) → step true c (getD s i 0) ≡ to d → (k : ℕ) → k + pending (phase d) ≤ content-limit
         → scan-at s c n k i ≡ scan-at s d n k (i + 1)
     unfolding births tail peak
-    scan-quiet d e l k h = scan-next s c n k i inside d [] e (omega arith) (omega arith) ∙ ap₂ (λ (m j : ℕ). scan-at s d m k j) (omega arith) (omega arith)
+    scan-quiet d e k h = scan-next s c n k i inside d [] e (omega arith) (omega arith) ∙ ap₂ (λ (m j : ℕ). scan-at s d m k j) (omega arith) (omega arith)
 
-    pub goes-step : (d : Config) → step true c (getD s i 0) ≡ to d → pending (phase d) ≡ 0 → n ≤ node-limit → Goes s c n i d n (i + 1)
-    goes-step d e p l = record { back = λ v f. record { leads = λ k h. scan-quiet d e l k (omega arith) ∙ f .leads k h } }
+    pub goes-step : (d : Config) → step true c (getD s i 0) ≡ to d → pending (phase d) ≡ 0 → Goes s c n i d n (i + 1)
+    goes-step d e p = record { back = λ v f. record { leads = λ k h. scan-quiet d e k (omega arith) ∙ f .leads k h } }
 
     -- a byte of content
-    pub scan-byte : (d : Config) (b : ℕ) → step true c (getD s i 0) ≡ move d (byte b ∷ []) → pending (phase d) ≡ 0 → n ≤ node-limit
+    pub scan-byte : (d : Config) (b : ℕ) → step true c (getD s i 0) ≡ move d (byte b ∷ []) → pending (phase d) ≡ 0
         → (k : ℕ) → k < content-limit → scan-at s c n k i ≡ scan-at s d n (k + 1) (i + 1)
     unfolding births tail peak
-    scan-byte d b e p l k h =
+    scan-byte d b e p k h =
         scan-next s c n k i inside d (byte b ∷ []) e (omega arith) (omega arith)
         ∙ ap₂ (λ (m j : ℕ). scan-at s d m (suc k) j) (omega arith) (omega arith) ∙ ap (λ (q : ℕ). scan-at s d n q (i + 1)) (omega arith)
 
     -- the 33rd, or a reference in its place
-    pub scan-full : (d : Config) (v : List Event) → step true c (getD s i 0) ≡ move d v → births v ≡ 0 → n ≤ node-limit
+    pub scan-full : (d : Config) (v : List Event) → step true c (getD s i 0) ≡ move d v → births v ≡ 0
         → (k : ℕ) → content-limit < extent k v d → scan-at s c n k i ≡ bad 5 i
-    scan-full d v e p l k h = scan-long s c n k i inside d v e (omega arith) h
+    scan-full d v e p k h = scan-long s c n k i inside d v e (omega arith) h
 
     -- a node, with the first byte of its content or a reference in its place
-    pub scan-born : (d : Config) (x y : ℕ) (w : List Event) → step true c (getD s i 0) ≡ move d (born x y ∷ w) → births w ≡ 0 → n < node-limit
-        → (k : ℕ) → k ≤ content-limit → extent 0 w d ≤ content-limit → scan-at s c n k i ≡ scan-at s d (n + 1) (tail 0 w) (i + 1)
+    pub scan-born : (d : Config) (x y : ℕ) (w : List Event) → step true c (getD s i 0) ≡ move d (born x y ∷ w) → births w ≡ 0 → 1 ≤ n
+        → (k : ℕ) → k ≤ content-limit → extent 0 w d ≤ content-limit → scan-at s c n k i ≡ scan-at s d (n - 1) (tail 0 w) (i + 1)
     unfolding births tail peak
     scan-born d x y w e p l k h m =
         scan-next s c n k i inside d (born x y ∷ w) e (omega arith) (omega arith) ∙ ap₂ (λ (q j : ℕ). scan-at s d q (tail 0 w) j) (omega arith) (omega arith)
 
-    module _ (d : Config) (x y : ℕ) (w : List Event) (e : step true c (getD s i 0) ≡ move d (born x y ∷ w)) (p : births w ≡ 0) (l : n ≡ node-limit) where
-      pub stops-many : extent 0 w d ≤ content-limit → opener (byte-before s i) ≡ false → Leads s c n i (bad 6 i)
-      unfolding births tail peak
-      stops-many m o = record { leads = λ k h. scan-many s c n k i inside d (born x y ∷ w) e (omega arith) (omega arith) o }
-
-      pub stops-many-before : opener (byte-before s i) ≡ true → Leads s c n i (bad 6 (i - 1))
-      unfolding births
-      stops-many-before o = record { leads = λ k h. scan-many-before s c n k i inside d (born x y ∷ w) e (omega arith) o }
+    pub stops-many : (d : Config) (x y : ℕ) (w : List Event) → step true c (getD s i 0) ≡ move d (born x y ∷ w) → n ≡ 0
+        → extent 0 w d ≤ content-limit → Leads s c n i (bad 6 (node-offset s i))
+    unfolding births tail peak
+    stops-many d x y w e l m = record { leads = λ k h. scan-many s c n k i inside d (born x y ∷ w) e (omega arith) (omega arith) }

@@ -1,34 +1,36 @@
--- The judgement of an input, a byte a step: the automaton, the number of nodes, the length of the content that came last.
-use Prim.Native.Nat.{ℕ, zero, suc, _+_, _-_}
-use mathlib.Core.Bool.{Bool, true, false, cond, _&&_}
+-- The judgement of an input, a byte a step: the automaton, how many nodes may still come, the length of the content that came last.
+use Prim.Native.Nat.{ℕ, zero, suc, _-_, _≤_}
+use mathlib.Core.Path.{_≡_, refl}
+use mathlib.Core.Bool.{Bool, true, false, cond, _&&_, false≢true}
 use mathlib.Core.List.{List, [], _∷_}
+use native.Mathlib.Omega.{arith}
 use lib.Dec.{leb, ltb}
 use lib.ListN.{getD}
 use Rattle.tree.specs.Content.{content-limit}
-use Rattle.protocol.specs.Calls.{node-limit}
-use Rattle.xml.specs.Reading.{input-limit, opener}
+use Rattle.xml.specs.Reading.{input-limit, opener, node-offset}
 use Rattle.xml.specs.Laws.Automaton.{Config, at-start, Move, stuck, move, step}
 use Rattle.xml.specs.Laws.Counts.{births, tail}
 use Rattle.xml.specs.Laws.Phases.{phase, is-over}
 use Rattle.xml.specs.Laws.Forces.{extent}
 
 pub data Verdict : Type 0 where
-  fine : (nodes : ℕ) → Verdict
+  -- a document, which could have so many nodes more
+  fine : (left : ℕ) → Verdict
   bad : (cause offset : ℕ) → Verdict
 
--- the byte at offset i, b before it, makes it n nodes and a content of k bytes
-abbrev pub weighed : ℕ → ℕ → ℕ → ℕ → Verdict → Verdict
-weighed b i n k further =
-    cond (ltb node-limit n && opener b) (bad 6 (i - 1))
+-- the byte at offset i, b before it, makes it too many nodes or not, and a content of k bytes
+abbrev pub weighed : ℕ → ℕ → Bool → ℕ → Verdict → Verdict
+weighed b i many k further =
+    cond (many && opener b) (bad 6 (i - 1))
     (cond (leb input-limit i) (bad 4 i)
     (cond (ltb content-limit k) (bad 5 i)
-    (cond (ltb node-limit n) (bad 6 i) further)))
+    (cond many (bad 6 i) further)))
 
 abbrev pub judge-move : Move → ℕ → ℕ → ℕ → ℕ → (Config → ℕ → ℕ → Verdict) → Verdict
 judge-move stuck n k b i f = bad 4 i
-judge-move (move d v) n k b i f = let further = f d (n + births v) (tail k v) in weighed b i (n + births v) (extent k v d) further
+judge-move (move d v) n k b i f = let further = f d (n - births v) (tail k v) in weighed b i (ltb n (births v)) (extent k v d) further
 
--- from c on, with n nodes, k bytes of the last content, the byte before and the offset
+-- from c on, where n nodes may still come, with k bytes of the last content, the byte before and the offset
 unfoldable pub judge : Config → ℕ → ℕ → ℕ → ℕ → List ℕ → Verdict
 judge c n k b i [] = cond (is-over (phase c)) (fine n) (bad 4 i)
 judge c n k b i (a ∷ s) = judge-move (step true c a) n k b i (λ d m j. judge d m j a (suc i) s)
@@ -37,5 +39,15 @@ abbrev pub byte-before : List ℕ → ℕ → ℕ
 byte-before s zero = 0
 byte-before s (suc i) = getD s i 0
 
-unfoldable pub judgement : List ℕ → Verdict
-judgement s = judge at-start 1 0 0 0 s
+-- where a node begins that a byte makes certain
+pub offset-before : (s : List ℕ) (i : ℕ) → opener (byte-before s i) ≡ true → (node-offset s i ≡ i - 1) × (1 ≤ i)
+offset-before s zero h = absurd (false≢true h)
+offset-before s (suc i) h = let p : i ≡ suc i - 1 = omega arith in (rw h p, omega arith)
+
+pub offset-at : (s : List ℕ) (i : ℕ) → opener (byte-before s i) ≡ false → node-offset s i ≡ i
+offset-at s zero h = refl
+offset-at s (suc i) h = rw h
+
+-- node 0 is there
+unfoldable pub judgement : ℕ → List ℕ → Verdict
+judgement limit s = judge at-start (limit - 1) 0 0 0 s

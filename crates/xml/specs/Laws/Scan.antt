@@ -9,22 +9,20 @@ use lib.ListN.{length, take, drop, getD, drop-of-length-le}
 use lib.Seq.{take-nil, drop-cons}
 use borrow.Author.Tests.{leb-true, leb-false, lt-leb, le-leb, lt-ltb, le-ltb, ltb-true, ltb-false}
 use Rattle.tree.specs.Content.{content-limit}
-use Rattle.protocol.specs.Calls.{node-limit}
-use Rattle.xml.specs.Reading.{input-limit, opener}
+use Rattle.xml.specs.Reading.{input-limit, opener, node-offset}
 use Rattle.xml.specs.Laws.Automaton.{Config, at-start, Event, Move, stuck, move, to, step}
 use Rattle.xml.specs.Laws.Counts.{births, tail, peak}
 use Rattle.xml.specs.Laws.Phases.{phase, is-over, pending}
 use Rattle.xml.specs.Laws.Forces.{extent}
-use Rattle.xml.specs.Laws.Judge.{Verdict, fine, bad, weighed, judge-move, judge, byte-before, judgement}
+use Rattle.xml.specs.Laws.Judge.{Verdict, fine, bad, weighed, judge-move, judge, byte-before, offset-before, offset-at, judgement}
 
 -- as `weighed`, without the limit
-abbrev pub counted : ℕ → ℕ → ℕ → ℕ → Verdict → Verdict
-counted b i n k further =
-    cond (ltb node-limit n && opener b) (bad 6 (i - 1)) (cond (ltb content-limit k) (bad 5 i) (cond (ltb node-limit n) (bad 6 i) further))
+abbrev pub counted : ℕ → ℕ → Bool → ℕ → Verdict → Verdict
+counted b i many k further = cond (many && opener b) (bad 6 (i - 1)) (cond (ltb content-limit k) (bad 5 i) (cond many (bad 6 i) further))
 
 abbrev pub scan-move : Move → ℕ → ℕ → ℕ → ℕ → (Config → ℕ → ℕ → Verdict) → Verdict
 scan-move stuck n k b i f = bad 4 i
-scan-move (move d v) n k b i f = let further = f d (n + births v) (tail k v) in counted b i (n + births v) (extent k v d) further
+scan-move (move d v) n k b i f = let further = f d (n - births v) (tail k v) in counted b i (ltb n (births v)) (extent k v d) further
 
 unfoldable pub scan : Config → ℕ → ℕ → ℕ → ℕ → List ℕ → Verdict
 scan c n k b i [] = cond (is-over (phase c)) (fine n) (bad 4 i)
@@ -61,10 +59,10 @@ limited-past true n i h = refl
 limited-past false n i h = limited-at true 4 i h
 
 -- one byte
-limited-counted : (long : Bool) (b i n k : ℕ) (u v : Verdict) → i ≤ input-limit → (i < input-limit → u ≡ limited long v)
+limited-counted : (long : Bool) (b i : ℕ) (many : Bool) (k : ℕ) (u v : Verdict) → i ≤ input-limit → (i < input-limit → u ≡ limited long v)
     → (i ≡ input-limit → limited long v ≡ bad 4 input-limit)
-    → weighed b i n k u ≡ limited long (counted b i n k v)
-limited-counted long b i n k u v h f g = go (ltb node-limit n) (opener b) (leb input-limit i) refl (ltb content-limit k)
+    → weighed b i many k u ≡ limited long (counted b i many k v)
+limited-counted long b i many k u v h f g = go many (opener b) (leb input-limit i) refl (ltb content-limit k)
   where
     go : (o q x : Bool) → leb input-limit i ≡ x → (y : Bool)
         → cond (o && q) (bad 6 (i - 1)) (cond x (bad 4 i) (cond y (bad 5 i) (cond o (bad 6 i) u)))
@@ -100,12 +98,15 @@ judge-scan c n k b i (a ∷ l) (suc m) e h =
         ≡ limited (ltb input-limit (suc i + length l)) (scan-move x n k b i (λ d n′ k′. scan d n′ k′ a (suc i) (take m l)))
     go stuck f = sym (limited-four (ltb input-limit (suc i + length l)) i h)
     go (move d v) f =
-        limited-counted (ltb input-limit (suc i + length l)) b i (n + births v) (extent k v d) (judge d (n + births v) (tail k v) a (suc i) l)
-        (scan d (n + births v) (tail k v) a (suc i) (take m l)) h (f d (n + births v) (tail k v)) (past d (n + births v) (tail k v))
+        limited-counted (ltb input-limit (suc i + length l)) b i (ltb n (births v)) (extent k v d) (judge d (n - births v) (tail k v) a (suc i) l)
+        (scan d (n - births v) (tail k v) a (suc i) (take m l)) h (f d (n - births v) (tail k v)) (past d (n - births v) (tail k v))
 
-pub judgement-scan : (s : List ℕ) → judgement s ≡ limited (ltb input-limit (length s)) (scan at-start 1 0 0 0 (take (suc input-limit) s))
+pub judgement-scan : (limit : ℕ) (s : List ℕ)
+    → judgement limit s ≡ limited (ltb input-limit (length s)) (scan at-start (limit - 1) 0 0 0 (take (suc input-limit) s))
 unfolding judgement
-judgement-scan s = let p : 0 + length s ≡ length s = omega arith in rw p at (judge-scan at-start 1 0 0 0 s (suc input-limit) refl (omega arith))
+judgement-scan limit s =
+    let p : 0 + length s ≡ length s = omega arith in
+    rw p at (judge-scan at-start (limit - 1) 0 0 0 s (suc input-limit) refl (omega arith))
 
 -- steps ------------------------------------------------------------------------------------
 
@@ -124,21 +125,21 @@ module _ (s : List ℕ) (c : Config) (n k i : ℕ) where
     scan-stuck e = rw (drop-cons s i 0 h, e)
 
     module _ (d : Config) (v : List Event) (e : step true c (getD s i 0) ≡ move d v) where
-      pub scan-next : n + births v ≤ node-limit → extent k v d ≤ content-limit → scan-at s c n k i ≡ scan-at s d (n + births v) (tail k v) (suc i)
+      pub scan-next : births v ≤ n → extent k v d ≤ content-limit → scan-at s c n k i ≡ scan-at s d (n - births v) (tail k v) (suc i)
       unfolding scan-at scan
-      scan-next l m = rw (drop-cons s i 0 h, e, le-ltb node-limit (n + births v) l, le-ltb content-limit (extent k v d) m)
+      scan-next l m = rw (drop-cons s i 0 h, e, le-ltb n (births v) l, le-ltb content-limit (extent k v d) m)
 
-      pub scan-long : n + births v ≤ node-limit → content-limit < extent k v d → scan-at s c n k i ≡ bad 5 i
+      pub scan-long : births v ≤ n → content-limit < extent k v d → scan-at s c n k i ≡ bad 5 i
       unfolding scan-at scan
-      scan-long l m = rw (drop-cons s i 0 h, e, le-ltb node-limit (n + births v) l, lt-ltb content-limit (extent k v d) m)
+      scan-long l m = rw (drop-cons s i 0 h, e, le-ltb n (births v) l, lt-ltb content-limit (extent k v d) m)
 
-      pub scan-many : node-limit < n + births v → extent k v d ≤ content-limit → opener (byte-before s i) ≡ false → scan-at s c n k i ≡ bad 6 i
+      pub scan-many : n < births v → extent k v d ≤ content-limit → scan-at s c n k i ≡ bad 6 (node-offset s i)
       unfolding scan-at scan
-      scan-many l m o = rw (drop-cons s i 0 h, e, lt-ltb node-limit (n + births v) l, le-ltb content-limit (extent k v d) m, o)
-
-      pub scan-many-before : node-limit < n + births v → opener (byte-before s i) ≡ true → scan-at s c n k i ≡ bad 6 (i - 1)
-      unfolding scan-at scan
-      scan-many-before l o = rw (drop-cons s i 0 h, e, lt-ltb node-limit (n + births v) l, o)
+      scan-many l m = rw (drop-cons s i 0 h, e, lt-ltb n (births v) l, le-ltb content-limit (extent k v d) m) (go (opener (byte-before s i)) refl)
+        where
+          go : (o : Bool) → opener (byte-before s i) ≡ o → cond o (bad 6 (i - 1)) (bad 6 i) ≡ bad 6 (node-offset s i)
+          go true o = ap (bad 6) (sym (offset-before s i o .0))
+          go false o = ap (bad 6) (sym (offset-at s i o))
 
 -- configurations that take the same step, or end alike
 pub scan-alike : (s : List ℕ) (c d : Config) (n k i : ℕ) → (i < length s → step true c (getD s i 0) ≡ step true d (getD s i 0))

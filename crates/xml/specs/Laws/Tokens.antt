@@ -10,7 +10,6 @@ use lib.ListN.{length, take, drop, getD, length-drop, drop-of-length-le}
 use lib.Seq.{drop-cons, drop-drop, getD-drop}
 use borrow.Author.Tests.{eqb-true, eq-eqb}
 use Rattle.tree.specs.Content.{content-limit, name-start, name-byte}
-use Rattle.protocol.specs.Calls.{node-limit}
 use Rattle.xml.specs.Bytes.{blank}
 use Rattle.xml.specs.Grammar.{Name}
 use Rattle.xml.specs.Laws.Words.{Words, last, then, fork, Found, no-word, whole, begun, follow, chain}
@@ -89,12 +88,12 @@ span-behind t s i h = go (span t (drop i s)) i refl h
 
 -- blanks -----------------------------------------------------------------------------------
 
-module _ (s : List ℕ) (c : Config) (n : ℕ) (f : (b : ℕ) → blank b ≡ true → step true c b ≡ to c) (p : pending (phase c) ≡ 0) (l : n ≤ node-limit) where
+module _ (s : List ℕ) (c : Config) (n : ℕ) (f : (b : ℕ) → blank b ≡ true → step true c b ≡ to c) (p : pending (phase c) ≡ 0) where
   goes-run : (m i : ℕ) → m ≤ span blank (drop i s) → Goes s c n i c n (i + m)
   goes-run zero i h = goes-same s c n i (i + 0) (omega arith)
   goes-run (suc m) i h =
       let x = span-some blank s i m h in
-      goes-then (goes-step s c n i (x .0) c (f (getD s i 0) (x .1)) p l)
+      goes-then (goes-step s c n i (x .0) c (f (getD s i 0) (x .1)) p)
       (goes-then (goes-same s c n (i + 1) (suc i) (add-one i)) (goes-then (goes-run m (suc i) (x .2)) (goes-same s c n (suc i + m) (i + suc m) (omega arith))))
 
   pub goes-blanks : (i : ℕ) → Goes s c n i c n (i + span blank (drop i s))
@@ -111,14 +110,14 @@ pub record Naming (C : Name → Config) : Type 0 where
   pub next : (p : Name) (b : ℕ) → name-byte b ≡ true → step true (C p) b ≡ move (C (p ++ (b ∷ []))) (byte b ∷ [])
   pub calm : (p : Name) → pending (phase (C p)) ≡ 0
 
-module _ (s : List ℕ) (C : Name → Config) (n : ℕ) (f : Naming C) (l : n ≤ node-limit) where
+module _ (s : List ℕ) (C : Name → Config) (n : ℕ) (f : Naming C) where
   name-run : (m i k : ℕ) (p : Name) → m ≤ span name-byte (drop i s) → k + m ≤ content-limit
       → scan-at s (C p) n k i ≡ scan-at s (C (p ++ take m (drop i s))) n (k + m) (i + m)
   name-run zero i k p h q = rw (append-nil p) (ap₂ (λ (k i : ℕ). scan-at s (C p) n k i) (omega arith) (omega arith))
   name-run (suc m) i k p h q =
       let x = span-some name-byte s i m h in
       let b = getD s i 0 in
-      let one = scan-byte s (C p) n i (x .0) (C (p ++ (b ∷ []))) b (f .next p b (x .1)) (f .calm (p ++ (b ∷ []))) l k (omega arith) in
+      let one = scan-byte s (C p) n i (x .0) (C (p ++ (b ∷ []))) b (f .next p b (x .1)) (f .calm (p ++ (b ∷ []))) k (omega arith) in
       let more = name-run m (suc i) (suc k) (p ++ (b ∷ [])) (x .2) (omega arith) in
       let u : k + suc m ≡ suc k + m = omega arith in
       let v : i + suc m ≡ suc i + m = omega arith in
@@ -148,7 +147,7 @@ module _ (s : List ℕ) (C : Name → Config) (n : ℕ) (f : Naming C) (l : n �
         let y = span-byte name-byte s content-limit a h in
         let u : suc a + 31 ≡ a + content-limit = omega arith in
         let b = getD s (a + content-limit) 0 in
-        let z = scan-full s (C p) n (a + content-limit) (y .0) (C (p ++ (b ∷ []))) (byte b ∷ []) (f .next p b (y .1)) refl l content-limit (omega arith) in
+        let z = scan-full s (C p) n (a + content-limit) (y .0) (C (p ++ (b ∷ []))) (byte b ∷ []) (f .next p b (y .1)) refl content-limit (omega arith) in
         rw (add-one a) (x ∙ ap (λ (i : ℕ). scan-at s (C p) n content-limit i) u ∙ z)
 
 -- words of a set ---------------------------------------------------------------------------
@@ -181,7 +180,7 @@ abbrev pub Landed : List ℕ → Config → (ℕ → List Event) → ℕ → ℕ
 Landed s d w n k i (got b m) = scan-at s d n (tail k (w b)) (i + m)
 Landed s d w n k i (lost m) = bad 4 (i + m)
 
-module _ (s : List ℕ) (C : Words → Config) (d : Config) (w : ℕ → List Event) (n k : ℕ) (f : Wording C d w) (l : n ≤ node-limit)
+module _ (s : List ℕ) (C : Words → Config) (d : Config) (w : ℕ → List Event) (n k : ℕ) (f : Wording C d w)
     (o : (x : Words) → k + pending (phase (C x)) ≤ content-limit) (e : (b : ℕ) → extent k (w b) d ≤ content-limit) where
   pub landed-more : (i : ℕ) (r : Reach) → Landed s d w n k (suc i) r ≡ Landed s d w n k i (one-more r)
   landed-more i (got b m) = ap (λ (j : ℕ). scan-at s d n (tail k (w b)) j) (omega arith)
@@ -207,4 +206,4 @@ module _ (s : List ℕ) (C : Words → Config) (d : Config) (w : ℕ → List Ev
           scan-next s (C x) n k i h d (w v) a (omega (arith, f .no-node v)) (e v)
           ∙ ap₂ (λ (m j : ℕ). scan-at s d m (tail k (w v)) j) (omega (arith, f .no-node v)) (omega arith)
       go h (begun y) a g =
-          scan-quiet s (C x) n i h (C y) a l k (o y) ∙ ap (λ (j : ℕ). scan-at s (C y) n k j) (add-one i) ∙ g y ∙ landed-more i (reach y t)
+          scan-quiet s (C x) n i h (C y) a k (o y) ∙ ap (λ (j : ℕ). scan-at s (C y) n k j) (add-one i) ∙ g y ∙ landed-more i (reach y t)

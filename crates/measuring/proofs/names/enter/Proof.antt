@@ -1,4 +1,3 @@
-use native.Mathlib.Omega.{arith}
 use Rattle.ordering.specs.Laws.Sorted.{taken-of, free-of}
 use Rattle.measuring.specs.Names.{is-repeated}
 use Rattle.measuring.specs.Laws.Names.{entered}
@@ -6,41 +5,12 @@ use borrow.Author.Needs.{needs}
 use Rattle.measuring.proofs.names.enter.Statement.{statement}
 use Rattle.measuring.proofs.names.enter.Tie as tie
 
-place-requires : tie.Need-place-requires
-place-requires c κs = search needs
-
-enum-told : tie.Need-enum-told
-enum-told c = search needs
-
-enum-known-k : tie.Need-enum-known-k
-enum-known-k c = search needs
-
-make-room-requires : tie.Need-make-room-requires
-make-room-requires c κs =
+insert-requires : tie.Need-insert-requires
+insert-requires c κs =
     let c2 = c .before .before in
     let c4 = c2 .before .before in
     let c7 = c4 .before .before .before in
     (free-of (c4 .place .ensures) (c2 .k .given .1) .0, c7 .pre .2, c7 .pre .3 .long)
-
-mul-names : tie.Need-mul-names
-mul-names c =
-    let c3 = c .before .before .before in
-    let c5 = c3 .before .before in
-    let c8 = c5 .before .before .before in
-    omega (arith, free-of (c5 .place .ensures) (c3 .k .given .1) .0, c8 .pre .2)
-
-element-write-names : tie.Need-element-write-names
-element-write-names c =
-    let c3 = c .before .before .before in
-    let c5 = c3 .before .before in
-    let c8 = c5 .before .before .before in
-    omega (arith, free-of (c5 .place .ensures) (c3 .k .given .1) .0, c8 .pre .2)
-
-add-t12 : tie.Need-add-t12
-add-t12 c = search needs
-
-returns : tie.Need-returns
-returns c = is-repeated (taken-of (c .before .before .place .ensures) (c .enum-told .given .1))
 
 returns-2 : tie.Need-returns-2
 returns-2 c =
@@ -48,18 +18,16 @@ returns-2 c =
     let c5 = c3 .before .before in
     let c8 = c5 .before .before .before in
     let f = free-of (c5 .place .ensures) (c3 .k .given .1) in
-    entered _ (c .make-room .ensures) (f .0) (c8 .pre .2) (c8 .pre .3) (c8 .pre .4) (f .1) (c8 .pre .1)
+    entered (c .insert .ensures) (c8 .pre .2) (c8 .pre .3) (c8 .pre .4) (f .1) (c8 .pre .1)
 
 pub enter-spec : {M : Type 1} → statement M
 enter-spec =
     tie.close
     (tie.spec
-    place-requires
-    enum-told
-    enum-known-k
-    make-room-requires
-    mul-names
-    element-write-names
-    add-t12
-    returns
+    (λ c κs. search needs)
+    (λ c. search needs)
+    (λ c. search needs)
+    insert-requires
+    (λ c. search needs)
+    (λ c. is-repeated (taken-of (c .before .before .place .ensures) (c .enum-told .given .1)))
     returns-2)

@@ -1,7 +1,7 @@
 use borrow.Author.Needs.{needs}
 use native.Mathlib.Omega.{arith}
 use mathlib.Core.Path.{_≡_}
-use Prim.Native.Nat.{_+_, _-_, _/_, _≤_}
+use Prim.Native.Nat.{_-_, _≤_}
 use Rattle.layout.specs.Layout.{nodes}
 use Rattle.ordering.specs.Sorted.{Between, is-free}
 use Rattle.ordering.specs.Laws.Sorted.{between-start, turn-before, turn-behind, turn-same}
@@ -29,13 +29,6 @@ mul-other c = omega (arith, c .before .before .before .pre .2 .room)
 
 element-copy-out-other : tie.Need-element-copy-out-other Inv-loop μ-loop
 element-copy-out-other c = omega (arith, c .before .before .before .pre .2 .room)
-
-cast-other : tie.Need-cast-other Inv-loop μ-loop
-cast-other c =
-    let c2 = c .before .before in
-    let c4 = c2 .before .before in
-    let m = (c2 .loop .low + c2 .loop .high) / 2 in
-    omega (arith, c4 .pre .2 .inside m (search needs), c4 .pre .0 .many, c4 .pre .0 .room)
 
 order-requires : tie.Need-order-requires Inv-loop μ-loop
 order-requires c κs =
@@ -102,7 +95,6 @@ place-spec =
     add-middle
     mul-other
     element-copy-out-other
-    cast-other
     order-requires
     enum-told
     returns

@@ -50,8 +50,8 @@ sub-begin c =
     (c4 .equals .ensures) in
     quoted-inside read .0
 
-add-content : tie.Need-add-content
-add-content c = search needs
+sub-content : tie.Need-sub-content
+sub-content c = search needs
 
 content-requires : tie.Need-content-requires
 content-requires c κs =
@@ -61,7 +61,7 @@ content-requires c κs =
     let read = subst (λ (r : Equals). EqualsRead (args .s .now) (c9 .name .result .at) r) (c .before .before .q .given .1)
     (c4 .equals .ensures) in
     let x = quoted-inside read in
-    (x .1, search needs, x .2)
+    (x .1, x .2)
 
 returns-4 : tie.Need-returns-4
 returns-4 c =
@@ -99,7 +99,7 @@ attribute-spec =
     enum-known-j
     enum-known-q
     sub-begin
-    add-content
+    sub-content
     content-requires
     returns-4
     returns-5)

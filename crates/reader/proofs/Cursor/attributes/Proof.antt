@@ -18,12 +18,12 @@ use Rattle.reader.proofs.Cursor.attributes.Statement.{statement}
 use Rattle.reader.proofs.Cursor.attributes.Tie as tie
 
 abbrev Inv-loop : tie.InvT-loop
-Inv-loop s names₀ lo nodes i₀ count₀ n₀ names i count n =
-    (i₀ ≤ i) × (i ≤ length s) × (nodes ≤ n) × (n ≤ 1024) × (lo + count + 1 ≤ n) × Placed s names (lo + count) × Kept lo names₀ names
-    × AttributesTo s names lo count i₀ nodes i n × (length names ≡ 1024) × Increasing (attribute-names s names lo) count
+Inv-loop s names₀ lo spare i₀ count₀ n₀ names i count n =
+    (i₀ ≤ i) × (i ≤ length s) × (n ≤ spare) × (lo + count + 1 + n ≤ 1024) × Placed s names (lo + count) × Kept lo names₀ names
+    × AttributesTo s names lo count i₀ spare i n × (length names ≡ 1024) × Increasing (attribute-names s names lo) count
 
 abbrev μ-loop : tie.MeasureT-loop
-μ-loop s names₀ lo nodes i₀ count₀ n₀ names i count n = length s - i
+μ-loop s names₀ lo spare i₀ count₀ n₀ names i count n = length s - i
 
 loop-holds : tie.Need-loop-holds Inv-loop μ-loop
 loop-holds c =
@@ -32,11 +32,10 @@ loop-holds c =
       search needs,
       search needs,
       search needs,
-      search needs,
-      placed-at _ _ _ _ (omega arith) (pre .3),
+      placed-at _ _ _ _ (omega arith) (pre .2),
       kept-same _ _,
       attributes-start _ _ _ _ _,
-      pre .4,
+      pre .3,
       increasing-none _,
     )
 
@@ -51,9 +50,9 @@ returns c =
     let args = c .before .before .before .before .before .before .args in
     let loop = c .before .before .before .before .loop in
     let part = c .before .before .before .part in (
-      attributes-wrong _ _ _ _ _ _ _ _ (loop .inv .7) (loop .inv .0) (loop .inv .2) (loop .inv .3)
+      attributes-wrong _ _ _ _ _ _ _ _ (loop .inv .6) (loop .inv .0) (loop .inv .2)
           (subst (λ (r : Part). TagRead (args .s .now) behind-part (loop .i) r) (c .before .j .given .1) (part .ensures)),
-      loop .inv .6,
+      loop .inv .5,
     )
 
 enum-known-c : tie.Need-enum-known-c Inv-loop μ-loop
@@ -64,9 +63,9 @@ returns-2 c =
     let args = c .before .before .before .before .before .before .args in
     let loop = c .before .before .before .before .loop in
     let part = c .before .before .before .part in (
-      attributes-open _ _ _ _ _ _ _ _ (loop .inv .7) (loop .inv .0) (loop .inv .2) (loop .inv .3)
+      attributes-open _ _ _ _ _ _ _ _ (loop .inv .6) (loop .inv .0) (loop .inv .2)
           (subst (λ (r : Part). TagRead (args .s .now) behind-part (loop .i) r) (c .before .c .given .1) (part .ensures)),
-      loop .inv .6,
+      loop .inv .5,
     )
 
 enum-known-c-2 : tie.Need-enum-known-c-2 Inv-loop μ-loop
@@ -77,9 +76,9 @@ returns-3 c =
     let args = c .before .before .before .before .before .before .args in
     let loop = c .before .before .before .before .loop in
     let part = c .before .before .before .part in (
-      attributes-empty _ _ _ _ _ _ _ _ (loop .inv .7) (loop .inv .0) (loop .inv .2) (loop .inv .3)
+      attributes-empty _ _ _ _ _ _ _ _ (loop .inv .6) (loop .inv .0) (loop .inv .2)
           (subst (λ (r : Part). TagRead (args .s .now) behind-part (loop .i) r) (c .before .c2 .given .1) (part .ensures)),
-      loop .inv .6,
+      loop .inv .5,
     )
 
 enum-known-c-3 : tie.Need-enum-known-c-3 Inv-loop μ-loop
@@ -89,11 +88,11 @@ attribute-requires : tie.Need-attribute-requires Inv-loop μ-loop
 attribute-requires c κs =
     let c5 = c .before .before .before .before .before in
     let loop = c5 .loop in (
-      attribute-here _ (loop .inv .3) (c .before .before .before .before .part .ensures) (c .before .before .c3 .given .1) .0,
+      attribute-here (c .before .before .before .before .part .ensures) (c .before .before .c3 .given .1) .0,
       search needs,
-      loop .inv .5,
-      loop .inv .9,
+      loop .inv .4,
       loop .inv .8,
+      loop .inv .7,
     )
 
 enum-known-x : tie.Need-enum-known-x Inv-loop μ-loop
@@ -106,9 +105,9 @@ returns-4 c =
     let c8 = c6 .before .before in
     let inv = c8 .before .loop .inv in
     let read = c3 .attribute .ensures in (
-      attributes-bad _ _ _ _ _ _ _ _ (inv .7) (inv .0) (inv .2) (inv .3) (c8 .part .ensures)
+      attributes-bad _ _ _ _ _ _ _ _ (inv .6) (inv .0) (inv .2) (c8 .part .ensures)
           (c6 .c3 .given .1) read (c .before .x .given .1),
-      kept-less _ _ _ _ _ (inv .6) (read .kept) (omega arith),
+      kept-less _ _ _ _ _ (inv .5) (read .kept) (omega arith),
     )
 
 enum-known-next : tie.Need-enum-known-next Inv-loop μ-loop
@@ -123,7 +122,7 @@ loop-less c =
     let c6 = c3 .before .before .before in
     let c8 = c6 .before .before in
     let inv = c8 .before .loop .inv in
-    let a = attribute-behind _ _ _ _ _ _ _ _ (inv .7) (inv .0) (inv .2) (inv .3) (c8 .part .ensures) (c6 .c3 .given .1)
+    let a = attribute-behind _ _ _ _ _ _ _ _ (inv .6) (inv .0) (inv .2) (c8 .part .ensures) (c6 .c3 .given .1)
     (c3 .attribute .ensures) (c .before .next .given .1) in
     omega (arith, a .0, a .1, a .2)
 
@@ -137,17 +136,16 @@ loop-again c =
     let read = c3 .attribute .ensures in
     let here = c6 .c3 .given .1 in
     let next = c .before .next .given .1 in
-    let a = attribute-behind _ _ _ _ _ _ _ _ (inv .7) (inv .0) (inv .2) (inv .3) part here read next in
-    let e = attribute-entered _ _ _ _ _ _ _ _ (inv .7) (inv .0) (inv .2) (inv .3) part here read next in (
+    let a = attribute-behind _ _ _ _ _ _ _ _ (inv .6) (inv .0) (inv .2) part here read next in
+    let e = attribute-entered _ _ _ _ _ _ _ _ (inv .6) (inv .0) (inv .2) part here read next in (
       omega (arith, a .0, a .1),
       a .2,
       omega (arith, a .3),
-      a .4,
       omega (arith, a .3),
       placed-at _ _ _ _ (omega arith) (e .placed),
-      kept-less _ _ _ _ _ (inv .6) (read .kept) (omega arith),
-      attributes-turn _ _ _ _ _ _ _ _ (inv .7) (inv .0) (inv .2) (inv .3) part here read next,
-      read .kept .as-long ∙ inv .8,
+      kept-less _ _ _ _ _ (inv .5) (read .kept) (omega arith),
+      attributes-turn _ _ _ _ _ _ _ _ (inv .6) (inv .0) (inv .2) part here read next,
+      read .kept .as-long ∙ inv .7,
       e .added .sorted,
     )
 

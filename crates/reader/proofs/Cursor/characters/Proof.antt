@@ -13,10 +13,10 @@ use Rattle.reader.proofs.Cursor.characters.Statement.{statement}
 use Rattle.reader.proofs.Cursor.characters.Tie as tie
 
 abbrev Inv-loop : tie.InvT-loop
-Inv-loop s stop nodes i₀ count₀ k₀ i count k = (i₀ ≤ i) × (i ≤ length s) × (count ≤ 32) × CharactersTo s stop nodes i₀ k count i
+Inv-loop s stop spare i₀ count₀ k₀ i count k = (i₀ ≤ i) × (i ≤ length s) × (count ≤ 32) × CharactersTo s stop spare i₀ k count i
 
 abbrev μ-loop : tie.MeasureT-loop
-μ-loop s stop nodes i₀ count₀ k₀ i count k = length s - i
+μ-loop s stop spare i₀ count₀ k₀ i count k = length s - i
 
 loop-holds : tie.Need-loop-holds Inv-loop μ-loop
 loop-holds c = (search needs, search needs, search needs, characters-start _ _ _ _)
@@ -30,7 +30,7 @@ add-t16 c = search needs
 returns : tie.Need-returns Inv-loop μ-loop
 returns c =
     let loop = c .before .before .before .loop in
-    characters-stop _ _ _ _ _ _ _ (search needs) (loop .inv .3) (search needs) _ (loop .inv .0) (c .if1 .taken) (loop .inv .2) refl
+    characters-stop _ _ _ _ _ _ _ (loop .inv .3) (search needs) _ (loop .inv .0) (c .if1 .taken) (loop .inv .2) refl
 
 may-stand-requires : tie.Need-may-stand-requires Inv-loop μ-loop
 may-stand-requires c κs = search needs
@@ -39,7 +39,7 @@ returns-2 : tie.Need-returns-2 Inv-loop μ-loop
 returns-2 c =
     let loop = c .before .before .before .before .before .loop in
     let if1 = c .before .before .if1 in
-    characters-wrong _ _ _ _ _ _ _ (search needs) (loop .inv .3) (search needs) (if1 .left) (sym (c .before .may-stand .ensures) ∙ not-true _ (c .if2 .taken))
+    characters-wrong _ _ _ _ _ _ _ (loop .inv .3) (search needs) (if1 .left) (sym (c .before .may-stand .ensures) ∙ not-true _ (c .if2 .taken))
 
 returns-3 : tie.Need-returns-3 Inv-loop μ-loop
 returns-3 c =
@@ -47,7 +47,7 @@ returns-3 c =
     let if1 = c .before .before .before .if1 in
     let may-stand = c .before .before .may-stand in
     let if2 = c .before .if2 in
-    characters-full _ _ _ _ _ _ _ (search needs) (loop .inv .3) (search needs) (if1 .left)
+    characters-full _ _ _ _ _ _ _ (loop .inv .3) (search needs) (if1 .left)
     (sym (may-stand .ensures) ∙ not-false _ (if2 .left)) (c .if3 .taken)
 
 add-i : tie.Need-add-i Inv-loop μ-loop
@@ -71,7 +71,7 @@ loop-again c =
       search needs,
       search needs,
       rw (c .brackets-after .ensures)
-          (characters-turn _ _ _ _ _ _ _ (search needs) (loop .inv .3) (search needs) (c₄ .before .if1 .left) stands (search needs)
+          (characters-turn _ _ _ _ _ _ _ (loop .inv .3) (search needs) (c₄ .before .if1 .left) stands (search needs)
           (one-byte {c = record { at = loop .i + 1 }} (c .before .if4 .taken) refl)),
     )
 
@@ -96,7 +96,7 @@ returns-4 c =
     let args = c₇ .before .before .before .before .before .before .args in
     let name = entity-at (drop (loop .i + 1) (args .s .now)) in
     let r = subst (λ (r : Reference). Refers (args .s .now) (loop .i + 1) name r) (j .given .1) (reference .ensures) in
-    characters-lost _ _ _ _ _ _ _ (search needs) (loop .inv .3) (search needs) (c₇ .before .if1 .left) stands (search needs)
+    characters-lost _ _ _ _ _ _ _ (loop .inv .3) (search needs) (c₇ .before .if1 .left) stands (search needs)
     (by-reference (if4 .left) r)
 
 enum-known-behind : tie.Need-enum-known-behind Inv-loop μ-loop
@@ -137,12 +137,12 @@ loop-again-2 c =
       omega (arith, y .0),
       y .1,
       search needs,
-      characters-reference _ _ _ _ _ _ _ (search needs) (loop .inv .3) (search needs) (c₇ .before .if1 .left) stands
+      characters-reference _ _ _ _ _ _ _ (loop .inv .3) (search needs) (c₇ .before .if1 .left) stands
           (search needs) a r,
     )
 
 returns-5 : tie.Need-returns-5 Inv-loop μ-loop
-returns-5 c = characters-end _ _ _ _ _ _ _ (search needs) (c .before .loop .inv .3) (search needs)
+returns-5 c = characters-end _ _ _ _ _ _ _ (c .before .loop .inv .3) (search needs)
 
 pub characters-spec : {M : Type 1} → statement M
 characters-spec =

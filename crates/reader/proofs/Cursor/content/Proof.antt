@@ -6,7 +6,7 @@ use Rattle.reader.proofs.Cursor.content.Statement.{statement}
 use Rattle.reader.proofs.Cursor.content.Tie as tie
 
 returns : tie.Need-returns
-returns c = content-end _ _ _ _ (search needs) (search needs)
+returns c = content-end _ _ _ _ (search needs)
 
 shared-slice-read-b : tie.Need-shared-slice-read-b
 shared-slice-read-b c = search needs
@@ -15,7 +15,7 @@ add-t12 : tie.Need-add-t12
 add-t12 c = search needs
 
 returns-2 : tie.Need-returns-2
-returns-2 c = content-empty _ _ _ _ (search needs) (search needs) _ (c .if2 .taken) refl
+returns-2 c = content-empty _ _ _ _ (search needs) _ (c .if2 .taken) refl
 
 may-stand-requires : tie.Need-may-stand-requires
 may-stand-requires c κs = search needs
@@ -24,18 +24,18 @@ returns-3 : tie.Need-returns-3
 returns-3 c =
     let if2 = c .before .before .if2 in
     let may-stand = c .before .may-stand in
-    content-wrong _ _ _ _ (search needs) (search needs) (if2 .left) (sym (may-stand .ensures) ∙ not-true _ (c .if3 .taken))
+    content-wrong _ _ _ _ (search needs) (if2 .left) (sym (may-stand .ensures) ∙ not-true _ (c .if3 .taken))
 
 returns-4 : tie.Need-returns-4
 returns-4 c =
     let if2 = c .before .before .before .if2 in
     let may-stand = c .before .before .may-stand in
     let if3 = c .before .if3 in
-    content-many _ _ _ _ (search needs) (search needs) (if2 .left) (sym (may-stand .ensures) ∙ not-false _ (if3 .left))
+    content-many _ _ _ _ (search needs) (if2 .left) (sym (may-stand .ensures) ∙ not-false _ (if3 .left))
     (c .if4 .taken) _ (search needs)
 
-add-characters : tie.Need-add-characters
-add-characters c = search needs
+sub-characters : tie.Need-sub-characters
+sub-characters c = search needs
 
 characters-requires : tie.Need-characters-requires
 characters-requires c κs = search needs
@@ -45,7 +45,7 @@ returns-5 c =
     let if2 = c .before .before .before .before .if2 in
     let may-stand = c .before .before .before .may-stand in
     let if3 = c .before .before .if3 in
-    content-rest _ _ _ _ (search needs) (search needs) (if2 .left) (sym (may-stand .ensures) ∙ not-false _ (if3 .left)) (search needs) (c .characters .ensures)
+    content-rest _ _ _ _ (search needs) (if2 .left) (sym (may-stand .ensures) ∙ not-false _ (if3 .left)) (search needs) (c .characters .ensures)
 
 pub content-spec : {M : Type 1} → statement M
 content-spec =
@@ -58,6 +58,6 @@ content-spec =
     may-stand-requires
     returns-3
     returns-4
-    add-characters
+    sub-characters
     characters-requires
     returns-5)

@@ -45,7 +45,7 @@ returns c =
     let j = c .before .j in
     let open-name = name-at (a .s .now) (getD (a .names .now) (a .depth - 1) 0) in
     let read = subst (λ (r : End). EndRead (a .s .now) open-name (a .self .at + 1) r) (j .given .1) (end-tag .ensures) in
-    end-wrong (a .s .now) (a .names .now) (a .depth) (a .nodes) (a .self .at) (pre .2) (pre .0) (pre .1) read
+    end-wrong (a .s .now) (a .names .now) (a .depth) (a .spare) (a .self .at) (pre .2) (pre .0) (pre .1) read
 
 returns-2 : tie.Need-returns-2
 returns-2 c =
@@ -55,7 +55,7 @@ returns-2 c =
     let c-here = c .before .c in
     let open-name = name-at (a .s .now) (getD (a .names .now) (a .depth - 1) 0) in
     let read = subst (λ (r : End). EndRead (a .s .now) open-name (a .self .at + 1) r) (c-here .given .1) (end-tag .ensures) in
-    end-right (a .s .now) (a .names .now) (a .depth) (a .nodes) (a .self .at) (pre .2) (pre .0) (pre .1) read
+    end-right (a .s .now) (a .names .now) (a .depth) (a .spare) (a .self .at) (pre .2) (pre .0) (pre .1) read
 
 pub end-spec : {M : Type 1} → statement M
 end-spec =

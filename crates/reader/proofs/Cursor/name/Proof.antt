@@ -20,8 +20,8 @@ loop-holds c = (search needs, run-start _ _ _)
 shared-slice-read-b : tie.Need-shared-slice-read-b Inv-loop μ-loop
 shared-slice-read-b c = search needs
 
-is-name-byte-requires : tie.Need-is-name-byte-requires Inv-loop μ-loop
-is-name-byte-requires c κs = search needs
+name-byte-requires : tie.Need-name-byte-requires Inv-loop μ-loop
+name-byte-requires c κs = search needs
 
 add-i : tie.Need-add-i Inv-loop μ-loop
 add-i c = search needs
@@ -32,8 +32,8 @@ loop-less c = search needs
 loop-again : tie.Need-loop-again Inv-loop μ-loop
 loop-again c =
     let l = c .before .before .before .before .loop in
-    let is-name-byte = c .before .is-name-byte in
-    (search needs, run-turn _ _ _ _ (l .inv .1) (search needs) (sym (is-name-byte .ensures) ∙ not-false _ (c .if1 .left)))
+    let name-byte = c .before .name-byte in
+    (search needs, run-turn _ _ _ _ (l .inv .1) (search needs) (sym (name-byte .ensures) ∙ not-false _ (c .if1 .left)))
 
 returns : tie.Need-returns Inv-loop μ-loop
 returns c = run-end _ _ _ _ (c .before .loop .inv .1) (search needs) (search needs)
@@ -41,8 +41,8 @@ returns c = run-end _ _ _ _ (c .before .loop .inv .1) (search needs) (search nee
 returns-2 : tie.Need-returns-2 Inv-loop μ-loop
 returns-2 c =
     let l = c .before .before .before .before .loop in
-    let is-name-byte = c .before .is-name-byte in
-    run-stop _ _ _ _ (l .inv .1) (search needs) (sym (is-name-byte .ensures) ∙ not-true _ (c .if1 .taken))
+    let name-byte = c .before .name-byte in
+    run-stop _ _ _ _ (l .inv .1) (search needs) (sym (name-byte .ensures) ∙ not-true _ (c .if1 .taken))
 
 pub name-spec : {M : Type 1} → statement M
 name-spec =
@@ -52,7 +52,7 @@ name-spec =
     μ-loop
     loop-holds
     shared-slice-read-b
-    is-name-byte-requires
+    name-byte-requires
     add-i
     loop-less
     loop-again

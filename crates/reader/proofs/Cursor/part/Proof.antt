@@ -35,15 +35,15 @@ returns-4 c =
     let if2 = c .before .before .if2 in
     part-joined _ _ _ (blanks .ensures) (if1 .left) (c .if4 .taken) (c .before .if3 .left) (if2 .left)
 
-is-name-start-requires : tie.Need-is-name-start-requires
-is-name-start-requires c κs = search needs
+name-start-requires : tie.Need-name-start-requires
+name-start-requires c κs = search needs
 
 returns-5 : tie.Need-returns-5
 returns-5 c =
     let blanks = c .before .before .before .before .before .before .before .blanks in
     let if1 = c .before .before .before .before .before .before .if1 in
     let if4 = c .before .before .if4 in
-    part-attribute _ _ _ (blanks .ensures) (if1 .left) (if4 .left) (sym (c .before .is-name-start .ensures) ∙ c .if5 .taken) _ refl
+    part-attribute _ _ _ (blanks .ensures) (if1 .left) (if4 .left) (sym (c .before .name-start .ensures) ∙ c .if5 .taken) _ refl
 
 returns-6 : tie.Need-returns-6
 returns-6 c =
@@ -52,7 +52,7 @@ returns-6 c =
     let if2 = c .before .before .before .before .if2 in
     let if3 = c .before .before .before .if3 in
     let if4 = c .before .before .if4 in
-    part-wrong _ _ _ (blanks .ensures) (if1 .left) (if4 .left) (if3 .left) (if2 .left) (sym (c .before .is-name-start .ensures) ∙ c .if5 .left)
+    part-wrong _ _ _ (blanks .ensures) (if1 .left) (if4 .left) (if3 .left) (if2 .left) (sym (c .before .name-start .ensures) ∙ c .if5 .left)
 
 pub part-spec : {M : Type 1} → statement M
 part-spec =
@@ -66,6 +66,6 @@ part-spec =
     slash-requires
     returns-3
     returns-4
-    is-name-start-requires
+    name-start-requires
     returns-5
     returns-6)

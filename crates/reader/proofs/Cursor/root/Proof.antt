@@ -25,8 +25,8 @@ returns-3 c = name-over _ _ _ (c .before .before .before .before .blanks .ensure
 shared-slice-read-b : tie.Need-shared-slice-read-b
 shared-slice-read-b c = search needs
 
-is-name-start-requires : tie.Need-is-name-start-requires
-is-name-start-requires c κs = search needs
+name-start-requires : tie.Need-name-start-requires
+name-start-requires c κs = search needs
 
 returns-4 : tie.Need-returns-4
 returns-4 c =
@@ -34,7 +34,7 @@ returns-4 c =
     let if1 = c .before .before .before .before .before .before .if1 in
     let if2 = c .before .before .before .before .if2 in
     let if3 = c .before .before .before .if3 in
-    name-right _ _ _ (blanks .ensures) (if1 .left) (if2 .left) (if3 .left) _ (sym (c .before .is-name-start .ensures) ∙ c .if4 .taken) refl
+    name-right _ _ _ (blanks .ensures) (if1 .left) (if2 .left) (if3 .left) _ (sym (c .before .name-start .ensures) ∙ c .if4 .taken) refl
 
 returns-5 : tie.Need-returns-5
 returns-5 c =
@@ -42,7 +42,7 @@ returns-5 c =
     let if1 = c .before .before .before .before .before .before .if1 in
     let if2 = c .before .before .before .before .if2 in
     let if3 = c .before .before .before .if3 in
-    name-wrong _ _ _ (blanks .ensures) (if1 .left) (if2 .left) (if3 .left) (sym (c .before .is-name-start .ensures) ∙ c .if4 .left)
+    name-wrong _ _ _ (blanks .ensures) (if1 .left) (if2 .left) (if3 .left) (sym (c .before .name-start .ensures) ∙ c .if4 .left)
 
 pub root-spec : {M : Type 1} → statement M
 root-spec =
@@ -55,6 +55,6 @@ root-spec =
     add-name
     returns-3
     shared-slice-read-b
-    is-name-start-requires
+    name-start-requires
     returns-4
     returns-5)

@@ -4,7 +4,7 @@ use Rattle.reader.specs.declared.Tag.{Tag}
 use borrow.Author.Tests.{not-true, not-false}
 use native.Mathlib.Omega.{arith}
 use mathlib.Core.Path.{sym, _∙_, subst}
-use Prim.Native.Nat.{_+_}
+use Prim.Native.Nat.{_-_}
 use borrow.Author.Needs.{needs}
 use Rattle.reader.proofs.Cursor.tag.Statement.{statement}
 use Rattle.reader.proofs.Cursor.tag.Tie as tie
@@ -13,7 +13,7 @@ returns : tie.Need-returns
 returns c =
     let a = c .before .before .args in
     let pre = c .before .before .pre in
-    tag-end (a .s .now) (a .names .now) (a .depth) (a .nodes) (a .self .at) (pre .1) (c .if1 .taken)
+    tag-end (a .s .now) (a .names .now) (a .depth) (a .spare) (a .self .at) (pre .1) (c .if1 .taken)
 
 shared-slice-read-b : tie.Need-shared-slice-read-b
 shared-slice-read-b c = search needs
@@ -24,8 +24,8 @@ end-requires c κs = search needs
 returns-2 : tie.Need-returns-2
 returns-2 c = search needs
 
-is-name-start-requires : tie.Need-is-name-start-requires
-is-name-start-requires c κs = search needs
+name-start-requires : tie.Need-name-start-requires
+name-start-requires c κs = search needs
 
 returns-3 : tie.Need-returns-3
 returns-3 c =
@@ -33,9 +33,9 @@ returns-3 c =
     let pre = c .before .before .before .before .before .before .pre in
     let if1 = c .before .before .before .before .if1 in
     let if2 = c .before .before .if2 in
-    let is-name-start = c .before .is-name-start in
-    tag-wrong (a .s .now) (a .names .now) (a .depth) (a .nodes) (a .self .at) (pre .1) (if1 .left) (if2 .left)
-    (sym (is-name-start .ensures) ∙ not-true _ (c .if3 .taken))
+    let name-start = c .before .name-start in
+    tag-wrong (a .s .now) (a .names .now) (a .depth) (a .spare) (a .self .at) (pre .1) (if1 .left) (if2 .left)
+    (sym (name-start .ensures) ∙ not-true _ (c .if3 .taken))
 
 sub-t20 : tie.Need-sub-t20
 sub-t20 c = search needs
@@ -45,25 +45,24 @@ returns-4 c =
     let a = c .before .before .before .before .before .before .before .args in
     let pre = c .before .before .before .before .before .before .before .pre in
     let if1 = c .before .before .before .before .before .if1 in
-    let is-name-start = c .before .before .is-name-start in
+    let name-start = c .before .before .name-start in
     let if3 = c .before .if3 in
-    start-many (a .s .now) (a .names .now) (a .depth) (a .nodes) (a .self .at) (pre .1) (if1 .left)
-    (sym (is-name-start .ensures) ∙ not-false _ (if3 .left)) (pre .0) (c .if4 .taken)
+    start-many (a .s .now) (a .names .now) (a .depth) (a .spare) (a .self .at) (pre .1) (if1 .left)
+    (sym (name-start .ensures) ∙ not-false _ (if3 .left)) (pre .0) (c .if4 .taken)
 
-add-start-tag : tie.Need-add-start-tag
-add-start-tag c = search needs
+sub-start-tag : tie.Need-sub-start-tag
+sub-start-tag c = search needs
 
 start-tag-requires : tie.Need-start-tag-requires
 start-tag-requires c κs =
     let pre = c .before .before .before .before .before .before .before .before .pre in
     let if1 = c .before .before .before .before .before .before .if1 in
-    let is-name-start = c .before .before .before .is-name-start in
+    let name-start = c .before .before .before .name-start in
     let if3 = c .before .before .if3 in
     let if4 = c .before .if4 in
     let d = pre .1 in (
-      record { inside = if1 .left; starts = sym (is-name-start .ensures) ∙ not-false _ (if3 .left) },
-      omega (arith, d .room),
-      omega (arith, d .few, if4 .left),
+      record { inside = if1 .left; starts = sym (name-start .ensures) ∙ not-false _ (if3 .left) },
+      omega (arith, d .room, if4 .left),
       d .names,
       d .long,
     )
@@ -85,39 +84,39 @@ returns-5 c =
     let a = c .before .before .before .before .before .before .before .before .before .before .before .before .args in
     let pre = c .before .before .before .before .before .before .before .before .before .before .before .before .pre in
     let if1 = c .before .before .before .before .before .before .before .before .before .before .if1 in
-    let is-name-start = c .before .before .before .before .before .before .before .is-name-start in
+    let name-start = c .before .before .before .before .before .before .before .name-start in
     let if3 = c .before .before .before .before .before .before .if3 in
     let if4 = c .before .before .before .before .before .if4 in
     let start-tag = c .before .before .before .start-tag in
-    start-opened (a .s .now) (a .names .now) (a .depth) (a .nodes) (a .self .at) (pre .1) (if1 .left) (sym (is-name-start .ensures) ∙ not-false _ (if3 .left))
-    (omega (arith, if4 .left, pre .1 .few)) _ (start-tag .ensures .1) (start-tag .ensures .2)
-    (subst (λ (r : Tag). ElementRead (a .s .now) (a .self .at) (a .nodes + 1) r) (c .before .c .given .1) (start-tag .ensures .0))
+    start-opened (a .s .now) (a .names .now) (a .depth) (a .spare) (a .self .at) (pre .1) (if1 .left) (sym (name-start .ensures) ∙ not-false _ (if3 .left))
+    (search needs) _ (start-tag .ensures .1) (start-tag .ensures .2)
+    (subst (λ (r : Tag). ElementRead (a .s .now) (a .self .at) (a .spare - 1) r) (c .before .c .given .1) (start-tag .ensures .0))
 
 returns-6 : tie.Need-returns-6
 returns-6 c =
     let a = c .before .before .before .before .before .before .before .before .before .before .before .before .args in
     let pre = c .before .before .before .before .before .before .before .before .before .before .before .before .pre in
     let if1 = c .before .before .before .before .before .before .before .before .before .before .if1 in
-    let is-name-start = c .before .before .before .before .before .before .before .is-name-start in
+    let name-start = c .before .before .before .before .before .before .before .name-start in
     let if3 = c .before .before .before .before .before .before .if3 in
     let if4 = c .before .before .before .before .before .if4 in
     let start-tag = c .before .before .before .start-tag in
-    start-emptied (a .s .now) (a .names .now) (a .depth) (a .nodes) (a .self .at) (pre .1) (if1 .left) (sym (is-name-start .ensures) ∙ not-false _ (if3 .left))
-    (omega (arith, if4 .left, pre .1 .few)) _ (start-tag .ensures .1)
-    (subst (λ (r : Tag). ElementRead (a .s .now) (a .self .at) (a .nodes + 1) r) (c .before .c2 .given .1) (start-tag .ensures .0))
+    start-emptied (a .s .now) (a .names .now) (a .depth) (a .spare) (a .self .at) (pre .1) (if1 .left) (sym (name-start .ensures) ∙ not-false _ (if3 .left))
+    (search needs) _ (start-tag .ensures .1)
+    (subst (λ (r : Tag). ElementRead (a .s .now) (a .self .at) (a .spare - 1) r) (c .before .c2 .given .1) (start-tag .ensures .0))
 
 returns-7 : tie.Need-returns-7
 returns-7 c =
     let a = c .before .before .before .before .before .before .before .before .before .before .before .before .args in
     let pre = c .before .before .before .before .before .before .before .before .before .before .before .before .pre in
     let if1 = c .before .before .before .before .before .before .before .before .before .before .if1 in
-    let is-name-start = c .before .before .before .before .before .before .before .is-name-start in
+    let name-start = c .before .before .before .before .before .before .before .name-start in
     let if3 = c .before .before .before .before .before .before .if3 in
     let if4 = c .before .before .before .before .before .if4 in
     let start-tag = c .before .before .before .start-tag in
-    start-broken (a .s .now) (a .names .now) (a .depth) (a .nodes) (a .self .at) (pre .1) (if1 .left) (sym (is-name-start .ensures) ∙ not-false _ (if3 .left))
-    (omega (arith, if4 .left, pre .1 .few)) _ (start-tag .ensures .1)
-    (subst (λ (r : Tag). ElementRead (a .s .now) (a .self .at) (a .nodes + 1) r) (c .before .x .given .1) (start-tag .ensures .0))
+    start-broken (a .s .now) (a .names .now) (a .depth) (a .spare) (a .self .at) (pre .1) (if1 .left) (sym (name-start .ensures) ∙ not-false _ (if3 .left))
+    (search needs) _ (start-tag .ensures .1)
+    (subst (λ (r : Tag). ElementRead (a .s .now) (a .self .at) (a .spare - 1) r) (c .before .x .given .1) (start-tag .ensures .0))
 
 pub tag-spec : {M : Type 1} → statement M
 tag-spec =
@@ -127,11 +126,11 @@ tag-spec =
     shared-slice-read-b
     end-requires
     returns-2
-    is-name-start-requires
+    name-start-requires
     returns-3
     sub-t20
     returns-4
-    add-start-tag
+    sub-start-tag
     start-tag-requires
     enum-known-c
     add-t24

@@ -25,8 +25,8 @@ add-peek c = search needs
 peek-requires : tie.Need-peek-requires
 peek-requires c κs = search needs
 
-is-name-byte-requires : tie.Need-is-name-byte-requires
-is-name-byte-requires c κs = search needs
+name-byte-requires : tie.Need-name-byte-requires
+name-byte-requires c κs = search needs
 
 sub-if1 : tie.Need-sub-if1
 sub-if1 c = search needs
@@ -38,7 +38,7 @@ returns c =
     let c4 = c3 .before in
     let c7 = c4 .before .before .before in
     name-longer (c7 .args .s .now) _ _ _ _ (c7 .pre .2) (c4 .agreement .ensures) (c .before .if1 .taken)
-    (ap name-byte (sym (c3 .peek .ensures)) ∙ sym (c2 .is-name-byte .ensures) ∙ c .if2 .taken)
+    (ap name-byte (sym (c3 .peek .ensures)) ∙ sym (c2 .name-byte .ensures) ∙ c .if2 .taken)
 
 returns-2 : tie.Need-returns-2
 returns-2 c =
@@ -47,7 +47,7 @@ returns-2 c =
     let c4 = c3 .before in
     let c7 = c4 .before .before .before in
     name-same (c7 .args .s .now) _ _ _ _ (c7 .pre .2) (c4 .agreement .ensures) (c .before .if1 .taken)
-    (ap name-byte (sym (c3 .peek .ensures)) ∙ sym (c2 .is-name-byte .ensures) ∙ c .if2 .left)
+    (ap name-byte (sym (c3 .peek .ensures)) ∙ sym (c2 .name-byte .ensures) ∙ c .if2 .left)
 
 returns-3 : tie.Need-returns-3
 returns-3 c =
@@ -56,7 +56,7 @@ returns-3 c =
     let c4 = c3 .before in
     let c7 = c4 .before .before .before in
     name-shorter (c7 .args .s .now) _ _ _ _ (c7 .pre .2) (c4 .agreement .ensures) (c .before .if1 .left)
-    (ap name-byte (sym (c3 .peek .ensures)) ∙ sym (c2 .is-name-byte .ensures) ∙ not-true _ (c .if3 .taken))
+    (ap name-byte (sym (c3 .peek .ensures)) ∙ sym (c2 .name-byte .ensures) ∙ not-true _ (c .if3 .taken))
 
 add-if4 : tie.Need-add-if4
 add-if4 c = search needs
@@ -73,7 +73,7 @@ returns-4 c =
     let c6 = c5 .before in
     let c9 = c6 .before .before .before in
     name-smaller (c9 .args .s .now) _ _ _ _ (c9 .pre .2) (c6 .agreement .ensures) (c3 .if1 .left)
-    (ap name-byte (sym (c5 .peek .ensures)) ∙ sym (c4 .is-name-byte .ensures) ∙ not-false _ (c2 .if3 .left))
+    (ap name-byte (sym (c5 .peek .ensures)) ∙ sym (c4 .name-byte .ensures) ∙ not-false _ (c2 .if3 .left))
     (omega (arith, c .if4 .taken, c5 .peek .ensures))
 
 returns-5 : tie.Need-returns-5
@@ -85,7 +85,7 @@ returns-5 c =
     let c6 = c5 .before in
     let c9 = c6 .before .before .before in
     name-greater (c9 .args .s .now) _ _ _ _ (c9 .pre .2) (c6 .agreement .ensures) (c3 .if1 .left)
-    (ap name-byte (sym (c5 .peek .ensures)) ∙ sym (c4 .is-name-byte .ensures) ∙ not-false _ (c2 .if3 .left))
+    (ap name-byte (sym (c5 .peek .ensures)) ∙ sym (c4 .name-byte .ensures) ∙ not-false _ (c2 .if3 .left))
     (omega (arith, c .if4 .left, c5 .peek .ensures))
 
 pub order-spec : {M : Type 1} → statement M
@@ -98,7 +98,7 @@ order-spec =
     agreement-requires
     add-peek
     peek-requires
-    is-name-byte-requires
+    name-byte-requires
     sub-if1
     returns
     returns-2
