@@ -7,7 +7,7 @@ use lib.ListN.{length, drop}
 use Rattle.tree.specs.Content.{content-limit}
 use Rattle.tree.specs.Document.{lines}
 use Rattle.protocol.specs.State.{tree-of}
-use Rattle.protocol.specs.Calls.{loadable, Input, unreadable, stands-for}
+use Rattle.protocol.specs.Calls.{loadable, Input, unreadable, stands-for, node-limit}
 use Rattle.layout.specs.Flat.{flat}
 use Rattle.layout.specs.Layout.{state-size, is-open, nodes, Layout}
 use Rattle.xml.specs.Shape.{Shape, size, longest, document}
@@ -20,7 +20,7 @@ pub record Stands (limit : ℕ) (x : List ℕ) (left : ℕ) : Type 0 where
   pub spelled : Spells x shape
   pub few : suc (size shape) ≤ limit
   pub short : longest shape ≤ content-limit
-  pub fits : loadable (document shape) ≡ true
+  pub fits : loadable node-limit (document shape) ≡ true
   pub nodes : left + length (lines (document shape)) ≡ limit
   pub only : (i : Input) → ReadsWithin limit x i → i ≡ stands-for (document shape) fits
 

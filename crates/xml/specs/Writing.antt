@@ -10,7 +10,7 @@ use Rattle.tree.specs.Forest.{nil, node}
 use Rattle.tree.specs.Content.{element-kind, attribute-kind, text-kind}
 use Rattle.tree.specs.Document.{Document}
 use Rattle.xml.specs.Bytes.{line-feed, quotation-mark, ampersand, less-than, greater-than, amp, gt, lt, quot, used, long-declaration}
-use Rattle.protocol.specs.Calls.{loadable, stands-for}
+use Rattle.protocol.specs.Calls.{loadable, stands-for, node-limit}
 use Rattle.xml.specs.Shape.{Label, Shape, shape, document}
 use Rattle.xml.specs.Reading.{input-limit, ReadsAs}
 
@@ -106,5 +106,5 @@ renumbered d = document (below (shape d))
 -- "reading back what was written gives the same tree but for node numbers"
 pub record ReadBack (d : Document) : Type 0 where
   pub same-tree : shape (renumbered d) ≡ shape d
-  pub is-loadable : loadable (renumbered d) ≡ true
+  pub is-loadable : loadable node-limit (renumbered d) ≡ true
   pub reads : ReadsAs (write d) (stands-for (renumbered d) is-loadable)

@@ -7,9 +7,9 @@ use lib.ListN.{length}
 use lib.Dec.{eqb, leb}
 use borrow.Author.Tests.{eqb-true, not-false}
 use Rattle.tree.specs.Forest.{nil, node, row, amend, view, put}
-use Rattle.tree.specs.Content.{element-kind, is-name, allowed, children-rule, attributes-first, insert-at}
+use Rattle.tree.specs.Content.{document-kind, element-kind, is-name, allowed, children-rule, attributes-first, insert-at}
 use Rattle.tree.specs.Document.{Node, Document, Line, lines, is, child, under, select, here, at, kinds, top-kinds, ruled, rooted, legal}
-use Rattle.tree.specs.Steps.{Step, U, D, I, UU, fits, after, placed, is-document, named, rewrite, remove}
+use Rattle.tree.specs.Steps.{Step, U, D, I, UU, fits, after, placed, named, rewrite, remove}
 use Rattle.tree.specs.Laws.Tests.{and-left, and-right, refuted}
 use Rattle.tree.specs.Laws.Rows.{self}
 use Rattle.commute.specs.Laws.Tests.{by-test}
@@ -36,14 +36,14 @@ rooted-insert a n k (node c ks nil) h = h
 rooted-insert a n k (node c ks (node e js fs)) h = h
 
 -- it is not removed
-rooted-remove : (x : ℕ) (d : Document) → Unique d → rooted d ≡ true → here x d ≡ true → is-document (at x d) ≡ false → rooted (remove x d) ≡ true
+rooted-remove : (x : ℕ) (d : Document) → Unique d → rooted d ≡ true → here x d ≡ true → eqb (at x d .it .kind) document-kind ≡ false → rooted (remove x d) ≡ true
 unfolding view
 rooted-remove x nil u h i e = h
 rooted-remove x (node a ks nil) u h i e = rw other h
   where
     other : eqb (a .number) x ≡ false
     other = refuted _ (λ q. true≢false (sym (and-right (eqb (a .number) 0) _ h)
-        ∙ ap (λ (r : Line). is-document r) (at-only (node a ks nil) u x i (row a []) (self refl) (eqb-true _ x q)) ∙ e))
+        ∙ ap (λ (r : Line). eqb (r .it .kind) document-kind) (at-only (node a ks nil) u x i (row a []) (self refl) (eqb-true _ x q)) ∙ e))
 rooted-remove x (node a ks (node c js fs)) u h i e = absurd (false≢true h)
 
 -- the rules of contents and children ------------------------------------------------------------------

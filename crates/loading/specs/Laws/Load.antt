@@ -44,7 +44,7 @@ replaced {s = s} e k f = record {
 
 -- the function `load` -------------------------------------------------------------------------
 
-legal-of : (d : Document) → loadable d ≡ true → legal d ≡ true
+legal-of : (d : Document) → loadable node-limit d ≡ true → legal d ≡ true
 unfolding loadable
 legal-of d h = and-left (legal d) _ (and-left (legal d && leb (length (lines d)) node-limit) _ h)
 

@@ -137,7 +137,7 @@ lines-length f =
     ∙ length-from 0 (suc (size f + 0)) ∙ omega arith
 
 -- THE THEOREM
-pub spelled-loadable : {s : List ℕ} {f : Shape} → Spells s f → suc (size f) ≤ node-limit → longest f ≤ content-limit → loadable (document f) ≡ true
+pub spelled-loadable : {s : List ℕ} {f : Shape} → Spells s f → suc (size f) ≤ node-limit → longest f ≤ content-limit → loadable node-limit (document f) ≡ true
 unfolding loadable legal lines size numbered
 spelled-loadable {s} {f} x few short =
     let p : numbers (lines (document f)) ≡ from 0 (suc (size f + 0)) = numbers-from [] 0 (node (record { kind = 1; content = [] }) f nil) in

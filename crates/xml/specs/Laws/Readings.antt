@@ -46,9 +46,9 @@ module _ {limit : ℕ} {s : List ℕ} {d : Document} (x : Accepted limit s d) wh
   no-fault (long-content {i = i} h) = let k = h .forced (drop (suc i) s) (x .shape) (parsed (suc i)) in omega (arith, x .short-contents)
   no-fault (many-nodes {i = i} h) = let k = h .forced (drop (suc i) s) (x .shape) (parsed (suc i)) in omega (arith, x .few-nodes)
 
-same-input : {d e : Document} (h : loadable d ≡ true) (k : loadable e ≡ true) → d ≡ e → stands-for d h ≡ stands-for e k
+same-input : {d e : Document} (h : loadable node-limit d ≡ true) (k : loadable node-limit e ≡ true) → d ≡ e → stands-for d h ≡ stands-for e k
 same-input {d} {e} h k p =
-    pathJ (λ e p. (k : loadable e ≡ true) → stands-for d h ≡ stands-for e k) (λ k. ap (stands-for d) (Bool-set (loadable d) true h k)) p k
+    pathJ (λ e p. (k : loadable node-limit e ≡ true) → stands-for d h ≡ stands-for e k) (λ k. ap (stands-for d) (Bool-set (loadable node-limit d) true h k)) p k
 
 -- NO INPUT reads as two things
 pub one-reading : {limit : ℕ} {s : List ℕ} {x y : Input} → ReadsWithin limit s x → ReadsWithin limit s y → x ≡ y
@@ -65,7 +65,7 @@ one-reading (refused {cause = c} {offset = i} f g) (refused {cause = d} {offset 
 -- a limit that leaves room for a root element, within what a state holds
 module _ (limit : ℕ) (some : 2 ≤ limit) (few : limit ≤ node-limit) (s : List ℕ) where
   -- the document of a verdict
-  pub faultless-loadable : {left : ℕ} (m : Faultless limit s left) → loadable (document (m .shape)) ≡ true
+  pub faultless-loadable : {left : ℕ} (m : Faultless limit s left) → loadable node-limit (document (m .shape)) ≡ true
   faultless-loadable m = spelled-loadable (m .spelled) (omega (arith, m .nodes)) (m .short-contents)
 
   reading-by : (v : Verdict) → Means limit s v → (x : Input) × ReadsWithin limit s x
@@ -95,12 +95,12 @@ module _ (limit : ℕ) (some : 2 ≤ limit) (few : limit ≤ node-limit) (s : Li
   taken v m (refused f g) = tt
 
   -- ACCEPTED exactly if spelled within the limits
-  pub accepted-iff : (d : Document) (h : loadable d ≡ true) → ReadsWithin limit s (stands-for d h) ↔ Accepted limit s d
+  pub accepted-iff : (d : Document) (h : loadable node-limit d ≡ true) → ReadsWithin limit s (stands-for d h) ↔ Accepted limit s d
   accepted-iff d h = (taken (judgement limit s) (judgement-means limit some s), back)
     where
       back : Accepted limit s d → ReadsWithin limit s (stands-for d h)
       back x =
-          let k : loadable (document (x .shape)) ≡ true = subst (λ (e : Document). loadable e ≡ true) (x .stands) h in
+          let k : loadable node-limit (document (x .shape)) ≡ true = subst (λ (e : Document). loadable node-limit e ≡ true) (x .stands) h in
           subst (ReadsWithin limit s) (same-input k h (sym (x .stands))) (accepted (x .spelled) (λ c i. no-fault x) k)
 
 -- where 1,024 may be held
