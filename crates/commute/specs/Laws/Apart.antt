@@ -48,7 +48,8 @@ module _ (d : Document) (u : Unique d) where
   Clear-of children n x = (has x (n ∷ path n d) ≡ false) × (leads n (path x d) ≡ false)
   Clear-of subtree n x = (has x (n ∷ path n d) ≡ false) × (has n (x ∷ path x d) ≡ false)
 
-  pub clear-of : (q : Reach) (n x : ℕ) → here n d ≡ true → here x d ≡ true → Clear-of q n x → (r : Line) → Of r d → within q n r ≡ true → under x r ≡ false
+  pub clear-of : (q : Reach) (n x : ℕ) → here n d ≡ true → here x d ≡ true → Clear-of q n x → (r : Line) → Of r d → within q n r ≡ true
+      → under x r ≡ false
   clear-of itself n x hn hx c = not-under n x hn c
   clear-of children n x hn hx c = child-not-under n x hn hx (c .0) (c .1)
   clear-of subtree n x hn hx c = under-not-under n x hn hx (c .0) (c .1)

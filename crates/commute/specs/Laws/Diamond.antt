@@ -15,8 +15,10 @@ use Rattle.locks.specs.Needs.{needs, locks}
 use Rattle.locks.specs.Laws.Compatible.{Compatible, compatible-symmetric, new-locked, off-path}
 use Rattle.locks.specs.Laws.Excludes.{LW-excludes}
 use Rattle.commute.specs.Laws.Lines.{Of, Unique, at-line, line-here, in-remove}
-use Rattle.commute.specs.Laws.Views.{itself, within, reach, within-by-number, Same, rewrite-shapes, insert-whole, shapes-some, shapes-above}
-use Rattle.commute.specs.Laws.Classes.{Rewriting, Class, reading, rewriting, removing, inserting, class, touched, written, after-rewriting}
+use Rattle.commute.specs.Laws.Views.{itself, within, reach, within-by-number, Same, rewrite-shapes, insert-whole, shapes-some}
+use Rattle.commute.specs.Laws.Views.{shapes-above}
+use Rattle.commute.specs.Laws.Classes.{Rewriting, Class, reading, rewriting, removing, inserting, class, touched, written}
+use Rattle.commute.specs.Laws.Classes.{after-rewriting}
 use Rattle.commute.specs.Laws.Classes.{touched-within, write, Absent}
 use Rattle.commute.specs.Laws.Apart.{path, path-of}
 use Rattle.commute.specs.Laws.Edits.{remove-rewrite, remove-remove, rewrite-rewrite, rewrite-insert, remove-insert, insert-insert}
@@ -26,7 +28,8 @@ module _ (d : Document) (u : Unique d) where
   module _ (s : Step) (hs : here (target s) d ≡ true) {p : Step} (w : Rewriting p) (hp : here (target p) d ≡ true)
       (c : Compatible (needs s d) (needs p d)) where
     two-rewrites : (v : Rewriting s)
-        → rewrite (touched v) (written v) (rewrite (touched w) (written w) d) ≡ rewrite (touched w) (written w) (rewrite (touched v) (written v) d)
+        → rewrite (touched v) (written v) (rewrite (touched w) (written w) d) ≡ rewrite (touched w) (written w)
+        (rewrite (touched v) (written v) d)
     two-rewrites v = rewrite-rewrite (touched v) (written v) (touched w) (written w) d (λ r m. go r m (within (reach s) (target s) r) refl)
       where
         -- outside a step's reach no line is touched, whatever its content
@@ -54,7 +57,8 @@ module _ (d : Document) (u : Unique d) where
 
     remove-and-insert : (x : ℕ) → here x d ≡ true → Compatible (needs (D x) d) (needs (I m kind b n k) d)
         → remove x (after (I m kind b n k) d) ≡ after (I m kind b n k) (remove x d)
-    remove-and-insert x hx c = remove-insert x (record { number = m; kind = kind; content = b }) n k d (other d u (D x) hx m kind b n k hn hm c)
+    remove-and-insert x hx c = remove-insert x (record { number = m; kind = kind; content = b }) n k d
+        (other d u (D x) hx m kind b n k hn hm c)
         (λ r o e. rw (path-of d u x hx r o e) (clear-of-removal d u (I m kind b n k) hn x hx (compatible-symmetric _ _ c) .1))
 
     two-inserts : (m' kind' : ℕ) (b' : List ℕ) (n' k' : ℕ) → fits (I m' kind' b' n' k') d ≡ true
@@ -64,26 +68,32 @@ module _ (d : Document) (u : Unique d) where
         let hn' = fits-here (I m' kind' b' n' k') d h in
         let hm' = fits-absent (I m' kind' b' n' k') d h m' (rw (eq-eqb m' m' refl)) in
         insert-insert (record { number = m'; kind = kind'; content = b' }) (record { number = m; kind = kind; content = b }) n' n k' k d
-        (other d u (I m kind b n k) hn m' kind' b' n' k' hn' hm' (compatible-symmetric _ _ c)) (other d u (I m' kind' b' n' k') hn' m kind b n k hn hm c)
+        (other d u (I m kind b n k) hn m' kind' b' n' k' hn' hm' (compatible-symmetric _ _ c))
+        (other d u (I m' kind' b' n' k') hn' m kind b n k hn hm c)
         (eqb-flip n n' (new-line-unseen d u (I m' kind' b' n' k') hn' m kind b n k hn hm c))
 
   -- either order, one document
-  pub commute : (p s : Step) → fits p d ≡ true → fits s d ≡ true → Compatible (needs s d) (needs p d) → after s (after p d) ≡ after p (after s d)
+  pub commute : (p s : Step) → fits p d ≡ true → fits s d ≡ true → Compatible (needs s d) (needs p d)
+      → after s (after p d) ≡ after p (after s d)
   commute p s g h c = go (class p) (class s) g h c
     where
-      go : {p s : Step} → Class p → Class s → fits p d ≡ true → fits s d ≡ true → Compatible (needs s d) (needs p d) → after s (after p d) ≡ after p (after s d)
+      go : {p s : Step} → Class p → Class s → fits p d ≡ true → fits s d ≡ true → Compatible (needs s d) (needs p d)
+          → after s (after p d) ≡ after p (after s d)
       go {p} {s} (reading e b) k g h c = rw (e d, e (after s d))
       go {p} {s} (rewriting w) (reading e b) g h c = rw (e d, e (after p d))
-      go {p} {s} (rewriting w) (rewriting v) g h c = simp (after-rewriting v, after-rewriting w) (two-rewrites s (fits-here s d h) w (fits-here p d g) c v)
+      go {p} {s} (rewriting w) (rewriting v) g h c = simp (after-rewriting v, after-rewriting w)
+          (two-rewrites s (fits-here s d h) w (fits-here p d g) c v)
       go {p} {s} (rewriting w) (removing x) g h c = simp (after-rewriting w) (remove-rewrite x (touched w) (written w) d)
       go {p} {s} (rewriting w) (inserting m kind b n k) g h c =
           simp (after-rewriting w) (sym (rewrite-and-insert m kind b n k h w (fits-here p d g) (compatible-symmetric _ _ c)))
       go {p} {s} (removing x) (reading e b) g h c = rw (e d, e (after p d))
       go {p} {s} (removing x) (rewriting v) g h c = simp (after-rewriting v) (sym (remove-rewrite x (touched v) (written v) d))
       go {p} {s} (removing x) (removing y) g h c = remove-remove y x d
-      go {p} {s} (removing x) (inserting m kind b n k) g h c = sym (remove-and-insert m kind b n k h x (fits-here (D x) d g) (compatible-symmetric _ _ c))
+      go {p} {s} (removing x) (inserting m kind b n k) g h c = sym
+          (remove-and-insert m kind b n k h x (fits-here (D x) d g) (compatible-symmetric _ _ c))
       go {p} {s} (inserting m kind b n k) (reading e _) g h c = rw (e d, e (after p d))
-      go {p} {s} (inserting m kind b n k) (rewriting v) g h c = simp (after-rewriting v) (rewrite-and-insert m kind b n k g v (fits-here s d h) c)
+      go {p} {s} (inserting m kind b n k) (rewriting v) g h c = simp (after-rewriting v)
+          (rewrite-and-insert m kind b n k g v (fits-here s d h) c)
       go {p} {s} (inserting m kind b n k) (removing x) g h c = remove-and-insert m kind b n k g x (fits-here (D x) d h) c
       go {p} {s} (inserting m kind b n k) (inserting m' kind' b' n' k') g h c = two-inserts m kind b n k g m' kind' b' n' k' h c
 
@@ -96,8 +106,11 @@ module _ (d : Document) (u : Unique d) where
           → (here (target s) d ≡ true) × (path (target s) (after p d) ≡ path (target s) d)
       go (reading e b) g h c = (rw (e d) at h, rw (e d))
       go (rewriting w) g h c =
-          let i = rewrite-shapes (touched w) (written w) (is (target s)) (within-by-number itself (target s)) d in
-          (sym (shapes-some (is (target s)) d _ i) ∙ (rw (after-rewriting w d) at h), rw (after-rewriting w d) (shapes-above (is (target s)) d _ i))
+          let i = rewrite-shapes (touched w) (written w) (is (target s)) (within-by-number itself (target s)) d in (
+            sym (shapes-some (is (target s)) d _ i) ∙ (rw (after-rewriting w d) at h),
+            rw (after-rewriting w d)
+                (shapes-above (is (target s)) d _ i),
+          )
       go (removing x) g h c =
           let a = at-line (target s) (remove x d) h in
           let i = in-remove x d {r = at (target s) (remove x d)} (a .0) in
@@ -107,7 +120,8 @@ module _ (d : Document) (u : Unique d) where
           let o =
           off-path m (LW ∷ []) (needs (I m kind b n k) d) (new-locked (I m kind b n k) (path n d) m (rw (eq-eqb m m refl))) s _
           (compatible-symmetric _ _ c) (LW-excludes s) in
-          let i = insert-whole (record { number = m; kind = kind; content = b }) n k (is (target s)) d (λ r o' e. eqb-flip (target s) m (or-left _ _ o)) in
+          let i = insert-whole (record { number = m; kind = kind; content = b }) n k (is (target s)) d
+          (λ r o' e. eqb-flip (target s) m (or-left _ _ o)) in
           (sym (ap some? i) ∙ h, ap (λ (l : List Line). first l .above) i)
 
   -- s after p without a clash, and what it inserts absent before: s could go first, and all is the same
@@ -117,7 +131,8 @@ module _ (d : Document) (u : Unique d) where
     pub second-same : Same p d (after s d)
     pub one-document : after s (after p d) ≡ after p (after s d)
 
-  pub swap : (p s : Step) → fits p d ≡ true → fits s (after p d) ≡ true → Absent s d → Compatible (needs s (after p d)) (needs p d) → Swapped p s
+  pub swap : (p s : Step) → fits p d ≡ true → fits s (after p d) ≡ true → Absent s d → Compatible (needs s (after p d)) (needs p d)
+      → Swapped p s
   swap p s g h a c =
       let b = back p s g (fits-here s (after p d) h) c in
       let c' : Compatible (needs s d) (needs p d) = rw (ap (locks s) (b .1)) at c in

@@ -14,13 +14,16 @@ use Rattle.tree.specs.Laws.Tests.{and-left, and-right, or-left, or-right, refut
 use Rattle.tree.specs.Laws.Lists.{at-any, has-in, eqb-flip}
 use Rattle.locks.specs.Modes.{LW, clash}
 use Rattle.locks.specs.Needs.{need, needs}
-use Rattle.locks.specs.Laws.Compatible.{Compatible, compatible-symmetric, excludes, node-locked, new-locked, off-node, off-parent, off-path, off-new}
+use Rattle.locks.specs.Laws.Compatible.{Compatible, compatible-symmetric, excludes, node-locked, new-locked, off-node, off-parent, off-path}
+use Rattle.locks.specs.Laws.Compatible.{off-new}
 use Rattle.locks.specs.Laws.Excludes.{LW-excludes}
 use Rattle.commute.specs.Laws.Lines.{Of, Unique, not-here, insert}
-use Rattle.commute.specs.Laws.Views.{Reach, itself, children, subtree, within, reach, within-by-number, Whole, whole-shapes, Views, Same}
+use Rattle.commute.specs.Laws.Views.{Reach, itself, children, subtree, within, reach, within-by-number, Whole, whole-shapes, Views}
+use Rattle.commute.specs.Laws.Views.{Same}
 use Rattle.commute.specs.Laws.Views.{views-same, rewrite-shapes}
 use Rattle.commute.specs.Laws.Views.{rewrite-whole, remove-whole, insert-whole, shapes-some}
-use Rattle.commute.specs.Laws.Classes.{Rewriting, Class, reading, rewriting, removing, inserting, class, touched, written, after-rewriting}
+use Rattle.commute.specs.Laws.Classes.{Rewriting, Class, reading, rewriting, removing, inserting, class, touched, written}
+use Rattle.commute.specs.Laws.Classes.{after-rewriting}
 use Rattle.commute.specs.Laws.Classes.{touched-within, Contents, reads-contents}
 use Rattle.commute.specs.Laws.Classes.{bars-removal, removal-barred, bars-insertion, insertion-barred, bars-writing, writing-barred}
 use Rattle.commute.specs.Laws.Classes.{Absent, new-need}
@@ -65,15 +68,24 @@ module _ (d : Document) (u : Unique d) where
   -- s against the removal of x
   module _ (s : Step) (hs : here (target s) d ≡ true) (x : ℕ) (hx : here x d ≡ true) (c : Compatible (needs s d) (needs (D x) d)) where
     off-removed : has x (target s ∷ path (target s) d) ≡ false
-    off-removed = off-path x (LW ∷ []) (needs (D x) d) (node-locked (D x) (path x d)) s (path (target s) d) (compatible-symmetric _ _ c) (LW-excludes s)
+    off-removed = off-path x (LW ∷ []) (needs (D x) d) (node-locked (D x) (path x d)) s (path (target s) d) (compatible-symmetric _ _ c)
+        (LW-excludes s)
 
     pub clear-of-removal : Clear-of d u (reach s) (target s) x
     clear-of-removal = go (reach s) (removal-barred s)
       where
         go : (q : Reach) → bars-removal q (need s) (need (D x)) ≡ true → Clear-of d u q (target s) x
         go itself e = off-removed
-        go children e = (off-removed, off-parent (target s) (need s .node) (needs s d) (node-locked s (path (target s) d)) (D x) (path x d) c e)
-        go subtree e = (off-removed, off-path (target s) (need s .node) (needs s d) (node-locked s (path (target s) d)) (D x) (path x d) c e)
+        go children e = (
+          off-removed,
+          off-parent (target s) (need s .node) (needs s d) (node-locked s (path (target s) d)) (D x)
+              (path x d) c e,
+        )
+        go subtree e = (
+          off-removed,
+          off-path (target s) (need s .node) (needs s d) (node-locked s (path (target s) d)) (D x)
+              (path x d) c e,
+        )
 
     views-removal : Absent s d → Views s d (remove x d)
     views-removal a = record {
@@ -102,13 +114,15 @@ module _ (d : Document) (u : Unique d) where
         go : (q : Reach) → bars-insertion q (need s) (need (I m kind b n k)) ≡ true → within q (target s) (row new (n ∷ path n d)) ≡ false
         go itself e = other
         go children e = off-node (target s) (need s .node) (needs s d) (node-locked s (path (target s) d)) (I m kind b n k) (path n d) c e
-        go subtree e = rw other (off-path (target s) (need s .node) (needs s d) (node-locked s (path (target s) d)) (I m kind b n k) (path n d) c e)
+        go subtree e = rw other (off-path (target s) (need s .node) (needs s d) (node-locked s (path (target s) d)) (I m kind b n k)
+            (path n d) c e)
 
     -- both bring in different numbers
     new-number : (q : ℕ) → has q (inserts s) ≡ true → eqb m q ≡ false
     unfolding clash
     new-number q i =
-        or-left _ _ (off-new q (need s .new) (needs s d) (new-locked s (path (target s) d) q i) (I m kind b n k) (path n d) c (rw (new-need s q i)))
+        or-left _ _ (off-new q (need s .new) (needs s d) (new-locked s (path (target s) d) q i) (I m kind b n k) (path n d) c
+        (rw (new-need s q i)))
 
     views-insertion : Views s d (insert new n k d)
     views-insertion = record {
@@ -125,7 +139,8 @@ module _ (d : Document) (u : Unique d) where
   module _ (s : Step) (hs : here (target s) d ≡ true) {p : Step} (w : Rewriting p) (hp : here (target p) d ≡ true)
       (c : Compatible (needs s d) (needs p d)) where
     off-s : excludes (need p .node) (need s) ≡ true → has (target p) (target s ∷ path (target s) d) ≡ false
-    off-s e = off-path (target p) (need p .node) (needs p d) (node-locked p (path (target p) d)) s (path (target s) d) (compatible-symmetric _ _ c) e
+    off-s e = off-path (target p) (need p .node) (needs p d) (node-locked p (path (target p) d)) s (path (target s) d)
+        (compatible-symmetric _ _ c) e
 
     off-p : excludes (need s .node) (need p) ≡ true → has (target s) (target p ∷ path (target p) d) ≡ false
     off-p e = off-path (target s) (need s .node) (needs s d) (node-locked s (path (target s) d)) p (path (target p) d) c e
@@ -145,7 +160,8 @@ module _ (d : Document) (u : Unique d) where
         go subtree itself e i = refuted _ (λ j. true≢false (sym i ∙ not-under d u (target p) (target s) hp (off-p e) r m j))
         go subtree children e i = absurd (false≢true e)
         go subtree subtree e i =
-            under-not-under d u (target s) (target p) hs hp (off-s (and-right (excludes (need s .node) (need p)) _ e)) (off-p (and-left _ _ e)) r m i
+            under-not-under d u (target s) (target p) hs hp (off-s (and-right (excludes (need s .node) (need p)) _ e))
+            (off-p (and-left _ _ e)) r m i
 
     views-rewriting : Views s d (rewrite (touched w) (written w) d)
     views-rewriting = record {
@@ -160,7 +176,8 @@ module _ (d : Document) (u : Unique d) where
   views-self s = record { node = refl; lines = refl; contents = λ e. refl; absent = λ m i. refl }
 
   -- after p, s sees what it saw
-  pub views-kept : (p s : Step) → fits p d ≡ true → here (target s) d ≡ true → Absent s d → Compatible (needs s d) (needs p d) → Views s d (after p d)
+  pub views-kept : (p s : Step) → fits p d ≡ true → here (target s) d ≡ true → Absent s d → Compatible (needs s d) (needs p d)
+      → Views s d (after p d)
   views-kept p s g h a c = go (class p) g c
     where
       go : {p : Step} → Class p → fits p d ≡ true → Compatible (needs s d) (needs p d) → Views s d (after p d)
@@ -170,5 +187,6 @@ module _ (d : Document) (u : Unique d) where
       go (inserting m kind b n k) g c =
           views-insertion s h m kind b n k (fits-here (I m kind b n k) d g) (fits-absent (I m kind b n k) d g m (rw (eq-eqb m m refl))) c
 
-  pub same-kept : (p s : Step) → fits p d ≡ true → here (target s) d ≡ true → Absent s d → Compatible (needs s d) (needs p d) → Same s d (after p d)
+  pub same-kept : (p s : Step) → fits p d ≡ true → here (target s) d ≡ true → Absent s d → Compatible (needs s d) (needs p d)
+      → Same s d (after p d)
   same-kept p s g h a c = views-same s d (after p d) (views-kept p s g h a c)

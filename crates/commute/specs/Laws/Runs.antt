@@ -87,7 +87,8 @@ abbrev pub Other-numbers : Entry → Entry → Type 0
 Other-numbers x y = (m : ℕ) → has m (inserts (x .step)) ≡ true → has m (inserts (y .step)) ≡ false
 
 pub clear-other-numbers : (x y : Entry) (d e : Document) → Valid x d → Valid y e → Clear x y → Other-numbers x y
-clear-other-numbers x y d e v w c = inserts-apart (x .step) (y .step) (at (target (x .step)) d .above) (at (target (y .step)) e .above) (rw (v .need, w .need) c)
+clear-other-numbers x y d e v w c = inserts-apart (x .step) (y .step) (at (target (x .step)) d .above) (at (target (y .step)) e .above)
+    (rw (v .need, w .need) c)
 
 -- no number is brought in twice within a log
 abbrev pub Brings-once : List Entry → Type 0
@@ -122,7 +123,8 @@ move-first d (y ∷ l) e s u r v f a =
     )
 
 -- two logs, one behind the other, could change places
-pub exchange : (d : Document) (l : List Entry) (e : Document) (k : List Entry) (h : Document) → Unique d → Run d l e → Run e k h → All-clear k l
+pub exchange : (d : Document) (l : List Entry) (e : Document) (k : List Entry) (h : Document) → Unique d → Run d l e → Run e k h
+    → All-clear k l
     → Brings-once k → All-absent k d
     → (c : Document) × Run d k c × Run c l h
 exchange d l e [] h u r s f o a = (d, refl, rw (← s) r)

@@ -21,7 +21,8 @@ use Rattle.commute.specs.Laws.Kept.{fits-absent}
 
 pub numbers-rewrite : (t : Line → Bool) (b : List ℕ) (d : Document) → numbers (lines (rewrite t b d)) ≡ numbers (lines d)
 numbers-rewrite t b d =
-    rw (lines-rewrite t b d) (map-map line-number (λ r. row (rewritten t b r) (r .above)) line-number (lines d) (λ r m. rewritten-number t b r))
+    rw (lines-rewrite t b d) (map-map line-number (λ r. row (rewritten t b r) (r .above)) line-number (lines d)
+    (λ r m. rewritten-number t b r))
 
 pub unique-rewrite : (t : Line → Bool) (b : List ℕ) (d : Document) → Unique d → Unique (rewrite t b d)
 unique-rewrite t b d u = rw (numbers-rewrite t b d) u
@@ -39,7 +40,9 @@ count-absent m d h = go (keep (is m) (lines d)) h
 
 pub unique-insert : (a : Node) (n k : ℕ) (d : Document) → Unique d → here (a .number) d ≡ false → Unique (insert a n k d)
 unfolding lines
-unique-insert a n k d u h = count-distinct line-number (lines (insert a n k d)) (λ q. by-test (eqb (a .number) q) (added q) (λ e. rw (put-kept (λ x. eqb (x .number) n) (λ x. true) k a number (is q) [] d (λ s m j. e)) (distinct-count line-number (lines d) u q)))
+unique-insert a n k d u h = count-distinct line-number (lines (insert a n k d))
+    (λ q. by-test (eqb (a .number) q) (added q) (λ e. rw (put-kept (λ x. eqb (x .number) n) (λ x. true) k a number (is q) [] d
+    (λ s m j. e)) (distinct-count line-number (lines d) u q)))
   where
     added : (q : ℕ) → eqb (a .number) q ≡ true → count (is q) (lines (insert a n k d)) ≤ 1
     added q e =

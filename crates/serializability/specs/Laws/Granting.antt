@@ -25,7 +25,15 @@ carried-by-mark : (c : Place → Marked) → ((r : Place) → c r .now .number �
     → ((r : Place) (a : Mode) → r .it .held u a ≡ true → c r .held u a ≡ true) → ((r : Place) → c r .inserter ≡ r .it .inserter)
     → (f : Tree) (r : Place) → Inside r f → Carried u (mark c f) r
 carried-by-mark c sn u sh si f r i =
-    record { place = marked c r; inside = mark-in c f i; number = sn r; above = marked-numbers c sn (r .above); held = sh r; inserter = λ e. si r ∙ e }
+    record {
+      place = marked c r;
+      inside = mark-in c f i;
+      number = sn r;
+      above = marked-numbers c sn
+          (r .above);
+      held = sh r;
+      inserter = λ e. si r ∙ e;
+    }
 
 act-carries : (t : ℕ) (s : Step) (u : ℕ) (f : Tree) (r : Place) → Inside r f → Carried u (act t s f) r
 act-carries t s u f r i = go (deed t s f)
@@ -43,19 +51,30 @@ act-carries t s u f r i = go (deed t s f)
 -- a lock of the list is granted on its node
 modes-granted : (ls : List Lock) (l : Lock) → List·Memᴰ l ls → modes-on ls (l .0) (l .1) ≡ true
 modes-granted [] l m = absurd (List·Memᴰ·not-nil m)
-modes-granted (x ∷ ls) l (List·Memᴰ·head e) = rw (eq-eqb (x .0) (l .0) (ap (λ (z : Lock). z .0) (sym e)), eq-eqb (index (l .1)) (index (x .1)) (ap (λ (z : Lock). index (z .1)) e))
+modes-granted (x ∷ ls) l (List·Memᴰ·head e) = rw (
+  eq-eqb (x .0) (l .0) (ap (λ (z : Lock). z .0) (sym e)),
+  eq-eqb (index (l .1))
+      (index (x .1)) (ap (λ (z : Lock). index (z .1)) e),
+)
 modes-granted (x ∷ ls) l (List·Memᴰ·tail m) = by-test (eqb (x .0) (l .0))
     (λ e. rw (e, modes-granted ls l m) (or-true (among (x .1 ∷ []) (l .1)))) (λ e. rw e (modes-granted ls l m))
 
 grant-carries : (t : ℕ) (ls : List Lock) (u : ℕ) (f : Tree) (r : Place) → Inside r f → Carried u (grant t ls f) r
 unfolding grant
-grant-carries t ls u f r i = carried-by-mark (λ x. granted-to t ls (x .it)) (λ x. refl) u (λ x a h. by-test (eqb u t) (λ e. rw (e, h)) (λ e. rw e h)) (λ x. refl) f r i
+grant-carries t ls u f r i = carried-by-mark (λ x. granted-to t ls (x .it)) (λ x. refl) u
+    (λ x a h. by-test (eqb u t) (λ e. rw (e, h)) (λ e. rw e h)) (λ x. refl) f r i
 
 -- t was granted the lock on its node
 grant-there : (t : ℕ) (ls : List Lock) (f : Tree) (l : Lock) → List·Memᴰ l ls → (r : Place) → Inside r f → number-of r ≡ l .0
     → (s : Place) × Inside s (grant t ls f) × (number-of s ≡ l .0) × (s .it .held t (l .1) ≡ true)
 unfolding grant
-grant-there t ls f l m r i e = (marked c r, mark-in c f i, e, rw (eq-eqb t t refl, e, modes-granted ls l m) (or-true (r .it .held t (l .1))))
+grant-there t ls f l m r i e = (
+  marked c r,
+  mark-in c f i,
+  e,
+  rw (eq-eqb t t refl, e, modes-granted ls l m)
+      (or-true (r .it .held t (l .1))),
+)
   where
     c : Place → Marked
     c x = granted-to t ls (x .it)
@@ -88,8 +107,14 @@ act-inserts t s m h f r i e = go (deed t s f) h e
     go (looks n) h e = absurd (false≢true (rw n at h))
     go (marks c k n) h e = absurd (false≢true (rw n at h))
     go (adds m' kind b n k) h e =
-        let new = new-node t m' kind b in
-        (row new (path r), put-new (numbered n) (seen-by t) k new (λ a. a) i (eq-eqb _ n e), sym (List·Memᴰ·eq-of-singleton (has-in m (m' ∷ []) h)), refl, refl)
+        let new = new-node t m' kind b in (
+          row new (path r),
+          put-new (numbered n) (seen-by t) k new (λ a. a) i (eq-eqb _ n e),
+          sym
+              (List·Memᴰ·eq-of-singleton (has-in m (m' ∷ []) h)),
+          refl,
+          refl,
+        )
 
 pub step-standing : (t : ℕ) (s : Step) (p : List ℕ) (f : Tree) (r : Place) → Inside r f → number-of r ≡ target s → numbers-of (r .above) ≡ p
     → Standing (after-step t s (locks s p) f) t s (locks s p)
@@ -108,7 +133,9 @@ step-standing t s p f r i e o = record {
     N : Carried t (after-step t s ls f) r
     N = step-carries t s ls t f r i
 
-    fresh : (m : ℕ) → has m (inserts s) ≡ true → (x : Place) × Inside x (after-step t s ls f) × (number-of x ≡ m) × (numbers-of (x .above) ≡ numbers-of (path (N .place))) × (x .it .inserter ≡ t)
+    fresh : (m : ℕ) → has m (inserts s) ≡ true
+        → (x : Place) × Inside x (after-step t s ls f) × (number-of x ≡ m) × (numbers-of (x .above) ≡ numbers-of (path (N .place))) ×
+        (x .it .inserter ≡ t)
     fresh m h =
         let a = act-inserts t s m h f r i e in
         let g = grant-carries t ls t (act t s f) (a .0) (a .1) in
@@ -141,7 +168,14 @@ act-places t s f r i = go (deed t s f) i
     go (looks e) i = inl (r, i, refl, refl, refl)
     go (marks c k e) i =
         let a = in-mark c f i in
-        inl (a .0, a .1, ap number-of (a .2) ∙ k .number (a .0), ap inserter-of (a .2) ∙ k .inserter (a .0), ap (λ (z : Place). z .it .held) (a .2) ∙ k .held (a .0))
+        inl (
+          a .0,
+          a .1,
+          ap number-of (a .2) ∙ k .number (a .0),
+          ap inserter-of (a .2) ∙ k .inserter (a .0),
+          ap
+              (λ (z : Place). z .it .held) (a .2) ∙ k .held (a .0),
+        )
     go (adds m kind b n k) i = ⊎-map (λ x. (r, x, refl, refl, refl)) (λ x. (rw (x .3, eq-eqb m m refl), rw (x .3), rw (x .3)))
         (in-put (numbered n) (seen-by t) k (new-node t m kind b) (λ a. a) [] f i)
 

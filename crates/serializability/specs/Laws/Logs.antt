@@ -16,7 +16,8 @@ module _ {X E : Type 0} (g : X → E) where
   abbrev pub read-off : Log X → Log E
   read-off L = record { first = L .first; committed = map (map g) (L .committed); open-log = λ u. map g (L .open-log u) }
 
-  map-log : (t : ℕ) (l : List X) (log : ℕ → List X) → _≡_ {A = ℕ → List E} (λ u. map g (with-log t l log u)) (with-log t (map g l) (λ u. map g (log u)))
+  map-log : (t : ℕ) (l : List X) (log : ℕ → List X) → _≡_ {A = ℕ → List E} (λ u. map g (with-log t l log u))
+      (with-log t (map g l) (λ u. map g (log u)))
   map-log t l log = fun-ext (λ u. by-test (eqb u t) (λ e. rw e) (λ e. rw e))
 
   if-read : (b : Bool) (L K : Log X) (L' : Log E) → read-off L ≡ L' → read-off (cond b L K) ≡ cond b L' (read-off K)

@@ -15,7 +15,8 @@ use Rattle.tree.specs.Laws.Rows.{Each, each-above}
 use Rattle.tree.specs.Laws.View.{in-view}
 use Rattle.locks.specs.Modes.{LU, LW, LUU}
 use Rattle.locks.specs.Needs.{Lock, need, locks, needs}
-use Rattle.locks.specs.Laws.Compatible.{Compatible, compatible-symmetric, All-locked, node-locked, clashing, excludes, off-node, off-parent, off-path}
+use Rattle.locks.specs.Laws.Compatible.{Compatible, compatible-symmetric, All-locked, node-locked, clashing, excludes, off-node, off-parent}
+use Rattle.locks.specs.Laws.Compatible.{off-path}
 use Rattle.locks.specs.Laws.Excludes.{LW-excludes}
 use Rattle.commute.specs.Laws.Tests.{by-test, affirmed}
 use Rattle.commute.specs.Laws.Lines.{at-line}
@@ -60,7 +61,8 @@ module _ (holds : ℕ → List Lock) where
   Author u inserted n q = (inserted ≡ true) ⊎ (Within (locks (U n []) q) (holds u) ⊎ Renames u (n ∷ q))
 
   abbrev pub Authored : Marked → List Marked → Type 0
-  Authored a p = (u : ℕ) → (u ≡ nobody → ⊥) → eqb (writer-of (a .update)) u ≡ true → Author u (eqb (a .inserter) u) (a .now .number) (numbers-of p)
+  Authored a p = (u : ℕ) → (u ≡ nobody → ⊥) → eqb (writer-of (a .update)) u ≡ true → Author u (eqb (a .inserter) u) (a .now .number)
+      (numbers-of p)
 
   pub record Covered (f : Tree) : Type 0 where
     pub distinct : Distinct f
@@ -99,7 +101,8 @@ module _ (holds : ℕ → List Lock) (f : Tree) (cov : Covered holds f) (t : ℕ
   unfolding callers-document
   target-place =
       let a = at-line n₀ (callers-document t f) hs in
-      let v = in-view (λ x. x) (seen-by t) (seen-by t) (λ x. refl) (λ x. x .now) (λ x. x .number) (λ x. x .now .number) (λ x. refl) [] f refl (a .0) in
+      let v = in-view (λ x. x) (seen-by t) (seen-by t) (λ x. refl) (λ x. x .now) (λ x. x .number) (λ x. x .now .number) (λ x. refl)
+      [] f refl (a .0) in
       (v .0, v .1, sym (ap (λ (x : Line). x .it .number) (v .3)) ∙ a .1, sym (ap (λ (x : Line). x .above) (v .3)), v .2)
 
   pub above-is : (r : Place) → Inside r f → number-of r ≡ n₀ → numbers-of (r .above) ≡ P
@@ -120,9 +123,11 @@ module _ (holds : ℕ → List Lock) (f : Tree) (cov : Covered holds f) (t : ℕ
       let w = foreign t a e in
       let locked : All-locked (a .now .number) (LW ∷ []) (holds (w .0)) =
       λ m i. g (w .0) (w .1) (w .3) (a .now .number, m) (node-locked (D (a .now .number)) (numbers-of p) m i) in
-      true≢false (sym h ∙ off-path (a .now .number) (LW ∷ []) (holds (w .0)) locked s P (compatible-symmetric _ _ (compat (w .0) (w .2))) (LW-excludes s)))
+      true≢false (sym h ∙ off-path (a .now .number) (LW ∷ []) (holds (w .0)) locked s P (compatible-symmetric _ _ (compat (w .0) (w .2)))
+      (LW-excludes s)))
 
-  own-all : (l : List Marked) → Each (λ a. a) Known l → ((q : ℕ) → has q (numbers-of l) ≡ true → has q (n₀ ∷ P) ≡ true) → every (own t) l ≡ true
+  own-all : (l : List Marked) → Each (λ a. a) Known l → ((q : ℕ) → has q (numbers-of l) ≡ true → has q (n₀ ∷ P) ≡ true)
+      → every (own t) l ≡ true
   own-all [] g h = refl
   own-all (a ∷ p) g h = rw (
     own-here a p (g .0 .0) (h (a .now .number) (rw (eq-eqb (a .now .number) (a .now .number) refl))),
@@ -133,7 +138,8 @@ module _ (holds : ℕ → List Lock) (f : Tree) (cov : Covered holds f) (t : ℕ
   own-node r i e = own-all (path r) (known r i) (λ q h. rw (e, above-is r i e) at h)
 
   -- where the node is locked so that it takes no insertion or deletion of a child
-  pub own-child : clashing (need s .node) (need (D 0) .parent) ≡ true → (r : Place) → Inside r f → leads n₀ (numbers-of (r .above)) ≡ true → every (own t) (path r) ≡ true
+  pub own-child : clashing (need s .node) (need (D 0) .parent) ≡ true → (r : Place) → Inside r f → leads n₀ (numbers-of (r .above)) ≡ true
+      → every (own t) (path r) ≡ true
   own-child c r i h = go (r .above) h (known r i)
     where
       go : (o : List Marked) → leads n₀ (numbers-of o) ≡ true → Each (λ a. a) Known (r .it ∷ o) → every (own t) (r .it ∷ o) ≡ true
@@ -164,7 +170,8 @@ module _ (holds : ℕ → List Lock) (f : Tree) (cov : Covered holds f) (t : ℕ
 
   -- where nobody else can have written, t wrote, or nobody
   writer-local : (r : Place) → Inside r f → own t (r .it) ≡ true → ((u : ℕ) → (u ≡ t → ⊥) → Renames holds u (numbers-of (path r)) → ⊥)
-      → ((u : ℕ) → (u ≡ t → ⊥) → Within (locks (U (number-of r) []) (numbers-of (r .above))) (holds u) → ⊥) → local t (writer-of (r .it .update)) ≡ true
+      → ((u : ℕ) → (u ≡ t → ⊥) → Within (locks (U (number-of r) []) (numbers-of (r .above))) (holds u) → ⊥)
+      → local t (writer-of (r .it .update)) ≡ true
   writer-local r i o x y = affirmed _ (λ e.
       let p = eqb-false u nobody (or-left _ _ e) in
       case p (eqb-false u t (or-right (eqb u nobody) _ e)) (cov .authored r i u p (eq-eqb u u refl)))
@@ -182,29 +189,37 @@ module _ (holds : ℕ → List Lock) (f : Tree) (cov : Covered holds f) (t : ℕ
   module _ (c : excludes (LUU ∷ []) (need s) ≡ true) where
     -- nobody else holds LUU on the node or above
     no-LUU : (u : ℕ) → (u ≡ t → ⊥) → (q : ℕ) (p : List ℕ) → Within (locks (UU q [] []) p) (holds u) → has q (n₀ ∷ P) ≡ false
-    no-LUU u ne q p w = off-path q (LUU ∷ []) (holds u) (λ m i. w (q, m) (node-locked (UU q [] []) p m i)) s P (compatible-symmetric _ _ (compat u ne)) c
+    no-LUU u ne q p w = off-path q (LUU ∷ []) (holds u) (λ m i. w (q, m) (node-locked (UU q [] []) p m i)) s P
+        (compatible-symmetric _ _ (compat u ne)) c
 
     renames-above : (u : ℕ) → (u ≡ t → ⊥) → (l : List ℕ) → Renames holds u l → ((q : ℕ) → has q l ≡ true → has q (n₀ ∷ P) ≡ true) → ⊥
     renames-above u ne [] w h = w
     renames-above u ne (q ∷ l) (inl w) h = true≢false (sym (h q (rw (eq-eqb q q refl))) ∙ no-LUU u ne q l w)
     renames-above u ne (q ∷ l) (inr w) h = renames-above u ne l w (λ x i. h x (rw (i, or-true (eqb q x))))
 
-    pub writer-node : clashing (need s .node) (LU ∷ []) ≡ true → (r : Place) → Inside r f → number-of r ≡ n₀ → local t (writer-of (r .it .update)) ≡ true
+    pub writer-node : clashing (need s .node) (LU ∷ []) ≡ true → (r : Place) → Inside r f → number-of r ≡ n₀
+        → local t (writer-of (r .it .update)) ≡ true
     writer-node k r i e = writer-local r i (and-left _ _ (own-node r i e))
         (λ u ne w. renames-above u ne (numbers-of (path r)) w (λ q h. rw (e, above-is r i e) at h))
-        (λ u ne w. true≢false (sym (eq-eqb (number-of r) n₀ e) ∙ off-node n₀ (need s .node) (locks s P) (node-locked s P) (U (number-of r) []) (numbers-of (r .above))
+        (λ u ne w. true≢false (sym (eq-eqb (number-of r) n₀ e) ∙ off-node n₀ (need s .node) (locks s P) (node-locked s P)
+        (U (number-of r) []) (numbers-of (r .above))
         (compatible-within (locks s P) (holds u) _ (compat u ne) w) k))
 
-    module _ (cd : excludes (need s .node) (need (D 0)) ≡ true) (cu : excludes (need s .node) (need (U 0 [])) ≡ true) (cuu : excludes (need s .node) (need (UU 0 [] [])) ≡ true) where
-      renames-below : (u : ℕ) → (u ≡ t → ⊥) → (l : List Marked) → Renames holds u (numbers-of l) → Each (λ a. a) Known l → has n₀ (numbers-of l) ≡ true → ⊥
+    module _ (cd : excludes (need s .node) (need (D 0)) ≡ true) (cu : excludes (need s .node) (need (U 0 [])) ≡ true)
+        (cuu : excludes (need s .node) (need (UU 0 [] [])) ≡ true) where
+      renames-below : (u : ℕ) → (u ≡ t → ⊥) → (l : List Marked) → Renames holds u (numbers-of l) → Each (λ a. a) Known l
+          → has n₀ (numbers-of l) ≡ true → ⊥
       renames-below u ne [] w g h = w
       renames-below u ne (a ∷ p) (inl w) g h =
-          true≢false (sym h ∙ off-path n₀ (need s .node) (locks s P) (node-locked s P) (UU (a .now .number) [] []) (numbers-of p) (compatible-within (locks s P) (holds u) _ (compat u ne) w) cuu)
+          true≢false (sym h ∙ off-path n₀ (need s .node) (locks s P) (node-locked s P) (UU (a .now .number) [] []) (numbers-of p)
+          (compatible-within (locks s P) (holds u) _ (compat u ne) w) cuu)
       renames-below u ne (a ∷ p) (inr w) g h = ⊎-elim
-          (λ e. renames-above u ne (numbers-of p) w (λ q j. rw (← above-is (row a p) (g .0 .1) (eqb-true (a .now .number) n₀ e), j) (or-true (eqb n₀ q))))
+          (λ e. renames-above u ne (numbers-of p) w (λ q j. rw (← above-is (row a p) (g .0 .1) (eqb-true (a .now .number) n₀ e), j)
+          (or-true (eqb n₀ q))))
           (λ i. renames-below u ne p w (g .1) i) (or-cases (eqb (a .now .number) n₀) (has n₀ (numbers-of p)) h)
 
       pub writer-subtree : (r : Place) → Inside r f → has n₀ (numbers-of (path r)) ≡ true → local t (writer-of (r .it .update)) ≡ true
       writer-subtree r i h = writer-local r i (and-left _ _ (own-subtree cd r i h))
           (λ u ne w. renames-below u ne (path r) w (known r i) h)
-          (λ u ne w. true≢false (sym h ∙ off-path n₀ (need s .node) (locks s P) (node-locked s P) (U (number-of r) []) (numbers-of (r .above)) (compatible-within (locks s P) (holds u) _ (compat u ne) w) cu))
+          (λ u ne w. true≢false (sym h ∙ off-path n₀ (need s .node) (locks s P) (node-locked s P) (U (number-of r) [])
+          (numbers-of (r .above)) (compatible-within (locks s P) (holds u) _ (compat u ne) w) cu))

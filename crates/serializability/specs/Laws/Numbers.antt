@@ -46,7 +46,8 @@ held-place n f h =
 
 pub place-held : (n : ℕ) (f : Tree) {r : Place} → Inside r f → number-of r ≡ n → number-held n f ≡ true
 unfolding nodes
-place-held n f {r} i e = at-any (numbered n) (map (λ (x : Place). x .it) (rows (λ a. a) [] f)) (map-in (λ (x : Place). x .it) (to-rows (λ a. a) i)) (eq-eqb _ n e)
+place-held n f {r} i e = at-any (numbered n) (map (λ (x : Place). x .it) (rows (λ a. a) [] f))
+    (map-in (λ (x : Place). x .it) (to-rows (λ a. a) i)) (eq-eqb _ n e)
 
 -- a node of the tree, whose place is among the nodes
 pub place-node : (f : Tree) {r : Place} → Inside r f → List·Memᴰ (r .it) (nodes f)
@@ -95,7 +96,8 @@ module _ (stays : Marked → Bool) (g : Marked → Marked) where
   abbrev pub seen-as : Place → Place
   seen-as r = row (g (r .it)) (map g (r .above))
 
-  pub in-part : (f : Tree) {r : Place} → Inside r (view stays g f) → (s : Place) × Inside s f × (every stays (path s) ≡ true) × (r ≡ seen-as s)
+  pub in-part : (f : Tree) {r : Place} → Inside r (view stays g f)
+      → (s : Place) × Inside s f × (every stays (path s) ≡ true) × (r ≡ seen-as s)
   in-part f i = in-view (λ a. a) stays stays (λ a. refl) g (λ a. a) g (λ a. refl) [] f refl i
 
   pub part-in : (f : Tree) {s : Place} → Inside s f → every stays (path s) ≡ true → Inside (seen-as s) (view stays g f)
@@ -111,10 +113,13 @@ module _ (stays : Marked → Bool) (g : Marked → Marked) where
 
 -- a new node -------------------------------------------------------------------------------
 
-pub put-distinct : (n : ℕ) (counts : Marked → Bool) (k : ℕ) (new : Marked) (f : Tree) → Distinct f → number-held (new .now .number) f ≡ false → Distinct (put (numbered n) counts k new f)
+pub put-distinct : (n : ℕ) (counts : Marked → Bool) (k : ℕ) (new : Marked) (f : Tree) → Distinct f
+    → number-held (new .now .number) f ≡ false → Distinct (put (numbered n) counts k new f)
 unfolding Distinct
-put-distinct n counts k new f d h = count-distinct number-of (rows (λ a. a) [] (put (numbered n) counts k new f)) (λ x. by-test (eqb m x) (added x)
-    (λ e. rw (put-kept (numbered n) counts k new (λ a. a) (numbered-as x) [] f (λ r i q. e)) (distinct-count number-of (rows (λ a. a) [] f) d x)))
+put-distinct n counts k new f d h = count-distinct number-of (rows (λ a. a) [] (put (numbered n) counts k new f))
+    (λ x. by-test (eqb m x) (added x)
+    (λ e. rw (put-kept (numbered n) counts k new (λ a. a) (numbered-as x) [] f (λ r i q. e))
+    (distinct-count number-of (rows (λ a. a) [] f) d x)))
   where
     m : ℕ
     m = new .now .number
@@ -128,8 +133,10 @@ put-distinct n counts k new f d h = count-distinct number-of (rows (λ a. a) [] 
     added : (x : ℕ) → eqb m x ≡ true → count (numbered-as x) (rows (λ a. a) [] after) ≤ 1
     added x e =
         let one : count (numbered-as n) (rows (λ a. a) [] f) ≤ 1 = distinct-count number-of (rows (λ a. a) [] f) d n in
-        let more : count (numbered-as x) (rows (λ a. a) [] after) ≡ count (numbered-as n) (rows (λ a. a) [] f) + count (numbered-as x) (rows (λ a. a) [] f) =
+        let more : count (numbered-as x) (rows (λ a. a) [] after) ≡ count (numbered-as n) (rows (λ a. a) [] f) + count (numbered-as x)
+        (rows (λ a. a) [] f) =
         put-count (numbered n) counts k new (λ a. a) (numbered-as x) [] f (λ r i q. e) in
         let none : count (numbered-as x) (rows (λ a. a) [] f) ≡ 0 = ap length (keep-none (numbered-as x) (rows (λ a. a) [] f)
-        (λ r i. refuted _ (λ q. true≢false (sym (place-held m f (of-rows (λ a. a) r [] f i) (eqb-true _ x q ∙ sym (eqb-true m x e))) ∙ h)))) in
+        (λ r i. refuted _ (λ q. true≢false (sym (place-held m f (of-rows (λ a. a) r [] f i) (eqb-true _ x q ∙ sym (eqb-true m x e)))
+        ∙ h)))) in
         omega arith

@@ -2,7 +2,8 @@
 use mathlib.Core.Path.{_≡_, refl, sym, ap, ap₂, _∙_}
 use Prim.Native.Nat.{ℕ}
 use mathlib.Core.Bool.{Bool, true, false, cond, not, _&&_, false≢true, true≢false, and-false}
-use mathlib.Core.List.{List, [], _∷_, map, List·Memᴰ, List·Memᴰ·head, List·Memᴰ·tail, List·Memᴰ·not-nil, List·Memᴰ·cases-cons, List·Memᴰ·eq-of-singleton}
+use mathlib.Core.List.{List, [], _∷_, map, List·Memᴰ, List·Memᴰ·head, List·Memᴰ·tail, List·Memᴰ·not-nil, List·Memᴰ·cases-cons}
+use mathlib.Core.List.{List·Memᴰ·eq-of-singleton}
 use lib.Dec.{eqb}
 use mathlib.Core.Logic.{⊎-elim}
 use borrow.Author.Tests.{eqb-false, eq-eqb, not-true}
@@ -16,7 +17,8 @@ use Rattle.commute.specs.Laws.Tests.{by-test}
 use Rattle.commute.specs.Laws.Runs.{Entry}
 use Rattle.commute.specs.Laws.Orders as orders
 use Rattle.commute.specs.Laws.Legal.{legal-run}
-use Rattle.protocol.specs.State.{nobody, State, Tree, is-transaction, transactions, done-by, shown, as-shown, document-of, held-document, committed-document, writer-of, saved-of}
+use Rattle.protocol.specs.State.{nobody, State, Tree, is-transaction, transactions, done-by, shown, as-shown, document-of, held-document}
+use Rattle.protocol.specs.State.{committed-document, writer-of, saved-of}
 use Rattle.protocol.specs.Calls.{Call, abort, next}
 use Rattle.protocol.specs.History.{state-after, Log}
 use Rattle.serializability.specs.Theorem.{reached, all-aborted, Reached}
@@ -47,13 +49,15 @@ module _ (c : Document) (log : ℕ → List Entry) (M : State) (g : Good c log M
   same-done : (u : ℕ) → ((u ≡ nobody → ⊥) → M .header .is-open u ≡ true) → done-by S u ≡ done-by (λ v. has v b) u
   same-done u k = by-test (eqb u nobody) (λ e. rw e) (λ e. rw (e, in-set u (k (eqb-false u nobody e))))
 
-  same-deleted : (u : ℕ) → ((u ≡ nobody → ⊥) → M .header .is-open u ≡ true) → not (not (eqb u nobody) && S u) ≡ not (not (eqb u nobody) && has u b)
+  same-deleted : (u : ℕ) → ((u ≡ nobody → ⊥) → M .header .is-open u ≡ true)
+      → not (not (eqb u nobody) && S u) ≡ not (not (eqb u nobody) && has u b)
   same-deleted u k = by-test (eqb u nobody) (λ e. rw e) (λ e. rw (e, in-set u (k (eqb-false u nobody e))))
 
   -- any set shows what some of the transactions show
   set-shown : document-of S f ≡ document-of (λ u. has u b) f
   unfolding document-of
-  set-shown = view-agree (λ a. a) (shown (λ u. has u b)) (shown (λ u. has u b)) (λ a. refl) (shown S) (as-shown (λ u. has u b)) (as-shown S) [] f refl
+  set-shown = view-agree (λ a. a) (shown (λ u. has u b)) (shown (λ u. has u b)) (λ a. refl) (shown S) (as-shown (λ u. has u b))
+      (as-shown S) [] f refl
       (λ r i e. ap₂ (λ x y. x && y)
       (same-done (r .it .inserter) (λ nu. marker-open c log M g r i (r .it .inserter) nu (inserter-marks (r .it))))
       (same-deleted (r .it .deleter) (λ nu. marker-open c log M g r i (r .it .deleter) nu (deleter-marks (r .it)))))
@@ -74,7 +78,8 @@ one-aborted : (t : ℕ) (M : State) → is-transaction t ≡ true → Aborted (t
 unfolding next
 one-aborted t M h = by-test (M .header .is-open t)
     (λ e. rw (h, e) (
-      abort-shown t (λ z. false≢true (rw z at h)) (λ u. false) (M .tree) ∙ document-same (minus t (λ u. false)) (λ u. false) (M .tree) (λ u. and-false (not (eqb u t))),
+      abort-shown t (λ z. false≢true (rw z at h)) (λ u. false) (M .tree) ∙ document-same (minus t (λ u. false)) (λ u. false) (M .tree)
+          (λ u. and-false (not (eqb u t))),
       λ u o. (and-right (not (eqb u t)) _ o, λ i. eqb-false u t (not-true _ (and-left _ _ o)) (List·Memᴰ·eq-of-singleton i)),
     ))
     (λ e. rw (h, e) (refl, λ u o. (o, λ i. true≢false (sym o ∙ ap (M .header .is-open) (List·Memᴰ·eq-of-singleton i) ∙ e))))
@@ -115,4 +120,5 @@ always-reached cs = record {
     tr = reached-tracks cs
 
     legal-set : (S : ℕ → Bool) → legal (document-of S (reached cs .tree)) ≡ true
-    legal-set S = set-legal (tr .c) (entries cs .open-log) (reached cs) (tr .good) S (legal-run (entries cs .first) (joined (entries cs .committed)) (tr .c) (tr .first-legal) (tr .run))
+    legal-set S = set-legal (tr .c) (entries cs .open-log) (reached cs) (tr .good) S
+        (legal-run (entries cs .first) (joined (entries cs .committed)) (tr .c) (tr .first-legal) (tr .run))

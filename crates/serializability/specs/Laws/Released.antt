@@ -86,7 +86,8 @@ unfolding state-after
 calls-kept M k [] = k
 calls-kept M k (c ∷ cs) = calls-kept (next c M .state) (call-kept M k c) cs
 
-pub holders-open : (cs : List Call) (a : Marked) → List·Memᴰ a (nodes (reached cs .tree)) → (u : ℕ) (m : Mode) → a .held u m ≡ true → reached cs .header .is-open u ≡ true
+pub holders-open : (cs : List Call) (a : Marked) → List·Memᴰ a (nodes (reached cs .tree)) → (u : ℕ) (m : Mode) → a .held u m ≡ true
+    → reached cs .header .is-open u ≡ true
 unfolding state-after next Kept Released
 holders-open cs a i u m h =
     let r = node-place (reached cs .tree) i in

@@ -20,7 +20,8 @@ use Rattle.locks.specs.Laws.Compatible.{Compatible, excludes}
 use Rattle.commute.specs.Laws.Lines.{at-line}
 use Rattle.commute.specs.Laws.Classes.{update, rename, bars-removal, removal-barred, Contents, reads-contents, bars-writing, writing-barred}
 use Rattle.commute.specs.Laws.Views.{shape, Shapes, Whole, Reach, itself, children, subtree, within, reach, Views}
-use Rattle.protocol.specs.State.{nobody, Marked, Tree, number-held, seen-by, done-by, shown, as-shown, callers-document, document-of, writer-of}
+use Rattle.protocol.specs.State.{nobody, Marked, Tree, number-held, seen-by, done-by, shown, as-shown, callers-document, document-of}
+use Rattle.protocol.specs.State.{writer-of}
 use Rattle.serializability.specs.Laws.Shown.{Place, Inside, path, numbers-of, local}
 use Rattle.serializability.specs.Laws.Numbers.{number-of, place-held}
 use Rattle.serializability.specs.Laws.Marks.{own, Covered, own-node, own-child, own-subtree, writer-node, writer-subtree}
@@ -66,16 +67,20 @@ module _ (sh sh' : Marked → Bool) (text text' : Marked → List ℕ) (f : Tree
 
   agree-shapes : Shapes (within q n) (view sh (with-text text) f) (view sh' (with-text text') f)
   agree-shapes = rw (select-view text' sh' q n f, select-view text sh q n f, kept)
-      (map-map shape (line-of text') (λ r. shape (line-of text r)) both (λ a m. refl) ∙ sym (map-map shape (line-of text) (λ r. shape (line-of text r)) both (λ a m. refl)))
+      (map-map shape (line-of text') (λ r. shape (line-of text r)) both (λ a m. refl) ∙ sym
+      (map-map shape (line-of text) (λ r. shape (line-of text r)) both (λ a m. refl)))
 
-  agree-whole : ((r : Place) → Inside r f → places q n r ≡ true → text' (r .it) ≡ text (r .it)) → Whole (within q n) (view sh (with-text text) f) (view sh' (with-text text') f)
+  agree-whole : ((r : Place) → Inside r f → places q n r ≡ true → text' (r .it) ≡ text (r .it))
+      → Whole (within q n) (view sh (with-text text) f) (view sh' (with-text text') f)
   agree-whole k = rw (select-view text' sh' q n f, select-view text sh q n f, kept)
       (map-same (line-of text') (line-of text) both
-      (λ r m. let i = in-keep (places q n) (rows (λ a. a) [] f) (in-keep (λ x. every sh (path x)) (keep (places q n) (rows (λ a. a) [] f)) m .0) in
+      (λ r m. let i = in-keep (places q n) (rows (λ a. a) [] f) (in-keep (λ x. every sh (path x))
+      (keep (places q n) (rows (λ a. a) [] f)) m .0) in
       rw (k r (of-rows (λ a. a) r [] f (i .0)) (i .1))))
 
 -- a number that no node has is in no document
-pub unheld-absent : (sh : Marked → Bool) (text : Marked → List ℕ) (f : Tree) (m : ℕ) → number-held m f ≡ false → here m (view sh (with-text text) f) ≡ false
+pub unheld-absent : (sh : Marked → Bool) (text : Marked → List ℕ) (f : Tree) (m : ℕ) → number-held m f ≡ false
+    → here m (view sh (with-text text) f) ≡ false
 unheld-absent sh text f m h = refuted _ (λ e.
     let a = at-line m (view sh (with-text text) f) e in
     let v = in-view (λ x. x) sh sh (λ x. refl) (with-text text) (λ x. x .number) (λ x. x .now .number) (λ x. refl) [] f refl (a .0) in
@@ -123,10 +128,12 @@ module _ (holds : ℕ → List Lock) (f : Tree) (cov : Covered holds f) (t : ℕ
   own-read {s} z hs c r i e = go (reach s) (removal-barred s) (writing-barred z (update 0 [])) (writing-barred z (rename 0 [] [])) e
     where
       go : (q : Reach) → bars-removal q (need s) (need (D 0)) ≡ true → bars-writing q itself (need s) (need (U 0 [])) ≡ true
-          → bars-writing q subtree (need s) (need (UU 0 [] [])) ≡ true → places q (target s) r ≡ true → local t (writer-of (r .it .update)) ≡ true
+          → bars-writing q subtree (need s) (need (UU 0 [] [])) ≡ true → places q (target s) r ≡ true
+          → local t (writer-of (r .it .update)) ≡ true
       go itself b u v e = writer-node holds f cov t s hs c v u r i (eqb-true _ (target s) e)
       go children b u v e = absurd (false≢true u)
-      go subtree b u v e = writer-subtree holds f cov t s hs c (and-right (excludes (need s .node) (need (UU 0 [] []))) _ v) b u (and-left _ _ v) r i e
+      go subtree b u v e = writer-subtree holds f cov t s hs c (and-right (excludes (need s .node) (need (UU 0 [] []))) _ v) b u
+          (and-left _ _ v) r i e
 
   pub seen : (S : ℕ → Bool) → S t ≡ true → (s : Step) → here (target s) (callers-document t f) ≡ true → Compatible-step s
       → ((m : ℕ) → has m (inserts s) ≡ true → number-held m f ≡ false) → Views s (callers-document t f) (document-of S f)
@@ -139,5 +146,6 @@ module _ (holds : ℕ → List Lock) (f : Tree) (cov : Covered holds f) (t : ℕ
     contents = λ z. agree-whole (seen-by t) (shown S) (λ a. a .now .content) (λ a. as-shown S a .content) f (reach s) (target s)
         (λ r i e. own-path t nz S st (path r) (own-seen s hs c r i e))
         (λ r i e. ap (λ (x : Node). x .content) (own-content t nz S st (r .it) (own-read (reads-contents s z) hs c r i e)));
-    absent = λ m h. unheld-absent (shown S) (λ a. as-shown S a .content) f m (new m h) ∙ sym (unheld-absent (seen-by t) (λ a. a .now .content) f m (new m h));
+    absent = λ m h. unheld-absent (shown S) (λ a. as-shown S a .content) f m (new m h) ∙ sym
+        (unheld-absent (seen-by t) (λ a. a .now .content) f m (new m h));
   }

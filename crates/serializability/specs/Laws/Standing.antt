@@ -31,7 +31,8 @@ pub record Standing (f : Tree) (u : ℕ) (s : Step) (hs : List Lock) : Type 0 wh
   pub inside : Inside node f
   pub number : number-of node ≡ target s
   pub locked : hs ≡ locks s (numbers-of (node .above))
-  pub new : (m : ℕ) → has m (inserts s) ≡ true → (r : Place) × Inside r f × (number-of r ≡ m) × (numbers-of (r .above) ≡ numbers-of (path node)) × (r .it .inserter ≡ u)
+  pub new : (m : ℕ) → has m (inserts s) ≡ true
+      → (r : Place) × Inside r f × (number-of r ≡ m) × (numbers-of (r .above) ≡ numbers-of (path node)) × (r .it .inserter ≡ u)
   pub held : (l : Lock) → List·Memᴰ l hs → (r : Place) × Inside r f × (number-of r ≡ l .0) × (r .it .held u (l .1) ≡ true)
 
 -- paths ------------------------------------------------------------------------------------
@@ -52,7 +53,8 @@ ancestor-place f {r} i q h = path-place f (path r) (each-above (λ a. a) (λ a p
 pub covers : (f : Tree) → Distinct f → (u : ℕ) (s : Step) (hs : List Lock) → Standing f u s hs → (l : Lock) → List·Memᴰ l hs
     → (r : Place) → Inside r f → number-of r ≡ l .0 → (q : ℕ) → has q (numbers-of (path r)) ≡ true → (a : Mode) × Locked q a hs
 covers f d u s hs g l m r i e q h = rw (g .locked) (⊎-elim
-    (λ y. let b = ancestor-place f (g .inside) (l .0) (rw (← g .number) at y) in on-path (b .3 q (rw (one-place f d i (b .1) (e ∙ sym (b .2))) at h)))
+    (λ y. let b = ancestor-place f (g .inside) (l .0) (rw (← g .number) at y) in on-path
+    (b .3 q (rw (one-place f d i (b .1) (e ∙ sym (b .2))) at h)))
     (λ y. below-new (g .new (l .0) y) y) (lock-place s P l (rw (g .locked) at m)))
   where
     P : List ℕ
@@ -61,9 +63,14 @@ covers f d u s hs g l m r i e q h = rw (g .locked) (⊎-elim
     on-path : has q (numbers-of (path (g .node))) ≡ true → (a : Mode) × Locked q a (locks s P)
     on-path y = path-locked s P q (rw (g .number) at y)
 
-    below-new : (x : (r : Place) × Inside r f × (number-of r ≡ l .0) × (numbers-of (r .above) ≡ numbers-of (path (g .node))) × (r .it .inserter ≡ u)) → has (l .0) (inserts s) ≡ true → (a : Mode) × Locked q a (locks s P)
+    below-new : (x : (r : Place) × Inside r f × (number-of r ≡ l .0) × (numbers-of (r .above) ≡ numbers-of (path (g .node))) ×
+        (r .it .inserter ≡ u)) → has (l .0) (inserts s) ≡ true → (a : Mode) × Locked q a (locks s P)
     below-new x b = ⊎-elim
-        (λ y. (LW, rw (sym e ∙ eqb-true (number-of r) q y) at (new-locked s P (l .0) b LW (rw (new-need s (l .0) b) (List·Memᴰ·head refl)))))
+        (λ y. (
+          LW,
+          rw (sym e ∙ eqb-true (number-of r) q y) at (new-locked s P (l .0) b LW
+              (rw (new-need s (l .0) b) (List·Memᴰ·head refl))),
+        ))
         (λ z. on-path (rw (ap (λ (w : Place). numbers-of (w .above)) (one-place f d i (x .1) (e ∙ sym (x .2))) ∙ x .3) at z))
         (or-cases (eqb (number-of r) q) (has q (numbers-of (r .above))) h)
 
@@ -73,7 +80,8 @@ any-mode : (t : Mode → Bool) (a : Mode) → t a ≡ true → any t modes ≡ t
 any-mode t a h = affirmed _ (λ e. true≢false (sym h ∙ not-true (t a) (every-mode (λ m. not (t m)) (every-not t modes ∙ ap not e) a)))
 
 -- locks that clash on no node with what u holds there are compatible with the locks of u
-unblocked-compatible : (ls hs : List Lock) (u : ℕ) (f : Tree) → ((l : Lock) → List·Memᴰ l hs → (r : Place) × Inside r f × (number-of r ≡ l .0) × (r .it .held u (l .1) ≡ true))
+unblocked-compatible : (ls hs : List Lock) (u : ℕ) (f : Tree)
+    → ((l : Lock) → List·Memᴰ l hs → (r : Place) × Inside r f × (number-of r ≡ l .0) × (r .it .held u (l .1) ≡ true))
     → any (clashes ls u) (nodes f) ≡ false → Compatible ls hs
 unblocked-compatible ls hs u f link h q a b i j = refuted (clash a b) (λ e.
     let r = link (q, b) j in
@@ -83,8 +91,10 @@ unblocked-compatible ls hs u f link h q a b i j = refuted (clash a b) (λ e.
     true≢false (sym (at-any (clashes ls u) (nodes f) (place-node f (r .1)) there) ∙ h))
 
 -- the locks of a step that does not wait are compatible with those of every other transaction
-pub no-wait-compatible : (t : ℕ) (ls hs : List Lock) (M : State) (u : ℕ) → eqb (wait-set t ls M) 0 ≡ true → (u ≡ t → ⊥) → M .header .is-open u ≡ true → is-transaction u ≡ true
-    → ((l : Lock) → List·Memᴰ l hs → (r : Place) × Inside r (M .tree) × (number-of r ≡ l .0) × (r .it .held u (l .1) ≡ true)) → Compatible ls hs
+pub no-wait-compatible : (t : ℕ) (ls hs : List Lock) (M : State) (u : ℕ) → eqb (wait-set t ls M) 0 ≡ true → (u ≡ t → ⊥)
+    → M .header .is-open u ≡ true → is-transaction u ≡ true
+    → ((l : Lock) → List·Memᴰ l hs → (r : Place) × Inside r (M .tree) × (number-of r ≡ l .0) × (r .it .held u (l .1) ≡ true))
+    → Compatible ls hs
 unfolding wait-set
 no-wait-compatible t ls hs M u w ne o tr link = unblocked-compatible ls hs u (M .tree) link
     (rw (o, ne-eqb u t ne) at (sum-empty (blocks t ls M) (eqb-true _ 0 w) u tr))
@@ -105,7 +115,8 @@ carried-path c = ap₂ (λ (z : ℕ) (w : List ℕ). z ∷ w) (c .number) (c .ab
 
 -- where the edit carries the places that a step locked
 pub standing-carried : (f f' : Tree) → Distinct f → (u : ℕ) (s : Step) (hs : List Lock) → Standing f u s hs
-    → ((r : Place) → Inside r f → ((q : ℕ) → has q (numbers-of (path r)) ≡ true → (a : Mode) × Locked q a hs) → Carried u f' r) → Standing f' u s hs
+    → ((r : Place) → Inside r f → ((q : ℕ) → has q (numbers-of (path r)) ≡ true → (a : Mode) × Locked q a hs) → Carried u f' r)
+    → Standing f' u s hs
 standing-carried f f' d u s hs g carry = record {
   node = N .place;
   inside = N .inside;
@@ -121,10 +132,12 @@ standing-carried f f' d u s hs g carry = record {
     N : Carried u f' (g .node)
     N = carry (g .node) (g .inside) on-path
 
-    fresh : (m : ℕ) → has m (inserts s) ≡ true → (r : Place) × Inside r f × (number-of r ≡ m) × (numbers-of (r .above) ≡ numbers-of (path (g .node))) × (r .it .inserter ≡ u)
+    fresh : (m : ℕ) → has m (inserts s) ≡ true
+        → (r : Place) × Inside r f × (number-of r ≡ m) × (numbers-of (r .above) ≡ numbers-of (path (g .node))) × (r .it .inserter ≡ u)
         → (r : Place) × Inside r f' × (number-of r ≡ m) × (numbers-of (r .above) ≡ numbers-of (path (N .place))) × (r .it .inserter ≡ u)
     fresh m h x =
-        let lw : Locked m LW hs = rw (g .locked) (new-locked s (numbers-of (g .node .above)) m h LW (rw (new-need s m h) (List·Memᴰ·head refl))) in
+        let lw : Locked m LW hs = rw (g .locked) (new-locked s (numbers-of (g .node .above)) m h LW
+        (rw (new-need s m h) (List·Memᴰ·head refl))) in
         let c = carry (x .0) (x .1) (covers f d u s hs g (m, LW) lw (x .0) (x .1) (x .2)) in
         (c .place, c .inside, c .number ∙ x .2, c .above ∙ x .3 ∙ sym (carried-path N), c .inserter (x .4))
 

@@ -17,7 +17,8 @@ use Rattle.commute.specs.Laws.Lines.{Unique}
 use Rattle.commute.specs.Laws.Runs.{Entry, Run, run-append}
 use Rattle.commute.specs.Laws.Orders.{joined-append, logs}
 use Rattle.commute.specs.Laws.Legal.{legal-parts}
-use Rattle.protocol.specs.State.{nobody, State, Marked, is-transaction, unmarked, commit-tree, tree-of, start-state, with-tree, opened, closed}
+use Rattle.protocol.specs.State.{nobody, State, Marked, is-transaction, unmarked, commit-tree, tree-of, start-state, with-tree, opened}
+use Rattle.protocol.specs.State.{closed}
 use Rattle.protocol.specs.Calls.{Call, loadable, Taken, Next, next}
 use Rattle.protocol.specs.History.{history, state-after, is-granted, Log, new-log, with-log, with-commit, logged, log-after}
 use Rattle.serializability.specs.Laws.Outcomes.{every-call}
@@ -52,7 +53,8 @@ load-distinct d u =
     rw (
       rows-view (λ (a : Node). a) (λ a. true) (λ a. true) (λ a. refl) unmarked (λ a. a) unmarked (λ a. refl) [] d refl,
       keep-all (λ (r : Row Node Node). every (λ a. true) (r .it ∷ r .above)) (rows (λ a. a) [] d) (λ r m. every-true (r .above)),
-      map-map places.number-of (λ (r : Row Node Node). row (unmarked (r .it)) (map unmarked (r .above))) (λ r. r .it .number) (rows (λ a. a) [] d) (λ r m. refl),
+      map-map places.number-of (λ (r : Row Node Node). row (unmarked (r .it)) (map unmarked (r .above))) (λ r. r .it .number)
+          (rows (λ a. a) [] d) (λ r m. refl),
       rows-nodes (λ (a : Node). a .number) (λ a. a) (λ a. a .number) [] [] d,
     ) u
 
@@ -129,7 +131,8 @@ module _ (L : Log Entry) (M : State) (tr : Tracks L M) where
   no-step e t = record { entries = []; read = sym e; tracks = t }
 
   -- the committed document stays
-  stays : (log : ℕ → List Entry) (N : State) → Good (tr .c) log N → Tracks (record { first = L .first; committed = L .committed; open-log = log }) N
+  stays : (log : ℕ → List Entry) (N : State) → Good (tr .c) log N → Tracks
+      (record { first = L .first; committed = L .committed; open-log = log }) N
   stays log N g = record { first-legal = tr .first-legal; c = tr .c; run = tr .run; good = g }
 
   somebody : (t : ℕ) → is-transaction t ≡ true → t ≡ nobody → ⊥
