@@ -12,8 +12,7 @@ use Rattle.commute.specs.Laws.Lines.{Unique}
 use Rattle.commute.specs.Laws.Views.{Same}
 use Rattle.commute.specs.Laws.Classes.{Absent}
 use Rattle.commute.specs.Laws.Diamond.{swap}
-use Rattle.commute.specs.Laws.Uniqueness.{unique-after}
-use Rattle.commute.specs.Laws.Absence.{absent-after, inserts-apart}
+use Rattle.commute.specs.Laws.Uniqueness.{unique-after, absent-after, inserts-apart}
 
 -- a granted step, with its answer and its locks
 pub record Entry : Type 0 where

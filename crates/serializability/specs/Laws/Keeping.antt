@@ -17,12 +17,11 @@ use Rattle.locks.specs.Needs.{Lock, locks, needs}
 use Rattle.protocol.specs.State.{nobody, Marked, Tree, numbered, number-held, seen-by, callers-document, written-by, deleted-by}
 use Rattle.protocol.specs.State.{inserted-by, granted-to, mark, mark-node, renamed, act, grant, writer-of}
 use Rattle.commute.specs.Laws.Tests.{by-test, cond-same}
-use Rattle.serializability.specs.Laws.Edited.{keeps-written, keeps-deleted}
+use Rattle.serializability.specs.Laws.Granting.{keeps-written, keeps-deleted}
 use Rattle.serializability.specs.Laws.Shown.{Place, Inside, path, numbers-of}
 use Rattle.serializability.specs.Laws.Numbers.{number-of, in-mark, marked-numbers, mark-distinct, put-distinct}
 use Rattle.serializability.specs.Laws.Marks.{Within, marked-by, Guarded, Renames, Authored, Covered, author-more, above-is}
-use Rattle.serializability.specs.Laws.Seen.{Compatible-step}
-use Rattle.serializability.specs.Laws.Acts.{renamed-under}
+use Rattle.serializability.specs.Laws.Seen.{Compatible-step, renamed-under}
 use Rattle.locks.specs.Laws.Places.{insertion-guards, U-locks, UU-locks}
 
 -- locks are only added

@@ -28,8 +28,7 @@ use Rattle.serializability.specs.Laws.Outcomes.{Passed}
 use Rattle.serializability.specs.Laws.Shown.{Place, Inside, path, numbers-of, grant-shown}
 use Rattle.serializability.specs.Laws.Numbers.{number-of, place-held}
 use Rattle.serializability.specs.Laws.Marks.{Within, Covered, target-place}
-use Rattle.serializability.specs.Laws.Seen.{seen, unheld-absent}
-use Rattle.serializability.specs.Laws.Acts.{act-shown, act-hidden}
+use Rattle.serializability.specs.Laws.Seen.{seen, unheld-absent, act-shown, act-hidden}
 use Rattle.serializability.specs.Laws.Keeping.{act-covered, grant-covered}
 use Rattle.serializability.specs.Laws.Standing.{Standing, standing-carried, no-wait-compatible}
 use Rattle.serializability.specs.Laws.Granting.{after-step, step-carries, step-standing, Old-place, New-place, act-places, step-place}
