@@ -1,10 +1,10 @@
 -- The numbers of a document's nodes after a step: none is there twice, and which are not there.
-use mathlib.Core.Path.{_≡_, refl, ap, _∙_}
+use mathlib.Core.Path.{_≡_, refl, sym, ap, _∙_}
 use Prim.Native.Nat.{ℕ, _+_, _≤_}
 use mathlib.Core.Bool.{true, false, Bool, not, true≢false}
-use mathlib.Core.List.{List, [], _∷_}
+use mathlib.Core.List.{List, [], _∷_, map, List·Memᴰ}
 use borrow.Author.Tests.{eqb-true, eq-eqb}
-use Rattle.tree.specs.Lists.{has, keep}
+use Rattle.tree.specs.Lists.{has, distinct}
 use Rattle.tree.specs.Document.{Document, is, here, some?, Node, Line, lines, under, select, numbers}
 use Rattle.tree.specs.Steps.{Step, inserts, after, I, fits, remove, rewrite}
 use Rattle.tree.specs.Laws.Tests.{or-left, refuted}
@@ -12,15 +12,15 @@ use Rattle.locks.specs.Modes.{LW, clash}
 use Rattle.locks.specs.Needs.{locks}
 use Rattle.locks.specs.Laws.Compatible.{Compatible, All-locked, new-locked, not-both}
 use Rattle.commute.specs.Laws.Lines.{not-here, number, line-number, Unique, rewritten, rewritten-number, lines-rewrite, lines-remove}
-use Rattle.commute.specs.Laws.Lines.{insert}
+use Rattle.commute.specs.Laws.Lines.{of-lines, insert}
 use Rattle.commute.specs.Laws.Views.{itself, within-by-number, rewrite-shapes, shapes-some, remove-whole, insert-whole}
 use Rattle.commute.specs.Laws.Classes.{Class, reading, rewriting, removing, inserting, class, touched, written, after-rewriting}
 use Rattle.commute.specs.Laws.Classes.{new-need}
 use lib.ListN.{length}
 use lib.Dec.{eqb}
 use native.Mathlib.Omega.{arith}
-use Rattle.tree.specs.Forest.{row}
-use Rattle.tree.specs.Laws.Lists.{map-map, count}
+use Rattle.tree.specs.Forest.{Forest, Row, row, rows, put}
+use Rattle.tree.specs.Laws.Lists.{map-map, keep-none, count}
 use Rattle.tree.specs.Laws.Put.{put-kept, put-count}
 use Rattle.tree.specs.Laws.Distinct.{distinct-count, count-distinct, distinct-keep}
 use Rattle.commute.specs.Laws.Tests.{by-test}
@@ -60,26 +60,32 @@ unique-rewrite t b d u = rw (numbers-rewrite t b d) u
 pub unique-remove : (x : ℕ) (d : Document) → Unique d → Unique (remove x d)
 unique-remove x d u = rw (lines-remove x d) (distinct-keep line-number (λ r. not (under x r)) (lines d) u)
 
-count-absent : (m : ℕ) (d : Document) → here m d ≡ false → count (is m) (lines d) ≡ 0
-unfolding select
-count-absent m d h = go (keep (is m) (lines d)) h
-  where
-    go : (l : List Line) → some? l ≡ false → length l ≡ 0
-    go [] e = refl
-    go (r ∷ l) e = absurd (true≢false e)
+-- a new node with another number than all that are there
+module _ {A K : Type 0} (number-of : A → ℕ) (key : A → K) (n : ℕ) (counts : A → Bool) (k : ℕ) (new : A) (p : List K) (f : Forest A) where
+  abbrev row-number : Row A K → ℕ
+  row-number r = number-of (r .it)
+
+  abbrev after-put : List (Row A K)
+  after-put = rows key p (put (λ a. eqb (number-of a) n) counts k new f)
+
+  pub put-distinct : distinct (map row-number (rows key p f)) ≡ true
+      → ((r : Row A K) → List·Memᴰ r (rows key p f) → row-number r ≡ number-of new → ⊥) → distinct (map row-number after-put) ≡ true
+  put-distinct d h = count-distinct row-number after-put (λ x. by-test (eqb (number-of new) x) (added x)
+      (λ e. rw (put-kept (λ a. eqb (number-of a) n) counts k new key (λ r. eqb (row-number r) x) p f (λ s m j. e))
+      (distinct-count row-number (rows key p f) d x)))
+    where
+      added : (x : ℕ) → eqb (number-of new) x ≡ true → count (λ r. eqb (row-number r) x) after-put ≤ 1
+      added x e =
+          let i : count (λ r. eqb (row-number r) x) after-put ≡ count (λ r. eqb (row-number r) n) (rows key p f)
+          + count (λ r. eqb (row-number r) x) (rows key p f) =
+          put-count (λ a. eqb (number-of a) n) counts k new key (λ r. eqb (row-number r) x) p f (λ s m j. e) in
+          let z : count (λ r. eqb (row-number r) x) (rows key p f) ≡ 0 = ap length (keep-none (λ r. eqb (row-number r) x) (rows key p f)
+          (λ r m. refuted _ (λ q. h r m (eqb-true _ x q ∙ sym (eqb-true _ x e))))) in
+          rw (i, z) (omega (arith, distinct-count row-number (rows key p f) d n))
 
 pub unique-insert : (a : Node) (n k : ℕ) (d : Document) → Unique d → here (a .number) d ≡ false → Unique (insert a n k d)
 unfolding lines
-unique-insert a n k d u h = count-distinct line-number (lines (insert a n k d))
-    (λ q. by-test (eqb (a .number) q) (added q) (λ e. rw (put-kept (λ x. eqb (x .number) n) (λ x. true) k a number (is q) [] d
-    (λ s m j. e)) (distinct-count line-number (lines d) u q)))
-  where
-    added : (q : ℕ) → eqb (a .number) q ≡ true → count (is q) (lines (insert a n k d)) ≤ 1
-    added q e =
-        let i : count (is q) (lines (insert a n k d)) ≡ count (is n) (lines d) + count (is q) (lines d) =
-        put-count (λ x. eqb (x .number) n) (λ x. true) k a number (is q) [] d (λ s m j. e) in
-        let z : count (is q) (lines d) ≡ 0 = count-absent q d (rw (← eqb-true (a .number) q e) h) in
-        rw (i, z) (omega (arith, distinct-count line-number (lines d) u n))
+unique-insert a n k d u h = put-distinct number number n (λ x. true) k a [] d u (λ r m e. not-here (a .number) d h r (of-lines d r m) e)
 
 pub unique-after : (d : Document) → Unique d → (p : Step) → fits p d ≡ true → Unique (after p d)
 unique-after d u p g = go (class p) g

@@ -19,7 +19,7 @@ use Rattle.protocol.specs.State.{inserted-by, granted-to, mark, mark-node, rena
 use Rattle.commute.specs.Laws.Tests.{by-test, cond-same}
 use Rattle.serializability.specs.Laws.Granting.{keeps-written, keeps-deleted}
 use Rattle.serializability.specs.Laws.Shown.{Place, Inside, path, numbers-of}
-use Rattle.serializability.specs.Laws.Numbers.{number-of, in-mark, marked-numbers, mark-distinct, put-distinct}
+use Rattle.serializability.specs.Laws.Numbers.{number-of, in-mark, marked-numbers, mark-distinct, inserted-distinct}
 use Rattle.serializability.specs.Laws.Marks.{Within, marked-by, Guarded, Renames, Authored, Covered, author-more, above-is}
 use Rattle.serializability.specs.Laws.Seen.{Compatible-step, renamed-under}
 use Rattle.locks.specs.Laws.Places.{insertion-guards, U-locks, UU-locks}
@@ -96,7 +96,7 @@ module _ (holds holds' : ℕ → List Lock) (more : (u : ℕ) → Within (holds 
         → ((r : Place) → Inside r f → number-of r ≡ n → Within (locks (D (new .number)) (n ∷ numbers-of (r .above))) (holds' t))
         → Covered holds' (put (numbered n) (seen-by t) k (inserted-by t new) f)
     insert-covered n k new un w = record {
-      distinct = put-distinct n (seen-by t) k (inserted-by t new) f (cov .distinct) un;
+      distinct = inserted-distinct n (seen-by t) k (inserted-by t new) f (cov .distinct) un;
       guarded = λ r i. gd r (in-put (numbered n) (seen-by t) k (inserted-by t new) (λ a. a) [] f i);
       authored = λ r i. au r (in-put (numbered n) (seen-by t) k (inserted-by t new) (λ a. a) [] f i);
     }

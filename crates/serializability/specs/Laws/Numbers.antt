@@ -16,7 +16,7 @@ use Rattle.tree.specs.Laws.Rows.{to-rows, of-rows}
 use Rattle.tree.specs.Laws.Amend.{rows-amend, in-amend, amend-in}
 use Rattle.tree.specs.Laws.View.{rows-view, in-view, view-in}
 use Rattle.tree.specs.Laws.Put.{put-kept, put-count}
-use Rattle.commute.specs.Laws.Tests.{by-test}
+use Rattle.commute.specs.Laws.Uniqueness.{put-distinct}
 use Rattle.protocol.specs.State.{Marked, Tree, nodes, numbered, number-held, mark}
 use Rattle.serializability.specs.Laws.Shown.{Place, Inside, path, numbers-of}
 
@@ -113,30 +113,8 @@ module _ (stays : Marked → Bool) (g : Marked → Marked) where
 
 -- a new node -------------------------------------------------------------------------------
 
-pub put-distinct : (n : ℕ) (counts : Marked → Bool) (k : ℕ) (new : Marked) (f : Tree) → Distinct f
+pub inserted-distinct : (n : ℕ) (counts : Marked → Bool) (k : ℕ) (new : Marked) (f : Tree) → Distinct f
     → number-held (new .now .number) f ≡ false → Distinct (put (numbered n) counts k new f)
 unfolding Distinct
-put-distinct n counts k new f d h = count-distinct number-of (rows (λ a. a) [] (put (numbered n) counts k new f))
-    (λ x. by-test (eqb m x) (added x)
-    (λ e. rw (put-kept (numbered n) counts k new (λ a. a) (numbered-as x) [] f (λ r i q. e))
-    (distinct-count number-of (rows (λ a. a) [] f) d x)))
-  where
-    m : ℕ
-    m = new .now .number
-
-    after : Tree
-    after = put (numbered n) counts k new f
-
-    numbered-as : ℕ → Place → Bool
-    numbered-as x r = eqb (number-of r) x
-
-    added : (x : ℕ) → eqb m x ≡ true → count (numbered-as x) (rows (λ a. a) [] after) ≤ 1
-    added x e =
-        let one : count (numbered-as n) (rows (λ a. a) [] f) ≤ 1 = distinct-count number-of (rows (λ a. a) [] f) d n in
-        let more : count (numbered-as x) (rows (λ a. a) [] after) ≡ count (numbered-as n) (rows (λ a. a) [] f) + count (numbered-as x)
-        (rows (λ a. a) [] f) =
-        put-count (numbered n) counts k new (λ a. a) (numbered-as x) [] f (λ r i q. e) in
-        let none : count (numbered-as x) (rows (λ a. a) [] f) ≡ 0 = ap length (keep-none (numbered-as x) (rows (λ a. a) [] f)
-        (λ r i. refuted _ (λ q. true≢false (sym (place-held m f (of-rows (λ a. a) r [] f i) (eqb-true _ x q ∙ sym (eqb-true m x e)))
-        ∙ h)))) in
-        omega arith
+inserted-distinct n counts k new f d h = put-distinct (λ (a : Marked). a .now .number) (λ a. a) n counts k new [] f d
+    (λ r m e. true≢false (sym (place-held (new .now .number) f (of-rows (λ a. a) r [] f m) e) ∙ h))
