@@ -1,6 +1,6 @@
 -- Two steps whose locks do not clash: in either order both fit, answer and need the same, and leave the same document.
-use mathlib.Core.Path.{_≡_, refl, sym, ap, _∙_}
 use Prim.Native.Nat.{ℕ}
+use mathlib.Core.Path.{_≡_, refl, sym, ap, _∙_}
 use mathlib.Core.Bool.{Bool, true, false, not, _&&_, true≢false, and-comm}
 use mathlib.Core.List.{List, [], _∷_}
 use mathlib.Core.Logic.{_⊎_, inl, inr}
@@ -15,12 +15,12 @@ use Rattle.tree.specs.Laws.Rows.{line}
 use Rattle.tree.specs.Laws.Amend.{amend-agree, amend-amend-same}
 use Rattle.tree.specs.Laws.View.{view-view, view-agree, view-amend}
 use Rattle.tree.specs.Laws.Put.{amend-put, view-put, put-put}
-use Rattle.commute.specs.Laws.Lines.{number, Of, rewritten, rewritten-number, insert, Unique, at-line, line-here, in-remove}
 use Rattle.tree.specs.Laws.Lists.{eqb-flip}
 use Rattle.locks.specs.Modes.{LW}
 use Rattle.locks.specs.Needs.{needs, locks}
 use Rattle.locks.specs.Laws.Compatible.{Compatible, compatible-symmetric, new-locked, off-path}
 use Rattle.locks.specs.Laws.Excludes.{LW-excludes}
+use Rattle.commute.specs.Laws.Lines.{number, Of, rewritten, rewritten-number, insert, Unique, at-line, line-here, in-remove}
 use Rattle.commute.specs.Laws.Views.{itself, within, reach, within-by-number, Same, rewrite-shapes, insert-whole, shapes-some}
 use Rattle.commute.specs.Laws.Views.{shapes-above}
 use Rattle.commute.specs.Laws.Classes.{Rewriting, Class, reading, rewriting, removing, inserting, class, touched, written}

@@ -1,6 +1,6 @@
 -- A step that fits leaves a legal document legal.
-use mathlib.Core.Path.{_≡_, refl, sym, ap, _∙_}
 use Prim.Native.Nat.{ℕ, suc}
+use mathlib.Core.Path.{_≡_, refl, sym, ap, _∙_}
 use mathlib.Core.Bool.{Bool, true, false, not, _&&_, false≢true, true≢false}
 use mathlib.Core.List.{List, [], _∷_}
 use lib.ListN.{length}
@@ -15,8 +15,7 @@ use Rattle.tree.specs.Laws.Rows.{self}
 use Rattle.commute.specs.Laws.Tests.{by-test}
 use Rattle.commute.specs.Laws.Lines.{number, Unique, at-only, rewritten-number, rewritten-kind, insert}
 use Rattle.commute.specs.Laws.Classes.{Rewriting, update, rename, Class, reading, rewriting, removing, inserting, class, touched}
-use Rattle.commute.specs.Laws.Classes.{written}
-use Rattle.commute.specs.Laws.Classes.{after-rewriting}
+use Rattle.commute.specs.Laws.Classes.{written, after-rewriting}
 use Rattle.commute.specs.Laws.Kept.{Fit, fit-parts, fits-here}
 use Rattle.commute.specs.Laws.Uniqueness.{unique-after}
 use Rattle.commute.specs.Laws.Runs.{Entry, Run}

@@ -1,6 +1,6 @@
 -- Transactions run one after another, in any order; a granted step, commit and abort.
-use mathlib.Core.Path.{_≡_, refl, sym, _∙_}
 use Prim.Native.Nat.{ℕ}
+use mathlib.Core.Path.{_≡_, refl, sym, _∙_}
 use mathlib.Core.Bool.{false, cond, or-true}
 use mathlib.Core.List.{List, [], _∷_, _++_, List·Memᴰ, List·Memᴰ·head, List·Memᴰ·tail, List·Memᴰ·not-nil, List·Memᴰ·append-cases}
 use mathlib.Core.List.{List·Memᴰ·eq-of-singleton}
@@ -18,8 +18,8 @@ use Rattle.commute.specs.Laws.Classes.{Absent}
 use Rattle.commute.specs.Laws.Runs.{Entry, Valid, Run, run-split, run-append, unique-run, Clear, All-clear, Other-numbers}
 use Rattle.commute.specs.Laws.Runs.{Brings-once}
 use Rattle.commute.specs.Laws.Orders.{Permutation, permuted-has, permuted-distinct, permutation-back, to-back, Distinct}
-use Rattle.commute.specs.Laws.Orders.{distinct-head}
-use Rattle.commute.specs.Laws.Orders.{distinct-tail, distinct-cons, logs, logs-last, Apart, None-there, rest-not-there, any-order}
+use Rattle.commute.specs.Laws.Orders.{distinct-head, distinct-tail, distinct-cons, logs, logs-last, Apart, None-there, rest-not-there}
+use Rattle.commute.specs.Laws.Orders.{any-order}
 
 -- the transactions a, run one after another in this order on d, give every step its answer and its locks, and leave h
 pub record Serial (d : Document) (a : List ℕ) (log : ℕ → List Entry) (h : Document) : Type 0 where

@@ -1,13 +1,20 @@
 -- The numbers of a document's nodes after a step: none is there twice, and which are not there.
-use mathlib.Core.Path.{_≡_, refl, sym, ap, _∙_}
 use Prim.Native.Nat.{ℕ, _+_, _≤_}
-use mathlib.Core.Bool.{true, false, Bool, not, true≢false}
+use mathlib.Core.Path.{_≡_, refl, sym, ap, _∙_}
+use mathlib.Core.Bool.{true, false, Bool, not}
 use mathlib.Core.List.{List, [], _∷_, map, List·Memᴰ}
+use native.Mathlib.Omega.{arith}
+use lib.ListN.{length}
+use lib.Dec.{eqb}
 use borrow.Author.Tests.{eqb-true, eq-eqb}
 use Rattle.tree.specs.Lists.{has, distinct}
-use Rattle.tree.specs.Document.{Document, is, here, some?, Node, Line, lines, under, select, numbers}
+use Rattle.tree.specs.Document.{Document, is, here, some?, Node, Line, lines, under, numbers}
 use Rattle.tree.specs.Steps.{Step, inserts, after, I, fits, remove, rewrite}
 use Rattle.tree.specs.Laws.Tests.{or-left, refuted}
+use Rattle.tree.specs.Forest.{Forest, Row, row, rows, put}
+use Rattle.tree.specs.Laws.Lists.{map-map, keep-none, count}
+use Rattle.tree.specs.Laws.Put.{put-kept, put-count}
+use Rattle.tree.specs.Laws.Distinct.{distinct-count, count-distinct, distinct-keep}
 use Rattle.locks.specs.Modes.{LW, clash}
 use Rattle.locks.specs.Needs.{locks}
 use Rattle.locks.specs.Laws.Compatible.{Compatible, All-locked, new-locked, not-both}
@@ -16,13 +23,6 @@ use Rattle.commute.specs.Laws.Lines.{of-lines, insert}
 use Rattle.commute.specs.Laws.Views.{itself, within-by-number, rewrite-shapes, shapes-some, remove-whole, insert-whole}
 use Rattle.commute.specs.Laws.Classes.{Class, reading, rewriting, removing, inserting, class, touched, written, after-rewriting}
 use Rattle.commute.specs.Laws.Classes.{new-need}
-use lib.ListN.{length}
-use lib.Dec.{eqb}
-use native.Mathlib.Omega.{arith}
-use Rattle.tree.specs.Forest.{Forest, Row, row, rows, put}
-use Rattle.tree.specs.Laws.Lists.{map-map, keep-none, count}
-use Rattle.tree.specs.Laws.Put.{put-kept, put-count}
-use Rattle.tree.specs.Laws.Distinct.{distinct-count, count-distinct, distinct-keep}
 use Rattle.commute.specs.Laws.Tests.{by-test}
 use Rattle.commute.specs.Laws.Kept.{fits-absent}
 

@@ -1,24 +1,24 @@
 -- A granted step leaves every place where it is, and its own locks in the sets of the nodes.
-use mathlib.Core.Path.{_≡_, refl, sym, ap, _∙_}
 use Prim.Native.Nat.{ℕ}
+use mathlib.Core.Path.{_≡_, refl, sym, ap, _∙_}
 use mathlib.Core.Bool.{Bool, cond, true, false≢true, or-true}
 use mathlib.Core.List.{List, [], _∷_, List·Memᴰ, List·Memᴰ·head, List·Memᴰ·tail, List·Memᴰ·not-nil, List·Memᴰ·eq-of-singleton}
-use Rattle.tree.specs.Forest.{put, row}
-use Rattle.tree.specs.Steps.{Step, T, C, R, U, D, I, TT, RR, UU, inserts, target}
-use Rattle.commute.specs.Laws.Tests.{cond-same, by-test}
-use Rattle.protocol.specs.State.{Marked, Tree, numbered, seen-by, written-by, deleted-by, inserted-by, mark, renamed, act, modes-on}
-use Rattle.protocol.specs.State.{granted-to, grant}
-use Rattle.serializability.specs.Laws.Shown.{Place, Inside, path, numbers-of}
-use Rattle.serializability.specs.Laws.Numbers.{number-of, marked, marked-numbers, mark-in, in-mark}
 use mathlib.Core.Logic.{_⊎_, inl, ⊎-elim, ⊎-map}
 use lib.Dec.{eqb}
 use borrow.Author.Tests.{eq-eqb}
+use Rattle.tree.specs.Forest.{put, row}
+use Rattle.tree.specs.Steps.{Step, T, C, R, U, D, I, TT, RR, UU, inserts, target}
 use Rattle.tree.specs.Lists.{has}
 use Rattle.tree.specs.Laws.Lists.{has-in}
 use Rattle.tree.specs.Laws.Put.{put-in, put-new, in-put}
 use Rattle.locks.specs.Modes.{Mode, index, no-mode, among}
 use Rattle.locks.specs.Needs.{Lock, locks}
 use Rattle.locks.specs.Laws.Places.{lock-place}
+use Rattle.commute.specs.Laws.Tests.{cond-same, by-test}
+use Rattle.protocol.specs.State.{Marked, Tree, numbered, seen-by, written-by, deleted-by, inserted-by, mark, renamed, act, modes-on}
+use Rattle.protocol.specs.State.{granted-to, grant}
+use Rattle.serializability.specs.Laws.Shown.{Place, Inside, path, numbers-of}
+use Rattle.serializability.specs.Laws.Numbers.{number-of, marked, marked-numbers, mark-in, in-mark}
 use Rattle.serializability.specs.Laws.Standing.{Standing, Carried, carried-path, ancestor-place}
 
 -- what a granted step does to the tree: nothing, other marks that leave numbers, inserters and locks, or a new node ---

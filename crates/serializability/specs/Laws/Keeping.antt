@@ -1,6 +1,6 @@
 -- A granted step keeps the marks covered by the locks that are held then.
-use mathlib.Core.Path.{_≡_, refl, sym}
 use Prim.Native.Nat.{ℕ}
+use mathlib.Core.Path.{_≡_, refl, sym}
 use mathlib.Core.Bool.{Bool, true, false, cond, _||_, false≢true, or-true}
 use mathlib.Core.List.{List, [], _∷_, List·Memᴰ}
 use mathlib.Core.Logic.{_⊎_, inl, inr, ⊎-elim, ⊎-map}
@@ -14,15 +14,15 @@ use Rattle.tree.specs.Laws.Tests.{or-cases}
 use Rattle.tree.specs.Laws.Rows.{Each, each-above}
 use Rattle.tree.specs.Laws.Put.{in-put, New}
 use Rattle.locks.specs.Needs.{Lock, locks, needs}
+use Rattle.locks.specs.Laws.Places.{insertion-guards, U-locks, UU-locks}
+use Rattle.commute.specs.Laws.Tests.{by-test, cond-same}
 use Rattle.protocol.specs.State.{nobody, Marked, Tree, numbered, number-held, seen-by, callers-document, written-by, deleted-by}
 use Rattle.protocol.specs.State.{inserted-by, granted-to, mark, mark-node, renamed, act, grant, writer-of}
-use Rattle.commute.specs.Laws.Tests.{by-test, cond-same}
 use Rattle.serializability.specs.Laws.Granting.{keeps-written, keeps-deleted}
 use Rattle.serializability.specs.Laws.Shown.{Place, Inside, path, numbers-of}
 use Rattle.serializability.specs.Laws.Numbers.{number-of, in-mark, marked-numbers, mark-distinct, inserted-distinct}
 use Rattle.serializability.specs.Laws.Marks.{Within, marked-by, Guarded, Renames, Authored, Covered, author-more, above-is}
 use Rattle.serializability.specs.Laws.Seen.{Compatible-step, renamed-under}
-use Rattle.locks.specs.Laws.Places.{insertion-guards, U-locks, UU-locks}
 
 -- locks are only added
 module _ (holds holds' : ℕ → List Lock) (more : (u : ℕ) → Within (holds u) (holds' u)) where

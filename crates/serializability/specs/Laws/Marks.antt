@@ -1,6 +1,6 @@
 -- The marks of a tree against the locks: where a step's locks are compatible with those of the others, only its own transaction left marks.
-use mathlib.Core.Path.{_≡_, refl, sym, ap, _∙_}
 use Prim.Native.Nat.{ℕ}
+use mathlib.Core.Path.{_≡_, refl, sym, ap, _∙_}
 use mathlib.Core.Bool.{Bool, true, false, _&&_, _||_, false≢true, true≢false, or-true}
 use mathlib.Core.List.{List, [], _∷_, List·Memᴰ}
 use mathlib.Core.Logic.{_⊎_, inl, inr, ⊎-elim, ⊎-map}
@@ -13,10 +13,9 @@ use Rattle.tree.specs.Steps.{Step, U, D, UU, target}
 use Rattle.tree.specs.Laws.Tests.{and-left, or-left, or-right, or-cases}
 use Rattle.tree.specs.Laws.Rows.{Each, each-above}
 use Rattle.tree.specs.Laws.View.{in-view}
-use Rattle.locks.specs.Modes.{LU, LW, LUU}
+use Rattle.locks.specs.Modes.{LU, LUU}
 use Rattle.locks.specs.Needs.{Lock, need, locks, needs}
-use Rattle.locks.specs.Laws.Compatible.{Compatible, compatible-symmetric, All-locked, node-locked, clashing, excludes, off-node, off-parent}
-use Rattle.locks.specs.Laws.Compatible.{off-path}
+use Rattle.locks.specs.Laws.Compatible.{Compatible, compatible-symmetric, node-locked, clashing, excludes, off-node, off-parent, off-path}
 use Rattle.locks.specs.Laws.Excludes.{LW-excludes}
 use Rattle.commute.specs.Laws.Tests.{by-test, affirmed}
 use Rattle.commute.specs.Laws.Lines.{at-line}

@@ -1,21 +1,16 @@
 -- The places of a marked tree: where they are after an edit, and that no two have one number.
+use Prim.Native.Nat.{ℕ}
 use mathlib.Core.Path.{_≡_, refl, sym, ap, _∙_}
-use Prim.Native.Nat.{ℕ, _+_, _≤_}
 use mathlib.Core.Bool.{Bool, true, false, true≢false}
 use mathlib.Core.List.{List, [], _∷_, map, List·Memᴰ}
-use native.Mathlib.Omega.{arith}
-use lib.ListN.{length}
-use lib.Dec.{eqb}
 use borrow.Author.Tests.{eqb-true, eq-eqb}
 use Rattle.tree.specs.Lists.{every, keep, distinct}
 use Rattle.tree.specs.Forest.{row, rows, view, put}
-use Rattle.tree.specs.Laws.Tests.{refuted}
-use Rattle.tree.specs.Laws.Lists.{map-map, keep-none, count, any-at, at-any, map-in, in-map}
-use Rattle.tree.specs.Laws.Distinct.{distinct-one, distinct-keep, distinct-count, count-distinct}
+use Rattle.tree.specs.Laws.Lists.{map-map, any-at, at-any, map-in, in-map}
+use Rattle.tree.specs.Laws.Distinct.{distinct-one, distinct-keep}
 use Rattle.tree.specs.Laws.Rows.{to-rows, of-rows}
 use Rattle.tree.specs.Laws.Amend.{rows-amend, in-amend, amend-in}
 use Rattle.tree.specs.Laws.View.{rows-view, in-view, view-in}
-use Rattle.tree.specs.Laws.Put.{put-kept, put-count}
 use Rattle.commute.specs.Laws.Uniqueness.{put-distinct}
 use Rattle.protocol.specs.State.{Marked, Tree, nodes, numbered, number-held, mark}
 use Rattle.serializability.specs.Laws.Shown.{Place, Inside, path, numbers-of}

@@ -1,6 +1,6 @@
 -- Demands 1 and 2 on one call.
-use mathlib.Core.Path.{_≡_, refl, sym, ap, _∙_}
 use Prim.Native.Nat.{ℕ}
+use mathlib.Core.Path.{_≡_, refl, sym, ap, _∙_}
 use mathlib.Core.Bool.{Bool, false, not, _&&_, true≢false}
 use mathlib.Core.List.{List, [], _∷_, List·Memᴰ·eq-of-singleton}
 use lib.Dec.{eqb}
@@ -12,8 +12,8 @@ use Rattle.locks.specs.Needs.{needs}
 use Rattle.protocol.specs.State.{State, is-transaction, transactions, callers-document}
 use Rattle.protocol.specs.Lent.{Room}
 use Rattle.protocol.specs.Causes.{not-a-transaction, not-open, no-such-node}
-use Rattle.protocol.specs.Calls.{step, Outcome, granted, written, waits, refused, refused-at, Check}
-use Rattle.protocol.specs.Calls.{blocks, wait-set, step-checks, judged, next}
+use Rattle.protocol.specs.Calls.{step, Outcome, granted, written, waits, refused, refused-at, Check, blocks, wait-set, step-checks, judged}
+use Rattle.protocol.specs.Calls.{next}
 use Rattle.protocol.specs.History.{is-granted}
 use Rattle.serializability.specs.Theorem.{NotGranted, Waiting, NoClashNoWait, FoundNotSeven}
 use Rattle.serializability.specs.Laws.Outcomes.{checked-by, every-call}

@@ -1,6 +1,6 @@
 -- The held document is the committed one exactly if nothing is pending.
-use mathlib.Core.Path.{_≡_, refl, sym, ap, _∙_}
 use Prim.Native.Nat.{ℕ}
+use mathlib.Core.Path.{_≡_, refl, sym, ap, _∙_}
 use mathlib.Core.Bool.{Bool, true, false, not, _&&_, _||_, false≢true, true≢false, or-true, or-false, and-true, and-false}
 use mathlib.Core.List.{List, [], _∷_, map, append-nil, List·Memᴰ, List·Memᴰ·head, List·Memᴰ·tail, List·Memᴰ·not-nil, Memᴰ·append-left}
 use mathlib.Core.List.{Memᴰ·append-right, List·Memᴰ·append-cases}
@@ -31,8 +31,7 @@ use Rattle.serializability.specs.Laws.Marks.{deleter-marks}
 use Rattle.serializability.specs.Laws.Whole.{Brought, brought-as, Good}
 use Rattle.serializability.specs.Laws.Ends.{logs-compatible, document-same}
 use Rattle.serializability.specs.Laws.Held.{visible, line-in, line-of-place, place-here, here-visible, marker-LW, marker-open}
-use Rattle.serializability.specs.Laws.Held.{writer-open}
-use Rattle.serializability.specs.Laws.Held.{inserter-done, held-shown}
+use Rattle.serializability.specs.Laws.Held.{writer-open, inserter-done, held-shown}
 
 -- the numbers that a log brought in -----------------------------------------------------------
 

@@ -1,6 +1,6 @@
 -- What holds in every state that is reached: distinct numbers, legal documents, and the committed document as the one held if all aborted.
-use mathlib.Core.Path.{_≡_, sym, ap, _∙_, refl, ap₂}
 use Prim.Native.Nat.{ℕ}
+use mathlib.Core.Path.{_≡_, sym, ap, _∙_, refl, ap₂}
 use mathlib.Core.Bool.{Bool, true, false, not, _&&_, false≢true, or-true, cond, true≢false, and-false}
 use mathlib.Core.List.{List, [], _∷_, List·Memᴰ, map, List·Memᴰ·head, List·Memᴰ·tail, List·Memᴰ·not-nil, List·Memᴰ·cases-cons}
 use mathlib.Core.List.{List·Memᴰ·eq-of-singleton}
@@ -9,9 +9,16 @@ use lib.Dec.{eqb}
 use borrow.Author.Tests.{eqb-true, eqb-false, eq-eqb, not-true}
 use Rattle.tree.specs.Document.{Document, node-0-alone, legal}
 use Rattle.tree.specs.Steps.{Step, with-content}
+use Rattle.tree.specs.Lists.{has, keep, distinct, joined}
+use Rattle.tree.specs.Laws.Tests.{and-left, and-right, refuted}
+use Rattle.tree.specs.Laws.Lists.{every-at}
+use Rattle.tree.specs.Laws.View.{view-agree}
 use Rattle.locks.specs.Modes.{Mode}
 use Rattle.locks.specs.Needs.{Lock}
 use Rattle.commute.specs.Laws.Tests.{by-test}
+use Rattle.commute.specs.Laws.Runs.{Entry}
+use Rattle.commute.specs.Laws.Orders as orders
+use Rattle.commute.specs.Laws.Legal.{legal-run}
 use Rattle.protocol.specs.State.{State, Marked, Tree, nodes, seen-by, granted-to, none-of, lasting, undone, act, grant, commit-tree}
 use Rattle.protocol.specs.State.{abort-tree, tree-of, start-state, nobody, is-transaction, transactions, done-by, shown, as-shown}
 use Rattle.protocol.specs.State.{document-of, held-document, committed-document, writer-of, saved-of}
@@ -23,13 +30,6 @@ use Rattle.serializability.specs.Laws.Shown.{Place, Inside, minus, abort
 use Rattle.serializability.specs.Laws.Numbers.{in-mark, in-part, node-place, distinct-numbers}
 use Rattle.serializability.specs.Laws.Granting.{after-step, act-places}
 use Rattle.serializability.specs.Laws.Tracking.{load-unmarked, Tracks, calls-track}
-use Rattle.tree.specs.Lists.{has, keep, distinct, joined}
-use Rattle.tree.specs.Laws.Tests.{and-left, and-right, refuted}
-use Rattle.tree.specs.Laws.Lists.{every-at}
-use Rattle.tree.specs.Laws.View.{view-agree}
-use Rattle.commute.specs.Laws.Runs.{Entry}
-use Rattle.commute.specs.Laws.Orders as orders
-use Rattle.commute.specs.Laws.Legal.{legal-run}
 use Rattle.serializability.specs.Laws.WaitSet.{transaction-in, has-kept, kept-distinct}
 use Rattle.serializability.specs.Laws.Marks.{inserter-marks, deleter-marks}
 use Rattle.serializability.specs.Laws.Whole.{Good}

@@ -1,9 +1,10 @@
 -- A step whose locks are compatible with the others' sees in its caller's document what it sees in the document of every set
 -- of transactions with the caller in it.
-use mathlib.Core.Path.{_≡_, refl, _∙_, sym, ap}
 use Prim.Native.Nat.{ℕ}
+use mathlib.Core.Path.{_≡_, refl, _∙_, sym, ap}
 use mathlib.Core.Bool.{Bool, true, false, not, _&&_, false≢true, true≢false, or-true}
 use mathlib.Core.List.{List, [], _∷_, map}
+use mathlib.Core.Logic.{⊎-elim}
 use lib.Dec.{eqb}
 use borrow.Author.Tests.{eq-eqb, eqb-true, ne-eqb}
 use Rattle.tree.specs.Lists.{any, every, has, leads, keep}
@@ -11,21 +12,20 @@ use Rattle.tree.specs.Document.{here, Node, Line, lines, select}
 use Rattle.tree.specs.Steps.{Step, T, C, R, U, D, I, TT, RR, UU, target, after, inserts, with-content}
 use Rattle.tree.specs.Laws.Tests.{and-left, and-right, or-cases, refuted}
 use Rattle.tree.specs.Laws.Lists.{any-map, keep-map, keep-keep, keep-same, in-keep, map-map, map-same}
+use Rattle.tree.specs.Forest.{row, rows, view}
+use Rattle.tree.specs.Laws.Rows.{of-rows}
+use Rattle.tree.specs.Laws.View.{rows-view, in-view}
 use Rattle.locks.specs.Needs.{Lock, need, needs}
+use Rattle.locks.specs.Laws.Compatible.{Compatible, excludes}
 use Rattle.commute.specs.Laws.Classes.{update, rename, write, bars-removal, removal-barred, Contents, reads-contents, bars-writing}
 use Rattle.commute.specs.Laws.Classes.{writing-barred}
+use Rattle.commute.specs.Laws.Lines.{at-line}
+use Rattle.commute.specs.Laws.Views.{shape, Shapes, Whole, Reach, itself, children, subtree, within, reach, Views}
 use Rattle.protocol.specs.State.{nobody, Marked, Tree, numbered, seen-by, callers-document, document-of, renamed, act, number-held, done-by}
 use Rattle.protocol.specs.State.{shown, as-shown, writer-of}
 use Rattle.serializability.specs.Laws.Shown.{Place, path, numbers-of, local, U-shown, D-shown, I-shown, UU-shown, write-hidden}
 use Rattle.serializability.specs.Laws.Shown.{D-hidden, I-hidden, Inside}
 use Rattle.serializability.specs.Laws.Marks.{Covered, own-node, own, own-child, own-subtree, writer-node, writer-subtree}
-use mathlib.Core.Logic.{⊎-elim}
-use Rattle.tree.specs.Forest.{row, rows, view}
-use Rattle.tree.specs.Laws.Rows.{of-rows}
-use Rattle.tree.specs.Laws.View.{rows-view, in-view}
-use Rattle.locks.specs.Laws.Compatible.{Compatible, excludes}
-use Rattle.commute.specs.Laws.Lines.{at-line}
-use Rattle.commute.specs.Laws.Views.{shape, Shapes, Whole, Reach, itself, children, subtree, within, reach, Views}
 use Rattle.serializability.specs.Laws.Numbers.{number-of, place-held}
 
 -- the test of UU holds only in the subtree

@@ -1,6 +1,6 @@
 -- What a set of transactions shows of the tree after a step, a grant of locks, a commit, an abort and a load.
-use mathlib.Core.Path.{_≡_, refl, sym, ap, _∙_}
 use Prim.Native.Nat.{ℕ}
+use mathlib.Core.Path.{_≡_, refl, sym, ap, _∙_}
 use mathlib.Core.Bool.{Bool, true, false, cond, not, _&&_, _||_, false≢true, or-true, and-true, and-false}
 use mathlib.Core.List.{List, [], _∷_, map}
 use mathlib.Core.Logic.{_⊎_, inl, inr, ⊎-elim}
@@ -18,8 +18,8 @@ use Rattle.tree.specs.Laws.Put.{view-put, view-put-hidden}
 use Rattle.locks.specs.Needs.{Lock}
 use Rattle.commute.specs.Laws.Tests.{by-test, cond-same}
 use Rattle.protocol.specs.State.{nobody, Marked, Tree, numbered, seen-by, done-by, shown, as-shown, document-of, written-by, deleted-by}
-use Rattle.protocol.specs.State.{inserted-by, granted-to, writer-of, saved-of, Update, unwritten, update-without}
-use Rattle.protocol.specs.State.{without, lasting, undone, mark, mark-node, renamed, grant, commit-tree, abort-tree, tree-of}
+use Rattle.protocol.specs.State.{inserted-by, granted-to, writer-of, Update, update-without, without, lasting, undone, mark, mark-node}
+use Rattle.protocol.specs.State.{renamed, grant, commit-tree, abort-tree, tree-of}
 
 -- a node held, with the nodes above it
 abbrev pub Place : Type 0

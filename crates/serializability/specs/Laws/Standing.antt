@@ -1,6 +1,6 @@
 -- The nodes of a granted step stand in the tree, with its locks in their sets, until its transaction ends.
-use mathlib.Core.Path.{_≡_, refl, sym, ap, ap₂, _∙_}
 use Prim.Native.Nat.{ℕ}
+use mathlib.Core.Path.{_≡_, refl, sym, ap, ap₂, _∙_}
 use mathlib.Core.Bool.{Bool, true, false, not, _&&_, false≢true, true≢false, or-true}
 use mathlib.Core.List.{List, [], _∷_, List·Memᴰ, List·Memᴰ·head}
 use mathlib.Core.Logic.{⊎-elim}
@@ -16,13 +16,13 @@ use Rattle.locks.specs.Modes.{Mode, LW, modes, clash}
 use Rattle.locks.specs.Needs.{Lock, locks}
 use Rattle.locks.specs.Laws.Clash.{every-mode}
 use Rattle.locks.specs.Laws.Compatible.{Locked, Compatible, new-locked}
+use Rattle.locks.specs.Laws.Places.{lock-place, path-locked}
 use Rattle.commute.specs.Laws.Tests.{affirmed}
 use Rattle.commute.specs.Laws.Classes.{new-need}
 use Rattle.protocol.specs.State.{State, Marked, Tree, numbered, nodes, is-transaction}
 use Rattle.protocol.specs.Calls.{clashes, blocks, wait-set}
 use Rattle.serializability.specs.Laws.Shown.{Place, Inside, path, numbers-of}
 use Rattle.serializability.specs.Laws.Numbers.{number-of, Distinct, one-place, place-node}
-use Rattle.locks.specs.Laws.Places.{lock-place, path-locked}
 use Rattle.serializability.specs.Laws.WaitSet.{sum-empty}
 
 -- a step s of u with the locks hs

@@ -1,12 +1,12 @@
 -- Every call keeps the state in step with a log of entries.
-use mathlib.Core.Path.{_≡_, refl, sym, ap, _∙_}
 use Prim.Native.Nat.{ℕ}
+use mathlib.Core.Path.{_≡_, refl, sym, ap, _∙_}
 use mathlib.Core.Bool.{true, false, false≢true, true≢false}
 use mathlib.Core.List.{List, [], _∷_, map, append-nil, List·Memᴰ·not-nil}
 use mathlib.Core.Logic.{⊎-elim}
 use lib.Dec.{eqb}
 use borrow.Author.Tests.{eqb-true, ne-eqb}
-use Rattle.tree.specs.Lists.{every, has, joined}
+use Rattle.tree.specs.Lists.{has, joined}
 use Rattle.tree.specs.Forest.{nil, node, rows, view}
 use Rattle.tree.specs.Document.{Node, Document, Line, lines, numbers, legal, node-0-alone, ruled}
 use Rattle.tree.specs.Content.{allowed, children-rule}

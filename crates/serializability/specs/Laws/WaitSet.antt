@@ -1,6 +1,6 @@
 -- The bits of a wait set are the transactions that block; lists of transactions.
-use mathlib.Core.Path.{_≡_, refl, sym, ap, _∙_}
 use Prim.Native.Nat.{ℕ, zero, suc, _+_, _-_, _*_, _/_, _%_, _^_, _<_, _≤_}
+use mathlib.Core.Path.{_≡_, refl, sym, ap, _∙_}
 use mathlib.Core.Bool.{Bool, true, false, cond, true≢false}
 use mathlib.Core.List.{List, [], _∷_, List·Memᴰ, List·Memᴰ·head, List·Memᴰ·tail}
 use native.Mathlib.Omega.{arith}
@@ -11,13 +11,13 @@ use Rattle.tree.specs.Lists.{has, keep, distinct}
 use Rattle.tree.specs.Laws.Tests.{and-left, and-right, refuted}
 use Rattle.tree.specs.Laws.Lists.{has-in, in-has, in-keep, keep-in, map-self}
 use Rattle.tree.specs.Laws.Distinct.{distinct-keep}
-use Rattle.commute.specs.Laws.Tests.{by-test}
-use Rattle.protocol.specs.State.{transactions, is-transaction}
-use Rattle.protocol.specs.Calls.{sum-of-bits}
 use Rattle.locks.specs.Words.{word}
 use Rattle.locks.specs.Modes.{bit}
 use Rattle.locks.specs.Laws.Words.{word-small}
 use Rattle.locks.specs.Laws.Sets.{word-bit}
+use Rattle.commute.specs.Laws.Tests.{by-test}
+use Rattle.protocol.specs.State.{transactions, is-transaction}
+use Rattle.protocol.specs.Calls.{sum-of-bits}
 
 scaled : (b : Bool) (c : ℕ) → cond b c 0 ≡ cond b 1 0 * c
 scaled true c = omega arith
