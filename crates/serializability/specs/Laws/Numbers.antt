@@ -1,12 +1,12 @@
 -- The places of a marked tree: where they are after an edit, and that no two have one number.
 use Prim.Native.Nat.{ℕ}
-use mathlib.Core.Path.{_≡_, refl, sym, ap, _∙_}
+use mathlib.Core.Path.{_≡_, refl, sym, _∙_}
 use mathlib.Core.Bool.{Bool, true, false, true≢false}
 use mathlib.Core.List.{List, [], _∷_, map, List·Memᴰ}
-use borrow.Author.Tests.{eqb-true, eq-eqb}
+use borrow.Author.Tests.{eq-eqb}
 use Rattle.tree.specs.Lists.{every, keep, distinct}
 use Rattle.tree.specs.Forest.{row, rows, view, put}
-use Rattle.tree.specs.Laws.Lists.{map-map, any-at, at-any, map-in, in-map}
+use Rattle.tree.specs.Laws.Lists.{map-map, at-any, map-in, in-map}
 use Rattle.tree.specs.Laws.Distinct.{distinct-one, distinct-keep}
 use Rattle.tree.specs.Laws.Rows.{to-rows, of-rows}
 use Rattle.tree.specs.Laws.Amend.{rows-amend, in-amend, amend-in}
@@ -31,14 +31,7 @@ pub one-place : (f : Tree) → Distinct f → {r s : Place} → Inside r f → I
 unfolding Distinct
 one-place f h i j e = distinct-one number-of (rows (λ a. a) [] f) h (to-rows (λ a. a) i) (to-rows (λ a. a) j) e
 
--- a number is held exactly if it has a place
-pub held-place : (n : ℕ) (f : Tree) → number-held n f ≡ true → (r : Place) × Inside r f × (number-of r ≡ n)
-unfolding nodes
-held-place n f h =
-    let a = any-at (numbered n) (map (λ (r : Place). r .it) (rows (λ a. a) [] f)) h in
-    let b = in-map (λ (r : Place). r .it) (rows (λ a. a) [] f) (a .1) in
-    (b .0, of-rows (λ a. a) (b .0) [] f (b .1), sym (ap (λ (x : Marked). x .now .number) (b .2)) ∙ eqb-true _ n (a .2))
-
+-- a number that has a place is held
 pub place-held : (n : ℕ) (f : Tree) {r : Place} → Inside r f → number-of r ≡ n → number-held n f ≡ true
 unfolding nodes
 place-held n f {r} i e = at-any (numbered n) (map (λ (x : Place). x .it) (rows (λ a. a) [] f))
