@@ -57,8 +57,7 @@ rewrite-rewrite t b t' b' d h =
     ∙ amend-agree number _ _ [] d (λ r m. go r (h r m))
     ∙ sym (amend-amend-same number (rewritten t b) (rewritten-number t b) (rewritten t' b') [] d)
   where
-    go : (r : Line)
-        → ((a : Node) → a .number ≡ r .it .number → t (row a (r .above)) ≡ false) ⊎ ((a : Node) → a .number ≡ r .it .number
+    go : (r : Line) → ((a : Node) → a .number ≡ r .it .number → t (row a (r .above)) ≡ false) ⊎ ((a : Node) → a .number ≡ r .it .number
         → t' (row a (r .above)) ≡ false)
         → rewritten t b (row (rewritten t' b' r) (r .above)) ≡ rewritten t' b' (row (rewritten t b r) (r .above))
     go r (inl i) = rw (i (rewritten t' b' r) (rewritten-number t' b' r), i (r .it) refl)
@@ -77,8 +76,7 @@ rewrite-insert t b a n k d h =
 
 -- if x is not the new node, nor a child of n
 remove-insert : (x : ℕ) (a : Node) (n k : ℕ) (d : Document) → eqb (a .number) x ≡ false
-    → ((r : Line) → Of r d → r .it .number ≡ x → leads n (r .above) ≡ false)
-    → remove x (insert a n k d) ≡ insert a n k (remove x d)
+    → ((r : Line) → Of r d → r .it .number ≡ x → leads n (r .above) ≡ false) → remove x (insert a n k d) ≡ insert a n k (remove x d)
 remove-insert x a n k d e h =
     view-put (λ y. eqb (y .number) n) (λ y. true) k a (λ y. not (eqb (y .number) x)) (λ y. y) number (λ y. eqb (y .number) n) (λ y. true)
     (rw e)
@@ -88,8 +86,7 @@ remove-insert x a n k d e h =
     counted : (s r : Line) → eqb (s .it .number) n ≡ true → Of r d → r .above ≡ line number s → true ≡ (not (eqb (r .it .number) x) && true)
     counted s r f j g = rw (refuted (eqb (r .it .number) x) (λ i. true≢false (sym f ∙ rw g at (h r j (eqb-true _ x i)))))
 
-insert-insert : (a a' : Node) (n n' k k' : ℕ) (d : Document) → eqb (a .number) n' ≡ false → eqb (a' .number) n ≡ false
-    → eqb n n' ≡ false
+insert-insert : (a a' : Node) (n n' k k' : ℕ) (d : Document) → eqb (a .number) n' ≡ false → eqb (a' .number) n ≡ false → eqb n n' ≡ false
     → insert a n k (insert a' n' k' d) ≡ insert a' n' k' (insert a n k d)
 insert-insert a a' n n' k k' d e e' f =
     put-put (λ x. eqb (x .number) n) (λ x. eqb (x .number) n') (λ x. true) (λ x. true) k k' a a' e e' (λ x i. rw (eqb-true _ n i) f) d
@@ -99,8 +96,7 @@ insert-insert a a' n n' k k' d e e' f =
 module _ (d : Document) (u : Unique d) where
   module _ (s : Step) (hs : here (target s) d ≡ true) {p : Step} (w : Rewriting p) (hp : here (target p) d ≡ true)
       (c : Compatible (needs s d) (needs p d)) where
-    two-rewrites : (v : Rewriting s)
-        → rewrite (touched v) (written v) (rewrite (touched w) (written w) d) ≡ rewrite (touched w) (written w)
+    two-rewrites : (v : Rewriting s) → rewrite (touched v) (written v) (rewrite (touched w) (written w) d) ≡ rewrite (touched w) (written w)
         (rewrite (touched v) (written v) d)
     two-rewrites v = rewrite-rewrite (touched v) (written v) (touched w) (written w) d (λ r m. go r m (within (reach s) (target s) r) refl)
       where

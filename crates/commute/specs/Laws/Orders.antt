@@ -104,8 +104,7 @@ module _ (log : ℕ → List Entry) where
 
   -- nor is it after the first of them has run
   pub rest-not-there : (t : ℕ) (a : List ℕ) (d e h : Document) → Apart → has t a ≡ false → Run d (log t) e → Run e (logs a) h
-      → None-there (t ∷ a) d
-      → None-there a e
+      → None-there (t ∷ a) d → None-there a e
   rest-not-there t a d e h f n r s w u i y m =
       let o = run-valid e (logs a) h s y (in-logs u a i m) in
       absent-run d (log t) e y (o .0) r (o .1) (λ x j. f .clear u t (differ t u a n i) y x m j) (w u (rw (i, or-true (eqb t u))) y m)

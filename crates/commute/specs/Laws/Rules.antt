@@ -47,8 +47,7 @@ module _ (t : Line → Bool) (b : List ℕ) where
   kinds-amend p (node a ks fs) = rw (rewritten-kind t b (row a p), kinds-amend p fs)
 
   pub ruled-amend : (p : List ℕ) (f : Document) → ruled f ≡ true
-      → ((r : Line) → In number r p f → t r ≡ true → allowed (r .it .kind) b ≡ true)
-      → ruled (amend number (rewritten t b) p f) ≡ true
+      → ((r : Line) → In number r p f → t r ≡ true → allowed (r .it .kind) b ≡ true) → ruled (amend number (rewritten t b) p f) ≡ true
   unfolding amend
   ruled-amend p nil h g = h
   ruled-amend p (node a ks fs) h g =
@@ -159,8 +158,7 @@ module _ (parent : Node → Bool) (k : ℕ) (new : Node) where
   -- if the new node is by the rules, and each parent's children are with it among them
   pub ruled-put : (f : Document) → ruled f ≡ true → ruled (node new nil nil) ≡ true
       → ((a : Node) (ks : Document) → Has-node a ks f → parent a ≡ true
-      → children-rule (a .kind) (insert-at k (new .kind) (top-kinds ks)) ≡ true)
-      → ruled (put parent (λ a. true) k new f) ≡ true
+      → children-rule (a .kind) (insert-at k (new .kind) (top-kinds ks)) ≡ true) → ruled (put parent (λ a. true) k new f) ≡ true
   unfolding put
   ruled-put nil h n g = h
   ruled-put (node a ks fs) h n g =

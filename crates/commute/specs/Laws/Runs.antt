@@ -109,8 +109,7 @@ absent-run d (x ∷ l) e y c r v f a = absent-run (after (x .step) d) l e y c (r
 
 -- an entry that is valid behind a run could go before it
 pub move-first : (d : Document) (l : List Entry) (e : Document) (s : Entry) → Unique d → Run d l e → Valid s e
-    → ((y : Entry) → List·Memᴰ y l → Clear s y) → Absent (s .step) d
-    → Valid s d × Run (after (s .step) d) l (after (s .step) e)
+    → ((y : Entry) → List·Memᴰ y l → Clear s y) → Absent (s .step) d → Valid s d × Run (after (s .step) d) l (after (s .step) e)
 move-first d [] e s u r v f a = (rw r v, ap (after (s .step)) r)
 move-first d (y ∷ l) e s u r v f a =
     let c : Clear s y = f y (List·Memᴰ·head refl) in
@@ -123,9 +122,7 @@ move-first d (y ∷ l) e s u r v f a =
 
 -- two logs, one behind the other, could change places
 pub exchange : (d : Document) (l : List Entry) (e : Document) (k : List Entry) (h : Document) → Unique d → Run d l e → Run e k h
-    → All-clear k l
-    → Brings-once k → All-absent k d
-    → (c : Document) × Run d k c × Run c l h
+    → All-clear k l → Brings-once k → All-absent k d → (c : Document) × Run d k c × Run c l h
 exchange d l e [] h u r s f o a = (d, refl, rw (← s) r)
 exchange d l e (x ∷ k) h u r s f o a =
     let g = move-first d l e x u r (s .0) (λ y m. f x y (List·Memᴰ·head refl) m) (a x (List·Memᴰ·head refl)) in

@@ -19,7 +19,7 @@ use Rattle.protocol.specs.State.{Marked, Tree, numbered, seen-by, written-by, d
 use Rattle.protocol.specs.State.{granted-to, grant}
 use Rattle.serializability.specs.Laws.Shown.{Place, Inside, path, numbers-of}
 use Rattle.serializability.specs.Laws.Numbers.{number-of, marked, marked-numbers, mark-in, in-mark}
-use Rattle.serializability.specs.Laws.Standing.{Standing, Carried, carried-path, ancestor-place}
+use Rattle.serializability.specs.Laws.Standing.{Lock-there, New-there, Standing, Carried, carried-path, ancestor-place}
 
 -- what a granted step does to the tree: nothing, other marks that leave numbers, inserters and locks, or a new node ---
 
@@ -107,7 +107,7 @@ grant-carries t ls u f r i = carried-by-mark (λ x. granted-to t ls (x .it)) (λ
 
 -- t was granted the lock on its node
 grant-there : (t : ℕ) (ls : List Lock) (f : Tree) (l : Lock) → List·Memᴰ l ls → (r : Place) → Inside r f → number-of r ≡ l .0
-    → (s : Place) × Inside s (grant t ls f) × (number-of s ≡ l .0) × (s .it .held t (l .1) ≡ true)
+    → Lock-there (grant t ls f) t l
 unfolding grant
 grant-there t ls f l m r i e = (
   marked c r,
@@ -174,15 +174,13 @@ step-standing t s p f r i e o = record {
     N : Carried t (after-step t s ls f) r
     N = step-carries t s ls t f r i
 
-    fresh : (m : ℕ) → has m (inserts s) ≡ true
-        → (x : Place) × Inside x (after-step t s ls f) × (number-of x ≡ m) × (numbers-of (x .above) ≡ numbers-of (path (N .place))) ×
-        (x .it .inserter ≡ t)
+    fresh : (m : ℕ) → has m (inserts s) ≡ true → New-there (after-step t s ls f) t m (N .place)
     fresh m h =
         let a = act-inserts t s m h f r i e in
         let g = grant-carries t ls t (act t s f) (a .0) (a .1) in
         (g .place, g .inside, g .number ∙ a .2, g .above ∙ ap numbers-of (a .3) ∙ sym (carried-path N), g .inserter (a .4))
 
-    bits : (l : Lock) → List·Memᴰ l ls → (x : Place) × Inside x (after-step t s ls f) × (number-of x ≡ l .0) × (x .it .held t (l .1) ≡ true)
+    bits : (l : Lock) → List·Memᴰ l ls → Lock-there (after-step t s ls f) t l
     bits l m = ⊎-elim
         (λ y. let b = ancestor-place f i (l .0) (rw (e, o) y) in
         let a = act-carries t s t f (b .0) (b .1) in

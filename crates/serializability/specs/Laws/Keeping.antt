@@ -73,8 +73,7 @@ module _ (holds holds' : ℕ → List Lock) (more : (u : ℕ) → Within (holds 
         (λ r i. by-test (test r) (λ e. rw e (inr (refl, h r i e))) (λ e. rw e (inl refl)))
 
     delete-covered : (n : ℕ) → ((r : Place) → Inside r f → number-of r ≡ n
-        → Within (locks (D (number-of r)) (numbers-of (r .above))) (holds' t))
-        → Covered holds' (mark-node n (deleted-by t) f)
+        → Within (locks (D (number-of r)) (numbers-of (r .above))) (holds' t)) → Covered holds' (mark-node n (deleted-by t) f)
     unfolding Deleted Written
     delete-covered n h =
         let k = keeps-deleted t (λ r. numbered n (r .it)) in

@@ -213,8 +213,7 @@ module _ (c : Document) (log : ℕ → List Entry) (M : State) (g : Good c log M
           absurd (false≢true (rw (p, o) at (and-right (done-by all (r .it .inserter)) _ b)))) (λ q. rw (p, q))))
 
       only-visible : (l : List Marked) → Each (λ a. a) (λ a p. Inside (row a p) f) l → every (shown none) l ≡ true
-          → every (shown all) l ≡ true
-          → every (shown (only t)) l ≡ true
+          → every (shown all) l ≡ true → every (shown (only t)) l ≡ true
       only-visible [] k a b = refl
       only-visible (x ∷ p) k a b = rw (
         only-shown (row x p) (k .0) (and-left _ _ a) (and-left _ _ b),
