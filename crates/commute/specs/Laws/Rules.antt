@@ -2,7 +2,7 @@
 use Prim.Native.Nat.{ℕ, zero, suc, _-_, _≤_}
 use mathlib.Core.Path.{_≡_, refl, sym, ap, _∙_}
 use mathlib.Core.Bool.{Bool, true, false, not, _&&_}
-use mathlib.Core.List.{List, [], _∷_, _++_, append-nil, Memᴰ·append-left, Memᴰ·append-right}
+use mathlib.Core.List.{List, [], _∷_, _++_, append-nil, List·Memᴰ, List·Memᴰ·head, List·Memᴰ·tail}
 use mathlib.Core.Logic.{⊎-elim}
 use native.Mathlib.Omega.{arith}
 use lib.ListN.{length, take, drop}
@@ -200,25 +200,23 @@ module _ (n : ℕ) where
 
   -- where numbers are distinct: n on top is not below or beside, n below is not beside
   module _ (b : Node) (js fs : Document) (p : List ℕ) (u : distinct (numbers (rows number p (node b js fs))) ≡ true) where
-    rest : distinct (numbers (rows number (b .number ∷ p) js ++ rows number p fs)) ≡ true
+    abbrev upper : List Line
+    upper = row b p ∷ rows number (b .number ∷ p) js
+
+    upper-distinct : distinct (numbers upper) ≡ true
     unfolding rows
-    rest = head-new line-number (row b p) (rows number (b .number ∷ p) js ++ rows number p fs) u .1
+    upper-distinct = distinct-left line-number upper (rows number p fs) u
+
+    beside-distinct : distinct (numbers (rows number p fs)) ≡ true
+    unfolding rows
+    beside-distinct = distinct-right line-number upper (rows number p fs) u
 
     not-below : (r : Line) → In number r (b .number ∷ p) js → r .it .number ≡ b .number → ⊥
-    unfolding rows
-    not-below r m e =
-        head-apart line-number (row b p) (rows number (b .number ∷ p) js ++ rows number p fs) u
-        (Memᴰ·append-left (rows number p fs) (to-rows number m)) e
+    not-below r m e = head-apart line-number (row b p) (rows number (b .number ∷ p) js) upper-distinct (to-rows number m) e
 
-    not-beside : (r : Line) → In number r p fs → r .it .number ≡ b .number → ⊥
+    not-beside : (r s : Line) → List·Memᴰ r upper → In number s p fs → r .it .number ≡ s .it .number → ⊥
     unfolding rows
-    not-beside r m e =
-        head-apart line-number (row b p) (rows number (b .number ∷ p) js ++ rows number p fs) u
-        (Memᴰ·append-right (rows number (b .number ∷ p) js) (to-rows number m)) e
-
-    not-both : (r s : Line) → In number r (b .number ∷ p) js → In number s p fs → r .it .number ≡ s .it .number → ⊥
-    not-both r s i j e = distinct-apart line-number (rows number (b .number ∷ p) js) (rows number p fs) rest (to-rows number i)
-        (to-rows number j) e
+    not-beside r s i j e = distinct-apart line-number upper (rows number p fs) u i (to-rows number j) e
 
   -- the lines of n's children are the topmost nodes below it
   pub children-kinds : {a : Node} {ks : Document} (p : List ℕ) {f : Document} → Has-node a ks f → a .number ≡ n → leads n p ≡ false
@@ -226,7 +224,7 @@ module _ (n : ℕ) where
   children-kinds {a} {ks} p (at-top {fs = fs}) e h u =
       rw (
         keep-children a ks fs p h,
-        no-children p fs h (λ r m i. not-beside a ks fs p u r m (i ∙ sym e)),
+        no-children p fs h (λ r m i. not-beside a ks fs p u (row a p) r (List·Memᴰ·head refl) m (e ∙ sym i)),
         append-nil (keep (child n) (rows number (a .number ∷ p) ks)),
       )
       (top-children (a .number ∷ p) ks (eq-eqb (a .number) n e) (λ r m i. not-below a ks fs p u r m (i ∙ sym e)))
@@ -234,18 +232,18 @@ module _ (n : ℕ) where
       let i = node-line (b .number ∷ p) m in
       rw (
         keep-children b js fs p h,
-        no-children p fs h (λ r o q. not-both b js fs p u (row a (i .0)) r (i .1) o (e ∙ sym q)),
+        no-children p fs h (λ r o q. not-beside b js fs p u (row a (i .0)) r (List·Memᴰ·tail (to-rows number (i .1))) o (e ∙ sym q)),
         append-nil (keep (child n) (rows number (b .number ∷ p) js)),
       )
       (children-kinds (b .number ∷ p) m e (refuted (eqb (b .number) n)
       (λ q. not-below b js fs p u (row a (i .0)) (i .1) (e ∙ sym (eqb-true _ n q))))
-      (distinct-left line-number (rows number (b .number ∷ p) js) (rows number p fs) (rest b js fs p u)))
+      (head-new line-number (row b p) (rows number (b .number ∷ p) js) (upper-distinct b js fs p u) .1))
   children-kinds {a} {ks} p (beside {b = b} {js = js} {fs = fs} m) e h u =
       let i = node-line p m in
       rw (
         keep-children b js fs p h,
-        no-children (b .number ∷ p) js (refuted (eqb (b .number) n) (λ q. not-beside b js fs p u (row a (i .0)) (i .1)
-            (e ∙ sym (eqb-true _ n q))))
-            (λ r o q. not-both b js fs p u r (row a (i .0)) o (i .1) (q ∙ sym e)),
+        no-children (b .number ∷ p) js (refuted (eqb (b .number) n) (λ q. not-beside b js fs p u (row b p) (row a (i .0)) (List·Memᴰ·head refl) (i .1)
+            (eqb-true _ n q ∙ sym e)))
+            (λ r o q. not-beside b js fs p u r (row a (i .0)) (List·Memᴰ·tail (to-rows number o)) (i .1) (q ∙ sym e)),
       )
-      (children-kinds p m e h (distinct-right line-number (rows number (b .number ∷ p) js) (rows number p fs) (rest b js fs p u)))
+      (children-kinds p m e h (beside-distinct b js fs p u))
