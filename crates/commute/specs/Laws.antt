@@ -2,12 +2,9 @@ pub mod Tests
 pub mod Lines
 pub mod Views
 pub mod Classes
-pub mod Apart
 pub mod Kept
-pub mod Edits
 pub mod Diamond
 pub mod Uniqueness
-pub mod Absence
 pub mod Runs
 pub mod Orders
 pub mod Serial

@@ -4,17 +4,14 @@ pub mod OneCall
 pub mod Logs
 pub mod Shown
 pub mod Numbers
-pub mod Edited
 pub mod Marks
 pub mod Seen
-pub mod Acts
 pub mod Keeping
 pub mod Standing
 pub mod Granting
 pub mod Whole
 pub mod Ends
 pub mod Tracking
-pub mod Released
 pub mod AnyOrder
 pub mod Held
 pub mod Pending

@@ -1,6 +1,6 @@
 -- The steps by what they do to the document, and what the table of clashes keeps apart.
-use mathlib.Core.Path.{_≡_, refl}
 use Prim.Native.Nat.{ℕ}
+use mathlib.Core.Path.{_≡_, refl}
 use mathlib.Core.Bool.{Bool, true, false, _&&_, false≢true}
 use mathlib.Core.List.{List, [], _∷_}
 use Rattle.tree.specs.Lists.{has}

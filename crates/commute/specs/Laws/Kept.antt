@@ -1,30 +1,73 @@
 -- A step leaves what another sees, if their locks do not clash.
-use mathlib.Core.Path.{_≡_, refl, sym, ap, _∙_}
 use Prim.Native.Nat.{ℕ}
-use mathlib.Core.Bool.{true, false, _||_, false≢true, true≢false}
+use mathlib.Core.Path.{_≡_, refl, sym, ap, _∙_}
+use mathlib.Core.Bool.{true, false, false≢true, true≢false, _||_}
 use mathlib.Core.List.{List, [], _∷_}
+use mathlib.Core.Logic.{_⊎_, inl, inr}
 use lib.Dec.{eqb}
 use borrow.Author.Tests.{eqb-true, eq-eqb, ne-eqb, not-true, not-false}
-use Rattle.tree.specs.Lists.{has}
+use Rattle.tree.specs.Lists.{has, leads}
+use Rattle.tree.specs.Document.{Document, Line, is, child, under, here, at, Node, some?}
+use Rattle.tree.specs.Laws.Tests.{refuted, and-left, and-right, or-left, or-right}
+use Rattle.tree.specs.Laws.Rows.{line, parent-row, nested, Nested}
 use Rattle.tree.specs.Forest.{row}
-use Rattle.tree.specs.Document.{Node, Document, Line, is, here, some?}
-use Rattle.tree.specs.Steps.{Step, D, I, target, inserts, fits, unknown, wrong-kind, wrong-content, number-there, misplaced}
-use Rattle.tree.specs.Steps.{after, remove, rewrite}
-use Rattle.tree.specs.Laws.Tests.{and-left, and-right, or-left, or-right, refuted}
+use Rattle.tree.specs.Steps.{Step, D, I, target, inserts, fits, unknown, wrong-kind, wrong-content, number-there, misplaced, after, remove}
+use Rattle.tree.specs.Steps.{rewrite}
 use Rattle.tree.specs.Laws.Lists.{at-any, has-in, eqb-flip}
-use Rattle.locks.specs.Modes.{LW, clash}
+use Rattle.locks.specs.Modes.{clash}
 use Rattle.locks.specs.Needs.{need, needs}
-use Rattle.locks.specs.Laws.Compatible.{Compatible, compatible-symmetric, excludes, node-locked, new-locked, off-node, off-parent, off-path, off-new}
+use Rattle.locks.specs.Laws.Compatible.{Compatible, compatible-symmetric, clashing, excludes, node-locked, new-locked, off-node, off-parent}
+use Rattle.locks.specs.Laws.Compatible.{off-path, off-new}
 use Rattle.locks.specs.Laws.Excludes.{LW-excludes}
-use Rattle.commute.specs.Laws.Lines.{Of, Unique, not-here, insert}
-use Rattle.commute.specs.Laws.Views.{Reach, itself, children, subtree, within, reach, within-by-number, Whole, whole-shapes, Views, Same}
-use Rattle.commute.specs.Laws.Views.{views-same, rewrite-shapes}
-use Rattle.commute.specs.Laws.Views.{rewrite-whole, remove-whole, insert-whole, shapes-some}
-use Rattle.commute.specs.Laws.Classes.{Rewriting, Class, reading, rewriting, removing, inserting, class, touched, written, after-rewriting}
-use Rattle.commute.specs.Laws.Classes.{touched-within, Contents, reads-contents}
-use Rattle.commute.specs.Laws.Classes.{bars-removal, removal-barred, bars-insertion, insertion-barred, bars-writing, writing-barred}
-use Rattle.commute.specs.Laws.Classes.{Absent, new-need}
-use Rattle.commute.specs.Laws.Apart.{path, path-of, not-under, under-not-under, Clear-of, clear-of}
+use Rattle.commute.specs.Laws.Tests.{by-test}
+use Rattle.commute.specs.Laws.Lines.{number, Of, Unique, at-only, not-here, insert}
+use Rattle.commute.specs.Laws.Views.{Reach, itself, children, subtree, within, reach, within-by-number, Whole, whole-shapes, Views}
+use Rattle.commute.specs.Laws.Views.{Same, views-same, rewrite-shapes, rewrite-whole, remove-whole, insert-whole, shapes-some}
+use Rattle.commute.specs.Laws.Classes.{Rewriting, Class, reading, rewriting, removing, inserting, class, touched, written}
+use Rattle.commute.specs.Laws.Classes.{after-rewriting, touched-within, Contents, reads-contents, bars-removal, removal-barred}
+use Rattle.commute.specs.Laws.Classes.{bars-insertion, insertion-barred, bars-writing, writing-barred, Absent, new-need}
+
+-- where two nodes of a document stand, and which lines are near the one and not the other -----------------
+
+-- the proper ancestors of n
+abbrev pub path : ℕ → Document → List ℕ
+path n d = at n d .above
+
+module _ (d : Document) (u : Unique d) where
+  pub path-of : (n : ℕ) → here n d ≡ true → (r : Line) → Of r d → r .it .number ≡ n → r .above ≡ path n d
+  path-of n h r m e = ap (λ (x : Line). x .above) (at-only d u n h r m e)
+
+  pub not-under : (n x : ℕ) → here n d ≡ true → has x (n ∷ path n d) ≡ false → (r : Line) → Of r d → is n r ≡ true → under x r ≡ false
+  not-under n x h f r m i = let e = eqb-true _ n i in rw (e, path-of n h r m e) f
+
+  child-not-under : (n x : ℕ) → here n d ≡ true → here x d ≡ true → has x (n ∷ path n d) ≡ false → leads n (path x d) ≡ false
+      → (r : Line) → Of r d → child n r ≡ true → under x r ≡ false
+  child-not-under n x hn hx f g r m c = by-test (eqb (r .it .number) x)
+      (λ e. absurd (true≢false (sym c ∙ ap (leads n) (path-of x hx r m (eqb-true _ x e)) ∙ g))) (λ e. rw e (below (parent-row number m)))
+    where
+      below : (r .above ≡ []) ⊎ ((s : Line) × Of s d × (r .above ≡ line number s)) → has x (r .above) ≡ false
+      below (inl e) = absurd (false≢true (rw e at c))
+      below (inr s) = rw (s .2) (not-under n x hn f (s .0) (s .1) (rw (s .2) at c))
+
+  pub under-not-under : (n x : ℕ) → here n d ≡ true → here x d ≡ true → has x (n ∷ path n d) ≡ false → has n (x ∷ path x d) ≡ false
+      → (r : Line) → Of r d → under n r ≡ true → under x r ≡ false
+  under-not-under n x hn hx f g r m v = refuted _ (λ w. no-way (nested number n x refl refl m v w))
+    where
+      no-way : Nested number n x [] d ⊎ Nested number x n [] d → ⊥
+      no-way (inl s) = true≢false (sym (s .3) ∙ not-under n x hn f (s .0) (s .1) (eq-eqb _ n (s .2)))
+      no-way (inr s) = true≢false (sym (s .3) ∙ not-under x n hx g (s .0) (s .1) (eq-eqb _ x (s .2)))
+
+  -- what is within reach of n is not in the subtree of x
+  abbrev pub Clear-of : Reach → ℕ → ℕ → Type 0
+  Clear-of itself n x = has x (n ∷ path n d) ≡ false
+  Clear-of children n x = (has x (n ∷ path n d) ≡ false) × (leads n (path x d) ≡ false)
+  Clear-of subtree n x = (has x (n ∷ path n d) ≡ false) × (has n (x ∷ path x d) ≡ false)
+
+  pub clear-of : (q : Reach) (n x : ℕ) → here n d ≡ true → here x d ≡ true → Clear-of q n x → (r : Line) → Of r d → within q n r ≡ true
+      → under x r ≡ false
+  clear-of itself n x hn hx c = not-under n x hn c
+  clear-of children n x hn hx c = child-not-under n x hn hx (c .0) (c .1)
+  clear-of subtree n x hn hx c = under-not-under n x hn hx (c .0) (c .1)
 
 -- a step that fits ---------------------------------------------------------------------------
 
@@ -62,18 +105,29 @@ module _ (s : Step) (d : Document) (h : fits s d ≡ true) where
 -- what is left ---------------------------------------------------------------------------------
 
 module _ (d : Document) (u : Unique d) where
+  -- two steps whose locks do not clash, by the modes that s needs on its node
+  module _ (s p : Step) (c : Compatible (needs s d) (needs p d)) where
+    node-apart : clashing (need s .node) (need p .node) ≡ true → eqb (target p) (target s) ≡ false
+    node-apart e = off-node (target s) (need s .node) (needs s d) (node-locked s (path (target s) d)) p (path (target p) d) c e
+
+    parent-apart : clashing (need s .node) (need p .parent) ≡ true → leads (target s) (path (target p) d) ≡ false
+    parent-apart e = off-parent (target s) (need s .node) (needs s d) (node-locked s (path (target s) d)) p (path (target p) d) c e
+
+    path-apart : excludes (need s .node) (need p) ≡ true → has (target s) (target p ∷ path (target p) d) ≡ false
+    path-apart e = off-path (target s) (need s .node) (needs s d) (node-locked s (path (target s) d)) p (path (target p) d) c e
+
   -- s against the removal of x
   module _ (s : Step) (hs : here (target s) d ≡ true) (x : ℕ) (hx : here x d ≡ true) (c : Compatible (needs s d) (needs (D x) d)) where
     off-removed : has x (target s ∷ path (target s) d) ≡ false
-    off-removed = off-path x (LW ∷ []) (needs (D x) d) (node-locked (D x) (path x d)) s (path (target s) d) (compatible-symmetric _ _ c) (LW-excludes s)
+    off-removed = path-apart (D x) s (compatible-symmetric _ _ c) (LW-excludes s)
 
     pub clear-of-removal : Clear-of d u (reach s) (target s) x
     clear-of-removal = go (reach s) (removal-barred s)
       where
         go : (q : Reach) → bars-removal q (need s) (need (D x)) ≡ true → Clear-of d u q (target s) x
         go itself e = off-removed
-        go children e = (off-removed, off-parent (target s) (need s .node) (needs s d) (node-locked s (path (target s) d)) (D x) (path x d) c e)
-        go subtree e = (off-removed, off-path (target s) (need s .node) (needs s d) (node-locked s (path (target s) d)) (D x) (path x d) c e)
+        go children e = (off-removed, parent-apart s (D x) c e)
+        go subtree e = (off-removed, path-apart s (D x) c e)
 
     views-removal : Absent s d → Views s d (remove x d)
     views-removal a = record {
@@ -101,14 +155,15 @@ module _ (d : Document) (u : Unique d) where
       where
         go : (q : Reach) → bars-insertion q (need s) (need (I m kind b n k)) ≡ true → within q (target s) (row new (n ∷ path n d)) ≡ false
         go itself e = other
-        go children e = off-node (target s) (need s .node) (needs s d) (node-locked s (path (target s) d)) (I m kind b n k) (path n d) c e
-        go subtree e = rw other (off-path (target s) (need s .node) (needs s d) (node-locked s (path (target s) d)) (I m kind b n k) (path n d) c e)
+        go children e = node-apart s (I m kind b n k) c e
+        go subtree e = rw other (path-apart s (I m kind b n k) c e)
 
     -- both bring in different numbers
     new-number : (q : ℕ) → has q (inserts s) ≡ true → eqb m q ≡ false
     unfolding clash
     new-number q i =
-        or-left _ _ (off-new q (need s .new) (needs s d) (new-locked s (path (target s) d) q i) (I m kind b n k) (path n d) c (rw (new-need s q i)))
+        or-left _ _ (off-new q (need s .new) (needs s d) (new-locked s (path (target s) d) q i) (I m kind b n k) (path n d) c
+        (rw (new-need s q i)))
 
     views-insertion : Views s d (insert new n k d)
     views-insertion = record {
@@ -124,28 +179,21 @@ module _ (d : Document) (u : Unique d) where
   -- s against new contents
   module _ (s : Step) (hs : here (target s) d ≡ true) {p : Step} (w : Rewriting p) (hp : here (target p) d ≡ true)
       (c : Compatible (needs s d) (needs p d)) where
-    off-s : excludes (need p .node) (need s) ≡ true → has (target p) (target s ∷ path (target s) d) ≡ false
-    off-s e = off-path (target p) (need p .node) (needs p d) (node-locked p (path (target p) d)) s (path (target s) d) (compatible-symmetric _ _ c) e
-
-    off-p : excludes (need s .node) (need p) ≡ true → has (target s) (target p ∷ path (target p) d) ≡ false
-    off-p e = off-path (target s) (need s .node) (needs s d) (node-locked s (path (target s) d)) p (path (target p) d) c e
-
     -- no line whose contents s sees or writes is touched
     pub untouched : Contents s → (r : Line) → Of r d → within (reach s) (target s) r ≡ true → within (reach p) (target p) r ≡ false
     untouched h r m i = go (reach s) (reach p) (writing-barred h w) i
       where
         go : (q q' : Reach) → bars-writing q q' (need s) (need p) ≡ true → within q (target s) r ≡ true → within q' (target p) r ≡ false
-        go itself itself e i =
-            rw (eqb-true _ (target s) i)
-            (eqb-flip (target p) (target s)
-            (off-node (target s) (need s .node) (needs s d) (node-locked s (path (target s) d)) p (path (target p) d) c e))
+        go itself itself e i = rw (eqb-true _ (target s) i) (eqb-flip (target p) (target s) (node-apart s p c e))
         go itself children e i = absurd (false≢true e)
-        go itself subtree e i = not-under d u (target s) (target p) hs (off-s e) r m i
+        go itself subtree e i = not-under d u (target s) (target p) hs (path-apart p s (compatible-symmetric _ _ c) e) r m i
         go children q e i = absurd (false≢true e)
-        go subtree itself e i = refuted _ (λ j. true≢false (sym i ∙ not-under d u (target p) (target s) hp (off-p e) r m j))
+        go subtree itself e i = refuted _ (λ j. true≢false (sym i ∙ not-under d u (target p) (target s) hp (path-apart s p c e) r m j))
         go subtree children e i = absurd (false≢true e)
         go subtree subtree e i =
-            under-not-under d u (target s) (target p) hs hp (off-s (and-right (excludes (need s .node) (need p)) _ e)) (off-p (and-left _ _ e)) r m i
+            under-not-under d u (target s) (target p) hs hp
+            (path-apart p s (compatible-symmetric _ _ c) (and-right (excludes (need s .node) (need p)) _ e))
+            (path-apart s p c (and-left _ _ e)) r m i
 
     views-rewriting : Views s d (rewrite (touched w) (written w) d)
     views-rewriting = record {
@@ -156,19 +204,18 @@ module _ (d : Document) (u : Unique d) where
       absent = λ q i. shapes-some (is q) d _ (rewrite-shapes (touched w) (written w) (is q) (within-by-number itself q) d);
     }
 
-  views-self : (s : Step) → Views s d d
-  views-self s = record { node = refl; lines = refl; contents = λ e. refl; absent = λ m i. refl }
-
   -- after p, s sees what it saw
-  pub views-kept : (p s : Step) → fits p d ≡ true → here (target s) d ≡ true → Absent s d → Compatible (needs s d) (needs p d) → Views s d (after p d)
+  pub views-kept : (p s : Step) → fits p d ≡ true → here (target s) d ≡ true → Absent s d → Compatible (needs s d) (needs p d)
+      → Views s d (after p d)
   views-kept p s g h a c = go (class p) g c
     where
       go : {p : Step} → Class p → fits p d ≡ true → Compatible (needs s d) (needs p d) → Views s d (after p d)
-      go {p} (reading e b) g c = rw (e d) (views-self s)
+      go {p} (reading e b) g c = rw (e d) (record { node = refl; lines = refl; contents = λ z. refl; absent = λ m i. refl })
       go {p} (rewriting w) g c = rw (after-rewriting w d) (views-rewriting s h w (fits-here p d g) c)
       go (removing x) g c = views-removal s h x (fits-here (D x) d g) c a
       go (inserting m kind b n k) g c =
           views-insertion s h m kind b n k (fits-here (I m kind b n k) d g) (fits-absent (I m kind b n k) d g m (rw (eq-eqb m m refl))) c
 
-  pub same-kept : (p s : Step) → fits p d ≡ true → here (target s) d ≡ true → Absent s d → Compatible (needs s d) (needs p d) → Same s d (after p d)
+  pub same-kept : (p s : Step) → fits p d ≡ true → here (target s) d ≡ true → Absent s d → Compatible (needs s d) (needs p d)
+      → Same s d (after p d)
   same-kept p s g h a c = views-same s d (after p d) (views-kept p s g h a c)

@@ -1,6 +1,6 @@
 -- A step that fits leaves a legal document legal.
-use mathlib.Core.Path.{_≡_, refl, sym, ap, _∙_}
 use Prim.Native.Nat.{ℕ, suc}
+use mathlib.Core.Path.{_≡_, refl, sym, ap, _∙_}
 use mathlib.Core.Bool.{Bool, true, false, not, _&&_, false≢true, true≢false}
 use mathlib.Core.List.{List, [], _∷_}
 use lib.ListN.{length}
@@ -14,8 +14,8 @@ use Rattle.tree.specs.Laws.Tests.{and-left, and-right, refuted}
 use Rattle.tree.specs.Laws.Rows.{self}
 use Rattle.commute.specs.Laws.Tests.{by-test}
 use Rattle.commute.specs.Laws.Lines.{number, Unique, at-only, rewritten-number, rewritten-kind, insert}
-use Rattle.commute.specs.Laws.Classes.{Rewriting, update, rename, Class, reading, rewriting, removing, inserting, class, touched, written}
-use Rattle.commute.specs.Laws.Classes.{after-rewriting}
+use Rattle.commute.specs.Laws.Classes.{Rewriting, update, rename, Class, reading, rewriting, removing, inserting, class, touched}
+use Rattle.commute.specs.Laws.Classes.{written, after-rewriting}
 use Rattle.commute.specs.Laws.Kept.{Fit, fit-parts, fits-here}
 use Rattle.commute.specs.Laws.Uniqueness.{unique-after}
 use Rattle.commute.specs.Laws.Runs.{Entry, Run}
@@ -36,7 +36,8 @@ rooted-insert a n k (node c ks nil) h = h
 rooted-insert a n k (node c ks (node e js fs)) h = h
 
 -- it is not removed
-rooted-remove : (x : ℕ) (d : Document) → Unique d → rooted d ≡ true → here x d ≡ true → eqb (at x d .it .kind) document-kind ≡ false → rooted (remove x d) ≡ true
+rooted-remove : (x : ℕ) (d : Document) → Unique d → rooted d ≡ true → here x d ≡ true → eqb (at x d .it .kind) document-kind ≡ false
+    → rooted (remove x d) ≡ true
 unfolding view
 rooted-remove x nil u h i e = h
 rooted-remove x (node a ks nil) u h i e = rw other h
@@ -48,12 +49,14 @@ rooted-remove x (node a ks (node c js fs)) u h i e = absurd (false≢true h)
 
 -- the rules of contents and children ------------------------------------------------------------------
 
-ruled-rewriting : (d : Document) → Unique d → {s : Step} (w : Rewriting s) → fits s d ≡ true → ruled d ≡ true → ruled (rewrite (touched w) (written w) d) ≡ true
+ruled-rewriting : (d : Document) → Unique d → {s : Step} (w : Rewriting s) → fits s d ≡ true → ruled d ≡ true
+    → ruled (rewrite (touched w) (written w) d) ≡ true
 unfolding allowed
 ruled-rewriting d u (update n b) g h = ruled-amend (is n) b [] d h
     (λ r m i. rw (at-only d u n (fits-here (U n b) d g) r m (eqb-true _ n i)) (not-false _ (fit-parts (U n b) d g .content)))
 ruled-rewriting d u (rename n a b) g h = ruled-amend (λ r. under n r && named a r) b [] d h
-    (λ r m i. rw (eqb-true (r .it .kind) element-kind (and-left _ _ (and-right (under n r) _ i))) (and-right (is-name a) _ (not-false _ (fit-parts (UU n a b) d g .content))))
+    (λ r m i. rw (eqb-true (r .it .kind) element-kind (and-left _ _ (and-right (under n r) _ i)))
+    (and-right (is-name a) _ (not-false _ (fit-parts (UU n a b) d g .content))))
 
 childless : (kind : ℕ) → children-rule kind [] ≡ true
 unfolding children-rule attributes-first
@@ -73,7 +76,8 @@ ruled-insertion m kind b n k d u g h = ruled-put (λ x. eqb (x .number) n) k (re
         let o = node-line [] i in
         let l : row a (o .0) ≡ at n d = at-only d u n (fits-here (I m kind b n k) d g) (row a (o .0)) (o .1) e in
         let c : kinds (select (child n) d) ≡ top-kinds ks = children-kinds n [] i e refl u in
-        rw (ap (λ (r : Line). r .it .kind) l, ← c) (and-right (leb 1 k && leb k (suc (length (kinds (select (child n) d))))) _ (not-false _ (fit .place)))
+        rw (ap (λ (r : Line). r .it .kind) l, ← c) (and-right (leb 1 k && leb k (suc (length (kinds (select (child n) d))))) _
+        (not-false _ (fit .place)))
 
 -- legal -----------------------------------------------------------------------------------------------
 
@@ -93,7 +97,12 @@ unfolding legal
 legal-whole d l = rw (l .root, l .rules, l .unique)
 
 pub legal-after : (d : Document) (s : Step) → legal d ≡ true → fits s d ≡ true → legal (after s d) ≡ true
-legal-after d s h g = legal-whole (after s d) (record { root = root (class s) g; rules = rules (class s) g; unique = unique-after d (l .unique) s g })
+legal-after d s h g = legal-whole (after s d) (record {
+  root = root (class s) g;
+  rules = rules (class s) g;
+  unique = unique-after d
+      (l .unique) s g;
+})
   where
     l : Legal d
     l = legal-parts d h

@@ -1,6 +1,6 @@
 -- The lines of a plain document, before and after each of the three edits.
-use mathlib.Core.Path.{_≡_, refl, sym, _∙_}
 use Prim.Native.Nat.{ℕ}
+use mathlib.Core.Path.{_≡_, refl, sym, _∙_}
 use mathlib.Core.Bool.{Bool, true, false, cond, not, false≢true, true≢false}
 use mathlib.Core.List.{List, [], _∷_, map, List·Memᴰ, List·Memᴰ·head, List·Memᴰ·not-nil}
 use lib.Dec.{eqb}
@@ -43,7 +43,8 @@ at-line n d h = go (keep (is n) (lines d)) refl h
     go : (l : List Line) → keep (is n) (lines d) ≡ l → some? l ≡ true → Of (first l) d × (first l .it .number ≡ n)
     go [] e f = absurd (false≢true f)
     go (r ∷ l) e f =
-        let i = in-keep (is n) (lines d) {a = r} (rw e (List·Memᴰ·head {x = r} {xs = l} refl)) in (of-lines d r (i .0), eqb-true (r .it .number) n (i .1))
+        let i = in-keep (is n) (lines d) {a = r} (rw e (List·Memᴰ·head {x = r} {xs = l} refl)) in
+        (of-lines d r (i .0), eqb-true (r .it .number) n (i .1))
 
 pub line-here : (n : ℕ) (d : Document) (r : Line) → Of r d → r .it .number ≡ n → here n d ≡ true
 unfolding select
@@ -78,7 +79,8 @@ rewritten-number t b r = cond-same number (t r) (with-content (r .it) b) (r .it)
 pub rewritten-kind : (t : Line → Bool) (b : List ℕ) (r : Line) → rewritten t b r .kind ≡ r .it .kind
 rewritten-kind t b r = cond-same (λ (a : Node). a .kind) (t r) (with-content (r .it) b) (r .it) refl
 
-pub lines-rewrite : (t : Line → Bool) (b : List ℕ) (d : Document) → lines (rewrite t b d) ≡ map (λ r. row (rewritten t b r) (r .above)) (lines d)
+pub lines-rewrite : (t : Line → Bool) (b : List ℕ) (d : Document)
+    → lines (rewrite t b d) ≡ map (λ r. row (rewritten t b r) (r .above)) (lines d)
 unfolding lines
 lines-rewrite t b d = rows-amend-same number (rewritten t b) (rewritten-number t b) [] d
 

@@ -1,6 +1,6 @@
 -- Orders of transactions: the logs of transactions whose locks do not clash may be run in any order.
-use mathlib.Core.Path.{_≡_, refl, sym, ap, _∙_}
 use Prim.Native.Nat.{ℕ}
+use mathlib.Core.Path.{_≡_, refl, sym, ap, _∙_}
 use mathlib.Core.Bool.{true, false, _||_, false≢true, true≢false, or-true}
 use mathlib.Core.List.{List, [], _∷_, _++_, map, append-nil, append-assoc, List·Memᴰ, Memᴰ·append-left, Memᴰ·append-right}
 use mathlib.Core.Logic.{⊎-elim}
@@ -11,7 +11,8 @@ use Rattle.tree.specs.Document.{Document}
 use Rattle.tree.specs.Laws.Tests.{or-left, or-right, or-swap, or-cases, refuted}
 use Rattle.tree.specs.Laws.Lists.{eqb-flip, map-append}
 use Rattle.commute.specs.Laws.Lines.{Unique}
-use Rattle.commute.specs.Laws.Runs.{Entry, Run, run-split, run-append, unique-run, run-valid, All-clear, Brings-once, All-absent, absent-run, exchange}
+use Rattle.commute.specs.Laws.Runs.{Entry, Run, run-split, run-append, unique-run, run-valid, All-clear, Brings-once, All-absent}
+use Rattle.commute.specs.Laws.Runs.{absent-run, exchange}
 
 -- permutations -------------------------------------------------------------------------------
 
@@ -42,7 +43,8 @@ permuted-has (then p q) t = permuted-has q t ∙ permuted-has p t
 
 pub permuted-distinct : {a b : List ℕ} → Permutation a b → Distinct a → Distinct b
 permuted-distinct empty h = h
-permuted-distinct (behind t {a} {b} p) h = distinct-cons t b (permuted-has p t ∙ distinct-head t a h) (permuted-distinct p (distinct-tail t a h))
+permuted-distinct (behind t {a} {b} p) h = distinct-cons t b (permuted-has p t ∙ distinct-head t a h)
+    (permuted-distinct p (distinct-tail t a h))
 permuted-distinct (exchanged t u {a}) h =
     let o : (eqb u t || has t a) ≡ false = distinct-head t (u ∷ a) h in
     let i : Distinct (u ∷ a) = distinct-tail t (u ∷ a) h in
@@ -101,13 +103,14 @@ module _ (log : ℕ → List Entry) where
   differ t u a p q e = true≢false (sym q ∙ ap (λ (z : ℕ). has z a) e ∙ p)
 
   -- nor is it after the first of them has run
-  pub rest-not-there : (t : ℕ) (a : List ℕ) (d e h : Document) → Apart → has t a ≡ false → Run d (log t) e → Run e (logs a) h → None-there (t ∷ a) d
-      → None-there a e
+  pub rest-not-there : (t : ℕ) (a : List ℕ) (d e h : Document) → Apart → has t a ≡ false → Run d (log t) e → Run e (logs a) h
+      → None-there (t ∷ a) d → None-there a e
   rest-not-there t a d e h f n r s w u i y m =
       let o = run-valid e (logs a) h s y (in-logs u a i m) in
       absent-run d (log t) e y (o .0) r (o .1) (λ x j. f .clear u t (differ t u a n i) y x m j) (w u (rw (i, or-true (eqb t u))) y m)
 
-  pub any-order : {a b : List ℕ} → Permutation a b → (d h : Document) → Apart → Unique d → Distinct a → None-there a d → Run d (logs a) h → Run d (logs b) h
+  pub any-order : {a b : List ℕ} → Permutation a b → (d h : Document) → Apart → Unique d → Distinct a → None-there a d → Run d (logs a) h
+      → Run d (logs b) h
   any-order empty d h f u n w r = r
   any-order (behind t {a} {b} p) d h f u n w r =
       let g = run-split d (log t) (logs a) h r in
@@ -118,6 +121,8 @@ module _ (log : ℕ → List Entry) where
       let g = run-split d (log t) (log v ++ logs a) h r in
       let k = run-split (g .0) (log v) (logs a) h (g .2) in
       let ne : v ≡ t → ⊥ = λ e. eqb-false v t (or-left (eqb v t) (has t a) (distinct-head t (v ∷ a) n)) e in
-      let b = exchange d (log t) (g .0) (log v) (k .0) u (g .1) (k .1) (f .clear v t ne) (f .once v) (w v (rw (eq-eqb v v refl, or-true (eqb t v)))) in
+      let b = exchange d (log t) (g .0) (log v) (k .0) u (g .1) (k .1) (f .clear v t ne) (f .once v)
+      (w v (rw (eq-eqb v v refl, or-true (eqb t v)))) in
       run-append d (log v) (log t ++ logs a) (b .0) h (b .1) (run-append (b .0) (log t) (logs a) (k .0) h (b .2) (k .2))
-  any-order (then {a} {b} p q) d h f u n w r = any-order q d h f u (permuted-distinct p n) (λ t i. w t (sym (permuted-has p t) ∙ i)) (any-order p d h f u n w r)
+  any-order (then {a} {b} p q) d h f u n w r = any-order q d h f u (permuted-distinct p n) (λ t i. w t (sym (permuted-has p t) ∙ i))
+      (any-order p d h f u n w r)

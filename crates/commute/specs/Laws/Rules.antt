@@ -1,12 +1,12 @@
 -- The rules of contents and children, before and after each of the three edits.
-use mathlib.Core.Path.{_≡_, refl, sym, ap, _∙_}
 use Prim.Native.Nat.{ℕ, zero, suc, _-_, _≤_}
+use mathlib.Core.Path.{_≡_, refl, sym, ap, _∙_}
 use mathlib.Core.Bool.{Bool, true, false, not, _&&_}
-use mathlib.Core.List.{List, [], _∷_, _++_, append-nil, Memᴰ·append-left, Memᴰ·append-right}
+use mathlib.Core.List.{List, [], _∷_, _++_, append-nil, List·Memᴰ, List·Memᴰ·head, List·Memᴰ·tail}
 use mathlib.Core.Logic.{⊎-elim}
+use native.Mathlib.Omega.{arith}
 use lib.ListN.{length, take, drop}
 use lib.Dec.{eqb}
-use native.Mathlib.Omega.{arith}
 use borrow.Author.Tests.{eqb-true, eq-eqb, leb-true, le-leb, not-true}
 use Rattle.tree.specs.Lists.{every, leads, keep, distinct}
 use Rattle.tree.specs.Forest.{nil, node, row, rows, amend, view, place, put}
@@ -46,8 +46,8 @@ module _ (t : Line → Bool) (b : List ℕ) where
   kinds-amend p nil = refl
   kinds-amend p (node a ks fs) = rw (rewritten-kind t b (row a p), kinds-amend p fs)
 
-  pub ruled-amend : (p : List ℕ) (f : Document) → ruled f ≡ true → ((r : Line) → In number r p f → t r ≡ true → allowed (r .it .kind) b ≡ true)
-      → ruled (amend number (rewritten t b) p f) ≡ true
+  pub ruled-amend : (p : List ℕ) (f : Document) → ruled f ≡ true
+      → ((r : Line) → In number r p f → t r ≡ true → allowed (r .it .kind) b ≡ true) → ruled (amend number (rewritten t b) p f) ≡ true
   unfolding amend
   ruled-amend p nil h g = h
   ruled-amend p (node a ks fs) h g =
@@ -108,7 +108,8 @@ module _ (shown : Node → Bool) where
   ruled-view (node a ks fs) h =
       let q = ruled-parts a ks fs h in
       by-test (shown a)
-      (λ e. rw e (ruled-whole a (view shown (λ x. x) ks) (view shown (λ x. x) fs) (q .0 .0, sublist-rule (a .kind) (kinds-view ks) (q .0 .1))
+      (λ e. rw e (ruled-whole a (view shown (λ x. x) ks) (view shown (λ x. x) fs)
+      (q .0 .0, sublist-rule (a .kind) (kinds-view ks) (q .0 .1))
       (ruled-view ks (q .1)) (ruled-view fs (q .2)))) (λ e. rw e (ruled-view fs (q .2)))
 
 -- insertion ------------------------------------------------------------------------------------
@@ -125,7 +126,8 @@ node-line p (below {b = b} m) = let i = node-line (b .number ∷ p) m in (i .0, 
 node-line p (beside m) = let i = node-line p m in (i .0, later (i .1))
 
 module _ (parent : Node → Bool) (k : ℕ) (new : Node) where
-  kinds-place : (k : ℕ) (f : Document) → top-kinds (place (λ a. true) (suc k) new f) ≡ take k (top-kinds f) ++ (new .kind ∷ drop k (top-kinds f))
+  kinds-place : (k : ℕ) (f : Document)
+      → top-kinds (place (λ a. true) (suc k) new f) ≡ take k (top-kinds f) ++ (new .kind ∷ drop k (top-kinds f))
   unfolding place
   kinds-place zero f = refl
   kinds-place (suc k) nil = refl
@@ -155,8 +157,8 @@ module _ (parent : Node → Bool) (k : ℕ) (new : Node) where
 
   -- if the new node is by the rules, and each parent's children are with it among them
   pub ruled-put : (f : Document) → ruled f ≡ true → ruled (node new nil nil) ≡ true
-      → ((a : Node) (ks : Document) → Has-node a ks f → parent a ≡ true → children-rule (a .kind) (insert-at k (new .kind) (top-kinds ks)) ≡ true)
-      → ruled (put parent (λ a. true) k new f) ≡ true
+      → ((a : Node) (ks : Document) → Has-node a ks f → parent a ≡ true
+      → children-rule (a .kind) (insert-at k (new .kind) (top-kinds ks)) ≡ true) → ruled (put parent (λ a. true) k new f) ≡ true
   unfolding put
   ruled-put nil h n g = h
   ruled-put (node a ks fs) h n g =
@@ -165,16 +167,19 @@ module _ (parent : Node → Bool) (k : ℕ) (new : Node) where
       let u : ruled ks' ≡ true = ruled-put ks (q .1) n (λ b js m. g b js (below m)) in
       let v = ruled-put fs (q .2) n (λ b js m. g b js (beside m)) in
       by-test (parent a)
-      (λ e. rw e (ruled-whole a (place (λ x. true) k new ks') _ (q .0 .0, rw (kinds-inserted k ks', kinds-put ks) (g a ks at-top e)) (ruled-place k ks' u n) v))
+      (λ e. rw e (ruled-whole a (place (λ x. true) k new ks') _ (q .0 .0, rw (kinds-inserted k ks', kinds-put ks) (g a ks at-top e))
+      (ruled-place k ks' u n) v))
       (λ e. rw e (ruled-whole a ks' _ (q .0 .0, rw (kinds-put ks) (q .0 .1)) u v))
 
 -- the children of a node -----------------------------------------------------------------------
 
 module _ (n : ℕ) where
   -- without n in the forest or right above it no line is a child of n
-  no-children : (p : List ℕ) (f : Document) → leads n p ≡ false → ((r : Line) → In number r p f → r .it .number ≡ n → ⊥) → keep (child n) (rows number p f) ≡ []
+  no-children : (p : List ℕ) (f : Document) → leads n p ≡ false → ((r : Line) → In number r p f → r .it .number ≡ n → ⊥)
+      → keep (child n) (rows number p f) ≡ []
   no-children p f h g = keep-none (child n) (rows number p f) (λ r m. ⊎-elim (λ e. rw e h)
-      (λ s. rw (s .2) (refuted (eqb (s .0 .it .number) n) (λ e. g (s .0) (s .1) (eqb-true _ n e)))) (parent-row number (of-rows number r p f m)))
+      (λ s. rw (s .2) (refuted (eqb (s .0 .it .number) n) (λ e. g (s .0) (s .1) (eqb-true _ n e))))
+      (parent-row number (of-rows number r p f m)))
 
   -- right below n, and without n in the forest, the topmost nodes are its children
   top-children : (p : List ℕ) (f : Document) → leads n p ≡ true → ((r : Line) → In number r p f → r .it .number ≡ n → ⊥)
@@ -195,24 +200,23 @@ module _ (n : ℕ) where
 
   -- where numbers are distinct: n on top is not below or beside, n below is not beside
   module _ (b : Node) (js fs : Document) (p : List ℕ) (u : distinct (numbers (rows number p (node b js fs))) ≡ true) where
-    rest : distinct (numbers (rows number (b .number ∷ p) js ++ rows number p fs)) ≡ true
+    abbrev upper : List Line
+    upper = row b p ∷ rows number (b .number ∷ p) js
+
+    upper-distinct : distinct (numbers upper) ≡ true
     unfolding rows
-    rest = head-new line-number (row b p) (rows number (b .number ∷ p) js ++ rows number p fs) u .1
+    upper-distinct = distinct-left line-number upper (rows number p fs) u
+
+    beside-distinct : distinct (numbers (rows number p fs)) ≡ true
+    unfolding rows
+    beside-distinct = distinct-right line-number upper (rows number p fs) u
 
     not-below : (r : Line) → In number r (b .number ∷ p) js → r .it .number ≡ b .number → ⊥
-    unfolding rows
-    not-below r m e =
-        head-apart line-number (row b p) (rows number (b .number ∷ p) js ++ rows number p fs) u
-        (Memᴰ·append-left (rows number p fs) (to-rows number m)) e
+    not-below r m e = head-apart line-number (row b p) (rows number (b .number ∷ p) js) upper-distinct (to-rows number m) e
 
-    not-beside : (r : Line) → In number r p fs → r .it .number ≡ b .number → ⊥
+    not-beside : (r s : Line) → List·Memᴰ r upper → In number s p fs → r .it .number ≡ s .it .number → ⊥
     unfolding rows
-    not-beside r m e =
-        head-apart line-number (row b p) (rows number (b .number ∷ p) js ++ rows number p fs) u
-        (Memᴰ·append-right (rows number (b .number ∷ p) js) (to-rows number m)) e
-
-    not-both : (r s : Line) → In number r (b .number ∷ p) js → In number s p fs → r .it .number ≡ s .it .number → ⊥
-    not-both r s i j e = distinct-apart line-number (rows number (b .number ∷ p) js) (rows number p fs) rest (to-rows number i) (to-rows number j) e
+    not-beside r s i j e = distinct-apart line-number upper (rows number p fs) u i (to-rows number j) e
 
   -- the lines of n's children are the topmost nodes below it
   pub children-kinds : {a : Node} {ks : Document} (p : List ℕ) {f : Document} → Has-node a ks f → a .number ≡ n → leads n p ≡ false
@@ -220,7 +224,7 @@ module _ (n : ℕ) where
   children-kinds {a} {ks} p (at-top {fs = fs}) e h u =
       rw (
         keep-children a ks fs p h,
-        no-children p fs h (λ r m i. not-beside a ks fs p u r m (i ∙ sym e)),
+        no-children p fs h (λ r m i. not-beside a ks fs p u (row a p) r (List·Memᴰ·head refl) m (e ∙ sym i)),
         append-nil (keep (child n) (rows number (a .number ∷ p) ks)),
       )
       (top-children (a .number ∷ p) ks (eq-eqb (a .number) n e) (λ r m i. not-below a ks fs p u r m (i ∙ sym e)))
@@ -228,16 +232,18 @@ module _ (n : ℕ) where
       let i = node-line (b .number ∷ p) m in
       rw (
         keep-children b js fs p h,
-        no-children p fs h (λ r o q. not-both b js fs p u (row a (i .0)) r (i .1) o (e ∙ sym q)),
+        no-children p fs h (λ r o q. not-beside b js fs p u (row a (i .0)) r (List·Memᴰ·tail (to-rows number (i .1))) o (e ∙ sym q)),
         append-nil (keep (child n) (rows number (b .number ∷ p) js)),
       )
-      (children-kinds (b .number ∷ p) m e (refuted (eqb (b .number) n) (λ q. not-below b js fs p u (row a (i .0)) (i .1) (e ∙ sym (eqb-true _ n q))))
-      (distinct-left line-number (rows number (b .number ∷ p) js) (rows number p fs) (rest b js fs p u)))
+      (children-kinds (b .number ∷ p) m e (refuted (eqb (b .number) n)
+      (λ q. not-below b js fs p u (row a (i .0)) (i .1) (e ∙ sym (eqb-true _ n q))))
+      (head-new line-number (row b p) (rows number (b .number ∷ p) js) (upper-distinct b js fs p u) .1))
   children-kinds {a} {ks} p (beside {b = b} {js = js} {fs = fs} m) e h u =
       let i = node-line p m in
       rw (
         keep-children b js fs p h,
-        no-children (b .number ∷ p) js (refuted (eqb (b .number) n) (λ q. not-beside b js fs p u (row a (i .0)) (i .1) (e ∙ sym (eqb-true _ n q))))
-            (λ r o q. not-both b js fs p u r (row a (i .0)) o (i .1) (q ∙ sym e)),
+        no-children (b .number ∷ p) js (refuted (eqb (b .number) n) (λ q. not-beside b js fs p u (row b p) (row a (i .0)) (List·Memᴰ·head refl) (i .1)
+            (eqb-true _ n q ∙ sym e)))
+            (λ r o q. not-beside b js fs p u r (row a (i .0)) (List·Memᴰ·tail (to-rows number o)) (i .1) (q ∙ sym e)),
       )
-      (children-kinds p m e h (distinct-right line-number (rows number (b .number ∷ p) js) (rows number p fs) (rest b js fs p u)))
+      (children-kinds p m e h (beside-distinct b js fs p u))

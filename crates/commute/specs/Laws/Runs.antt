@@ -1,6 +1,6 @@
 -- Logs of granted steps, and runs of them by the plain rules. Logs whose locks do not clash may be run in either order.
-use mathlib.Core.Path.{_≡_, refl, sym, ap, _∙_}
 use Prim.Native.Nat.{ℕ}
+use mathlib.Core.Path.{_≡_, refl, sym, ap, _∙_}
 use mathlib.Core.Bool.{true, false}
 use mathlib.Core.List.{List, [], _∷_, _++_, map, List·Memᴰ, List·Memᴰ·head, List·Memᴰ·tail, List·Memᴰ·not-nil}
 use Rattle.tree.specs.Lists.{has}
@@ -12,8 +12,7 @@ use Rattle.commute.specs.Laws.Lines.{Unique}
 use Rattle.commute.specs.Laws.Views.{Same}
 use Rattle.commute.specs.Laws.Classes.{Absent}
 use Rattle.commute.specs.Laws.Diamond.{swap}
-use Rattle.commute.specs.Laws.Uniqueness.{unique-after}
-use Rattle.commute.specs.Laws.Absence.{absent-after, inserts-apart}
+use Rattle.commute.specs.Laws.Uniqueness.{unique-after, absent-after, inserts-apart}
 
 -- a granted step, with its answer and its locks
 pub record Entry : Type 0 where
@@ -87,7 +86,8 @@ abbrev pub Other-numbers : Entry → Entry → Type 0
 Other-numbers x y = (m : ℕ) → has m (inserts (x .step)) ≡ true → has m (inserts (y .step)) ≡ false
 
 pub clear-other-numbers : (x y : Entry) (d e : Document) → Valid x d → Valid y e → Clear x y → Other-numbers x y
-clear-other-numbers x y d e v w c = inserts-apart (x .step) (y .step) (at (target (x .step)) d .above) (at (target (y .step)) e .above) (rw (v .need, w .need) c)
+clear-other-numbers x y d e v w c = inserts-apart (x .step) (y .step) (at (target (x .step)) d .above) (at (target (y .step)) e .above)
+    (rw (v .need, w .need) c)
 
 -- no number is brought in twice within a log
 abbrev pub Brings-once : List Entry → Type 0
@@ -109,8 +109,7 @@ absent-run d (x ∷ l) e y c r v f a = absent-run (after (x .step) d) l e y c (r
 
 -- an entry that is valid behind a run could go before it
 pub move-first : (d : Document) (l : List Entry) (e : Document) (s : Entry) → Unique d → Run d l e → Valid s e
-    → ((y : Entry) → List·Memᴰ y l → Clear s y) → Absent (s .step) d
-    → Valid s d × Run (after (s .step) d) l (after (s .step) e)
+    → ((y : Entry) → List·Memᴰ y l → Clear s y) → Absent (s .step) d → Valid s d × Run (after (s .step) d) l (after (s .step) e)
 move-first d [] e s u r v f a = (rw r v, ap (after (s .step)) r)
 move-first d (y ∷ l) e s u r v f a =
     let c : Clear s y = f y (List·Memᴰ·head refl) in
@@ -122,9 +121,8 @@ move-first d (y ∷ l) e s u r v f a =
     )
 
 -- two logs, one behind the other, could change places
-pub exchange : (d : Document) (l : List Entry) (e : Document) (k : List Entry) (h : Document) → Unique d → Run d l e → Run e k h → All-clear k l
-    → Brings-once k → All-absent k d
-    → (c : Document) × Run d k c × Run c l h
+pub exchange : (d : Document) (l : List Entry) (e : Document) (k : List Entry) (h : Document) → Unique d → Run d l e → Run e k h
+    → All-clear k l → Brings-once k → All-absent k d → (c : Document) × Run d k c × Run c l h
 exchange d l e [] h u r s f o a = (d, refl, rw (← s) r)
 exchange d l e (x ∷ k) h u r s f o a =
     let g = move-first d l e x u r (s .0) (λ y m. f x y (List·Memᴰ·head refl) m) (a x (List·Memᴰ·head refl)) in

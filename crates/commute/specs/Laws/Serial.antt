@@ -1,6 +1,6 @@
 -- Transactions run one after another, in any order; a granted step, commit and abort.
-use mathlib.Core.Path.{_≡_, refl, sym, _∙_}
 use Prim.Native.Nat.{ℕ}
+use mathlib.Core.Path.{_≡_, refl, sym, _∙_}
 use mathlib.Core.Bool.{false, cond, or-true}
 use mathlib.Core.List.{List, [], _∷_, _++_, List·Memᴰ, List·Memᴰ·head, List·Memᴰ·tail, List·Memᴰ·not-nil, List·Memᴰ·append-cases}
 use mathlib.Core.List.{List·Memᴰ·eq-of-singleton}
@@ -15,9 +15,11 @@ use Rattle.locks.specs.Laws.Compatible.{compatible-symmetric}
 use Rattle.commute.specs.Laws.Tests.{by-test}
 use Rattle.commute.specs.Laws.Lines.{Unique}
 use Rattle.commute.specs.Laws.Classes.{Absent}
-use Rattle.commute.specs.Laws.Runs.{Entry, Valid, Run, run-split, run-append, unique-run, Clear, All-clear, Other-numbers, Brings-once}
-use Rattle.commute.specs.Laws.Orders.{Permutation, permuted-has, permuted-distinct, permutation-back, to-back, Distinct, distinct-head}
-use Rattle.commute.specs.Laws.Orders.{distinct-tail, distinct-cons, logs, logs-last, Apart, None-there, rest-not-there, any-order}
+use Rattle.commute.specs.Laws.Runs.{Entry, Valid, Run, run-split, run-append, unique-run, Clear, All-clear, Other-numbers}
+use Rattle.commute.specs.Laws.Runs.{Brings-once}
+use Rattle.commute.specs.Laws.Orders.{Permutation, permuted-has, permuted-distinct, permutation-back, to-back, Distinct}
+use Rattle.commute.specs.Laws.Orders.{distinct-head, distinct-tail, distinct-cons, logs, logs-last, Apart, None-there, rest-not-there}
+use Rattle.commute.specs.Laws.Orders.{any-order}
 
 -- the transactions a, run one after another in this order on d, give every step its answer and its locks, and leave h
 pub record Serial (d : Document) (a : List ℕ) (log : ℕ → List Entry) (h : Document) : Type 0 where
@@ -57,7 +59,8 @@ commit d t a log h s =
 pub abort : (d : Document) (t : ℕ) (a : List ℕ) (log : ℕ → List Entry) (h : Document) → Serial d (t ∷ a) log h
     → (e : Document) × Run e (log t) h × Serial d a log e
 abort d t a log h s =
-    let r : Run d (logs log (a ++ (t ∷ []))) h = any-order log (to-back t a) d h (s .apart) (s .unique) (s .distinct) (s .none-there) (s .run) in
+    let r : Run d (logs log (a ++ (t ∷ []))) h = any-order log (to-back t a) d h (s .apart) (s .unique) (s .distinct) (s .none-there)
+    (s .run) in
     let q : Run d (logs log a ++ log t) h = rw (logs-last log a t) at r in
     let g = run-split d (logs log a) (log t) h q in (
       g .0,
@@ -86,7 +89,8 @@ logs-replaced : (t : ℕ) (l : List Entry) (log : ℕ → List Entry) (a : List 
 logs-replaced t l log [] h = refl
 logs-replaced t l log (v ∷ a) h = rw (or-left (eqb v t) (has t a) h, logs-replaced t l log a (or-right (eqb v t) (has t a) h))
 
-once-replaced : (t : ℕ) (l : List Entry) (log : ℕ → List Entry) → ((v : ℕ) → Brings-once (log v)) → Brings-once l → (v : ℕ) → Brings-once (replaced t l log v)
+once-replaced : (t : ℕ) (l : List Entry) (log : ℕ → List Entry) → ((v : ℕ) → Brings-once (log v)) → Brings-once l → (v : ℕ)
+    → Brings-once (replaced t l log v)
 once-replaced t l log s o v = by-test (eqb v t) (λ e. rw e o) (λ e. rw e (s v))
 
 -- the log of t is emptied
@@ -133,7 +137,8 @@ in-noted t x log v m = ⊎-elim inl
     (λ i. ⊎-map (λ j. rw (i .0) j) (λ j. (i .0, List·Memᴰ·eq-of-singleton j)) (List·Memᴰ·append-cases (log t) (i .1)))
     (in-replaced t (log t ++ (x ∷ [])) log v m)
 
-inserts-once-noted : (l : List Entry) (x : Entry) → Brings-once l → ((y : Entry) → List·Memᴰ y l → Other-numbers x y) → Brings-once (l ++ (x ∷ []))
+inserts-once-noted : (l : List Entry) (x : Entry) → Brings-once l → ((y : Entry) → List·Memᴰ y l → Other-numbers x y)
+    → Brings-once (l ++ (x ∷ []))
 inserts-once-noted [] x o n = (λ y i. absurd (List·Memᴰ·not-nil i), tt)
 inserts-once-noted (z ∷ l) x o n = (
   λ y i m h. ⊎-elim (λ j. o .0 y j m h)
@@ -168,13 +173,14 @@ none-there-noted t log x a d w n v i y m = ⊎-elim (λ p. w v i y p) (λ p. rw 
 -- x is granted to t, which is among the transactions: x is valid on what they leave, and is then done too
 pub grant : (d : Document) (t : ℕ) (a : List ℕ) (log : ℕ → List Entry) (h : Document) (x : Entry) → Serial d (t ∷ a) log h
     → Valid x h → Grantable t log x → Absent (x .step) d → Serial d (t ∷ a) (noted t x log) (after (x .step) h)
-grant d t a log h x s v g n = reorder d (a ++ (t ∷ [])) (t ∷ a) (noted t x log) (after (x .step) h) (permutation-back (to-back t a)) (record {
-  unique = s .unique;
-  distinct = permuted-distinct (to-back t a) (s .distinct);
-  apart = apart-noted t log x (s .apart) g;
-  none-there = λ u i. none-there-noted t log x (t ∷ a) d (s .none-there) n u (sym (permuted-has (to-back t a) u) ∙ i);
-  run = run;
-})
+grant d t a log h x s v g n = reorder d (a ++ (t ∷ [])) (t ∷ a) (noted t x log) (after (x .step) h) (permutation-back (to-back t a))
+    (record {
+      unique = s .unique;
+      distinct = permuted-distinct (to-back t a) (s .distinct);
+      apart = apart-noted t log x (s .apart) g;
+      none-there = λ u i. none-there-noted t log x (t ∷ a) d (s .none-there) n u (sym (permuted-has (to-back t a) u) ∙ i);
+      run = run;
+    })
   where
     run : Run d (logs (noted t x log) (a ++ (t ∷ []))) (after (x .step) h)
     run =

@@ -1,6 +1,6 @@
 -- What a step sees of a document, and what an edit leaves of that.
-use mathlib.Core.Path.{_≡_, refl, sym, ap, _∙_}
 use Prim.Native.Nat.{ℕ, zero, suc}
+use mathlib.Core.Path.{_≡_, refl, sym, ap, _∙_}
 use mathlib.Core.Bool.{Bool, true, false, not}
 use mathlib.Core.List.{List, [], _∷_, map, List·Memᴰ}
 use lib.Dec.{eqb}
@@ -8,11 +8,13 @@ use borrow.Author.Tests.{eqb-true, eq-eqb}
 use Rattle.tree.specs.Lists.{has, keep}
 use Rattle.tree.specs.Forest.{row}
 use Rattle.tree.specs.Document.{Node, Document, Line, lines, is, child, under, select, first, some?, here, at}
-use Rattle.tree.specs.Steps.{Step, T, C, R, U, D, I, TT, RR, UU, target, inserts, fits, answer, kth, numbers-are, with-content, rewrite, remove}
+use Rattle.tree.specs.Steps.{Step, T, C, R, U, D, I, TT, RR, UU, target, inserts, fits, answer, kth, numbers-are, with-content, rewrite}
+use Rattle.tree.specs.Steps.{remove}
 use Rattle.tree.specs.Laws.Lists.{keep-keep, keep-all, keep-map, in-keep, map-map, map-self}
 use Rattle.tree.specs.Laws.Put.{put-kept}
 use Rattle.locks.specs.Needs.{needs, locks}
-use Rattle.commute.specs.Laws.Lines.{number, Of, of-lines, rewritten, rewritten-number, rewritten-kind, lines-rewrite, lines-remove, insert}
+use Rattle.commute.specs.Laws.Lines.{number, Of, of-lines, rewritten, rewritten-number, rewritten-kind, lines-rewrite, lines-remove}
+use Rattle.commute.specs.Laws.Lines.{insert}
 
 -- a line without its content
 abbrev pub shape : Line → Line
@@ -160,10 +162,12 @@ module _ (t : Line → Bool) (b : List ℕ) (u : Line → Bool) (by : By-number 
 
   pub rewrite-whole : ((r : Line) → Of r d → u r ≡ true → t r ≡ false) → Whole u d (rewrite t b d)
   unfolding select new
-  rewrite-whole h = select-rewrite ∙ map-self new (select u d) (λ r m. let i = in-keep u (lines d) m in rw (h r (of-lines d r (i .0)) (i .1)))
+  rewrite-whole h = select-rewrite ∙ map-self new (select u d)
+      (λ r m. let i = in-keep u (lines d) m in rw (h r (of-lines d r (i .0)) (i .1)))
 
 -- removal: nothing changes in lines that are not in the subtree
-pub remove-whole : (x : ℕ) (t : Line → Bool) (d : Document) → ((r : Line) → Of r d → t r ≡ true → under x r ≡ false) → Whole t d (remove x d)
+pub remove-whole : (x : ℕ) (t : Line → Bool) (d : Document) → ((r : Line) → Of r d → t r ≡ true → under x r ≡ false)
+    → Whole t d (remove x d)
 unfolding select
 remove-whole x t d h =
     rw (lines-remove x d) (keep-keep t (λ r. not (under x r)) (lines d) ∙ keep-all (λ r. not (under x r)) (keep t (lines d)) stays)
@@ -175,4 +179,5 @@ remove-whole x t d h =
 pub insert-whole : (a : Node) (n k : ℕ) (t : Line → Bool) (d : Document)
     → ((s : Line) → Of s d → s .it .number ≡ n → t (row a (n ∷ s .above)) ≡ false) → Whole t d (insert a n k d)
 unfolding select lines
-insert-whole a n k t d h = put-kept (λ x. eqb (x .number) n) (λ x. true) k a number t [] d (λ s m e. rw (eqb-true _ n e) (h s m (eqb-true _ n e)))
+insert-whole a n k t d h = put-kept (λ x. eqb (x .number) n) (λ x. true) k a number t [] d
+    (λ s m e. rw (eqb-true _ n e) (h s m (eqb-true _ n e)))

@@ -1,6 +1,6 @@
 -- Any of the open transactions, in any order, behind the committed ones: the plain run leaves what the tree shows of them.
-use mathlib.Core.Path.{_≡_, refl}
 use Prim.Native.Nat.{ℕ}
+use mathlib.Core.Path.{_≡_, refl}
 use mathlib.Core.List.{List, _++_, map}
 use Rattle.tree.specs.Lists.{has, joined}
 use Rattle.tree.specs.Document.{node-0-alone}

@@ -1,6 +1,6 @@
 -- Commit and abort keep the state serializable: a commit moves its log to the committed transactions, an abort drops it.
-use mathlib.Core.Path.{_≡_, refl, sym, ap, _∙_, fun-ext}
 use Prim.Native.Nat.{ℕ}
+use mathlib.Core.Path.{_≡_, refl, sym, ap, _∙_, fun-ext}
 use mathlib.Core.Bool.{Bool, true, false, not, _&&_, _||_, true≢false, or-true, or-self-left, and-false}
 use mathlib.Core.List.{List, [], _∷_, map, List·Memᴰ, List·Memᴰ·head, List·Memᴰ·not-nil}
 use mathlib.Core.Logic.{⊎-elim}
@@ -18,9 +18,11 @@ use Rattle.locks.specs.Laws.Compatible.{Locked, Compatible, node-locked}
 use Rattle.locks.specs.Laws.Excludes.{LW-clashes}
 use Rattle.commute.specs.Laws.Tests.{by-test, affirmed}
 use Rattle.commute.specs.Laws.Runs.{Entry, Run, run-one-end}
-use Rattle.commute.specs.Laws.Orders.{Distinct, permuted-has, permuted-distinct, permutation-back, to-front, distinct-head, distinct-tail, distinct-cons}
+use Rattle.commute.specs.Laws.Orders.{Distinct, permuted-has, permuted-distinct, permutation-back, to-front, distinct-head, distinct-tail}
+use Rattle.commute.specs.Laws.Orders.{distinct-cons}
 use Rattle.commute.specs.Laws.Serial.{Serial, reorder, commit, emptied, in-emptied, forget, idle}
-use Rattle.protocol.specs.State.{nobody, State, Marked, Tree, seen-by, document-of, without, none-of, lasting, undone, commit-tree, abort-tree, closed, writer-of}
+use Rattle.protocol.specs.State.{nobody, State, Marked, Tree, seen-by, document-of, without, none-of, lasting, undone, commit-tree}
+use Rattle.protocol.specs.State.{abort-tree, closed, writer-of}
 use Rattle.serializability.specs.Laws.Shown.{Place, Inside, path, numbers-of, plus, minus, writer-without, commit-shown, abort-shown}
 use Rattle.serializability.specs.Laws.Numbers.{number-of, seen-as, in-part, part-in, part-distinct}
 use Rattle.serializability.specs.Laws.Marks.{marked-by, Guarded, Authored, author-more, Covered}
@@ -33,9 +35,12 @@ pub record Ending (t : ℕ) (stays : Marked → Bool) (g : Marked → Marked) : 
   -- only what t marked goes
   pub cut : (a : Marked) → stays a ≡ false → marked-by t a ≡ true
   -- the marks of t go, and no new ones come
-  pub inserter : (a : Marked) (u : ℕ) → (u ≡ nobody → ⊥) → stays a ≡ true → eqb (g a .inserter) u ≡ true → (eqb (a .inserter) u ≡ true) × (u ≡ t → ⊥)
-  pub deleter : (a : Marked) (u : ℕ) → (u ≡ nobody → ⊥) → stays a ≡ true → eqb (g a .deleter) u ≡ true → (eqb (a .deleter) u ≡ true) × (u ≡ t → ⊥)
-  pub writer : (a : Marked) (u : ℕ) → (u ≡ nobody → ⊥) → eqb (writer-of (g a .update)) u ≡ true → (eqb (writer-of (a .update)) u ≡ true) × (u ≡ t → ⊥)
+  pub inserter : (a : Marked) (u : ℕ) → (u ≡ nobody → ⊥) → stays a ≡ true → eqb (g a .inserter) u ≡ true
+      → (eqb (a .inserter) u ≡ true) × (u ≡ t → ⊥)
+  pub deleter : (a : Marked) (u : ℕ) → (u ≡ nobody → ⊥) → stays a ≡ true → eqb (g a .deleter) u ≡ true
+      → (eqb (a .deleter) u ≡ true) × (u ≡ t → ⊥)
+  pub writer : (a : Marked) (u : ℕ) → (u ≡ nobody → ⊥) → eqb (writer-of (g a .update)) u ≡ true
+      → (eqb (writer-of (a .update)) u ≡ true) × (u ≡ t → ⊥)
   -- the others' stay
   pub inserter-stays : (a : Marked) (u : ℕ) → (u ≡ t → ⊥) → eqb (a .inserter) u ≡ true → eqb (g a .inserter) u ≡ true
   pub held-stays : (a : Marked) (u : ℕ) (m : Mode) → (u ≡ t → ⊥) → a .held u m ≡ true → g a .held u m ≡ true
@@ -50,7 +55,8 @@ in-emptied-other : (t : ℕ) (log : ℕ → List Entry) (u : ℕ) {y : Entry} �
 in-emptied-other t log u m e = List·Memᴰ·not-nil (rw (e, emptied-own t log) at m)
 
 -- the locks of two transactions are compatible
-pub logs-compatible : {c : Document} {log : ℕ → List Entry} {M : State} → Good c log M → (u v : ℕ) → (u ≡ v → ⊥) → Compatible (holds log u) (holds log v)
+pub logs-compatible : {c : Document} {log : ℕ → List Entry} {M : State} → Good c log M → (u v : ℕ) → (u ≡ v → ⊥)
+    → Compatible (holds log u) (holds log v)
 logs-compatible {log = log} g u v ne q a b i j =
     let x = lock-entry (log u) (q, a) i in
     let y = lock-entry (log v) (q, b) j in
@@ -84,7 +90,8 @@ module _ (c : Document) (log : ℕ → List Entry) (M : State) (g : Good c log M
           let a = in-part stays h f i in
           let s = a .0 .it in
           let give : (u ≡ t → ⊥) → marked-by u s ≡ true → List·Memᴰ l (holds log' u) =
-          λ ne w. rw (holds-other u ne) (g .covered .guarded (a .0) (a .1) u nu w l (rw (a .3, end .number s, numbers-same (a .0 .above)) at j)) in
+          λ ne w. rw (holds-other u ne) (g .covered .guarded (a .0) (a .1) u nu w l
+          (rw (a .3, end .number s, numbers-same (a .0 .above)) at j)) in
           ⊎-elim (λ x. let w = end .inserter s u nu (and-left _ _ (a .2)) x in give (w .1) (rw (w .0)))
           (λ x. let w = end .deleter s u nu (and-left _ _ (a .2)) x in give (w .1) (rw (w .0, or-true (eqb (s .inserter) u))))
           (or-cases (eqb (h s .inserter) u) (eqb (h s .deleter) u) (rw (a .3) at m))
@@ -98,7 +105,8 @@ module _ (c : Document) (log : ℕ → List Entry) (M : State) (g : Good c log M
           _ _ (end .inserter-stays s u (w .1)) (s .now .number) (numbers-of (a .0 .above)) (g .covered .authored (a .0) (a .1) u nu (w .0)))
 
   -- where another transaction locked all of a path nothing goes
-  path-stays : (u : ℕ) → (u ≡ t → ⊥) → (l : List Marked) → Each (λ a. a) (Guarded (holds log)) l → ((q : ℕ) → has q (numbers-of l) ≡ true → (m : Mode) × Locked q m (holds log u)) → every stays l ≡ true
+  path-stays : (u : ℕ) → (u ≡ t → ⊥) → (l : List Marked) → Each (λ a. a) (Guarded (holds log)) l
+      → ((q : ℕ) → has q (numbers-of l) ≡ true → (m : Mode) × Locked q m (holds log u)) → every stays l ≡ true
   path-stays u ne [] k w = refl
   path-stays u ne (a ∷ p) k w =
       let here : stays a ≡ true = affirmed _ (λ x.
@@ -114,9 +122,11 @@ module _ (c : Document) (log : ℕ → List Entry) (M : State) (g : Good c log M
       ne : u ≡ t → ⊥
       ne = in-emptied-other t log u i
 
-      carry : (r : Place) → Inside r f → ((q : ℕ) → has q (numbers-of (path r)) ≡ true → (m : Mode) × Locked q m (y .held)) → Carried u rest r
+      carry : (r : Place) → Inside r f → ((q : ℕ) → has q (numbers-of (path r)) ≡ true → (m : Mode) × Locked q m (y .held))
+          → Carried u rest r
       carry r j w =
-          let stay : every stays (path r) ≡ true = path-stays u ne (path r) (each-above (λ a. a) (Guarded (holds log)) tt (g .covered .guarded) j)
+          let stay : every stays (path r) ≡ true = path-stays u ne (path r)
+          (each-above (λ a. a) (Guarded (holds log)) tt (g .covered .guarded) j)
           (λ q z. let m = w q z in (m .0, in-locks-of (log u) y (in-emptied t log u i) (q, m .0) (m .1))) in
           record {
             place = seen-as stays h r;
@@ -130,14 +140,16 @@ module _ (c : Document) (log : ℕ → List Entry) (M : State) (g : Good c log M
   end-brought : (r : Place) → Inside r rest → (r .it .inserter ≡ nobody → ⊥) → Brought log' (number-of r) (r .it .inserter)
   end-brought r i nu =
       let a = in-part stays h f i in
-      let w = end .inserter (a .0 .it) (r .it .inserter) nu (and-left _ _ (a .2)) (eq-eqb _ _ (ap (λ (z : Place). z .it .inserter) (sym (a .3)))) in
+      let w = end .inserter (a .0 .it) (r .it .inserter) nu (and-left _ _ (a .2))
+      (eq-eqb _ _ (ap (λ (z : Place). z .it .inserter) (sym (a .3)))) in
       let e : r .it .inserter ≡ a .0 .it .inserter = sym (eqb-true _ _ (w .0)) in
       let y = g .brought (a .0) (a .1) (λ z. nu (e ∙ z)) in
       brought-as log' (ap number-of (a .3) ∙ end .number (a .0 .it)) e
       (y .0, rw (emptied-other t log (a .0 .it .inserter) (λ z. w .1 (e ∙ z))) (y .1), y .2)
 
   -- the rest of what is claimed of the state, from the documents
-  end-good : (c' : Document) → ((b : List ℕ) → Distinct b → Serial c' b log' (document-of (λ u. has u b) rest)) → Good c' log' (closed t rest M)
+  end-good : (c' : Document) → ((b : List ℕ) → Distinct b → Serial c' b log' (document-of (λ u. has u b) rest))
+      → Good c' log' (closed t rest M)
   end-good c' serial = record {
     closed = λ u e. by-test (eqb u t) (λ x. rw x) (λ x. rw x (g .closed u (rw x at e)));
     numbered = λ u e. g .numbered u (and-right (not (eqb u t)) _ e);
@@ -156,32 +168,42 @@ eqb-sym : (t u : ℕ) → eqb t u ≡ eqb u t
 eqb-sym t u = by-test (eqb u t) (λ e. rw (e, eq-eqb t u (sym (eqb-true u t e)))) (λ e. rw (e, eqb-flip u t e))
 
 -- of a transaction with an empty log, from the lists without it to all
-all-orders : (c : Document) (t : ℕ) (log : ℕ → List Entry) (f : Tree) → log t ≡ [] → ((b : List ℕ) → Distinct b → has t b ≡ false → Serial c b log (document-of (λ u. has u b) f))
-    → ((b : List ℕ) → document-of (λ u. has u (t ∷ b)) f ≡ document-of (λ u. has u b) f) → (b : List ℕ) → Distinct b → Serial c b log (document-of (λ u. has u b) f)
+all-orders : (c : Document) (t : ℕ) (log : ℕ → List Entry) (f : Tree) → log t ≡ []
+    → ((b : List ℕ) → Distinct b → has t b ≡ false → Serial c b log (document-of (λ u. has u b) f))
+    → ((b : List ℕ) → document-of (λ u. has u (t ∷ b)) f ≡ document-of (λ u. has u b) f) → (b : List ℕ) → Distinct b
+    → Serial c b log (document-of (λ u. has u b) f)
 all-orders c t log f e s k b n = by-test (has t b) (λ x.
     let p = to-front t b x in
     let m : Distinct (t ∷ p .0) = permuted-distinct (p .1) n in
     rw (document-same (λ u. has u b) (λ u. has u (t ∷ p .0)) f (λ u. sym (permuted-has (p .1) u)) ∙ k (p .0))
     (reorder c (t ∷ p .0) b log (document-of (λ u. has u (p .0)) f) (permutation-back (p .1))
-    (idle c t (p .0) log (document-of (λ u. has u (p .0)) f) (distinct-head t (p .0) m) e (s (p .0) (distinct-tail t (p .0) m) (distinct-head t (p .0) m)))))
+    (idle c t (p .0) log (document-of (λ u. has u (p .0)) f) (distinct-head t (p .0) m) e
+    (s (p .0) (distinct-tail t (p .0) m) (distinct-head t (p .0) m)))))
     (s b n)
 
 module _ (c : Document) (log : ℕ → List Entry) (M : State) (g : Good c log M) (t : ℕ) (nz : t ≡ nobody → ⊥) where
   abbrev tree : Tree
   tree = M .tree
 
-  commit-serial : (e : Document) → Run c (log t) e → (b : List ℕ) → Distinct b → Serial e b (emptied t log) (document-of (λ u. has u b) (commit-tree t tree))
+  commit-serial : (e : Document) → Run c (log t) e → (b : List ℕ) → Distinct b
+      → Serial e b (emptied t log) (document-of (λ u. has u b) (commit-tree t tree))
   commit-serial e r = all-orders e t (emptied t log) (commit-tree t tree) (emptied-own t log) others own
     where
       others : (b : List ℕ) → Distinct b → has t b ≡ false → Serial e b (emptied t log) (document-of (λ u. has u b) (commit-tree t tree))
       others b n w =
           let x = commit c t b log (document-of (λ u. has u (t ∷ b)) tree) (g .serial (t ∷ b) (distinct-cons t b w n)) in
-          rw (commit-shown t nz (λ u. has u b) tree, document-same (plus t (λ u. has u b)) (λ u. has u (t ∷ b)) tree (λ u. ap (λ z. z || has u b) (eqb-sym u t)), run-one-end c (log t) e (x .0) r (x .1))
+          rw (
+            commit-shown t nz (λ u. has u b) tree,
+            document-same (plus t (λ u. has u b)) (λ u. has u (t ∷ b)) tree
+                (λ u. ap (λ z. z || has u b) (eqb-sym u t)),
+            run-one-end c (log t) e (x .0) r (x .1),
+          )
           (forget (x .0) t b log (document-of (λ u. has u (t ∷ b)) tree) w (x .2))
 
       own : (b : List ℕ) → document-of (λ u. has u (t ∷ b)) (commit-tree t tree) ≡ document-of (λ u. has u b) (commit-tree t tree)
       own b = commit-shown t nz (λ u. has u (t ∷ b)) tree
-          ∙ document-same (plus t (λ u. has u (t ∷ b))) (plus t (λ u. has u b)) tree (λ u. rw (eqb-sym t u) (or-self-left (eqb u t) (has u b)))
+          ∙ document-same (plus t (λ u. has u (t ∷ b))) (plus t (λ u. has u b)) tree
+          (λ u. rw (eqb-sym t u) (or-self-left (eqb u t) (has u b)))
           ∙ sym (commit-shown t nz (λ u. has u b) tree)
 
   abort-serial : (b : List ℕ) → Distinct b → Serial c b (emptied t log) (document-of (λ u. has u b) (abort-tree t tree))
@@ -194,10 +216,12 @@ module _ (c : Document) (log : ℕ → List Entry) (M : State) (g : Good c log M
       without b u = rw (eqb-sym t u) (by-test (eqb u t) (λ x. rw x) (λ x. rw x))
 
       others : (b : List ℕ) → Distinct b → has t b ≡ false → Serial c b (emptied t log) (document-of (λ u. has u b) (abort-tree t tree))
-      others b n w = rw (abort-shown t nz (λ u. has u b) tree, document-same (minus t (λ u. has u b)) (λ u. has u b) tree (λ u. off b u w)) (forget c t b log (document-of (λ u. has u b) tree) w (g .serial b n))
+      others b n w = rw (abort-shown t nz (λ u. has u b) tree, document-same (minus t (λ u. has u b)) (λ u. has u b) tree (λ u. off b u w))
+          (forget c t b log (document-of (λ u. has u b) tree) w (g .serial b n))
 
       own : (b : List ℕ) → document-of (λ u. has u (t ∷ b)) (abort-tree t tree) ≡ document-of (λ u. has u b) (abort-tree t tree)
-      own b = abort-shown t nz (λ u. has u (t ∷ b)) tree ∙ document-same (minus t (λ u. has u (t ∷ b))) (minus t (λ u. has u b)) tree (without b) ∙ sym (abort-shown t nz (λ u. has u b) tree)
+      own b = abort-shown t nz (λ u. has u (t ∷ b)) tree ∙ document-same (minus t (λ u. has u (t ∷ b))) (minus t (λ u. has u b)) tree
+          (without b) ∙ sym (abort-shown t nz (λ u. has u b) tree)
 
 -- both ends ---------------------------------------------------------------------------------------
 
@@ -245,6 +269,8 @@ commit-good c log M g t nz =
     (x .0, x .1, end-good c log M g t nz (seen-by t) (lasting t) (commit-ends t) (x .0) (commit-serial c log M g t nz (x .0) (x .1)))
 
 -- abort: the committed document stays
-pub abort-good : (c : Document) (log : ℕ → List Entry) (M : State) → Good c log M → (t : ℕ) → (t ≡ nobody → ⊥) → Good c (emptied t log) (closed t (abort-tree t (M .tree)) M)
+pub abort-good : (c : Document) (log : ℕ → List Entry) (M : State) → Good c log M → (t : ℕ) → (t ≡ nobody → ⊥)
+    → Good c (emptied t log) (closed t (abort-tree t (M .tree)) M)
 unfolding abort-tree
-abort-good c log M g t nz = end-good c log M g t nz (λ a. not (eqb (a .inserter) t)) (undone t) (abort-ends t) c (abort-serial c log M g t nz)
+abort-good c log M g t nz = end-good c log M g t nz (λ a. not (eqb (a .inserter) t)) (undone t) (abort-ends t) c
+    (abort-serial c log M g t nz)

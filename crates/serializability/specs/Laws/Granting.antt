@@ -1,31 +1,80 @@
 -- A granted step leaves every place where it is, and its own locks in the sets of the nodes.
-use mathlib.Core.Path.{_≡_, refl, sym, ap, _∙_}
 use Prim.Native.Nat.{ℕ}
-use mathlib.Core.Bool.{true, false≢true, or-true}
+use mathlib.Core.Path.{_≡_, refl, sym, ap, _∙_}
+use mathlib.Core.Bool.{Bool, cond, true, false≢true, or-true}
 use mathlib.Core.List.{List, [], _∷_, List·Memᴰ, List·Memᴰ·head, List·Memᴰ·tail, List·Memᴰ·not-nil, List·Memᴰ·eq-of-singleton}
 use mathlib.Core.Logic.{_⊎_, inl, ⊎-elim, ⊎-map}
 use lib.Dec.{eqb}
 use borrow.Author.Tests.{eq-eqb}
+use Rattle.tree.specs.Forest.{put, row}
+use Rattle.tree.specs.Steps.{Step, T, C, R, U, D, I, TT, RR, UU, inserts, target}
 use Rattle.tree.specs.Lists.{has}
-use Rattle.tree.specs.Forest.{row}
-use Rattle.tree.specs.Steps.{Step, target, inserts}
 use Rattle.tree.specs.Laws.Lists.{has-in}
 use Rattle.tree.specs.Laws.Put.{put-in, put-new, in-put}
 use Rattle.locks.specs.Modes.{Mode, index, no-mode, among}
 use Rattle.locks.specs.Needs.{Lock, locks}
-use Rattle.commute.specs.Laws.Tests.{by-test}
-use Rattle.protocol.specs.State.{Marked, Tree, numbered, seen-by, modes-on, granted-to, mark, act, grant}
-use Rattle.serializability.specs.Laws.Edited.{new-node, Deed, looks, marks, adds, deed}
+use Rattle.locks.specs.Laws.Places.{lock-place}
+use Rattle.commute.specs.Laws.Tests.{cond-same, by-test}
+use Rattle.protocol.specs.State.{Marked, Tree, numbered, seen-by, written-by, deleted-by, inserted-by, mark, renamed, act, modes-on}
+use Rattle.protocol.specs.State.{granted-to, grant}
 use Rattle.serializability.specs.Laws.Shown.{Place, Inside, path, numbers-of}
 use Rattle.serializability.specs.Laws.Numbers.{number-of, marked, marked-numbers, mark-in, in-mark}
-use Rattle.locks.specs.Laws.Places.{lock-place}
-use Rattle.serializability.specs.Laws.Standing.{Standing, Carried, carried-path, ancestor-place}
+use Rattle.serializability.specs.Laws.Standing.{Lock-there, New-there, Standing, Carried, carried-path, ancestor-place}
+
+-- what a granted step does to the tree: nothing, other marks that leave numbers, inserters and locks, or a new node ---
+
+pub record Keeps (c : Place → Marked) : Type 0 where
+  pub number : (r : Place) → c r .now .number ≡ number-of r
+  pub inserter : (r : Place) → c r .inserter ≡ r .it .inserter
+  pub held : (r : Place) → c r .held ≡ r .it .held
+
+-- an edit of the nodes that pass a test
+pub keeps-where : (test : Place → Bool) (e : Marked → Marked) → Keeps (λ r. e (r .it)) → Keeps (λ r. cond (test r) (e (r .it)) (r .it))
+keeps-where test e k = record {
+  number = λ r. cond-same (λ (a : Marked). a .now .number) (test r) (e (r .it)) (r .it) (k .number r);
+  inserter = λ r. cond-same (λ (a : Marked). a .inserter) (test r) (e (r .it)) (r .it) (k .inserter r);
+  held = λ r. cond-same (λ (a : Marked). a .held) (test r) (e (r .it)) (r .it) (k .held r);
+}
+
+pub keeps-written : (t : ℕ) (b : List ℕ) (test : Place → Bool) → Keeps (λ r. cond (test r) (written-by t b (r .it)) (r .it))
+keeps-written t b test = keeps-where test (written-by t b) (record { number = λ r. refl; inserter = λ r. refl; held = λ r. refl })
+
+pub keeps-deleted : (t : ℕ) (test : Place → Bool) → Keeps (λ r. cond (test r) (deleted-by t (r .it)) (r .it))
+keeps-deleted t test = keeps-where test (deleted-by t) (record { number = λ r. refl; inserter = λ r. refl; held = λ r. refl })
+
+-- the new node of t
+abbrev pub new-node : ℕ → ℕ → ℕ → List ℕ → Marked
+new-node t m kind b = inserted-by t (record { number = m; kind = kind; content = b })
+
+pub data Deed (t : ℕ) (f : Tree) : Step → Tree → Type 0 where
+  looks : {s : Step} → inserts s ≡ [] → Deed t f s f
+  marks : {s : Step} (c : Place → Marked) → Keeps c → inserts s ≡ [] → Deed t f s (mark c f)
+  adds : (m kind : ℕ) (b : List ℕ) (n k : ℕ) → Deed t f (I m kind b n k) (put (numbered n) (seen-by t) k (new-node t m kind b) f)
+
+pub deed : (t : ℕ) (s : Step) (f : Tree) → Deed t f s (act t s f)
+deed t (T n) f = looks refl
+deed t (C n k) f = looks refl
+deed t (R n) f = looks refl
+deed t (U n b) f = marks _ (keeps-written t b (λ r. numbered n (r .it))) refl
+deed t (D n) f = marks _ (keeps-deleted t (λ r. numbered n (r .it))) refl
+deed t (I m kind b n k) f = adds m kind b n k
+deed t (TT n) f = looks refl
+deed t (RR n) f = looks refl
+deed t (UU n a b) f = marks _ (keeps-written t b (renamed t n a)) refl
 
 carried-by-mark : (c : Place → Marked) → ((r : Place) → c r .now .number ≡ number-of r) → (u : ℕ)
     → ((r : Place) (a : Mode) → r .it .held u a ≡ true → c r .held u a ≡ true) → ((r : Place) → c r .inserter ≡ r .it .inserter)
     → (f : Tree) (r : Place) → Inside r f → Carried u (mark c f) r
 carried-by-mark c sn u sh si f r i =
-    record { place = marked c r; inside = mark-in c f i; number = sn r; above = marked-numbers c sn (r .above); held = sh r; inserter = λ e. si r ∙ e }
+    record {
+      place = marked c r;
+      inside = mark-in c f i;
+      number = sn r;
+      above = marked-numbers c sn
+          (r .above);
+      held = sh r;
+      inserter = λ e. si r ∙ e;
+    }
 
 act-carries : (t : ℕ) (s : Step) (u : ℕ) (f : Tree) (r : Place) → Inside r f → Carried u (act t s f) r
 act-carries t s u f r i = go (deed t s f)
@@ -43,19 +92,30 @@ act-carries t s u f r i = go (deed t s f)
 -- a lock of the list is granted on its node
 modes-granted : (ls : List Lock) (l : Lock) → List·Memᴰ l ls → modes-on ls (l .0) (l .1) ≡ true
 modes-granted [] l m = absurd (List·Memᴰ·not-nil m)
-modes-granted (x ∷ ls) l (List·Memᴰ·head e) = rw (eq-eqb (x .0) (l .0) (ap (λ (z : Lock). z .0) (sym e)), eq-eqb (index (l .1)) (index (x .1)) (ap (λ (z : Lock). index (z .1)) e))
+modes-granted (x ∷ ls) l (List·Memᴰ·head e) = rw (
+  eq-eqb (x .0) (l .0) (ap (λ (z : Lock). z .0) (sym e)),
+  eq-eqb (index (l .1))
+      (index (x .1)) (ap (λ (z : Lock). index (z .1)) e),
+)
 modes-granted (x ∷ ls) l (List·Memᴰ·tail m) = by-test (eqb (x .0) (l .0))
     (λ e. rw (e, modes-granted ls l m) (or-true (among (x .1 ∷ []) (l .1)))) (λ e. rw e (modes-granted ls l m))
 
 grant-carries : (t : ℕ) (ls : List Lock) (u : ℕ) (f : Tree) (r : Place) → Inside r f → Carried u (grant t ls f) r
 unfolding grant
-grant-carries t ls u f r i = carried-by-mark (λ x. granted-to t ls (x .it)) (λ x. refl) u (λ x a h. by-test (eqb u t) (λ e. rw (e, h)) (λ e. rw e h)) (λ x. refl) f r i
+grant-carries t ls u f r i = carried-by-mark (λ x. granted-to t ls (x .it)) (λ x. refl) u
+    (λ x a h. by-test (eqb u t) (λ e. rw (e, h)) (λ e. rw e h)) (λ x. refl) f r i
 
 -- t was granted the lock on its node
 grant-there : (t : ℕ) (ls : List Lock) (f : Tree) (l : Lock) → List·Memᴰ l ls → (r : Place) → Inside r f → number-of r ≡ l .0
-    → (s : Place) × Inside s (grant t ls f) × (number-of s ≡ l .0) × (s .it .held t (l .1) ≡ true)
+    → Lock-there (grant t ls f) t l
 unfolding grant
-grant-there t ls f l m r i e = (marked c r, mark-in c f i, e, rw (eq-eqb t t refl, e, modes-granted ls l m) (or-true (r .it .held t (l .1))))
+grant-there t ls f l m r i e = (
+  marked c r,
+  mark-in c f i,
+  e,
+  rw (eq-eqb t t refl, e, modes-granted ls l m)
+      (or-true (r .it .held t (l .1))),
+)
   where
     c : Place → Marked
     c x = granted-to t ls (x .it)
@@ -88,8 +148,14 @@ act-inserts t s m h f r i e = go (deed t s f) h e
     go (looks n) h e = absurd (false≢true (rw n at h))
     go (marks c k n) h e = absurd (false≢true (rw n at h))
     go (adds m' kind b n k) h e =
-        let new = new-node t m' kind b in
-        (row new (path r), put-new (numbered n) (seen-by t) k new (λ a. a) i (eq-eqb _ n e), sym (List·Memᴰ·eq-of-singleton (has-in m (m' ∷ []) h)), refl, refl)
+        let new = new-node t m' kind b in (
+          row new (path r),
+          put-new (numbered n) (seen-by t) k new (λ a. a) i (eq-eqb _ n e),
+          sym
+              (List·Memᴰ·eq-of-singleton (has-in m (m' ∷ []) h)),
+          refl,
+          refl,
+        )
 
 pub step-standing : (t : ℕ) (s : Step) (p : List ℕ) (f : Tree) (r : Place) → Inside r f → number-of r ≡ target s → numbers-of (r .above) ≡ p
     → Standing (after-step t s (locks s p) f) t s (locks s p)
@@ -108,13 +174,13 @@ step-standing t s p f r i e o = record {
     N : Carried t (after-step t s ls f) r
     N = step-carries t s ls t f r i
 
-    fresh : (m : ℕ) → has m (inserts s) ≡ true → (x : Place) × Inside x (after-step t s ls f) × (number-of x ≡ m) × (numbers-of (x .above) ≡ numbers-of (path (N .place))) × (x .it .inserter ≡ t)
+    fresh : (m : ℕ) → has m (inserts s) ≡ true → New-there (after-step t s ls f) t m (N .place)
     fresh m h =
         let a = act-inserts t s m h f r i e in
         let g = grant-carries t ls t (act t s f) (a .0) (a .1) in
         (g .place, g .inside, g .number ∙ a .2, g .above ∙ ap numbers-of (a .3) ∙ sym (carried-path N), g .inserter (a .4))
 
-    bits : (l : Lock) → List·Memᴰ l ls → (x : Place) × Inside x (after-step t s ls f) × (number-of x ≡ l .0) × (x .it .held t (l .1) ≡ true)
+    bits : (l : Lock) → List·Memᴰ l ls → Lock-there (after-step t s ls f) t l
     bits l m = ⊎-elim
         (λ y. let b = ancestor-place f i (l .0) (rw (e, o) y) in
         let a = act-carries t s t f (b .0) (b .1) in
@@ -141,7 +207,14 @@ act-places t s f r i = go (deed t s f) i
     go (looks e) i = inl (r, i, refl, refl, refl)
     go (marks c k e) i =
         let a = in-mark c f i in
-        inl (a .0, a .1, ap number-of (a .2) ∙ k .number (a .0), ap inserter-of (a .2) ∙ k .inserter (a .0), ap (λ (z : Place). z .it .held) (a .2) ∙ k .held (a .0))
+        inl (
+          a .0,
+          a .1,
+          ap number-of (a .2) ∙ k .number (a .0),
+          ap inserter-of (a .2) ∙ k .inserter (a .0),
+          ap
+              (λ (z : Place). z .it .held) (a .2) ∙ k .held (a .0),
+        )
     go (adds m kind b n k) i = ⊎-map (λ x. (r, x, refl, refl, refl)) (λ x. (rw (x .3, eq-eqb m m refl), rw (x .3), rw (x .3)))
         (in-put (numbered n) (seen-by t) k (new-node t m kind b) (λ a. a) [] f i)
 

@@ -1,6 +1,6 @@
 -- The documents of a state that is in step with its logs: marks are those of open transactions, and the held document is what they show.
-use mathlib.Core.Path.{_≡_, refl, sym, ap, _∙_}
 use Prim.Native.Nat.{ℕ}
+use mathlib.Core.Path.{_≡_, refl, sym, ap, _∙_}
 use mathlib.Core.Bool.{Bool, true, not}
 use mathlib.Core.List.{List, [], _∷_, List·Memᴰ, List·Memᴰ·head}
 use mathlib.Core.Logic.{⊎-elim}
@@ -32,16 +32,20 @@ visible S r = every (shown S) (path r)
 abbrev pub line-in : (ℕ → Bool) → Place → Line
 line-in S r = row (as-shown S (r .it)) (numbers-of (r .above))
 
-pub place-of : (S : ℕ → Bool) (f : Tree) {l : Line} → Of l (document-of S f) → (r : Place) × Inside r f × (visible S r ≡ true) × (l ≡ line-in S r)
+pub place-of : (S : ℕ → Bool) (f : Tree) {l : Line} → Of l (document-of S f)
+    → (r : Place) × Inside r f × (visible S r ≡ true) × (l ≡ line-in S r)
 unfolding document-of
-place-of S f i = in-view (λ a. a) (shown S) (shown S) (λ a. refl) (as-shown S) (λ a. a .number) (λ a. a .now .number) (λ a. refl) [] f refl i
+place-of S f i = in-view (λ a. a) (shown S) (shown S) (λ a. refl) (as-shown S) (λ a. a .number) (λ a. a .now .number) (λ a. refl)
+    [] f refl i
 
 pub line-of-place : (S : ℕ → Bool) (f : Tree) {r : Place} → Inside r f → visible S r ≡ true → Of (line-in S r) (document-of S f)
 unfolding document-of
-line-of-place S f i e = view-in (λ a. a) (shown S) (shown S) (λ a. refl) (as-shown S) (λ a. a .number) (λ a. a .now .number) (λ a. refl) [] f refl i e
+line-of-place S f i e = view-in (λ a. a) (shown S) (shown S) (λ a. refl) (as-shown S) (λ a. a .number) (λ a. a .now .number) (λ a. refl)
+    [] f refl i e
 
 -- a number that is there has a visible place
-pub here-place : (S : ℕ → Bool) (f : Tree) (n : ℕ) → here n (document-of S f) ≡ true → (r : Place) × Inside r f × (visible S r ≡ true) × (number-of r ≡ n) × (at n (document-of S f) ≡ line-in S r)
+pub here-place : (S : ℕ → Bool) (f : Tree) (n : ℕ) → here n (document-of S f) ≡ true
+    → (r : Place) × Inside r f × (visible S r ≡ true) × (number-of r ≡ n) × (at n (document-of S f) ≡ line-in S r)
 here-place S f n h =
     let a = at-line n (document-of S f) h in
     let v = place-of S f (a .0) in
@@ -66,7 +70,8 @@ module _ (c : Document) (log : ℕ → List Entry) (M : State) (g : Good c log M
   holder-open u l i = log-open g u (lock-entry (log u) l i .1)
 
   -- who inserted or deleted a node holds LW on it
-  pub marker-LW : (r : Place) → Inside r (M .tree) → (u : ℕ) → (u ≡ nobody → ⊥) → marked-by u (r .it) ≡ true → Locked (number-of r) LW (holds log u)
+  pub marker-LW : (r : Place) → Inside r (M .tree) → (u : ℕ) → (u ≡ nobody → ⊥) → marked-by u (r .it) ≡ true
+      → Locked (number-of r) LW (holds log u)
   marker-LW r i u nu h =
       g .covered .guarded r i u nu h (number-of r, LW) (node-locked (D (number-of r)) (numbers-of (r .above)) LW (List·Memᴰ·head refl))
 
@@ -78,9 +83,11 @@ module _ (c : Document) (log : ℕ → List Entry) (M : State) (g : Good c log M
   renamer-open u (q ∷ p) w =
       ⊎-elim (λ x. holder-open u (q, LUU) (x (q, LUU) (node-locked (UU q [] []) p LUU (List·Memᴰ·head refl)))) (renamer-open u p) w
 
-  pub writer-open : (r : Place) → Inside r (M .tree) → (u : ℕ) → (u ≡ nobody → ⊥) → eqb (writer-of (r .it .update)) u ≡ true → M .header .is-open u ≡ true
+  pub writer-open : (r : Place) → Inside r (M .tree) → (u : ℕ) → (u ≡ nobody → ⊥) → eqb (writer-of (r .it .update)) u ≡ true
+      → M .header .is-open u ≡ true
   writer-open r i u nu h = ⊎-elim (λ e. marker-open r i u nu (rw e)) (⊎-elim
-      (λ w. holder-open u (number-of r, LU) (w (number-of r, LU) (node-locked (U (number-of r) []) (numbers-of (r .above)) LU (List·Memᴰ·head refl))))
+      (λ w. holder-open u (number-of r, LU) (w (number-of r, LU) (node-locked (U (number-of r) []) (numbers-of (r .above)) LU
+      (List·Memᴰ·head refl))))
       (renamer-open u (numbers-of (path r)))) (g .covered .authored r i u nu h)
 
   -- a mark is nobody's or of an open transaction
@@ -97,5 +104,6 @@ module _ (c : Document) (log : ℕ → List Entry) (M : State) (g : Good c log M
   pub held-shown : held-document M ≡ document-of (M .header .is-open) (M .tree)
   unfolding held-document document-of
   held-shown =
-      view-agree (λ a. a) (shown (M .header .is-open)) (shown (M .header .is-open)) (λ a. refl) (λ a. not (deleted-in (M .header .is-open) a)) (as-shown (M .header .is-open)) (λ a. a .now) [] (M .tree) refl
+      view-agree (λ a. a) (shown (M .header .is-open)) (shown (M .header .is-open)) (λ a. refl)
+      (λ a. not (deleted-in (M .header .is-open) a)) (as-shown (M .header .is-open)) (λ a. a .now) [] (M .tree) refl
       (λ r i e. rw (inserter-done r i)) (λ r i e. rw (writer-done r i))

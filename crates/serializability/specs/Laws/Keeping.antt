@@ -1,6 +1,6 @@
 -- A granted step keeps the marks covered by the locks that are held then.
-use mathlib.Core.Path.{_≡_, refl, sym}
 use Prim.Native.Nat.{ℕ}
+use mathlib.Core.Path.{_≡_, refl, sym}
 use mathlib.Core.Bool.{Bool, true, false, cond, _||_, false≢true, or-true}
 use mathlib.Core.List.{List, [], _∷_, List·Memᴰ}
 use mathlib.Core.Logic.{_⊎_, inl, inr, ⊎-elim, ⊎-map}
@@ -14,22 +14,23 @@ use Rattle.tree.specs.Laws.Tests.{or-cases}
 use Rattle.tree.specs.Laws.Rows.{Each, each-above}
 use Rattle.tree.specs.Laws.Put.{in-put, New}
 use Rattle.locks.specs.Needs.{Lock, locks, needs}
-use Rattle.protocol.specs.State.{nobody, Marked, Tree, numbered, number-held, seen-by, callers-document, written-by, deleted-by, inserted-by, granted-to, mark, mark-node, renamed, act, grant, writer-of}
-use Rattle.commute.specs.Laws.Tests.{by-test, cond-same}
-use Rattle.serializability.specs.Laws.Edited.{keeps-written, keeps-deleted}
-use Rattle.serializability.specs.Laws.Shown.{Place, Inside, path, numbers-of}
-use Rattle.serializability.specs.Laws.Numbers.{number-of, in-mark, marked-numbers, mark-distinct, put-distinct}
-use Rattle.serializability.specs.Laws.Marks.{Within, marked-by, Guarded, Renames, Authored, Covered, author-more, above-is}
-use Rattle.serializability.specs.Laws.Seen.{Compatible-step}
-use Rattle.serializability.specs.Laws.Acts.{renamed-under}
 use Rattle.locks.specs.Laws.Places.{insertion-guards, U-locks, UU-locks}
+use Rattle.commute.specs.Laws.Tests.{by-test, cond-same}
+use Rattle.protocol.specs.State.{nobody, Marked, Tree, numbered, number-held, seen-by, callers-document, written-by, deleted-by}
+use Rattle.protocol.specs.State.{inserted-by, granted-to, mark, mark-node, renamed, act, grant, writer-of}
+use Rattle.serializability.specs.Laws.Granting.{keeps-written, keeps-deleted}
+use Rattle.serializability.specs.Laws.Shown.{Place, Inside, path, numbers-of}
+use Rattle.serializability.specs.Laws.Numbers.{number-of, in-mark, marked-numbers, mark-distinct, inserted-distinct}
+use Rattle.serializability.specs.Laws.Marks.{Within, marked-by, Guarded, Renames, Authored, Covered, author-more, above-is}
+use Rattle.serializability.specs.Laws.Seen.{Compatible-step, renamed-under}
 
 -- locks are only added
 module _ (holds holds' : ℕ → List Lock) (more : (u : ℕ) → Within (holds u) (holds' u)) where
   module _ (f : Tree) (cov : Covered holds f) (t : ℕ) where
     -- a node's deleter and writer are as they were, or are t, with the locks for it
     Deleted : (Place → Marked) → Place → Type 0
-    Deleted c r = (c r .deleter ≡ r .it .deleter) ⊎ ((c r .deleter ≡ t) × Within (locks (D (number-of r)) (numbers-of (r .above))) (holds' t))
+    Deleted c r = (c r .deleter ≡ r .it .deleter) ⊎ ((c r .deleter ≡ t) × Within (locks (D (number-of r)) (numbers-of (r .above)))
+        (holds' t))
 
     abbrev Writes : Place → Type 0
     Writes r = Within (locks (U (number-of r) []) (numbers-of (r .above))) (holds' t) ⊎ Renames holds' t (numbers-of (path r))
@@ -48,8 +49,10 @@ module _ (holds holds' : ℕ → List Lock) (more : (u : ℕ) → Within (holds 
             let s = a .0 in
             let j' : List·Memᴰ l (locks (D (number-of s)) (numbers-of (s .above))) = rw (a .2, sn s, marked-numbers c sn (s .above)) at j in
             let old : marked-by u (s .it) ≡ true → List·Memᴰ l (holds' u) = λ e. more u l (cov .guarded s (a .1) u nu e l j') in
-            ⊎-elim (λ e. old (rw e)) (λ (e : eqb (c s .deleter) u ≡ true). ⊎-elim (λ (x : c s .deleter ≡ s .it .deleter). old (rw (← x, e) (or-true (eqb (s .it .inserter) u))))
-            (λ x. rw (← eqb-true t u (rw (x .0) at e)) (x .1 l j')) (del s (a .1))) (or-cases (eqb (s .it .inserter) u) (eqb (c s .deleter) u) (rw (a .2, si s) at h))
+            ⊎-elim (λ e. old (rw e)) (λ (e : eqb (c s .deleter) u ≡ true). ⊎-elim
+            (λ (x : c s .deleter ≡ s .it .deleter). old (rw (← x, e) (or-true (eqb (s .it .inserter) u))))
+            (λ x. rw (← eqb-true t u (rw (x .0) at e)) (x .1 l j')) (del s (a .1)))
+            (or-cases (eqb (s .it .inserter) u) (eqb (c s .deleter) u) (rw (a .2, si s) at h))
 
         au : (r : Place) → Inside r (mark c f) → Authored holds' (r .it) (r .above)
         au r i u nu h =
@@ -57,7 +60,8 @@ module _ (holds holds' : ℕ → List Lock) (more : (u : ℕ) → Within (holds 
             let s = a .0 in
             let g : eqb (writer-of (c s .update)) u ≡ true = rw (a .2) at h in
             rw (a .2, si s, sn s, marked-numbers c sn (s .above)) (⊎-elim
-            (λ x. author-more holds holds' u (more u) _ _ (λ e. e) (number-of s) (numbers-of (s .above)) (cov .authored s (a .1) u nu (rw x at g)))
+            (λ x. author-more holds holds' u (more u) _ _ (λ e. e) (number-of s) (numbers-of (s .above))
+            (cov .authored s (a .1) u nu (rw x at g)))
             (λ x. rw (← eqb-true t u (rw (x .0) at g)) (inr (x .1))) (wri s (a .1)))
 
     -- t wrote where a test says so, with the locks for it
@@ -68,8 +72,8 @@ module _ (holds holds' : ℕ → List Lock) (more : (u : ℕ) → Within (holds 
         (λ r i. inl (cond-same (λ (a : Marked). a .deleter) (test r) (written-by t b (r .it)) (r .it) refl))
         (λ r i. by-test (test r) (λ e. rw e (inr (refl, h r i e))) (λ e. rw e (inl refl)))
 
-    delete-covered : (n : ℕ) → ((r : Place) → Inside r f → number-of r ≡ n → Within (locks (D (number-of r)) (numbers-of (r .above))) (holds' t))
-        → Covered holds' (mark-node n (deleted-by t) f)
+    delete-covered : (n : ℕ) → ((r : Place) → Inside r f → number-of r ≡ n
+        → Within (locks (D (number-of r)) (numbers-of (r .above))) (holds' t)) → Covered holds' (mark-node n (deleted-by t) f)
     unfolding Deleted Written
     delete-covered n h =
         let k = keeps-deleted t (λ r. numbered n (r .it)) in
@@ -82,7 +86,8 @@ module _ (holds holds' : ℕ → List Lock) (more : (u : ℕ) → Within (holds 
     same-covered = record {
       distinct = cov .distinct;
       guarded = λ r i u nu h l j. more u l (cov .guarded r i u nu h l j);
-      authored = λ r i u nu h. author-more holds holds' u (more u) _ _ (λ e. e) (number-of r) (numbers-of (r .above)) (cov .authored r i u nu h);
+      authored = λ r i u nu h. author-more holds holds' u (more u) _ _ (λ e. e) (number-of r) (numbers-of (r .above))
+          (cov .authored r i u nu h);
     }
 
     -- t inserted a node whose number nobody had, with the locks for its deletion
@@ -90,7 +95,7 @@ module _ (holds holds' : ℕ → List Lock) (more : (u : ℕ) → Within (holds 
         → ((r : Place) → Inside r f → number-of r ≡ n → Within (locks (D (new .number)) (n ∷ numbers-of (r .above))) (holds' t))
         → Covered holds' (put (numbered n) (seen-by t) k (inserted-by t new) f)
     insert-covered n k new un w = record {
-      distinct = put-distinct n (seen-by t) k (inserted-by t new) f (cov .distinct) un;
+      distinct = inserted-distinct n (seen-by t) k (inserted-by t new) f (cov .distinct) un;
       guarded = λ r i. gd r (in-put (numbered n) (seen-by t) k (inserted-by t new) (λ a. a) [] f i);
       authored = λ r i. au r (in-put (numbered n) (seen-by t) k (inserted-by t new) (λ a. a) [] f i);
     }
@@ -103,7 +108,8 @@ module _ (holds holds' : ℕ → List Lock) (more : (u : ℕ) → Within (holds 
 
         gd : (r : Place) → Inside r f ⊎ Put r → Guarded holds' (r .it) (r .above)
         gd r (inl i) u nu h l j = same-covered .guarded r i u nu h l j
-        gd r (inr i) u nu h l j = rw (← inserter-is u nu (rw (i .3) at h)) (w (i .0) (i .1) (eqb-true _ n (i .2)) l (rw (i .3, eqb-true _ n (i .2)) at j))
+        gd r (inr i) u nu h l j = rw (← inserter-is u nu (rw (i .3) at h))
+            (w (i .0) (i .1) (eqb-true _ n (i .2)) l (rw (i .3, eqb-true _ n (i .2)) at j))
 
         au : (r : Place) → Inside r f ⊎ Put r → Authored holds' (r .it) (r .above)
         au r (inl i) u nu h = same-covered .authored r i u nu h
@@ -111,27 +117,40 @@ module _ (holds holds' : ℕ → List Lock) (more : (u : ℕ) → Within (holds 
 
     -- a granted step
     module _ (nz : t ≡ nobody → ⊥) where
-      pub act-covered : (s : Step) → here (target s) (callers-document t f) ≡ true → Compatible-step holds f cov t nz s → ((m : ℕ) → has m (inserts s) ≡ true → number-held m f ≡ false)
+      pub act-covered : (s : Step) → here (target s) (callers-document t f) ≡ true → Compatible-step holds f cov t nz s
+          → ((m : ℕ) → has m (inserts s) ≡ true → number-held m f ≡ false)
           → Within (needs s (callers-document t f)) (holds' t) → Covered holds' (act t s f)
       act-covered (T n) hs c new w = same-covered
       act-covered (C n k) hs c new w = same-covered
       act-covered (R n) hs c new w = same-covered
       act-covered (U n b) hs c new w = write-covered (λ r. numbered n (r .it)) b
-          (λ r i e. inl (λ l j. w l (U-locks n [] b _ l (rw (eqb-true _ n e, above-is holds f cov t (U n b) hs c r i (eqb-true _ n e)) at j))))
+          (λ r i e. inl (λ l j. w l (U-locks n [] b _ l (rw (
+            eqb-true _ n e,
+            above-is holds f cov t (U n b) hs c r i
+                (eqb-true _ n e),
+          ) at j))))
       act-covered (D n) hs c new w = delete-covered n (λ r i e l j. w l (rw (e, above-is holds f cov t (D n) hs c r i e) at j))
-      act-covered (I m kind b n k) hs c new w = insert-covered n k (record { number = m; kind = kind; content = b }) (new m (rw (eq-eqb m m refl)))
+      act-covered (I m kind b n k) hs c new w = insert-covered n k (record { number = m; kind = kind; content = b })
+          (new m (rw (eq-eqb m m refl)))
           (λ r i e l j. w l (insertion-guards m kind b n k _ l (rw (above-is holds f cov t (I m kind b n k) hs c r i e) at j)))
       act-covered (TT n) hs c new w = same-covered
       act-covered (RR n) hs c new w = same-covered
-      act-covered (UU n a b) hs c new w = write-covered (renamed t n a) b (λ r i e. inr (found (path r) (each-above (λ x. x) (λ x p. Inside (row x p) f) tt (λ x j. j) i) (renamed-under t n a r e)))
+      act-covered (UU n a b) hs c new w = write-covered (renamed t n a) b
+          (λ r i e. inr (found (path r) (each-above (λ x. x) (λ x p. Inside (row x p) f) tt (λ x j. j) i) (renamed-under t n a r e)))
         where
-          found : (l : List Marked) → Each (λ x. x) (λ x p. Inside (row x p) f) l → has n (numbers-of l) ≡ true → Renames holds' t (numbers-of l)
+          found : (l : List Marked) → Each (λ x. x) (λ x p. Inside (row x p) f) l → has n (numbers-of l) ≡ true
+              → Renames holds' t (numbers-of l)
           found [] g h = absurd (false≢true h)
           found (x ∷ p) g h = ⊎-map
-              (λ y l m. w l (UU-locks n [] [] a b _ l (rw (eqb-true _ n y, above-is holds f cov t (UU n a b) hs c (row x p) (g .0) (eqb-true _ n y)) at m)))
+              (λ y l m. w l (UU-locks n [] [] a b _ l (rw (
+                eqb-true _ n y,
+                above-is holds f cov t (UU n a b) hs c (row x p) (g .0)
+                    (eqb-true _ n y),
+              ) at m)))
               (found p (g .1)) (or-cases (eqb (x .now .number) n) (has n (numbers-of p)) h)
 
 -- locks in the nodes are no marks
 pub grant-covered : (holds : ℕ → List Lock) (t : ℕ) (ls : List Lock) (f : Tree) → Covered holds f → Covered holds (grant t ls f)
 unfolding grant Deleted Written
-grant-covered holds t ls f cov = mark-covered holds holds (λ u l i. i) f cov t (λ r. granted-to t ls (r .it)) (λ r. refl) (λ r. refl) (λ r i. inl refl) (λ r i. inl refl)
+grant-covered holds t ls f cov = mark-covered holds holds (λ u l i. i) f cov t (λ r. granted-to t ls (r .it)) (λ r. refl) (λ r. refl)
+    (λ r i. inl refl) (λ r i. inl refl)

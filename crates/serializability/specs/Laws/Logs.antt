@@ -1,6 +1,6 @@
 -- A log with more in its entries than the history tells: each of the history's logs is read off it.
-use mathlib.Core.Path.{_≡_, refl, sym, fun-ext}
 use Prim.Native.Nat.{ℕ}
+use mathlib.Core.Path.{_≡_, refl, sym, fun-ext}
 use mathlib.Core.Bool.{Bool, true, false, cond}
 use mathlib.Core.List.{List, [], _∷_, _++_, map, append-nil}
 use lib.Dec.{eqb}
@@ -16,7 +16,8 @@ module _ {X E : Type 0} (g : X → E) where
   abbrev pub read-off : Log X → Log E
   read-off L = record { first = L .first; committed = map (map g) (L .committed); open-log = λ u. map g (L .open-log u) }
 
-  map-log : (t : ℕ) (l : List X) (log : ℕ → List X) → _≡_ {A = ℕ → List E} (λ u. map g (with-log t l log u)) (with-log t (map g l) (λ u. map g (log u)))
+  map-log : (t : ℕ) (l : List X) (log : ℕ → List X) → _≡_ {A = ℕ → List E} (λ u. map g (with-log t l log u))
+      (with-log t (map g l) (λ u. map g (log u)))
   map-log t l log = fun-ext (λ u. by-test (eqb u t) (λ e. rw e) (λ e. rw e))
 
   if-read : (b : Bool) (L K : Log X) (L' : Log E) → read-off L ≡ L' → read-off (cond b L K) ≡ cond b L' (read-off K)

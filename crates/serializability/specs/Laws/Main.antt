@@ -1,6 +1,6 @@
 -- Demand 3 and A.14, for every list of calls that begins with a start.
-use mathlib.Core.Path.{_≡_, refl, sym, ap, _∙_}
 use Prim.Native.Nat.{ℕ}
+use mathlib.Core.Path.{_≡_, refl, sym, ap, _∙_}
 use mathlib.Core.Bool.{Bool, true, false, false≢true, true≢false}
 use mathlib.Core.List.{List, [], _∷_, _++_, map, append-nil, List·Memᴰ}
 use mathlib.Core.Logic.{_↔_}
@@ -30,7 +30,11 @@ start-forgets M cs = (refl, refl)
 pub open-in-any-order : (cs : List Call) → OpenInAnyOrder cs
 open-in-any-order cs b n o =
     let tr = reached-tracks cs in
-    rw (held-shown (tr .c) (entries cs .open-log) (reached cs) (tr .good), document-same (reached cs .header .is-open) (λ u. has u b) (reached cs .tree) (λ u. sym (o u))) (any-order cs b n)
+    rw (
+      held-shown (tr .c) (entries cs .open-log) (reached cs) (tr .good),
+      document-same (reached cs .header .is-open) (λ u. has u b)
+          (reached cs .tree) (λ u. sym (o u)),
+    ) (any-order cs b n)
 
 -- demand 3 -------------------------------------------------------------------------------------
 
@@ -59,14 +63,20 @@ module _ (cs : List Call) where
 
   -- pending, by the marks
   abbrev pending-of : ℕ → Bool
-  pending-of t = pending-in (committed-document (reached cs)) (steps (entries cs .open-log t)) (document-of (λ u. has u (t ∷ [])) (reached cs .tree))
+  pending-of t = pending-in (committed-document (reached cs)) (steps (entries cs .open-log t))
+      (document-of (λ u. has u (t ∷ [])) (reached cs .tree))
 
   pending-is : pending h ≡ any pending-of transactions
   unfolding pending
   pending-is = any-same _ _ transactions (λ t i. one t)
     where
       one : (t : ℕ) → pending-in (plain h) (fed h .open-log t) (plain-document (plain h) (fed h .open-log t)) ≡ pending-of t
-      one t = rw (fed-is cs, ← plain-committed, run-document (committed-document (reached cs)) (entries cs .open-log t) _ (log-run (tr .c) (entries cs .open-log) (reached cs) (tr .good) t))
+      one t = rw (
+        fed-is cs,
+        ← plain-committed,
+        run-document (committed-document (reached cs)) (entries cs .open-log t) _
+            (log-run (tr .c) (entries cs .open-log) (reached cs) (tr .good) t),
+      )
 
   held-plain : (held-document (reached cs) ≡ plain h) ↔ (pending h ≡ false)
   held-plain = (forth, back)

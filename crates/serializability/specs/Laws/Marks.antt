@@ -1,6 +1,6 @@
 -- The marks of a tree against the locks: where a step's locks are compatible with those of the others, only its own transaction left marks.
-use mathlib.Core.Path.{_≡_, refl, sym, ap, _∙_}
 use Prim.Native.Nat.{ℕ}
+use mathlib.Core.Path.{_≡_, refl, sym, ap, _∙_}
 use mathlib.Core.Bool.{Bool, true, false, _&&_, _||_, false≢true, true≢false, or-true}
 use mathlib.Core.List.{List, [], _∷_, List·Memᴰ}
 use mathlib.Core.Logic.{_⊎_, inl, inr, ⊎-elim, ⊎-map}
@@ -13,9 +13,9 @@ use Rattle.tree.specs.Steps.{Step, U, D, UU, target}
 use Rattle.tree.specs.Laws.Tests.{and-left, or-left, or-right, or-cases}
 use Rattle.tree.specs.Laws.Rows.{Each, each-above}
 use Rattle.tree.specs.Laws.View.{in-view}
-use Rattle.locks.specs.Modes.{LU, LW, LUU}
+use Rattle.locks.specs.Modes.{LU, LUU}
 use Rattle.locks.specs.Needs.{Lock, need, locks, needs}
-use Rattle.locks.specs.Laws.Compatible.{Compatible, compatible-symmetric, All-locked, node-locked, clashing, excludes, off-node, off-parent, off-path}
+use Rattle.locks.specs.Laws.Compatible.{Compatible, compatible-symmetric, node-locked, clashing, excludes, off-node, off-parent, off-path}
 use Rattle.locks.specs.Laws.Excludes.{LW-excludes}
 use Rattle.commute.specs.Laws.Tests.{by-test, affirmed}
 use Rattle.commute.specs.Laws.Lines.{at-line}
@@ -26,9 +26,6 @@ use Rattle.serializability.specs.Laws.Numbers.{number-of, Distinct, one-
 -- every lock of the one list is in the other
 abbrev pub Within : List Lock → List Lock → Type 0
 Within l k = (x : Lock) → List·Memᴰ x l → List·Memᴰ x k
-
-pub compatible-within : (l k k' : List Lock) → Compatible l k → Within k' k → Compatible l k'
-compatible-within l k k' c w q a b x y = c q a b x (w (q, b) y)
 
 -- nobody but t inserted or deleted it
 abbrev pub own : ℕ → Marked → Bool
@@ -60,7 +57,8 @@ module _ (holds : ℕ → List Lock) where
   Author u inserted n q = (inserted ≡ true) ⊎ (Within (locks (U n []) q) (holds u) ⊎ Renames u (n ∷ q))
 
   abbrev pub Authored : Marked → List Marked → Type 0
-  Authored a p = (u : ℕ) → (u ≡ nobody → ⊥) → eqb (writer-of (a .update)) u ≡ true → Author u (eqb (a .inserter) u) (a .now .number) (numbers-of p)
+  Authored a p = (u : ℕ) → (u ≡ nobody → ⊥) → eqb (writer-of (a .update)) u ≡ true → Author u (eqb (a .inserter) u) (a .now .number)
+      (numbers-of p)
 
   pub record Covered (f : Tree) : Type 0 where
     pub distinct : Distinct f
@@ -99,7 +97,8 @@ module _ (holds : ℕ → List Lock) (f : Tree) (cov : Covered holds f) (t : ℕ
   unfolding callers-document
   target-place =
       let a = at-line n₀ (callers-document t f) hs in
-      let v = in-view (λ x. x) (seen-by t) (seen-by t) (λ x. refl) (λ x. x .now) (λ x. x .number) (λ x. x .now .number) (λ x. refl) [] f refl (a .0) in
+      let v = in-view (λ x. x) (seen-by t) (seen-by t) (λ x. refl) (λ x. x .now) (λ x. x .number) (λ x. x .now .number) (λ x. refl)
+      [] f refl (a .0) in
       (v .0, v .1, sym (ap (λ (x : Line). x .it .number) (v .3)) ∙ a .1, sym (ap (λ (x : Line). x .above) (v .3)), v .2)
 
   pub above-is : (r : Place) → Inside r f → number-of r ≡ n₀ → numbers-of (r .above) ≡ P
@@ -114,15 +113,25 @@ module _ (holds : ℕ → List Lock) (f : Tree) (cov : Covered holds f) (t : ℕ
   known : (r : Place) → Inside r f → Each (λ a. a) Known (path r)
   known r i = each-above (λ a. a) Known tt (λ x j. (cov .guarded x j, j)) i
 
+  -- another transaction holds the locks of a step z: how the node and z stand to each other
+  module _ (u : ℕ) (ne : u ≡ t → ⊥) (z : Step) (q : List ℕ) (w : Within (locks z q) (holds u)) where
+    apart : Compatible (locks s P) (locks z q)
+    apart x a b i j = compat u ne x a b i (w (x, b) j)
+
+    off-below : excludes (need s .node) (need z) ≡ true → has n₀ (target z ∷ q) ≡ false
+    off-below c = off-path n₀ (need s .node) (locks s P) (node-locked s P) z q apart c
+
+    off-above : excludes (need z .node) (need s) ≡ true → has (target z) (n₀ ∷ P) ≡ false
+    off-above c = off-path (target z) (need z .node) (locks z q) (node-locked z q) s P (compatible-symmetric _ _ apart) c
+
   -- on the node and above it only t left marks
   own-here : (a : Marked) (p : List Marked) → Guarded holds a p → has (a .now .number) (n₀ ∷ P) ≡ true → own t a ≡ true
   own-here a p g h = affirmed _ (λ e.
       let w = foreign t a e in
-      let locked : All-locked (a .now .number) (LW ∷ []) (holds (w .0)) =
-      λ m i. g (w .0) (w .1) (w .3) (a .now .number, m) (node-locked (D (a .now .number)) (numbers-of p) m i) in
-      true≢false (sym h ∙ off-path (a .now .number) (LW ∷ []) (holds (w .0)) locked s P (compatible-symmetric _ _ (compat (w .0) (w .2))) (LW-excludes s)))
+      true≢false (sym h ∙ off-above (w .0) (w .2) (D (a .now .number)) (numbers-of p) (g (w .0) (w .1) (w .3)) (LW-excludes s)))
 
-  own-all : (l : List Marked) → Each (λ a. a) Known l → ((q : ℕ) → has q (numbers-of l) ≡ true → has q (n₀ ∷ P) ≡ true) → every (own t) l ≡ true
+  own-all : (l : List Marked) → Each (λ a. a) Known l → ((q : ℕ) → has q (numbers-of l) ≡ true → has q (n₀ ∷ P) ≡ true)
+      → every (own t) l ≡ true
   own-all [] g h = refl
   own-all (a ∷ p) g h = rw (
     own-here a p (g .0 .0) (h (a .now .number) (rw (eq-eqb (a .now .number) (a .now .number) refl))),
@@ -133,7 +142,8 @@ module _ (holds : ℕ → List Lock) (f : Tree) (cov : Covered holds f) (t : ℕ
   own-node r i e = own-all (path r) (known r i) (λ q h. rw (e, above-is r i e) at h)
 
   -- where the node is locked so that it takes no insertion or deletion of a child
-  pub own-child : clashing (need s .node) (need (D 0) .parent) ≡ true → (r : Place) → Inside r f → leads n₀ (numbers-of (r .above)) ≡ true → every (own t) (path r) ≡ true
+  pub own-child : clashing (need s .node) (need (D 0) .parent) ≡ true → (r : Place) → Inside r f → leads n₀ (numbers-of (r .above)) ≡ true
+      → every (own t) (path r) ≡ true
   own-child c r i h = go (r .above) h (known r i)
     where
       go : (o : List Marked) → leads n₀ (numbers-of o) ≡ true → Each (λ a. a) Known (r .it ∷ o) → every (own t) (r .it ∷ o) ≡ true
@@ -141,8 +151,8 @@ module _ (holds : ℕ → List Lock) (f : Tree) (cov : Covered holds f) (t : ℕ
       go (a ∷ p) l g =
           let mine : own t (r .it) ≡ true = affirmed _ (λ q.
           let w = foreign t (r .it) q in
-          true≢false (sym l ∙ off-parent n₀ (need s .node) (locks s P) (node-locked s P) (D (number-of r)) (a .now .number ∷ numbers-of p)
-          (compatible-within (locks s P) (holds (w .0)) _ (compat (w .0) (w .2)) (g .0 .0 (w .0) (w .1) (w .3))) c)) in
+          true≢false (sym l ∙ off-parent n₀ (need s .node) (locks s P) (node-locked s P) (D (number-of r)) (numbers-of (a ∷ p))
+          (apart (w .0) (w .2) (D (number-of r)) (numbers-of (a ∷ p)) (g .0 .0 (w .0) (w .1) (w .3))) c)) in
           rw (mine, own-node (row a p) (g .1 .0 .1) (eqb-true (a .now .number) n₀ l))
 
   -- where it is locked so that nothing below it is inserted or deleted
@@ -152,8 +162,7 @@ module _ (holds : ℕ → List Lock) (f : Tree) (cov : Covered holds f) (t : ℕ
     own-below (a ∷ p) g h =
         let mine : own t a ≡ true = affirmed _ (λ q.
         let w = foreign t a q in
-        true≢false (sym h ∙ off-path n₀ (need s .node) (locks s P) (node-locked s P) (D (a .now .number)) (numbers-of p)
-        (compatible-within (locks s P) (holds (w .0)) _ (compat (w .0) (w .2)) (g .0 .0 (w .0) (w .1) (w .3))) c)) in
+        true≢false (sym h ∙ off-below (w .0) (w .2) (D (a .now .number)) (numbers-of p) (g .0 .0 (w .0) (w .1) (w .3)) c)) in
         ⊎-elim (λ e. own-node (row a p) (g .0 .1) (eqb-true (a .now .number) n₀ e)) (λ i. rw (mine, own-below p (g .1) i))
         (or-cases (eqb (a .now .number) n₀) (has n₀ (numbers-of p)) h)
 
@@ -164,7 +173,8 @@ module _ (holds : ℕ → List Lock) (f : Tree) (cov : Covered holds f) (t : ℕ
 
   -- where nobody else can have written, t wrote, or nobody
   writer-local : (r : Place) → Inside r f → own t (r .it) ≡ true → ((u : ℕ) → (u ≡ t → ⊥) → Renames holds u (numbers-of (path r)) → ⊥)
-      → ((u : ℕ) → (u ≡ t → ⊥) → Within (locks (U (number-of r) []) (numbers-of (r .above))) (holds u) → ⊥) → local t (writer-of (r .it .update)) ≡ true
+      → ((u : ℕ) → (u ≡ t → ⊥) → Within (locks (U (number-of r) []) (numbers-of (r .above))) (holds u) → ⊥)
+      → local t (writer-of (r .it .update)) ≡ true
   writer-local r i o x y = affirmed _ (λ e.
       let p = eqb-false u nobody (or-left _ _ e) in
       case p (eqb-false u t (or-right (eqb u nobody) _ e)) (cov .authored r i u p (eq-eqb u u refl)))
@@ -180,31 +190,31 @@ module _ (holds : ℕ → List Lock) (f : Tree) (cov : Covered holds f) (t : ℕ
       case a b (inr (inr e)) = x u b e
 
   module _ (c : excludes (LUU ∷ []) (need s) ≡ true) where
-    -- nobody else holds LUU on the node or above
-    no-LUU : (u : ℕ) → (u ≡ t → ⊥) → (q : ℕ) (p : List ℕ) → Within (locks (UU q [] []) p) (holds u) → has q (n₀ ∷ P) ≡ false
-    no-LUU u ne q p w = off-path q (LUU ∷ []) (holds u) (λ m i. w (q, m) (node-locked (UU q [] []) p m i)) s P (compatible-symmetric _ _ (compat u ne)) c
-
+    -- nobody else holds the locks of UU on the node or above
     renames-above : (u : ℕ) → (u ≡ t → ⊥) → (l : List ℕ) → Renames holds u l → ((q : ℕ) → has q l ≡ true → has q (n₀ ∷ P) ≡ true) → ⊥
     renames-above u ne [] w h = w
-    renames-above u ne (q ∷ l) (inl w) h = true≢false (sym (h q (rw (eq-eqb q q refl))) ∙ no-LUU u ne q l w)
+    renames-above u ne (q ∷ l) (inl w) h = true≢false (sym (h q (rw (eq-eqb q q refl))) ∙ off-above u ne (UU q [] []) l w c)
     renames-above u ne (q ∷ l) (inr w) h = renames-above u ne l w (λ x i. h x (rw (i, or-true (eqb q x))))
 
-    pub writer-node : clashing (need s .node) (LU ∷ []) ≡ true → (r : Place) → Inside r f → number-of r ≡ n₀ → local t (writer-of (r .it .update)) ≡ true
+    pub writer-node : clashing (need s .node) (LU ∷ []) ≡ true → (r : Place) → Inside r f → number-of r ≡ n₀
+        → local t (writer-of (r .it .update)) ≡ true
     writer-node k r i e = writer-local r i (and-left _ _ (own-node r i e))
         (λ u ne w. renames-above u ne (numbers-of (path r)) w (λ q h. rw (e, above-is r i e) at h))
-        (λ u ne w. true≢false (sym (eq-eqb (number-of r) n₀ e) ∙ off-node n₀ (need s .node) (locks s P) (node-locked s P) (U (number-of r) []) (numbers-of (r .above))
-        (compatible-within (locks s P) (holds u) _ (compat u ne) w) k))
+        (λ u ne w. true≢false (sym (eq-eqb (number-of r) n₀ e) ∙ off-node n₀ (need s .node) (locks s P) (node-locked s P)
+        (U (number-of r) []) (numbers-of (r .above)) (apart u ne (U (number-of r) []) (numbers-of (r .above)) w) k))
 
-    module _ (cd : excludes (need s .node) (need (D 0)) ≡ true) (cu : excludes (need s .node) (need (U 0 [])) ≡ true) (cuu : excludes (need s .node) (need (UU 0 [] [])) ≡ true) where
-      renames-below : (u : ℕ) → (u ≡ t → ⊥) → (l : List Marked) → Renames holds u (numbers-of l) → Each (λ a. a) Known l → has n₀ (numbers-of l) ≡ true → ⊥
+    module _ (cd : excludes (need s .node) (need (D 0)) ≡ true) (cu : excludes (need s .node) (need (U 0 [])) ≡ true)
+        (cuu : excludes (need s .node) (need (UU 0 [] [])) ≡ true) where
+      renames-below : (u : ℕ) → (u ≡ t → ⊥) → (l : List Marked) → Renames holds u (numbers-of l) → Each (λ a. a) Known l
+          → has n₀ (numbers-of l) ≡ true → ⊥
       renames-below u ne [] w g h = w
-      renames-below u ne (a ∷ p) (inl w) g h =
-          true≢false (sym h ∙ off-path n₀ (need s .node) (locks s P) (node-locked s P) (UU (a .now .number) [] []) (numbers-of p) (compatible-within (locks s P) (holds u) _ (compat u ne) w) cuu)
+      renames-below u ne (a ∷ p) (inl w) g h = true≢false (sym h ∙ off-below u ne (UU (a .now .number) [] []) (numbers-of p) w cuu)
       renames-below u ne (a ∷ p) (inr w) g h = ⊎-elim
-          (λ e. renames-above u ne (numbers-of p) w (λ q j. rw (← above-is (row a p) (g .0 .1) (eqb-true (a .now .number) n₀ e), j) (or-true (eqb n₀ q))))
+          (λ e. renames-above u ne (numbers-of p) w (λ q j. rw (← above-is (row a p) (g .0 .1) (eqb-true (a .now .number) n₀ e), j)
+          (or-true (eqb n₀ q))))
           (λ i. renames-below u ne p w (g .1) i) (or-cases (eqb (a .now .number) n₀) (has n₀ (numbers-of p)) h)
 
       pub writer-subtree : (r : Place) → Inside r f → has n₀ (numbers-of (path r)) ≡ true → local t (writer-of (r .it .update)) ≡ true
       writer-subtree r i h = writer-local r i (and-left _ _ (own-subtree cd r i h))
           (λ u ne w. renames-below u ne (path r) w (known r i) h)
-          (λ u ne w. true≢false (sym h ∙ off-path n₀ (need s .node) (locks s P) (node-locked s P) (U (number-of r) []) (numbers-of (r .above)) (compatible-within (locks s P) (holds u) _ (compat u ne) w) cu))
+          (λ u ne w. true≢false (sym h ∙ off-below u ne (U (number-of r) []) (numbers-of (r .above)) w cu))

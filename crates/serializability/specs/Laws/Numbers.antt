@@ -1,21 +1,17 @@
 -- The places of a marked tree: where they are after an edit, and that no two have one number.
-use mathlib.Core.Path.{_≡_, refl, sym, ap, _∙_}
-use Prim.Native.Nat.{ℕ, _+_, _≤_}
+use Prim.Native.Nat.{ℕ}
+use mathlib.Core.Path.{_≡_, refl, sym, _∙_}
 use mathlib.Core.Bool.{Bool, true, false, true≢false}
 use mathlib.Core.List.{List, [], _∷_, map, List·Memᴰ}
-use native.Mathlib.Omega.{arith}
-use lib.ListN.{length}
-use lib.Dec.{eqb}
-use borrow.Author.Tests.{eqb-true, eq-eqb}
+use borrow.Author.Tests.{eq-eqb}
 use Rattle.tree.specs.Lists.{every, keep, distinct}
 use Rattle.tree.specs.Forest.{row, rows, view, put}
-use Rattle.tree.specs.Laws.Tests.{refuted}
-use Rattle.tree.specs.Laws.Lists.{map-map, keep-none, count, any-at, at-any, map-in, in-map}
-use Rattle.tree.specs.Laws.Distinct.{distinct-one, distinct-keep, distinct-count, count-distinct}
+use Rattle.tree.specs.Laws.Lists.{map-map, at-any, map-in, in-map}
+use Rattle.tree.specs.Laws.Distinct.{distinct-one, distinct-keep}
 use Rattle.tree.specs.Laws.Rows.{to-rows, of-rows}
 use Rattle.tree.specs.Laws.Amend.{rows-amend, in-amend, amend-in}
 use Rattle.tree.specs.Laws.View.{rows-view, in-view, view-in}
-use Rattle.tree.specs.Laws.Put.{put-kept, put-count}
+use Rattle.commute.specs.Laws.Uniqueness.{put-distinct}
 use Rattle.protocol.specs.State.{Marked, Tree, nodes, numbered, number-held, mark}
 use Rattle.serializability.specs.Laws.Shown.{Place, Inside, path, numbers-of}
 
@@ -35,17 +31,11 @@ pub one-place : (f : Tree) → Distinct f → {r s : Place} → Inside r f → I
 unfolding Distinct
 one-place f h i j e = distinct-one number-of (rows (λ a. a) [] f) h (to-rows (λ a. a) i) (to-rows (λ a. a) j) e
 
--- a number is held exactly if it has a place
-pub held-place : (n : ℕ) (f : Tree) → number-held n f ≡ true → (r : Place) × Inside r f × (number-of r ≡ n)
-unfolding nodes
-held-place n f h =
-    let a = any-at (numbered n) (map (λ (r : Place). r .it) (rows (λ a. a) [] f)) h in
-    let b = in-map (λ (r : Place). r .it) (rows (λ a. a) [] f) (a .1) in
-    (b .0, of-rows (λ a. a) (b .0) [] f (b .1), sym (ap (λ (x : Marked). x .now .number) (b .2)) ∙ eqb-true _ n (a .2))
-
+-- a number that has a place is held
 pub place-held : (n : ℕ) (f : Tree) {r : Place} → Inside r f → number-of r ≡ n → number-held n f ≡ true
 unfolding nodes
-place-held n f {r} i e = at-any (numbered n) (map (λ (x : Place). x .it) (rows (λ a. a) [] f)) (map-in (λ (x : Place). x .it) (to-rows (λ a. a) i)) (eq-eqb _ n e)
+place-held n f {r} i e = at-any (numbered n) (map (λ (x : Place). x .it) (rows (λ a. a) [] f))
+    (map-in (λ (x : Place). x .it) (to-rows (λ a. a) i)) (eq-eqb _ n e)
 
 -- a node of the tree, whose place is among the nodes
 pub place-node : (f : Tree) {r : Place} → Inside r f → List·Memᴰ (r .it) (nodes f)
@@ -94,7 +84,8 @@ module _ (stays : Marked → Bool) (g : Marked → Marked) where
   abbrev pub seen-as : Place → Place
   seen-as r = row (g (r .it)) (map g (r .above))
 
-  pub in-part : (f : Tree) {r : Place} → Inside r (view stays g f) → (s : Place) × Inside s f × (every stays (path s) ≡ true) × (r ≡ seen-as s)
+  pub in-part : (f : Tree) {r : Place} → Inside r (view stays g f)
+      → (s : Place) × Inside s f × (every stays (path s) ≡ true) × (r ≡ seen-as s)
   in-part f i = in-view (λ a. a) stays stays (λ a. refl) g (λ a. a) g (λ a. refl) [] f refl i
 
   pub part-in : (f : Tree) {s : Place} → Inside s f → every stays (path s) ≡ true → Inside (seen-as s) (view stays g f)
@@ -110,25 +101,8 @@ module _ (stays : Marked → Bool) (g : Marked → Marked) where
 
 -- a new node -------------------------------------------------------------------------------
 
-pub put-distinct : (n : ℕ) (counts : Marked → Bool) (k : ℕ) (new : Marked) (f : Tree) → Distinct f → number-held (new .now .number) f ≡ false → Distinct (put (numbered n) counts k new f)
+pub inserted-distinct : (n : ℕ) (counts : Marked → Bool) (k : ℕ) (new : Marked) (f : Tree) → Distinct f
+    → number-held (new .now .number) f ≡ false → Distinct (put (numbered n) counts k new f)
 unfolding Distinct
-put-distinct n counts k new f d h = count-distinct number-of (rows (λ a. a) [] (put (numbered n) counts k new f)) (λ x. go x (eqb m x) refl)
-  where
-    m : ℕ
-    m = new .now .number
-
-    after : Tree
-    after = put (numbered n) counts k new f
-
-    numbered-as : ℕ → Place → Bool
-    numbered-as x r = eqb (number-of r) x
-
-    go : (x : ℕ) (b : Bool) → eqb m x ≡ b → count (numbered-as x) (rows (λ a. a) [] after) ≤ 1
-    go x true e =
-        let one : count (numbered-as n) (rows (λ a. a) [] f) ≤ 1 = distinct-count number-of (rows (λ a. a) [] f) d n in
-        let more : count (numbered-as x) (rows (λ a. a) [] after) ≡ count (numbered-as n) (rows (λ a. a) [] f) + count (numbered-as x) (rows (λ a. a) [] f) =
-        put-count (numbered n) counts k new (λ a. a) (numbered-as x) [] f (λ r i q. e) in
-        let none : count (numbered-as x) (rows (λ a. a) [] f) ≡ 0 = ap length (keep-none (numbered-as x) (rows (λ a. a) [] f)
-        (λ r i. refuted _ (λ q. true≢false (sym (place-held m f (of-rows (λ a. a) r [] f i) (eqb-true _ x q ∙ sym (eqb-true m x e))) ∙ h)))) in
-        omega arith
-    go x false e = rw (put-kept (numbered n) counts k new (λ a. a) (numbered-as x) [] f (λ r i q. e)) (distinct-count number-of (rows (λ a. a) [] f) d x)
+inserted-distinct n counts k new f d h = put-distinct (λ (a : Marked). a .now .number) (λ a. a) n counts k new [] f d
+    (λ r m e. true≢false (sym (place-held (new .now .number) f (of-rows (λ a. a) r [] f m) e) ∙ h))

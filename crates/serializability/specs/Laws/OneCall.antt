@@ -1,22 +1,22 @@
 -- Demands 1 and 2 on one call.
-use mathlib.Core.Path.{_≡_, refl, sym, ap, _∙_}
 use Prim.Native.Nat.{ℕ}
-use mathlib.Core.Bool.{Bool, false, not, _&&_, true≢false}
+use mathlib.Core.Path.{_≡_, refl, sym, ap, _∙_}
+use mathlib.Core.Bool.{Bool, true, false, not, _&&_, true≢false}
 use mathlib.Core.List.{List, [], _∷_, List·Memᴰ·eq-of-singleton}
 use lib.Dec.{eqb}
 use borrow.Author.Tests.{eqb-false, not-true}
 use Rattle.tree.specs.Lists.{keep}
 use Rattle.tree.specs.Laws.Lists.{every-at}
-use Rattle.tree.specs.Steps.{Step}
+use Rattle.tree.specs.Steps.{Step, answer}
 use Rattle.locks.specs.Needs.{needs}
 use Rattle.protocol.specs.State.{State, is-transaction, transactions, callers-document}
 use Rattle.protocol.specs.Lent.{Room}
 use Rattle.protocol.specs.Causes.{not-a-transaction, not-open, no-such-node}
-use Rattle.protocol.specs.Calls.{step, Outcome, granted, written, waits, refused, refused-at, Check}
-use Rattle.protocol.specs.Calls.{blocks, wait-set, step-checks, judged, next}
+use Rattle.protocol.specs.Calls.{step, Outcome, granted, written, waits, refused, refused-at, Check, blocks, wait-set, step-checks, judged}
+use Rattle.protocol.specs.Calls.{next}
 use Rattle.protocol.specs.History.{is-granted}
 use Rattle.serializability.specs.Theorem.{NotGranted, Waiting, NoClashNoWait, FoundNotSeven}
-use Rattle.serializability.specs.Laws.Outcomes.{checked-by, every-call}
+use Rattle.serializability.specs.Laws.Outcomes.{checked-cases, checked-by, every-call}
 use Rattle.serializability.specs.Laws.WaitSet.{sum-bit, sum-bound, sum-none}
 
 -- demand 1
@@ -59,6 +59,16 @@ module _ (t : ℕ) (s : Step) (room : Room) (M : State) where
       let c = List·Memᴰ·eq-of-singleton (x .1) in
       let i : w ≡ set = ap (λ o. by-numbers o .1) (sym e ∙ x .3 ∙ ap (λ (z : Check). z .0) c) in
       (i, ap (λ z. eqb z 0) i ∙ not-true _ (sym (ap (λ (z : Check). z .1) c) ∙ x .2))
+
+  -- a granted step answers what the step does on the caller's document, and is the one step in the call
+  pub step-granted : is-granted (next (step t s room) M .outcome) ≡ true → let v = answer s (callers-document t (M .tree)) in
+      (next (step t s room) M .outcome ≡ granted v) × (next (step t s room) M .steps ≡ record { step = s; value = v } ∷ [])
+  unfolding next judged
+  step-granted = let v = answer s (callers-document t (M .tree)) in
+      checked-cases (λ n. is-granted (n .outcome) ≡ true → (n .outcome ≡ granted v) ×
+      (n .steps ≡ record { step = s; value = v } ∷ [])) checks M _
+      (λ c i e g. absurd (true≢false (sym g ∙ not-true _ (every-at (λ (x : Check). not (is-granted (x .0))) checks refl i))))
+      (λ p g. (refl, refl))
 
 pub waiting : Waiting
 unfolding wait-set

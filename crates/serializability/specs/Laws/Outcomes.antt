@@ -1,6 +1,6 @@
 -- What a list of checks makes of a call, and with that a claim about every call, from its granted calls and its refusals.
-use mathlib.Core.Path.{_≡_, refl, sym, _∙_}
 use Prim.Native.Nat.{ℕ}
+use mathlib.Core.Path.{_≡_, refl, sym, _∙_}
 use mathlib.Core.Bool.{Bool, true, false, cond, not, _&&_, false≢true}
 use mathlib.Core.List.{List, [], _∷_, List·Memᴰ, List·Memᴰ·head, List·Memᴰ·tail}
 use lib.ListN.{length}
@@ -12,13 +12,13 @@ use Rattle.tree.specs.Laws.Lists.{every-at, keep-in}
 use Rattle.tree.specs.Document.{Document, lines}
 use Rattle.tree.specs.Steps.{Step, done, how-many, unknown, wrong-kind, wrong-content, misplaced, answer}
 use Rattle.locks.specs.Needs.{needs}
-use Rattle.protocol.specs.State.{State, is-transaction, transactions, callers-document, committed-document, act, grant, commit-tree, abort-tree, tree-of}
-use Rattle.protocol.specs.State.{start-state, with-tree, opened, closed}
+use Rattle.protocol.specs.State.{State, is-transaction, transactions, callers-document, committed-document, act, grant, commit-tree}
+use Rattle.protocol.specs.State.{abort-tree, tree-of, start-state, with-tree, opened, closed}
 use Rattle.protocol.specs.Lent.{Room}
 use Rattle.protocol.specs.Causes.{causes, not-a-transaction, already-open, not-open, open-at-load}
 use Rattle.protocol.specs.Calls.{Call, start, load, begin, commit, abort, step, write, Input, unreadable, stands-for, node-limit, loadable}
-use Rattle.protocol.specs.Calls.{Outcome, granted, written, waits, refused, refused-at, Next, unchanged, becomes, takes-step, Check, checked}
-use Rattle.protocol.specs.Calls.{wait-set, number-taken, step-checks, judged, if-open, loaded, next}
+use Rattle.protocol.specs.Calls.{Outcome, granted, written, waits, refused, refused-at, Next, unchanged, becomes, takes-step, Check}
+use Rattle.protocol.specs.Calls.{checked, wait-set, number-taken, step-checks, judged, if-open, loaded, next}
 use Rattle.protocol.specs.History.{is-granted}
 
 -- none of the checks applies
@@ -81,7 +81,8 @@ module _ (P : Call → Next → Type 0) (M : State) (k : Cases P M) where
   -- behind checks that refuse or make wait
   behind : (c : Call) (cs : List Check) (n : Next) → every (λ x. not (is-granted (x .0)) && is-refusal (x .0)) cs ≡ true
       → (AllPassed cs → P c n) → P c (checked cs M n)
-  behind c cs n h g = checked-cases (P c) cs M n (λ x i e. refuses x (every-at (λ y. not (is-granted (y .0)) && is-refusal (y .0)) cs h i)) g
+  behind c cs n h g = checked-cases (P c) cs M n (λ x i e. refuses x
+      (every-at (λ y. not (is-granted (y .0)) && is-refusal (y .0)) cs h i)) g
     where
       refuses : (x : Check) → (not (is-granted (x .0)) && is-refusal (x .0)) ≡ true → P c (unchanged (x .0) M)
       refuses x h = k .refusal c (x .0) (not-true _ (and-left _ _ h)) (and-right (not (is-granted (x .0))) _ h)

@@ -1,6 +1,6 @@
 -- The held document is the committed one exactly if nothing is pending.
-use mathlib.Core.Path.{_≡_, refl, sym, ap, _∙_}
 use Prim.Native.Nat.{ℕ}
+use mathlib.Core.Path.{_≡_, refl, sym, ap, _∙_}
 use mathlib.Core.Bool.{Bool, true, false, not, _&&_, _||_, false≢true, true≢false, or-true, or-false, and-true, and-false}
 use mathlib.Core.List.{List, [], _∷_, map, append-nil, List·Memᴰ, List·Memᴰ·head, List·Memᴰ·tail, List·Memᴰ·not-nil, Memᴰ·append-left}
 use mathlib.Core.List.{Memᴰ·append-right, List·Memᴰ·append-cases}
@@ -30,8 +30,8 @@ use Rattle.serializability.specs.Laws.Numbers.{number-of}
 use Rattle.serializability.specs.Laws.Marks.{deleter-marks}
 use Rattle.serializability.specs.Laws.Whole.{Brought, brought-as, Good}
 use Rattle.serializability.specs.Laws.Ends.{logs-compatible, document-same}
-use Rattle.serializability.specs.Laws.Held.{visible, line-in, line-of-place, place-here, here-visible, marker-LW, marker-open, writer-open}
-use Rattle.serializability.specs.Laws.Held.{inserter-done, held-shown}
+use Rattle.serializability.specs.Laws.Held.{visible, line-in, line-of-place, place-here, here-visible, marker-LW, marker-open}
+use Rattle.serializability.specs.Laws.Held.{writer-open, inserter-done, held-shown}
 
 -- the numbers that a log brought in -----------------------------------------------------------
 
@@ -40,7 +40,8 @@ steps l = map (λ x. x .step) l
 
 in-inserted : (l : List Entry) (y : Entry) → List·Memᴰ y l → (m : ℕ) → has m (inserts (y .step)) ≡ true → List·Memᴰ m (inserted (steps l))
 in-inserted [] y i m h = absurd (List·Memᴰ·not-nil i)
-in-inserted (x ∷ l) y (List·Memᴰ·head e) m h = Memᴰ·append-left {s = inserts (x .step)} (inserted (steps l)) (has-in m (inserts (x .step)) (rw e at h))
+in-inserted (x ∷ l) y (List·Memᴰ·head e) m h = Memᴰ·append-left {s = inserts (x .step)} (inserted (steps l))
+    (has-in m (inserts (x .step)) (rw e at h))
 in-inserted (x ∷ l) y (List·Memᴰ·tail i) m h = Memᴰ·append-right (inserts (x .step)) (in-inserted l y i m h)
 
 inserted-in : (l : List Entry) (m : ℕ) → List·Memᴰ m (inserted (steps l)) → (y : Entry) × List·Memᴰ y l × (has m (inserts (y .step)) ≡ true)
@@ -66,7 +67,8 @@ none-shown a = rw (and-false (not (eqb (a .deleter) nobody)), or-false (eqb (a .
 
 -- what t alone shows was inserted by nobody or t
 only-inserter : (t : ℕ) (a : Marked) → shown (only t) a ≡ true → (a .inserter ≡ nobody → ⊥) → a .inserter ≡ t
-only-inserter t a s ne = sym (eqb-true t _ (rw (ne-eqb (a .inserter) nobody ne, or-false (eqb t (a .inserter))) at (and-left (done-by (only t) (a .inserter)) _ s)))
+only-inserter t a s ne = sym (eqb-true t _ (rw (ne-eqb (a .inserter) nobody ne, or-false (eqb t (a .inserter))) at
+    (and-left (done-by (only t) (a .inserter)) _ s)))
 
 module _ (c : Document) (log : ℕ → List Entry) (M : State) (g : Good c log M) where
   abbrev f : Tree
@@ -114,16 +116,20 @@ module _ (c : Document) (log : ℕ → List Entry) (M : State) (g : Good c log M
   module _ (t : ℕ) (quiet : pending-in committed (steps (log t)) (with-only t) ≡ false) where
     no-insertion : (m : ℕ) → Brought log m t → here m (with-only t) ≡ false
     no-insertion m y =
-        none-at (λ n. here n (with-only t)) (inserted (steps (log t))) (or-left _ _ (or-left _ _ quiet)) (in-inserted (log t) (y .0) (y .1) m (y .2))
+        none-at (λ n. here n (with-only t)) (inserted (steps (log t))) (or-left _ _ (or-left _ _ quiet))
+        (in-inserted (log t) (y .0) (y .1) m (y .2))
 
     no-deletion : (l : Line) → Of l committed → here (l .it .number) (with-only t) ≡ true
-    no-deletion l o = not-false (here (l .it .number) (with-only t)) (none-at (λ (r : Line). not (here (r .it .number) (with-only t))) (lines committed)
+    no-deletion l o = not-false (here (l .it .number) (with-only t))
+        (none-at (λ (r : Line). not (here (r .it .number) (with-only t))) (lines committed)
         (or-right (any (λ m. here m (with-only t)) (inserted (steps (log t)))) _ (or-left _ _ quiet)) (to-lines committed o))
 
     no-update : (l : Line) → Of l committed → at (l .it .number) (with-only t) .it .content ≡ l .it .content
     no-update l o =
-        let n : (here (l .it .number) (with-only t) && not (same (at (l .it .number) (with-only t) .it .content) (l .it .content))) ≡ false =
-        none-at (λ (r : Line). here (r .it .number) (with-only t) && not (same (at (r .it .number) (with-only t) .it .content) (r .it .content)))
+        let n : (here (l .it .number) (with-only t) && not (same (at (l .it .number) (with-only t) .it .content)
+        (l .it .content))) ≡ false =
+        none-at (λ (r : Line). here (r .it .number) (with-only t) && not
+        (same (at (r .it .number) (with-only t) .it .content) (r .it .content)))
         (lines committed) (or-right (any (λ m. here m (with-only t)) (inserted (steps (log t)))
         || any (λ r. not (here (r .it .number) (with-only t))) (lines committed)) _ quiet) (to-lines committed o) in
         same-equal _ _ (not-false _ (rw (no-deletion l o) at n))
@@ -151,9 +157,11 @@ module _ (c : Document) (log : ℕ → List Entry) (M : State) (g : Good c log M
   abbrev open-ones : List ℕ
   open-ones = keep all transactions
 
-  pub quiet-held : ((t : ℕ) → List·Memᴰ t transactions → pending-in committed (steps (log t)) (with-only t) ≡ false) → held-document M ≡ committed
+  pub quiet-held : ((t : ℕ) → List·Memᴰ t transactions → pending-in committed (steps (log t)) (with-only t) ≡ false)
+      → held-document M ≡ committed
   quiet-held q =
-      let r : Run committed (orders.logs log open-ones) (document-of (λ u. has u open-ones) f) = rw c-committed at (g .serial open-ones (kept-distinct all) .run) in
+      let r : Run committed (orders.logs log open-ones) (document-of (λ u. has u open-ones) f) = rw c-committed at
+      (g .serial open-ones (kept-distinct all) .run) in
       held-shown c log M g ∙ document-same all (λ u. has u open-ones) f (λ u. sym (has-kept all u (g .numbered u)))
       ∙ run-one-end committed (orders.logs log open-ones) _ committed r (idle-logs open-ones idle)
     where
@@ -175,10 +183,12 @@ module _ (c : Document) (log : ℕ → List Entry) (M : State) (g : Good c log M
         true≢false (sym (line-here (a .0 .it .number) committed (a .0) (of-lines committed (a .0) (a .1)) refl) ∙ not-true _ (a .2))),
   )
       (refuted _ (λ e.
-      let a = any-at (λ (r : Line). here (r .it .number) committed && not (same (at (r .it .number) committed .it .content) (r .it .content))) (lines committed) e in
+      let a = any-at (λ (r : Line). here (r .it .number) committed && not
+      (same (at (r .it .number) committed .it .content) (r .it .content))) (lines committed) e in
       let h = and-left (here (a .0 .it .number) committed) _ (a .2) in
       let l : a .0 ≡ at (a .0 .it .number) committed =
-      at-only committed (rw c-committed at (g .serial [] refl .unique)) (a .0 .it .number) h (a .0) (of-lines committed (a .0) (a .1)) refl in
+      at-only committed (rw c-committed at (g .serial [] refl .unique)) (a .0 .it .number) h (a .0)
+      (of-lines committed (a .0) (a .1)) refl in
       true≢false (sym (same-self (a .0 .it .content)) ∙ ap (λ (x : Line). same (x .it .content) (a .0 .it .content)) l
       ∙ not-true _ (and-right (here (a .0 .it .number) committed) _ (a .2)))))
 
@@ -187,7 +197,8 @@ module _ (c : Document) (log : ℕ → List Entry) (M : State) (g : Good c log M
     shown-equal = sym (held-shown c log M g) ∙ equal
 
     -- a place that nobody shows all show
-    both-visible : (r : Place) → Inside r f → visible none r ≡ true → (visible all r ≡ true) × (as-shown all (r .it) .content ≡ as-shown none (r .it) .content)
+    both-visible : (r : Place) → Inside r f → visible none r ≡ true
+        → (visible all r ≡ true) × (as-shown all (r .it) .content ≡ as-shown none (r .it) .content)
     both-visible r i v =
         let a = here-visible all f (g .covered .distinct) i (rw shown-equal (place-here none f i v)) in
         let b = here-visible none f (g .covered .distinct) i (place-here none f i v) in
@@ -196,12 +207,13 @@ module _ (c : Document) (log : ℕ → List Entry) (M : State) (g : Good c log M
     module _ (t : ℕ) (nt : t ≡ nobody → ⊥) where
       -- what nobody and all show, t shows, and with the same content
       only-shown : (r : Place) → Inside r f → shown none (r .it) ≡ true → shown all (r .it) ≡ true → shown (only t) (r .it) ≡ true
-      only-shown r i a b = let u = r .it .deleter in rw (sym (none-shown (r .it)) ∙ a) (by-test (eqb u nobody) (λ p. rw p) (λ p. by-test (eqb t u)
+      only-shown r i a b = let u = r .it .deleter in rw (sym (none-shown (r .it)) ∙ a)
+          (by-test (eqb u nobody) (λ p. rw p) (λ p. by-test (eqb t u)
           (λ q. let o = marker-open c log M g r i u (eqb-false u nobody p) (deleter-marks (r .it)) in
           absurd (false≢true (rw (p, o) at (and-right (done-by all (r .it .inserter)) _ b)))) (λ q. rw (p, q))))
 
-      only-visible : (l : List Marked) → Each (λ a. a) (λ a p. Inside (row a p) f) l → every (shown none) l ≡ true → every (shown all) l ≡ true
-          → every (shown (only t)) l ≡ true
+      only-visible : (l : List Marked) → Each (λ a. a) (λ a p. Inside (row a p) f) l → every (shown none) l ≡ true
+          → every (shown all) l ≡ true → every (shown (only t)) l ≡ true
       only-visible [] k a b = refl
       only-visible (x ∷ p) k a b = rw (
         only-shown (row x p) (k .0) (and-left _ _ a) (and-left _ _ b),
@@ -215,10 +227,12 @@ module _ (c : Document) (log : ℕ → List Entry) (M : State) (g : Good c log M
 
       -- what t inserted nobody else deleted
       all-shown : (r : Place) → Inside r f → r .it .inserter ≡ t → shown (only t) (r .it) ≡ true → shown all (r .it) ≡ true
-      all-shown r i own s = let u = r .it .deleter in rw (inserter-done c log M g r i) (by-test (eqb u nobody) (λ p. rw p) (λ p. by-test (eqb t u)
+      all-shown r i own s = let u = r .it .deleter in rw (inserter-done c log M g r i)
+          (by-test (eqb u nobody) (λ p. rw p) (λ p. by-test (eqb t u)
           (λ q. absurd (false≢true (rw (p, q) at (and-right (done-by (only t) (r .it .inserter)) _ s))))
           (λ q. absurd (true≢false (sym (LW-clashes LW) ∙ logs-compatible g t u (eqb-false t u q) (number-of r) LW LW
-          (marker-LW c log M g r i t nt (rw (eq-eqb (r .it .inserter) t own))) (marker-LW c log M g r i u (eqb-false u nobody p) (deleter-marks (r .it))))))))
+          (marker-LW c log M g r i t nt (rw (eq-eqb (r .it .inserter) t own)))
+          (marker-LW c log M g r i u (eqb-false u nobody p) (deleter-marks (r .it))))))))
 
       pub held-quiet : pending-in committed (steps (log t)) (with-only t) ≡ false
       held-quiet = rw (same-shown (only t)

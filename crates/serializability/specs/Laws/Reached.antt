@@ -1,35 +1,114 @@
 -- What holds in every state that is reached: distinct numbers, legal documents, and the committed document as the one held if all aborted.
-use mathlib.Core.Path.{_≡_, refl, sym, ap, ap₂, _∙_}
 use Prim.Native.Nat.{ℕ}
-use mathlib.Core.Bool.{Bool, true, false, cond, not, _&&_, false≢true, true≢false, and-false}
-use mathlib.Core.List.{List, [], _∷_, map, List·Memᴰ, List·Memᴰ·head, List·Memᴰ·tail, List·Memᴰ·not-nil, List·Memᴰ·cases-cons, List·Memᴰ·eq-of-singleton}
-use lib.Dec.{eqb}
+use mathlib.Core.Path.{_≡_, sym, ap, _∙_, refl, ap₂}
+use mathlib.Core.Bool.{Bool, true, false, not, _&&_, false≢true, or-true, cond, true≢false, and-false}
+use mathlib.Core.List.{List, [], _∷_, List·Memᴰ, map, List·Memᴰ·head, List·Memᴰ·tail, List·Memᴰ·not-nil, List·Memᴰ·cases-cons}
+use mathlib.Core.List.{List·Memᴰ·eq-of-singleton}
 use mathlib.Core.Logic.{⊎-elim}
-use borrow.Author.Tests.{eqb-false, eq-eqb, not-true}
+use lib.Dec.{eqb}
+use borrow.Author.Tests.{eqb-true, eqb-false, eq-eqb, not-true}
+use Rattle.tree.specs.Document.{Document, node-0-alone, legal}
+use Rattle.tree.specs.Steps.{Step, with-content}
 use Rattle.tree.specs.Lists.{has, keep, distinct, joined}
-use Rattle.tree.specs.Document.{Document, legal}
-use Rattle.tree.specs.Steps.{with-content}
 use Rattle.tree.specs.Laws.Tests.{and-left, and-right, refuted}
 use Rattle.tree.specs.Laws.Lists.{every-at}
 use Rattle.tree.specs.Laws.View.{view-agree}
+use Rattle.locks.specs.Modes.{Mode}
+use Rattle.locks.specs.Needs.{Lock}
 use Rattle.commute.specs.Laws.Tests.{by-test}
 use Rattle.commute.specs.Laws.Runs.{Entry}
 use Rattle.commute.specs.Laws.Orders as orders
 use Rattle.commute.specs.Laws.Legal.{legal-run}
-use Rattle.protocol.specs.State.{nobody, State, Tree, is-transaction, transactions, done-by, shown, as-shown, document-of, held-document, committed-document, writer-of, saved-of}
-use Rattle.protocol.specs.Calls.{Call, abort, next}
+use Rattle.protocol.specs.State.{State, Marked, Tree, nodes, seen-by, granted-to, none-of, lasting, undone, act, grant, commit-tree}
+use Rattle.protocol.specs.State.{abort-tree, tree-of, start-state, nobody, is-transaction, transactions, done-by, shown, as-shown}
+use Rattle.protocol.specs.State.{document-of, held-document, committed-document, writer-of, saved-of}
+use Rattle.protocol.specs.Calls.{Call, next, abort}
 use Rattle.protocol.specs.History.{state-after, Log}
 use Rattle.serializability.specs.Theorem.{reached, all-aborted, Reached}
+use Rattle.serializability.specs.Laws.Outcomes.{every-call}
+use Rattle.serializability.specs.Laws.Shown.{Place, Inside, minus, abort-shown}
+use Rattle.serializability.specs.Laws.Numbers.{in-mark, in-part, node-place, distinct-numbers}
+use Rattle.serializability.specs.Laws.Granting.{after-step, act-places}
+use Rattle.serializability.specs.Laws.Tracking.{load-unmarked, Tracks, calls-track}
 use Rattle.serializability.specs.Laws.WaitSet.{transaction-in, has-kept, kept-distinct}
-use Rattle.serializability.specs.Laws.Shown.{minus, abort-shown}
 use Rattle.serializability.specs.Laws.Marks.{inserter-marks, deleter-marks}
-use Rattle.serializability.specs.Laws.Numbers.{distinct-numbers}
 use Rattle.serializability.specs.Laws.Whole.{Good}
 use Rattle.serializability.specs.Laws.Ends.{document-same}
-use Rattle.serializability.specs.Laws.Tracking.{Tracks, calls-track}
-use Rattle.serializability.specs.Laws.Released.{holders-open}
 use Rattle.serializability.specs.Laws.AnyOrder.{entries, reached-tracks}
 use Rattle.serializability.specs.Laws.Held.{marker-open, writer-open, held-shown}
+
+-- only open transactions hold locks: commit and abort empty their sets -------------------------------------
+
+Released : (ℕ → Bool) → Tree → Type 0
+Released o f = (r : Place) → Inside r f → (u : ℕ) (m : Mode) → r .it .held u m ≡ true → o u ≡ true
+
+-- a granted step ---------------------------------------------------------------------------------
+
+grant-released : (o : ℕ → Bool) (t : ℕ) (ls : List Lock) (f : Tree) → o t ≡ true → Released o f → Released o (grant t ls f)
+unfolding Released grant
+grant-released o t ls f e k r i u m h =
+    let a = in-mark (λ x. granted-to t ls (x .it)) f i in
+    by-test (eqb u t) (λ p. rw (eqb-true u t p) e) (λ p. k (a .0) (a .1) u m (rw (a .2, p) at h))
+
+step-released : (o : ℕ → Bool) (t : ℕ) (s : Step) (ls : List Lock) (f : Tree) → o t ≡ true → Released o f → Released o (after-step t s ls f)
+unfolding Released
+step-released o t s ls f e k = grant-released o t ls (act t s f) e (λ r i u m h.
+    ⊎-elim (λ x. k (x .0) (x .1) u m (rw (x .4) at h)) (λ x. absurd (false≢true (rw (x .2) at h))) (act-places t s f r i))
+
+-- the ends of a transaction ------------------------------------------------------------------------
+
+-- t holds nothing, the others what they held
+none-other : (t : ℕ) (a : Marked) (u : ℕ) (m : Mode) → none-of t (a .held) u m ≡ true → (eqb u t ≡ false) × (a .held u m ≡ true)
+none-other t a u m h = by-test (eqb u t) (λ e. absurd (false≢true (rw e at h))) (λ e. (e, rw e at h))
+
+commit-released : (o : ℕ → Bool) (t : ℕ) (f : Tree) → Released o f → Released (λ u. not (eqb u t) && o u) (commit-tree t f)
+unfolding Released commit-tree
+commit-released o t f k r i u m h =
+    let a = in-part (seen-by t) (lasting t) f i in
+    let x = none-other t (a .0 .it) u m (rw (a .3) at h) in
+    rw (x .0) (k (a .0) (a .1) u m (x .1))
+
+abort-released : (o : ℕ → Bool) (t : ℕ) (f : Tree) → Released o f → Released (λ u. not (eqb u t) && o u) (abort-tree t f)
+unfolding Released abort-tree
+abort-released o t f k r i u m h =
+    let a = in-part (λ x. not (eqb (x .inserter) t)) (undone t) f i in
+    let x = none-other t (a .0 .it) u m (rw (a .3) at h) in
+    rw (x .0) (k (a .0) (a .1) u m (x .1))
+
+load-released : (o : ℕ → Bool) (d : Document) → Released o (tree-of d)
+unfolding Released
+load-released o d r i u m h = absurd (false≢true (sym (ap (λ (a : Marked). a .held u m) (load-unmarked d r i .1)) ∙ h))
+
+-- every call ---------------------------------------------------------------------------------------
+
+Kept : State → Type 0
+Kept M = Released (M .header .is-open) (M .tree)
+
+call-kept : (M : State) → Kept M → (c : Call) → Kept (next c M .state)
+unfolding Kept Released
+call-kept M k = every-call (λ c n. Kept (n .state)) M (record {
+  refusal = λ c o g i. k;
+  at-start = load-released (λ u. false) node-0-alone;
+  at-unread = λ c i. k;
+  at-load = λ d h. load-released (M .header .is-open) d;
+  at-begin = λ t h o r i u m e. rw (k r i u m e) (or-true (eqb u t));
+  at-commit = λ t h o. commit-released (M .header .is-open) t (M .tree) k;
+  at-abort = λ t h o. abort-released (M .header .is-open) t (M .tree) k;
+  at-step = λ t s room h o p. step-released (M .header .is-open) t s _ (M .tree) o k;
+  at-write = k;
+})
+
+calls-kept : (M : State) → Kept M → (cs : List Call) → Kept (state-after M cs)
+unfolding state-after
+calls-kept M k [] = k
+calls-kept M k (c ∷ cs) = calls-kept (next c M .state) (call-kept M k c) cs
+
+pub holders-open : (cs : List Call) (a : Marked) → List·Memᴰ a (nodes (reached cs .tree)) → (u : ℕ) (m : Mode) → a .held u m ≡ true
+    → reached cs .header .is-open u ≡ true
+unfolding state-after next Kept Released
+holders-open cs a i u m h =
+    let r = node-place (reached cs .tree) i in
+    calls-kept start-state (load-released (λ v. false) node-0-alone) cs (r .0) (r .1) u m (ap (λ (x : Marked). x .held u m) (r .2) ∙ h)
 
 -- legal documents ----------------------------------------------------------------------------
 
@@ -47,13 +126,15 @@ module _ (c : Document) (log : ℕ → List Entry) (M : State) (g : Good c log M
   same-done : (u : ℕ) → ((u ≡ nobody → ⊥) → M .header .is-open u ≡ true) → done-by S u ≡ done-by (λ v. has v b) u
   same-done u k = by-test (eqb u nobody) (λ e. rw e) (λ e. rw (e, in-set u (k (eqb-false u nobody e))))
 
-  same-deleted : (u : ℕ) → ((u ≡ nobody → ⊥) → M .header .is-open u ≡ true) → not (not (eqb u nobody) && S u) ≡ not (not (eqb u nobody) && has u b)
+  same-deleted : (u : ℕ) → ((u ≡ nobody → ⊥) → M .header .is-open u ≡ true)
+      → not (not (eqb u nobody) && S u) ≡ not (not (eqb u nobody) && has u b)
   same-deleted u k = by-test (eqb u nobody) (λ e. rw e) (λ e. rw (e, in-set u (k (eqb-false u nobody e))))
 
   -- any set shows what some of the transactions show
   set-shown : document-of S f ≡ document-of (λ u. has u b) f
   unfolding document-of
-  set-shown = view-agree (λ a. a) (shown (λ u. has u b)) (shown (λ u. has u b)) (λ a. refl) (shown S) (as-shown (λ u. has u b)) (as-shown S) [] f refl
+  set-shown = view-agree (λ a. a) (shown (λ u. has u b)) (shown (λ u. has u b)) (λ a. refl) (shown S) (as-shown (λ u. has u b))
+      (as-shown S) [] f refl
       (λ r i e. ap₂ (λ x y. x && y)
       (same-done (r .it .inserter) (λ nu. marker-open c log M g r i (r .it .inserter) nu (inserter-marks (r .it))))
       (same-deleted (r .it .deleter) (λ nu. marker-open c log M g r i (r .it .deleter) nu (deleter-marks (r .it)))))
@@ -74,7 +155,8 @@ one-aborted : (t : ℕ) (M : State) → is-transaction t ≡ true → Aborted (t
 unfolding next
 one-aborted t M h = by-test (M .header .is-open t)
     (λ e. rw (h, e) (
-      abort-shown t (λ z. false≢true (rw z at h)) (λ u. false) (M .tree) ∙ document-same (minus t (λ u. false)) (λ u. false) (M .tree) (λ u. and-false (not (eqb u t))),
+      abort-shown t (λ z. false≢true (rw z at h)) (λ u. false) (M .tree) ∙ document-same (minus t (λ u. false)) (λ u. false) (M .tree)
+          (λ u. and-false (not (eqb u t))),
       λ u o. (and-right (not (eqb u t)) _ o, λ i. eqb-false u t (not-true _ (and-left _ _ o)) (List·Memᴰ·eq-of-singleton i)),
     ))
     (λ e. rw (h, e) (refl, λ u o. (o, λ i. true≢false (sym o ∙ ap (M .header .is-open) (List·Memᴰ·eq-of-singleton i) ∙ e))))
@@ -115,4 +197,5 @@ always-reached cs = record {
     tr = reached-tracks cs
 
     legal-set : (S : ℕ → Bool) → legal (document-of S (reached cs .tree)) ≡ true
-    legal-set S = set-legal (tr .c) (entries cs .open-log) (reached cs) (tr .good) S (legal-run (entries cs .first) (joined (entries cs .committed)) (tr .c) (tr .first-legal) (tr .run))
+    legal-set S = set-legal (tr .c) (entries cs .open-log) (reached cs) (tr .good) S
+        (legal-run (entries cs .first) (joined (entries cs .committed)) (tr .c) (tr .first-legal) (tr .run))

@@ -1,29 +1,38 @@
 -- A step whose locks are compatible with the others' sees in its caller's document what it sees in the document of every set
 -- of transactions with the caller in it.
-use mathlib.Core.Path.{_≡_, refl, sym, ap, _∙_}
 use Prim.Native.Nat.{ℕ}
+use mathlib.Core.Path.{_≡_, refl, _∙_, sym, ap}
 use mathlib.Core.Bool.{Bool, true, false, not, _&&_, false≢true, true≢false, or-true}
 use mathlib.Core.List.{List, [], _∷_, map}
 use mathlib.Core.Logic.{⊎-elim}
 use lib.Dec.{eqb}
-use borrow.Author.Tests.{eqb-true, eq-eqb, ne-eqb}
-use Rattle.tree.specs.Lists.{every, has, leads, keep}
-use Rattle.tree.specs.Forest.{row, rows, view}
-use Rattle.tree.specs.Document.{Node, Line, lines, select, here}
-use Rattle.tree.specs.Steps.{Step, U, D, UU, target, inserts, with-content}
+use borrow.Author.Tests.{eq-eqb, eqb-true, ne-eqb}
+use Rattle.tree.specs.Lists.{any, every, has, leads, keep}
+use Rattle.tree.specs.Document.{here, Node, Line, lines, select}
+use Rattle.tree.specs.Steps.{Step, T, C, R, U, D, I, TT, RR, UU, target, after, inserts, with-content}
 use Rattle.tree.specs.Laws.Tests.{and-left, and-right, or-cases, refuted}
-use Rattle.tree.specs.Laws.Lists.{keep-map, keep-keep, keep-same, in-keep, map-map, map-same}
+use Rattle.tree.specs.Laws.Lists.{any-map, keep-map, keep-keep, keep-same, in-keep, map-map, map-same}
+use Rattle.tree.specs.Forest.{row, rows, view}
 use Rattle.tree.specs.Laws.Rows.{of-rows}
 use Rattle.tree.specs.Laws.View.{rows-view, in-view}
 use Rattle.locks.specs.Needs.{Lock, need, needs}
 use Rattle.locks.specs.Laws.Compatible.{Compatible, excludes}
+use Rattle.commute.specs.Laws.Classes.{update, rename, write, bars-removal, removal-barred, Contents, reads-contents, bars-writing}
+use Rattle.commute.specs.Laws.Classes.{writing-barred}
 use Rattle.commute.specs.Laws.Lines.{at-line}
-use Rattle.commute.specs.Laws.Classes.{update, rename, bars-removal, removal-barred, Contents, reads-contents, bars-writing, writing-barred}
 use Rattle.commute.specs.Laws.Views.{shape, Shapes, Whole, Reach, itself, children, subtree, within, reach, Views}
-use Rattle.protocol.specs.State.{nobody, Marked, Tree, number-held, seen-by, done-by, shown, as-shown, callers-document, document-of, writer-of}
-use Rattle.serializability.specs.Laws.Shown.{Place, Inside, path, numbers-of, local}
+use Rattle.protocol.specs.State.{nobody, Marked, Tree, numbered, seen-by, callers-document, document-of, renamed, act, number-held, done-by}
+use Rattle.protocol.specs.State.{shown, as-shown, writer-of}
+use Rattle.serializability.specs.Laws.Shown.{Place, path, numbers-of, local, U-shown, D-shown, I-shown, UU-shown, write-hidden}
+use Rattle.serializability.specs.Laws.Shown.{D-hidden, I-hidden, Inside}
+use Rattle.serializability.specs.Laws.Marks.{Covered, own-node, own, own-child, own-subtree, writer-node, writer-subtree}
 use Rattle.serializability.specs.Laws.Numbers.{number-of, place-held}
-use Rattle.serializability.specs.Laws.Marks.{own, Covered, own-node, own-child, own-subtree, writer-node, writer-subtree}
+
+-- the test of UU holds only in the subtree
+pub renamed-under : (t n : ℕ) (a : List ℕ) (r : Place) → renamed t n a r ≡ true → has n (numbers-of (path r)) ≡ true
+renamed-under t n a r h =
+    any-map (λ q. eqb q n) (λ (x : Marked). x .now .number) (path r)
+    ∙ and-right (every (seen-by t) (path r)) (any (numbered n) (path r)) (and-left _ _ h)
 
 -- the places that a step sees from its node, as lines of a document and in the tree
 abbrev pub places : Reach → ℕ → Place → Bool
@@ -66,16 +75,20 @@ module _ (sh sh' : Marked → Bool) (text text' : Marked → List ℕ) (f : Tree
 
   agree-shapes : Shapes (within q n) (view sh (with-text text) f) (view sh' (with-text text') f)
   agree-shapes = rw (select-view text' sh' q n f, select-view text sh q n f, kept)
-      (map-map shape (line-of text') (λ r. shape (line-of text r)) both (λ a m. refl) ∙ sym (map-map shape (line-of text) (λ r. shape (line-of text r)) both (λ a m. refl)))
+      (map-map shape (line-of text') (λ r. shape (line-of text r)) both (λ a m. refl) ∙ sym
+      (map-map shape (line-of text) (λ r. shape (line-of text r)) both (λ a m. refl)))
 
-  agree-whole : ((r : Place) → Inside r f → places q n r ≡ true → text' (r .it) ≡ text (r .it)) → Whole (within q n) (view sh (with-text text) f) (view sh' (with-text text') f)
+  agree-whole : ((r : Place) → Inside r f → places q n r ≡ true → text' (r .it) ≡ text (r .it))
+      → Whole (within q n) (view sh (with-text text) f) (view sh' (with-text text') f)
   agree-whole k = rw (select-view text' sh' q n f, select-view text sh q n f, kept)
       (map-same (line-of text') (line-of text) both
-      (λ r m. let i = in-keep (places q n) (rows (λ a. a) [] f) (in-keep (λ x. every sh (path x)) (keep (places q n) (rows (λ a. a) [] f)) m .0) in
+      (λ r m. let i = in-keep (places q n) (rows (λ a. a) [] f) (in-keep (λ x. every sh (path x))
+      (keep (places q n) (rows (λ a. a) [] f)) m .0) in
       rw (k r (of-rows (λ a. a) r [] f (i .0)) (i .1))))
 
 -- a number that no node has is in no document
-pub unheld-absent : (sh : Marked → Bool) (text : Marked → List ℕ) (f : Tree) (m : ℕ) → number-held m f ≡ false → here m (view sh (with-text text) f) ≡ false
+pub unheld-absent : (sh : Marked → Bool) (text : Marked → List ℕ) (f : Tree) (m : ℕ) → number-held m f ≡ false
+    → here m (view sh (with-text text) f) ≡ false
 unheld-absent sh text f m h = refuted _ (λ e.
     let a = at-line m (view sh (with-text text) f) e in
     let v = in-view (λ x. x) sh sh (λ x. refl) (with-text text) (λ x. x .number) (λ x. x .now .number) (λ x. refl) [] f refl (a .0) in
@@ -123,10 +136,12 @@ module _ (holds : ℕ → List Lock) (f : Tree) (cov : Covered holds f) (t : ℕ
   own-read {s} z hs c r i e = go (reach s) (removal-barred s) (writing-barred z (update 0 [])) (writing-barred z (rename 0 [] [])) e
     where
       go : (q : Reach) → bars-removal q (need s) (need (D 0)) ≡ true → bars-writing q itself (need s) (need (U 0 [])) ≡ true
-          → bars-writing q subtree (need s) (need (UU 0 [] [])) ≡ true → places q (target s) r ≡ true → local t (writer-of (r .it .update)) ≡ true
+          → bars-writing q subtree (need s) (need (UU 0 [] [])) ≡ true → places q (target s) r ≡ true
+          → local t (writer-of (r .it .update)) ≡ true
       go itself b u v e = writer-node holds f cov t s hs c v u r i (eqb-true _ (target s) e)
       go children b u v e = absurd (false≢true u)
-      go subtree b u v e = writer-subtree holds f cov t s hs c (and-right (excludes (need s .node) (need (UU 0 [] []))) _ v) b u (and-left _ _ v) r i e
+      go subtree b u v e = writer-subtree holds f cov t s hs c (and-right (excludes (need s .node) (need (UU 0 [] []))) _ v) b u
+          (and-left _ _ v) r i e
 
   pub seen : (S : ℕ → Bool) → S t ≡ true → (s : Step) → here (target s) (callers-document t f) ≡ true → Compatible-step s
       → ((m : ℕ) → has m (inserts s) ≡ true → number-held m f ≡ false) → Views s (callers-document t f) (document-of S f)
@@ -139,5 +154,42 @@ module _ (holds : ℕ → List Lock) (f : Tree) (cov : Covered holds f) (t : ℕ
     contents = λ z. agree-whole (seen-by t) (shown S) (λ a. a .now .content) (λ a. as-shown S a .content) f (reach s) (target s)
         (λ r i e. own-path t nz S st (path r) (own-seen s hs c r i e))
         (λ r i e. ap (λ (x : Node). x .content) (own-content t nz S st (r .it) (own-read (reads-contents s z) hs c r i e)));
-    absent = λ m h. unheld-absent (shown S) (λ a. as-shown S a .content) f m (new m h) ∙ sym (unheld-absent (seen-by t) (λ a. a .now .content) f m (new m h));
+    absent = λ m h. unheld-absent (shown S) (λ a. as-shown S a .content) f m (new m h) ∙ sym
+        (unheld-absent (seen-by t) (λ a. a .now .content) f m (new m h));
   }
+
+  -- a granted step is the plain step in the document of every set with its transaction, and nothing in the others
+  module _ (S : ℕ → Bool) where
+    pub act-shown : S t ≡ true → (s : Step) → here (target s) (callers-document t f) ≡ true → Compatible-step s
+        → document-of S (act t s f) ≡ after s (document-of S f)
+    act-shown st (T n) hs c = refl
+    act-shown st (C n k) hs c = refl
+    act-shown st (R n) hs c = refl
+    act-shown st (U n b) hs c = U-shown t nz S st n b f
+    act-shown st (D n) hs c = D-shown t nz S st n f
+    act-shown st (I m kind b n k) hs c = I-shown t nz S st n k (record { number = m; kind = kind; content = b }) f
+        (λ r a p i o e. own-shown t nz S st (r .it) (and-left _ _ (own-seen (I m kind b n k) hs c r i
+        (rw o (eq-eqb _ n e)))))
+    act-shown st (TT n) hs c = refl
+    act-shown st (RR n) hs c = refl
+    act-shown st (UU n a b) hs c = UU-shown t nz S st n a b f
+        (λ r i e. (
+          own-path t nz S st (path r) (own-seen (UU n a b) hs c r i e),
+          own-content t nz S st (r .it)
+              (own-read (write (rename n a b)) hs c r i e),
+        ))
+
+    pub act-hidden : S t ≡ false → (s : Step) → here (target s) (callers-document t f) ≡ true → Compatible-step s
+        → document-of S (act t s f) ≡ document-of S f
+    act-hidden st (T n) hs c = refl
+    act-hidden st (C n k) hs c = refl
+    act-hidden st (R n) hs c = refl
+    act-hidden st (U n b) hs c = write-hidden t nz S st (λ r. numbered n (r .it)) b f
+        (λ r i e. own-read (write (update n b)) hs c r i e)
+    act-hidden st (D n) hs c = D-hidden t nz S st n f
+        (λ r i e. and-right (local t (r .it .inserter)) _ (and-left _ _ (own-node holds f cov t (D n) hs c r i e)))
+    act-hidden st (I m kind b n k) hs c = I-hidden t nz S st n k (record { number = m; kind = kind; content = b }) f
+    act-hidden st (TT n) hs c = refl
+    act-hidden st (RR n) hs c = refl
+    act-hidden st (UU n a b) hs c = write-hidden t nz S st (renamed t n a) b f
+        (λ r i e. own-read (write (rename n a b)) hs c r i (renamed-under t n a r e))

@@ -1,9 +1,9 @@
 -- What a set of transactions shows of the tree after a step, a grant of locks, a commit, an abort and a load.
-use mathlib.Core.Path.{_≡_, refl, sym, ap, _∙_}
 use Prim.Native.Nat.{ℕ}
-use mathlib.Core.Bool.{Bool, true, false, cond, not, _&&_, _||_, false≢true, or-true, and-false}
+use mathlib.Core.Path.{_≡_, refl, sym, ap, _∙_}
+use mathlib.Core.Bool.{Bool, true, false, cond, not, _&&_, _||_, false≢true, or-true, and-true, and-false}
 use mathlib.Core.List.{List, [], _∷_, map}
-use mathlib.Core.Logic.{_⊎_, inl, inr}
+use mathlib.Core.Logic.{_⊎_, inl, inr, ⊎-elim}
 use lib.Dec.{eqb}
 use borrow.Author.Tests.{eqb-true, eq-eqb, ne-eqb}
 use Rattle.tree.specs.Lists.{any, every, has}
@@ -16,9 +16,10 @@ use Rattle.tree.specs.Laws.Rows.{In, self, inner, later}
 use Rattle.tree.specs.Laws.View.{view-view, view-agree, view-amend}
 use Rattle.tree.specs.Laws.Put.{view-put, view-put-hidden}
 use Rattle.locks.specs.Needs.{Lock}
-use Rattle.commute.specs.Laws.Tests.{cond-same}
-use Rattle.protocol.specs.State.{nobody, Marked, Tree, numbered, seen-by, done-by, shown, as-shown, document-of, written-by, deleted-by, inserted-by, granted-to, writer-of, saved-of, Update, unwritten, update-without}
-use Rattle.protocol.specs.State.{without, lasting, undone, mark, mark-node, renamed, grant, commit-tree, abort-tree, tree-of}
+use Rattle.commute.specs.Laws.Tests.{by-test, cond-same}
+use Rattle.protocol.specs.State.{nobody, Marked, Tree, numbered, seen-by, done-by, shown, as-shown, document-of, written-by, deleted-by}
+use Rattle.protocol.specs.State.{inserted-by, granted-to, writer-of, Update, update-without, without, lasting, undone, mark, mark-node}
+use Rattle.protocol.specs.State.{renamed, grant, commit-tree, abort-tree, tree-of}
 
 -- a node held, with the nodes above it
 abbrev pub Place : Type 0
@@ -42,8 +43,10 @@ local t u = eqb u nobody || eqb u t
 -- views of marked trees ------------------------------------------------------------------
 
 -- tests and nodes that agree everywhere
-view-same : {B : Type 0} (s s' : Marked → Bool) (g g' : Marked → B) (f : Tree) → ((a : Marked) → s' a ≡ s a) → ((a : Marked) → s a ≡ true → g' a ≡ g a) → view s' g' f ≡ view s g f
-view-same s s' g g' f h k = view-agree (λ a. a) s s (λ a. refl) s' g g' [] f refl (λ r i e. h (r .it)) (λ r i e. k (r .it) (and-left (s (r .it)) (every s (r .above)) e))
+view-same : {B : Type 0} (s s' : Marked → Bool) (g g' : Marked → B) (f : Tree) → ((a : Marked) → s' a ≡ s a)
+    → ((a : Marked) → s a ≡ true → g' a ≡ g a) → view s' g' f ≡ view s g f
+view-same s s' g g' f h k = view-agree (λ a. a) s s (λ a. refl) s' g g' [] f refl (λ r i e. h (r .it))
+    (λ r i e. k (r .it) (and-left (s (r .it)) (every s (r .above)) e))
 
 -- a view of a tree with other marks is another view of the tree
 view-mark : {B : Type 0} (s s' : Marked → Bool) (g g' : Marked → B) (c : Place → Marked) (p : List Marked) (f : Tree)
@@ -52,10 +55,12 @@ view-mark : {B : Type 0} (s s' : Marked → Bool) (g g' : Marked → B) (c : Pla
 unfolding view amend
 view-mark s s' g g' c p nil h k = refl
 view-mark s s' g g' c p (node a ks fs) h k =
-    rw (h (row a p) (self refl)) (go (s a) refl (view-mark s s' g g' c (a ∷ p) ks (λ r i. h r (inner i)) (λ r i. k r (inner i))) (view-mark s s' g g' c p fs (λ r i. h r (later i)) (λ r i. k r (later i))))
+    rw (h (row a p) (self refl)) (go (s a) refl (view-mark s s' g g' c (a ∷ p) ks (λ r i. h r (inner i)) (λ r i. k r (inner i)))
+    (view-mark s s' g g' c p fs (λ r i. h r (later i)) (λ r i. k r (later i))))
   where
     go : (b : Bool) → s a ≡ b → view s' g' (amend (λ x. x) c (a ∷ p) ks) ≡ view s g ks → view s' g' (amend (λ x. x) c p fs) ≡ view s g fs
-        → cond b (node (g' (c (row a p))) (view s' g' (amend (λ x. x) c (a ∷ p) ks)) (view s' g' (amend (λ x. x) c p fs))) (view s' g' (amend (λ x. x) c p fs))
+        → cond b (node (g' (c (row a p))) (view s' g' (amend (λ x. x) c (a ∷ p) ks)) (view s' g' (amend (λ x. x) c p fs)))
+        (view s' g' (amend (λ x. x) c p fs))
         ≡ cond b (node (g a) (view s g ks) (view s g fs)) (view s g fs)
     go true e u v = rw (k (row a p) (self refl) e, u, v)
     go false e u v = v
@@ -68,14 +73,11 @@ done-own t S h = rw h (or-true (eqb t 0))
 done-other : (t : ℕ) (S : ℕ → Bool) → (t ≡ nobody → ⊥) → S t ≡ false → done-by S t ≡ false
 done-other t S nz h = rw (h, ne-eqb t 0 nz)
 
-and-true : (x : Bool) → x ≡ (x && true)
-and-true true = refl
-and-true false = refl
-
 -- locks are not shown
 pub grant-shown : (S : ℕ → Bool) (t : ℕ) (ls : List Lock) (f : Tree) → document-of S (grant t ls f) ≡ document-of S f
 unfolding document-of grant
-grant-shown S t ls f = view-mark (shown S) (shown S) (as-shown S) (as-shown S) (λ r. granted-to t ls (r .it)) [] f (λ r i. refl) (λ r i e. refl)
+grant-shown S t ls f = view-mark (shown S) (shown S) (as-shown S) (as-shown S) (λ r. granted-to t ls (r .it)) [] f (λ r i. refl)
+    (λ r i e. refl)
 
 module _ (t : ℕ) (nz : t ≡ nobody → ⊥) (S : ℕ → Bool) where
   -- with t: what the plain step does ------------------------------------------------------
@@ -86,7 +88,8 @@ module _ (t : ℕ) (nz : t ≡ nobody → ⊥) (S : ℕ → Bool) where
         → ((r : Place) → Inside r f → every (shown S) (path r) ≡ true → test r ≡ test' (row (as-shown S (r .it)) (numbers-of (r .above))))
         → document-of S (mark (λ r. cond (test r) (written-by t b (r .it)) (r .it)) f) ≡ rewrite test' b (document-of S f)
     unfolding document-of
-    write-shown test test' b f h = view-amend (λ a. a) (shown S) (shown S) (λ a. refl) (shown S) (as-shown S) (as-shown S) _ (λ a. a .number) _ numbers-of
+    write-shown test test' b f h = view-amend (λ a. a) (shown S) (shown S) (λ a. refl) (shown S) (as-shown S) (as-shown S) _
+        (λ a. a .number) _ numbers-of
         (λ a q e. refl) [] f refl (λ r i e. cond-same (shown S) (test r) (written-by t b (r .it)) (r .it) refl)
         (λ r i e. rw (h r i e) (words (r .it) (test' (row (as-shown S (r .it)) (numbers-of (r .above))))))
       where
@@ -100,27 +103,34 @@ module _ (t : ℕ) (nz : t ≡ nobody → ⊥) (S : ℕ → Bool) where
     pub D-shown : (n : ℕ) (f : Tree) → document-of S (mark-node n (deleted-by t) f) ≡ remove n (document-of S f)
     unfolding document-of
     D-shown n f = view-mark (λ a. shown S a && not (eqb (a .now .number) n)) (shown S) (as-shown S) (as-shown S) _ [] f
-        (λ r i. sight (r .it) (numbered n (r .it))) (λ r i e. cond-same (as-shown S) (numbered n (r .it)) (deleted-by t (r .it)) (r .it) refl)
+        (λ r i. sight (r .it) (numbered n (r .it))) (λ r i e. cond-same (as-shown S) (numbered n (r .it)) (deleted-by t (r .it))
+        (r .it) refl)
         ∙ sym (view-view (shown S) (as-shown S) (λ a. not (eqb (a .number) n)) (λ a. a) f)
       where
         sight : (a : Marked) (x : Bool) → shown S (cond x (deleted-by t a) a) ≡ (shown S a && not x)
         sight a true = rw (ne-eqb t 0 nz, st, and-false (shown S a)) (and-false (done-by S (a .inserter)))
-        sight a false = and-true (shown S a)
+        sight a false = sym (and-true (shown S a))
 
     -- among the parent's children t sees those that are shown
     pub I-shown : (n k : ℕ) (new : Node) (f : Tree)
-        → ((r : Place) (a : Marked) (p : List Marked) → Inside r f → r .above ≡ a ∷ p → a .now .number ≡ n → shown S (r .it) ≡ seen-by t (r .it))
-        → document-of S (put (numbered n) (seen-by t) k (inserted-by t new) f) ≡ put (λ a. eqb (a .number) n) (λ a. true) k new (document-of S f)
+        → ((r : Place) (a : Marked) (p : List Marked) → Inside r f → r .above ≡ a ∷ p → a .now .number ≡ n
+        → shown S (r .it) ≡ seen-by t (r .it))
+        → document-of S (put (numbered n) (seen-by t) k (inserted-by t new) f) ≡ put (λ a. eqb (a .number) n) (λ a. true) k new
+        (document-of S f)
     unfolding document-of
-    I-shown n k new f h = view-put (numbered n) (seen-by t) k (inserted-by t new) (shown S) (as-shown S) (λ a. a) (λ a. eqb (a .number) n) (λ a. true)
-        (rw (done-own t S st)) (λ a e. refl) [] f (λ s r i e j o. sym (h r (s .it) (s .above) j o (eqb-true (s .it .now .number) n e)) ∙ and-true (shown S (r .it)))
+    I-shown n k new f h = view-put (numbered n) (seen-by t) k (inserted-by t new) (shown S) (as-shown S) (λ a. a) (λ a. eqb (a .number) n)
+        (λ a. true)
+        (rw (done-own t S st)) (λ a e. refl) [] f (λ s r i e j o. sym (h r (s .it) (s .above) j o (eqb-true (s .it .now .number) n e))
+        ∙ sym (and-true (shown S (r .it))))
 
     -- in the subtree of n t sees what is shown, with the contents as they are now
     pub UU-shown : (n : ℕ) (a b : List ℕ) (f : Tree) → ((r : Place) → Inside r f → has n (numbers-of (path r)) ≡ true
         → (every (shown S) (path r) ≡ every (seen-by t) (path r)) × (as-shown S (r .it) ≡ r .it .now))
-        → document-of S (mark (λ r. cond (renamed t n a r) (written-by t b (r .it)) (r .it)) f) ≡ rewrite (λ r. under n r && named a r) b (document-of S f)
+        → document-of S (mark (λ r. cond (renamed t n a r) (written-by t b (r .it)) (r .it)) f) ≡ rewrite (λ r. under n r && named a r) b
+        (document-of S f)
     UU-shown n a b f h = write-shown (renamed t n a) (λ r. under n r && named a r) b f
-        (λ r i v. ap (λ x. every (seen-by t) (path r) && x && is-named a (r .it .now)) (numbers (path r)) ∙ test r i v (has n (numbers-of (path r))) refl)
+        (λ r i v. ap (λ x. every (seen-by t) (path r) && x && is-named a (r .it .now)) (numbers (path r)) ∙ test r i v
+        (has n (numbers-of (path r))) refl)
       where
         numbers : (p : List Marked) → any (numbered n) p ≡ has n (numbers-of p)
         numbers p = sym (any-map (λ q. eqb q n) (λ x. x .now .number) p)
@@ -136,41 +146,43 @@ module _ (t : ℕ) (nz : t ≡ nobody → ⊥) (S : ℕ → Bool) where
   module _ (st : S t ≡ false) where
     -- t wrote over what was committed, or over its own
     before-shown : (b : List ℕ) (a : Marked) → local t (writer-of (a .update)) ≡ true → as-shown S (written-by t b a) ≡ as-shown S a
-    before-shown b a h = ap (with-content (a .now)) (rw (done-other t S nz st) (go (eqb (writer-of (a .update)) 0) (or-cases (eqb (writer-of (a .update)) 0) _ h)))
-      where
-        go : (x : Bool) → (x ≡ true) ⊎ (eqb (writer-of (a .update)) t ≡ true)
-            → cond x (a .now .content) (saved-of (a .update)) ≡ cond (x || S (writer-of (a .update))) (a .now .content) (saved-of (a .update))
-        go true i = refl
-        go false (inl i) = absurd (false≢true i)
-        go false (inr i) = rw (eqb-true (writer-of (a .update)) t i, st)
+    before-shown b a h = ap (with-content (a .now)) (rw (done-other t S nz st) (let u = writer-of (a .update) in
+        ⊎-elim (λ (i : eqb u 0 ≡ true). rw i) (λ (i : eqb u t ≡ true). rw (eqb-true u t i, ne-eqb t 0 nz, st))
+        (or-cases (eqb u 0) (eqb u t) h)))
 
     -- t wrote where a test says so
-    pub write-hidden : (test : Place → Bool) (b : List ℕ) (f : Tree) → ((r : Place) → Inside r f → test r ≡ true → local t (writer-of (r .it .update)) ≡ true)
+    pub write-hidden : (test : Place → Bool) (b : List ℕ) (f : Tree)
+        → ((r : Place) → Inside r f → test r ≡ true → local t (writer-of (r .it .update)) ≡ true)
         → document-of S (mark (λ r. cond (test r) (written-by t b (r .it)) (r .it)) f) ≡ document-of S f
     unfolding document-of
     write-hidden test b f h = view-mark (shown S) (shown S) (as-shown S) (as-shown S) _ [] f
         (λ r i. cond-same (shown S) (test r) (written-by t b (r .it)) (r .it) refl) (λ r i e. words (r .it) (test r) (h r i))
       where
-        words : (a : Marked) (x : Bool) → (x ≡ true → local t (writer-of (a .update)) ≡ true) → as-shown S (cond x (written-by t b a) a) ≡ as-shown S a
+        words : (a : Marked) (x : Bool) → (x ≡ true → local t (writer-of (a .update)) ≡ true)
+            → as-shown S (cond x (written-by t b a) a) ≡ as-shown S a
         words a true k = before-shown b a (k refl)
         words a false k = refl
 
     pub D-hidden : (n : ℕ) (f : Tree) → ((r : Place) → Inside r f → r .it .now .number ≡ n → local t (r .it .deleter) ≡ true)
         → document-of S (mark-node n (deleted-by t) f) ≡ document-of S f
     unfolding document-of
-    D-hidden n f h = view-mark (shown S) (shown S) (as-shown S) (as-shown S) _ [] f (λ r i. sight (r .it) (numbered n (r .it)) (λ e. h r i (eqb-true _ n e)))
+    D-hidden n f h = view-mark (shown S) (shown S) (as-shown S) (as-shown S) _ [] f
+        (λ r i. sight (r .it) (numbered n (r .it)) (λ e. h r i (eqb-true _ n e)))
         (λ r i e. cond-same (as-shown S) (numbered n (r .it)) (deleted-by t (r .it)) (r .it) refl)
       where
-        was-shown : (a : Marked) (x : Bool) → (x ≡ true) ⊎ (eqb (a .deleter) t ≡ true) → not (not (eqb t 0) && false) ≡ not (not x && S (a .deleter))
+        was-shown : (a : Marked) (x : Bool) → (x ≡ true) ⊎ (eqb (a .deleter) t ≡ true)
+            → not (not (eqb t 0) && false) ≡ not (not x && S (a .deleter))
         was-shown a true i = rw (and-false (not (eqb t 0)))
         was-shown a false (inl i) = absurd (false≢true i)
         was-shown a false (inr i) = rw (eqb-true (a .deleter) t i, st, and-false (not (eqb t 0)))
 
         sight : (a : Marked) (x : Bool) → (x ≡ true → local t (a .deleter) ≡ true) → shown S (cond x (deleted-by t a) a) ≡ shown S a
-        sight a true k = rw st (ap (λ z. done-by S (a .inserter) && z) (was-shown a (eqb (a .deleter) 0) (or-cases (eqb (a .deleter) 0) _ (k refl))))
+        sight a true k = rw st (ap (λ z. done-by S (a .inserter) && z)
+            (was-shown a (eqb (a .deleter) 0) (or-cases (eqb (a .deleter) 0) _ (k refl))))
         sight a false k = refl
 
-    pub I-hidden : (n k : ℕ) (new : Node) (f : Tree) → document-of S (put (numbered n) (seen-by t) k (inserted-by t new) f) ≡ document-of S f
+    pub I-hidden : (n k : ℕ) (new : Node) (f : Tree)
+        → document-of S (put (numbered n) (seen-by t) k (inserted-by t new) f) ≡ document-of S f
     unfolding document-of
     I-hidden n k new f = view-put-hidden (numbered n) (seen-by t) k (inserted-by t new) (shown S) (as-shown S) f (rw (done-other t S nz st))
 
@@ -184,65 +196,37 @@ minus t S u = not (eqb u t) && S u
 
 -- the writer without t
 pub writer-without : (t : ℕ) (u : Update) → writer-of (update-without t u) ≡ without t (writer-of u)
-writer-without t u = go (eqb (writer-of u) t)
-  where
-    go : (x : Bool) → writer-of (cond x unwritten u) ≡ cond x nobody (writer-of u)
-    go true = refl
-    go false = refl
+writer-without t u = by-test (eqb (writer-of u) t) (λ e. rw e) (λ e. rw e)
 
 module _ (t : ℕ) (nz : t ≡ nobody → ⊥) (S : ℕ → Bool) where
   lasting-done : (u : ℕ) → done-by S (without t u) ≡ done-by (plus t S) u
-  lasting-done u = go (eqb u t) refl
-    where
-      go : (e : Bool) → eqb u t ≡ e → done-by S (cond e nobody u) ≡ (eqb u 0 || (e || S u))
-      go true e = sym (or-true (eqb u 0))
-      go false e = refl
+  lasting-done u = by-test (eqb u t) (λ e. rw e (sym (or-true (eqb u 0)))) (λ e. rw e)
 
   -- after a commit a set shows what it showed with t
   pub commit-shown : (f : Tree) → document-of S (commit-tree t f) ≡ document-of (plus t S) f
   unfolding document-of commit-tree
-  commit-shown f = view-view (seen-by t) (lasting t) (shown S) (as-shown S) f ∙ view-same (shown (plus t S)) _ (as-shown (plus t S)) _ f sight (λ a e. ap (with-content (a .now)) (words a))
+  commit-shown f = view-view (seen-by t) (lasting t) (shown S) (as-shown S) f ∙ view-same (shown (plus t S)) _
+      (as-shown (plus t S)) _ f sight (λ a e. ap (with-content (a .now)) (words a))
     where
       words : (a : Marked) → as-shown S (lasting t a) .content ≡ as-shown (plus t S) a .content
-      words a = go (eqb (writer-of (a .update)) t)
-        where
-          go : (x : Bool) → cond (done-by S (writer-of (cond x unwritten (a .update)))) (a .now .content) (saved-of (cond x unwritten (a .update)))
-              ≡ cond (eqb (writer-of (a .update)) 0 || (x || S (writer-of (a .update)))) (a .now .content) (saved-of (a .update))
-          go true = rw (or-true (eqb (writer-of (a .update)) 0))
-          go false = refl
+      words a = let u = writer-of (a .update) in by-test (eqb u t) (λ e. rw (e, or-true (eqb u 0))) (λ e. rw e)
 
       sight : (a : Marked) → (seen-by t a && shown S (lasting t a)) ≡ shown (plus t S) a
-      sight a = rw (lasting-done (a .inserter)) (go (eqb (a .deleter) t) refl)
-        where
-          go : (x : Bool) → eqb (a .deleter) t ≡ x
-              → (not x && (done-by (plus t S) (a .inserter) && not (not (eqb (a .deleter) 0) && S (a .deleter)))) ≡ (done-by (plus t S) (a .inserter) && not (not (eqb (a .deleter) 0) && (x || S (a .deleter))))
-          go true x = rw (eqb-true (a .deleter) t x, ne-eqb t 0 nz) (sym (and-false (done-by (plus t S) (a .inserter))))
-          go false x = refl
+      sight a = rw (lasting-done (a .inserter)) (by-test (eqb (a .deleter) t)
+          (λ e. rw (e, eqb-true (a .deleter) t e, ne-eqb t 0 nz) (sym (and-false (done-by (plus t S) (a .inserter))))) (λ e. rw e))
 
   -- after an abort a set shows what it showed without t
   pub abort-shown : (f : Tree) → document-of S (abort-tree t f) ≡ document-of (minus t S) f
   unfolding document-of abort-tree
-  abort-shown f = view-view (λ a. not (eqb (a .inserter) t)) (undone t) (shown S) (as-shown S) f ∙ view-same (shown (minus t S)) _ (as-shown (minus t S)) _ f sight (λ a e. ap (with-content (a .now)) (words a))
+  abort-shown f = view-view (λ a. not (eqb (a .inserter) t)) (undone t) (shown S) (as-shown S) f ∙ view-same (shown (minus t S)) _
+      (as-shown (minus t S)) _ f sight (λ a e. ap (with-content (a .now)) (words a))
     where
       words : (a : Marked) → as-shown S (undone t a) .content ≡ as-shown (minus t S) a .content
-      words a = go (eqb (writer-of (a .update)) t) refl
-        where
-          go : (x : Bool) → eqb (writer-of (a .update)) t ≡ x
-              → cond (done-by S (writer-of (cond x unwritten (a .update)))) (cond x (saved-of (a .update)) (a .now .content)) (saved-of (cond x unwritten (a .update)))
-              ≡ cond (eqb (writer-of (a .update)) 0 || (not x && S (writer-of (a .update)))) (a .now .content) (saved-of (a .update))
-          go true x = rw (eqb-true (writer-of (a .update)) t x, ne-eqb t 0 nz)
-          go false x = refl
+      words a = let u = writer-of (a .update) in by-test (eqb u t) (λ e. rw (e, eqb-true u t e, ne-eqb t 0 nz)) (λ e. rw e)
 
       sight : (a : Marked) → (not (eqb (a .inserter) t) && shown S (undone t a)) ≡ shown (minus t S) a
-      sight a = go (eqb (a .inserter) t) refl
-        where
-          gone : (y : Bool) → eqb (a .deleter) t ≡ y → (not (eqb (cond y nobody (a .deleter)) 0) && S (cond y nobody (a .deleter))) ≡ (not (eqb (a .deleter) 0) && (not y && S (a .deleter)))
-          gone true y = sym (and-false (not (eqb (a .deleter) 0)))
-          gone false y = refl
-
-          go : (x : Bool) → eqb (a .inserter) t ≡ x → (not x && shown S (undone t a)) ≡ shown (minus t S) a
-          go true x = rw (eqb-true (a .inserter) t x, ne-eqb t 0 nz, eq-eqb t t refl)
-          go false x = rw x (ap (λ z. done-by S (a .inserter) && not z) (gone (eqb (a .deleter) t) refl))
+      sight a = by-test (eqb (a .inserter) t) (λ e. rw (eqb-true (a .inserter) t e, ne-eqb t 0 nz, eq-eqb t t refl))
+          (λ e. rw e (by-test (eqb (a .deleter) t) (λ y. rw (y, and-false (not (eqb (a .deleter) 0)))) (λ y. rw y)))
 
 -- a document without marks is shown to all
 pub load-shown : (S : ℕ → Bool) (d : Document) → document-of S (tree-of d) ≡ d

@@ -1,6 +1,6 @@
 -- The nodes of a granted step stand in the tree, with its locks in their sets, until its transaction ends.
-use mathlib.Core.Path.{_≡_, refl, sym, ap, ap₂, _∙_}
 use Prim.Native.Nat.{ℕ}
+use mathlib.Core.Path.{_≡_, refl, sym, ap, ap₂, _∙_}
 use mathlib.Core.Bool.{Bool, true, false, not, _&&_, false≢true, true≢false, or-true}
 use mathlib.Core.List.{List, [], _∷_, List·Memᴰ, List·Memᴰ·head}
 use mathlib.Core.Logic.{⊎-elim}
@@ -16,14 +16,21 @@ use Rattle.locks.specs.Modes.{Mode, LW, modes, clash}
 use Rattle.locks.specs.Needs.{Lock, locks}
 use Rattle.locks.specs.Laws.Clash.{every-mode}
 use Rattle.locks.specs.Laws.Compatible.{Locked, Compatible, new-locked}
+use Rattle.locks.specs.Laws.Places.{lock-place, path-locked}
 use Rattle.commute.specs.Laws.Tests.{affirmed}
 use Rattle.commute.specs.Laws.Classes.{new-need}
 use Rattle.protocol.specs.State.{State, Marked, Tree, numbered, nodes, is-transaction}
 use Rattle.protocol.specs.Calls.{clashes, blocks, wait-set}
 use Rattle.serializability.specs.Laws.Shown.{Place, Inside, path, numbers-of}
 use Rattle.serializability.specs.Laws.Numbers.{number-of, Distinct, one-place, place-node}
-use Rattle.locks.specs.Laws.Places.{lock-place, path-locked}
 use Rattle.serializability.specs.Laws.WaitSet.{sum-empty}
+
+-- the lock l of u is in the set of its node; u inserted m below a place
+abbrev pub Lock-there : Tree → ℕ → Lock → Type 0
+Lock-there f u l = (r : Place) × Inside r f × (number-of r ≡ l .0) × (r .it .held u (l .1) ≡ true)
+
+abbrev pub New-there : Tree → ℕ → ℕ → Place → Type 0
+New-there f u m x = (r : Place) × Inside r f × (number-of r ≡ m) × (numbers-of (r .above) ≡ numbers-of (path x)) × (r .it .inserter ≡ u)
 
 -- a step s of u with the locks hs
 pub record Standing (f : Tree) (u : ℕ) (s : Step) (hs : List Lock) : Type 0 where
@@ -31,8 +38,8 @@ pub record Standing (f : Tree) (u : ℕ) (s : Step) (hs : List Lock) : Type 0 wh
   pub inside : Inside node f
   pub number : number-of node ≡ target s
   pub locked : hs ≡ locks s (numbers-of (node .above))
-  pub new : (m : ℕ) → has m (inserts s) ≡ true → (r : Place) × Inside r f × (number-of r ≡ m) × (numbers-of (r .above) ≡ numbers-of (path node)) × (r .it .inserter ≡ u)
-  pub held : (l : Lock) → List·Memᴰ l hs → (r : Place) × Inside r f × (number-of r ≡ l .0) × (r .it .held u (l .1) ≡ true)
+  pub new : (m : ℕ) → has m (inserts s) ≡ true → New-there f u m node
+  pub held : (l : Lock) → List·Memᴰ l hs → Lock-there f u l
 
 -- paths ------------------------------------------------------------------------------------
 
@@ -52,7 +59,8 @@ ancestor-place f {r} i q h = path-place f (path r) (each-above (λ a. a) (λ a p
 pub covers : (f : Tree) → Distinct f → (u : ℕ) (s : Step) (hs : List Lock) → Standing f u s hs → (l : Lock) → List·Memᴰ l hs
     → (r : Place) → Inside r f → number-of r ≡ l .0 → (q : ℕ) → has q (numbers-of (path r)) ≡ true → (a : Mode) × Locked q a hs
 covers f d u s hs g l m r i e q h = rw (g .locked) (⊎-elim
-    (λ y. let b = ancestor-place f (g .inside) (l .0) (rw (← g .number) at y) in on-path (b .3 q (rw (one-place f d i (b .1) (e ∙ sym (b .2))) at h)))
+    (λ y. let b = ancestor-place f (g .inside) (l .0) (rw (← g .number) at y) in on-path
+    (b .3 q (rw (one-place f d i (b .1) (e ∙ sym (b .2))) at h)))
     (λ y. below-new (g .new (l .0) y) y) (lock-place s P l (rw (g .locked) at m)))
   where
     P : List ℕ
@@ -61,9 +69,13 @@ covers f d u s hs g l m r i e q h = rw (g .locked) (⊎-elim
     on-path : has q (numbers-of (path (g .node))) ≡ true → (a : Mode) × Locked q a (locks s P)
     on-path y = path-locked s P q (rw (g .number) at y)
 
-    below-new : (x : (r : Place) × Inside r f × (number-of r ≡ l .0) × (numbers-of (r .above) ≡ numbers-of (path (g .node))) × (r .it .inserter ≡ u)) → has (l .0) (inserts s) ≡ true → (a : Mode) × Locked q a (locks s P)
+    below-new : (x : New-there f u (l .0) (g .node)) → has (l .0) (inserts s) ≡ true → (a : Mode) × Locked q a (locks s P)
     below-new x b = ⊎-elim
-        (λ y. (LW, rw (sym e ∙ eqb-true (number-of r) q y) at (new-locked s P (l .0) b LW (rw (new-need s (l .0) b) (List·Memᴰ·head refl)))))
+        (λ y. (
+          LW,
+          rw (sym e ∙ eqb-true (number-of r) q y) at (new-locked s P (l .0) b LW
+              (rw (new-need s (l .0) b) (List·Memᴰ·head refl))),
+        ))
         (λ z. on-path (rw (ap (λ (w : Place). numbers-of (w .above)) (one-place f d i (x .1) (e ∙ sym (x .2))) ∙ x .3) at z))
         (or-cases (eqb (number-of r) q) (has q (numbers-of (r .above))) h)
 
@@ -73,7 +85,7 @@ any-mode : (t : Mode → Bool) (a : Mode) → t a ≡ true → any t modes ≡ t
 any-mode t a h = affirmed _ (λ e. true≢false (sym h ∙ not-true (t a) (every-mode (λ m. not (t m)) (every-not t modes ∙ ap not e) a)))
 
 -- locks that clash on no node with what u holds there are compatible with the locks of u
-unblocked-compatible : (ls hs : List Lock) (u : ℕ) (f : Tree) → ((l : Lock) → List·Memᴰ l hs → (r : Place) × Inside r f × (number-of r ≡ l .0) × (r .it .held u (l .1) ≡ true))
+unblocked-compatible : (ls hs : List Lock) (u : ℕ) (f : Tree) → ((l : Lock) → List·Memᴰ l hs → Lock-there f u l)
     → any (clashes ls u) (nodes f) ≡ false → Compatible ls hs
 unblocked-compatible ls hs u f link h q a b i j = refuted (clash a b) (λ e.
     let r = link (q, b) j in
@@ -83,8 +95,8 @@ unblocked-compatible ls hs u f link h q a b i j = refuted (clash a b) (λ e.
     true≢false (sym (at-any (clashes ls u) (nodes f) (place-node f (r .1)) there) ∙ h))
 
 -- the locks of a step that does not wait are compatible with those of every other transaction
-pub no-wait-compatible : (t : ℕ) (ls hs : List Lock) (M : State) (u : ℕ) → eqb (wait-set t ls M) 0 ≡ true → (u ≡ t → ⊥) → M .header .is-open u ≡ true → is-transaction u ≡ true
-    → ((l : Lock) → List·Memᴰ l hs → (r : Place) × Inside r (M .tree) × (number-of r ≡ l .0) × (r .it .held u (l .1) ≡ true)) → Compatible ls hs
+pub no-wait-compatible : (t : ℕ) (ls hs : List Lock) (M : State) (u : ℕ) → eqb (wait-set t ls M) 0 ≡ true → (u ≡ t → ⊥)
+    → M .header .is-open u ≡ true → is-transaction u ≡ true → ((l : Lock) → List·Memᴰ l hs → Lock-there (M .tree) u l) → Compatible ls hs
 unfolding wait-set
 no-wait-compatible t ls hs M u w ne o tr link = unblocked-compatible ls hs u (M .tree) link
     (rw (o, ne-eqb u t ne) at (sum-empty (blocks t ls M) (eqb-true _ 0 w) u tr))
@@ -105,7 +117,8 @@ carried-path c = ap₂ (λ (z : ℕ) (w : List ℕ). z ∷ w) (c .number) (c .ab
 
 -- where the edit carries the places that a step locked
 pub standing-carried : (f f' : Tree) → Distinct f → (u : ℕ) (s : Step) (hs : List Lock) → Standing f u s hs
-    → ((r : Place) → Inside r f → ((q : ℕ) → has q (numbers-of (path r)) ≡ true → (a : Mode) × Locked q a hs) → Carried u f' r) → Standing f' u s hs
+    → ((r : Place) → Inside r f → ((q : ℕ) → has q (numbers-of (path r)) ≡ true → (a : Mode) × Locked q a hs) → Carried u f' r)
+    → Standing f' u s hs
 standing-carried f f' d u s hs g carry = record {
   node = N .place;
   inside = N .inside;
@@ -121,15 +134,14 @@ standing-carried f f' d u s hs g carry = record {
     N : Carried u f' (g .node)
     N = carry (g .node) (g .inside) on-path
 
-    fresh : (m : ℕ) → has m (inserts s) ≡ true → (r : Place) × Inside r f × (number-of r ≡ m) × (numbers-of (r .above) ≡ numbers-of (path (g .node))) × (r .it .inserter ≡ u)
-        → (r : Place) × Inside r f' × (number-of r ≡ m) × (numbers-of (r .above) ≡ numbers-of (path (N .place))) × (r .it .inserter ≡ u)
+    fresh : (m : ℕ) → has m (inserts s) ≡ true → New-there f u m (g .node) → New-there f' u m (N .place)
     fresh m h x =
-        let lw : Locked m LW hs = rw (g .locked) (new-locked s (numbers-of (g .node .above)) m h LW (rw (new-need s m h) (List·Memᴰ·head refl))) in
+        let lw : Locked m LW hs = rw (g .locked) (new-locked s (numbers-of (g .node .above)) m h LW
+        (rw (new-need s m h) (List·Memᴰ·head refl))) in
         let c = carry (x .0) (x .1) (covers f d u s hs g (m, LW) lw (x .0) (x .1) (x .2)) in
         (c .place, c .inside, c .number ∙ x .2, c .above ∙ x .3 ∙ sym (carried-path N), c .inserter (x .4))
 
-    bits : (l : Lock) → List·Memᴰ l hs → (r : Place) × Inside r f × (number-of r ≡ l .0) × (r .it .held u (l .1) ≡ true)
-        → (r : Place) × Inside r f' × (number-of r ≡ l .0) × (r .it .held u (l .1) ≡ true)
+    bits : (l : Lock) → List·Memᴰ l hs → Lock-there f u l → Lock-there f' u l
     bits l i x =
         let c = carry (x .0) (x .1) (covers f d u s hs g l i (x .0) (x .1) (x .2)) in
         (c .place, c .inside, c .number ∙ x .2, c .held (l .1) (x .3))

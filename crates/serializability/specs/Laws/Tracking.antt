@@ -1,23 +1,24 @@
 -- Every call keeps the state in step with a log of entries.
-use mathlib.Core.Path.{_≡_, refl, sym, ap, _∙_}
 use Prim.Native.Nat.{ℕ}
+use mathlib.Core.Path.{_≡_, refl, sym, ap, _∙_}
 use mathlib.Core.Bool.{true, false, false≢true, true≢false}
 use mathlib.Core.List.{List, [], _∷_, map, append-nil, List·Memᴰ·not-nil}
 use mathlib.Core.Logic.{⊎-elim}
 use lib.Dec.{eqb}
 use borrow.Author.Tests.{eqb-true, ne-eqb}
-use Rattle.tree.specs.Lists.{every, has, joined}
-use Rattle.tree.specs.Forest.{Forest, nil, node, Row, row, rows}
-use Rattle.tree.specs.Document.{Node, Document, lines, legal, node-0-alone, ruled}
+use Rattle.tree.specs.Lists.{has, joined}
+use Rattle.tree.specs.Forest.{nil, node, rows, view}
+use Rattle.tree.specs.Document.{Node, Document, Line, lines, numbers, legal, node-0-alone, ruled}
 use Rattle.tree.specs.Content.{allowed, children-rule}
 use Rattle.tree.specs.Laws.Tests.{and-left, or-right, or-cases}
-use Rattle.tree.specs.Laws.Lists.{map-append, map-map, keep-all}
-use Rattle.tree.specs.Laws.View.{rows-view, in-view}
+use Rattle.tree.specs.Laws.Lists.{map-append, map-map}
+use Rattle.tree.specs.Laws.View.{in-view}
 use Rattle.commute.specs.Laws.Lines.{Unique}
 use Rattle.commute.specs.Laws.Runs.{Entry, Run, run-append}
 use Rattle.commute.specs.Laws.Orders.{joined-append, logs}
 use Rattle.commute.specs.Laws.Legal.{legal-parts}
-use Rattle.protocol.specs.State.{nobody, State, Marked, is-transaction, unmarked, commit-tree, tree-of, start-state, with-tree, opened, closed}
+use Rattle.protocol.specs.State.{nobody, State, Marked, is-transaction, unmarked, commit-tree, tree-of, start-state, with-tree, opened}
+use Rattle.protocol.specs.State.{closed}
 use Rattle.protocol.specs.Calls.{Call, loadable, Taken, Next, next}
 use Rattle.protocol.specs.History.{history, state-after, is-granted, Log, new-log, with-log, with-commit, logged, log-after}
 use Rattle.serializability.specs.Laws.Outcomes.{every-call}
@@ -29,32 +30,20 @@ use Rattle.serializability.specs.Laws.Ends.{commit-good, abort-good}
 
 -- a tree without marks ------------------------------------------------------------------------
 
--- what is read off the nodes does not depend on the keys of the rows
-rows-nodes : {A B K K' : Type 0} (g : A → B) (key : A → K) (key' : A → K') (p : List K) (q : List K') (f : Forest A)
-    → map (λ (r : Row A K). g (r .it)) (rows key p f) ≡ map (λ (r : Row A K'). g (r .it)) (rows key' q f)
-unfolding rows
-rows-nodes g key key' p q nil = refl
-rows-nodes {A} {B} {K} {K'} g key key' p q (node a ks fs) =
-    rw (
-      map-append (λ (r : Row A K). g (r .it)) (rows key (key a ∷ p) ks) (rows key p fs),
-      map-append (λ (r : Row A K'). g (r .it)) (rows key' (key' a ∷ q) ks) (rows key' q fs),
-      rows-nodes g key key' (key a ∷ p) (key' a ∷ q) ks,
-      rows-nodes g key key' p q fs,
-    )
-
-every-true : {A : Type 0} (l : List A) → every (λ a. true) l ≡ true
-every-true [] = refl
-every-true (x ∷ l) = every-true l
+load-numbers : (p : List Marked) (q : List ℕ) (d : Document)
+    → map places.number-of (rows (λ a. a) p (tree-of d)) ≡ numbers (rows (λ a. a .number) q d)
+unfolding tree-of view rows
+load-numbers p q nil = refl
+load-numbers p q (node a ks fs) = rw (
+  map-append places.number-of (rows (λ b. b) (unmarked a ∷ p) (tree-of ks)) (rows (λ b. b) p (tree-of fs)),
+  map-append (λ (r : Line). r .it .number) (rows (λ b. b .number) (a .number ∷ q) ks) (rows (λ b. b .number) q fs),
+  load-numbers (unmarked a ∷ p) (a .number ∷ q) ks,
+  load-numbers p q fs,
+)
 
 load-distinct : (d : Document) → Unique d → places.Distinct (tree-of d)
-unfolding places.Distinct tree-of lines
-load-distinct d u =
-    rw (
-      rows-view (λ (a : Node). a) (λ a. true) (λ a. true) (λ a. refl) unmarked (λ a. a) unmarked (λ a. refl) [] d refl,
-      keep-all (λ (r : Row Node Node). every (λ a. true) (r .it ∷ r .above)) (rows (λ a. a) [] d) (λ r m. every-true (r .above)),
-      map-map places.number-of (λ (r : Row Node Node). row (unmarked (r .it)) (map unmarked (r .above))) (λ r. r .it .number) (rows (λ a. a) [] d) (λ r m. refl),
-      rows-nodes (λ (a : Node). a .number) (λ a. a) (λ a. a .number) [] [] d,
-    ) u
+unfolding places.Distinct lines
+load-distinct d u = rw (load-numbers [] [] d) u
 
 -- nobody marked a node
 pub load-unmarked : (d : Document) (r : Place) → Inside r (tree-of d) → (a : Node) × (r .it ≡ unmarked a)
@@ -129,7 +118,8 @@ module _ (L : Log Entry) (M : State) (tr : Tracks L M) where
   no-step e t = record { entries = []; read = sym e; tracks = t }
 
   -- the committed document stays
-  stays : (log : ℕ → List Entry) (N : State) → Good (tr .c) log N → Tracks (record { first = L .first; committed = L .committed; open-log = log }) N
+  stays : (log : ℕ → List Entry) (N : State) → Good (tr .c) log N → Tracks
+      (record { first = L .first; committed = L .committed; open-log = log }) N
   stays log N g = record { first-legal = tr .first-legal; c = tr .c; run = tr .run; good = g }
 
   somebody : (t : ℕ) → is-transaction t ≡ true → t ≡ nobody → ⊥

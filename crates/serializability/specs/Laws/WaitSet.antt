@@ -1,49 +1,49 @@
 -- The bits of a wait set are the transactions that block; lists of transactions.
-use mathlib.Core.Path.{_≡_, refl, sym, ap, _∙_}
 use Prim.Native.Nat.{ℕ, zero, suc, _+_, _-_, _*_, _/_, _%_, _^_, _<_, _≤_}
+use mathlib.Core.Path.{_≡_, refl, sym, ap, _∙_}
 use mathlib.Core.Bool.{Bool, true, false, cond, true≢false}
 use mathlib.Core.List.{List, [], _∷_, List·Memᴰ, List·Memᴰ·head, List·Memᴰ·tail}
 use native.Mathlib.Omega.{arith}
-use native.Mathlib.Nat.{zero-div}
+use native.Mathlib.Nat.{zero-div, mul-zero, mul-add, mul-assoc, mul-left-comm, pow-succ'}
 use lib.Dec.{eqb, leb}
 use borrow.Author.Tests.{eqb-true, eqb-false, leb-true}
 use Rattle.tree.specs.Lists.{has, keep, distinct}
 use Rattle.tree.specs.Laws.Tests.{and-left, and-right, refuted}
 use Rattle.tree.specs.Laws.Lists.{has-in, in-has, in-keep, keep-in, map-self}
 use Rattle.tree.specs.Laws.Distinct.{distinct-keep}
-use Rattle.commute.specs.Laws.Tests.{by-test}
-use Rattle.protocol.specs.State.{transactions, is-transaction}
-use Rattle.protocol.specs.Calls.{sum-of-bits}
 use Rattle.locks.specs.Words.{word}
 use Rattle.locks.specs.Modes.{bit}
 use Rattle.locks.specs.Laws.Words.{word-small}
 use Rattle.locks.specs.Laws.Sets.{word-bit}
+use Rattle.commute.specs.Laws.Tests.{by-test}
+use Rattle.protocol.specs.State.{transactions, is-transaction}
+use Rattle.protocol.specs.Calls.{sum-of-bits}
 
-scaled : (b : Bool) (c : ℕ) → cond b c 0 ≡ cond b 1 0 * c
-scaled true c = omega arith
-scaled false c = omega arith
+-- i, i + 1, .. , n of them
+abbrev numbers-from : ℕ → ℕ → List ℕ
+numbers-from i zero = []
+numbers-from i (suc n) = i ∷ numbers-from (suc i) n
 
 -- the sum is the word of these bits
-sum-word : (q : ℕ → Bool) → sum-of-bits q transactions ≡ word q 16 1
+sum-from : (q : ℕ → Bool) (n i : ℕ) → sum-of-bits q (numbers-from (suc i) n) ≡ 2 ^ i * word q n (suc i)
 unfolding word
-sum-word q = omega (
-  arith,
-  scaled (q 2) 2,
-  scaled (q 3) 4,
-  scaled (q 4) 8,
-  scaled (q 5) 16,
-  scaled (q 6) 32,
-  scaled (q 7) 64,
-  scaled (q 8) 128,
-  scaled (q 9) 256,
-  scaled (q 10) 512,
-  scaled (q 11) 1024,
-  scaled (q 12) 2048,
-  scaled (q 13) 4096,
-  scaled (q 14) 8192,
-  scaled (q 15) 16384,
-  scaled (q 16) 32768,
-)
+sum-from q zero i = sym (mul-zero (2 ^ i))
+sum-from q (suc n) i =
+    let w = word q n (suc (suc i)) in
+    let e : suc i - 1 ≡ i = omega arith in
+    rw (
+      sum-from q n (suc i),
+      pow-succ' 2 i,
+      e,
+      mul-add (2 ^ i) (cond (q (suc i)) 1 0) (2 * w),
+      mul-left-comm (2 ^ i) 2 w,
+      mul-assoc 2
+          (2 ^ i) w,
+    )
+    (by-test (q (suc i)) (λ t. rw t (omega arith)) (λ t. rw t (omega arith)))
+
+sum-word : (q : ℕ → Bool) → sum-of-bits q transactions ≡ word q 16 1
+sum-word q = sum-from q 16 0 ∙ omega arith
 
 -- bit t-1 tells whether t passes
 pub sum-bit : (q : ℕ → Bool) (u : ℕ) → is-transaction u ≡ true → bit (sum-of-bits q transactions) (u - 1) ≡ q u
@@ -66,11 +66,6 @@ sum-empty q e u h = sym (sum-bit q u h) ∙ rw e (none (2 ^ (u - 1)))
 pub sum-none : (q : ℕ → Bool) (ts : List ℕ) → ((u : ℕ) → List·Memᴰ u ts → q u ≡ false) → sum-of-bits q ts ≡ 0
 sum-none q [] h = refl
 sum-none q (t ∷ ts) h = rw (h t (List·Memᴰ·head refl), sum-none q ts (λ u i. h u (List·Memᴰ·tail i)))
-
--- i, i + 1, .. , n of them
-abbrev numbers-from : ℕ → ℕ → List ℕ
-numbers-from i zero = []
-numbers-from i (suc n) = i ∷ numbers-from (suc i) n
 
 in-numbers-from : (n i u : ℕ) → i ≤ u → u < i + n → List·Memᴰ u (numbers-from i n)
 in-numbers-from zero i u l h = absurd (omega arith)

@@ -1,9 +1,10 @@
 -- The state against the logs: for every list of distinct transactions, in every order, the plain rules lead from the committed document
 -- to the one that the tree shows of them. A granted step keeps this.
-use mathlib.Core.Path.{_≡_, refl, sym, ap, _∙_}
 use Prim.Native.Nat.{ℕ}
+use mathlib.Core.Path.{_≡_, refl, sym, ap, _∙_}
 use mathlib.Core.Bool.{Bool, true, false, false≢true, true≢false}
-use mathlib.Core.List.{List, [], _∷_, _++_, List·Memᴰ, List·Memᴰ·head, List·Memᴰ·tail, List·Memᴰ·not-nil, Memᴰ·append-left, Memᴰ·append-right, List·Memᴰ·append-cases}
+use mathlib.Core.List.{List, [], _∷_, _++_, List·Memᴰ, List·Memᴰ·head, List·Memᴰ·tail, List·Memᴰ·not-nil, Memᴰ·append-left}
+use mathlib.Core.List.{Memᴰ·append-right, List·Memᴰ·append-cases}
 use mathlib.Core.Logic.{_⊎_, inl, inr, ⊎-elim}
 use lib.Dec.{eqb}
 use borrow.Author.Tests.{eqb-true, eq-eqb, ne-eqb, not-false}
@@ -20,14 +21,14 @@ use Rattle.commute.specs.Laws.Classes.{Absent}
 use Rattle.commute.specs.Laws.Runs.{Entry, Valid, Clear}
 use Rattle.commute.specs.Laws.Orders.{Distinct, permutation-back, to-front}
 use Rattle.commute.specs.Laws.Serial.{Serial, reorder, noted, in-noted, Grantable, grant, grant-other}
-use Rattle.protocol.specs.State.{nobody, State, Tree, is-transaction, number-held, seen-by, shown, as-shown, callers-document, document-of, act, with-tree}
+use Rattle.protocol.specs.State.{nobody, State, Tree, is-transaction, number-held, seen-by, shown, as-shown, callers-document, document-of}
+use Rattle.protocol.specs.State.{act, with-tree}
 use Rattle.protocol.specs.State as state
 use Rattle.serializability.specs.Laws.Outcomes.{Passed}
 use Rattle.serializability.specs.Laws.Shown.{Place, Inside, path, numbers-of, grant-shown}
 use Rattle.serializability.specs.Laws.Numbers.{number-of, place-held}
 use Rattle.serializability.specs.Laws.Marks.{Within, Covered, target-place}
-use Rattle.serializability.specs.Laws.Seen.{seen, unheld-absent}
-use Rattle.serializability.specs.Laws.Acts.{act-shown, act-hidden}
+use Rattle.serializability.specs.Laws.Seen.{seen, unheld-absent, act-shown, act-hidden}
 use Rattle.serializability.specs.Laws.Keeping.{act-covered, grant-covered}
 use Rattle.serializability.specs.Laws.Standing.{Standing, standing-carried, no-wait-compatible}
 use Rattle.serializability.specs.Laws.Granting.{after-step, step-carries, step-standing, Old-place, New-place, act-places, step-place}
@@ -69,7 +70,8 @@ pub record Good (c : Document) (log : ℕ → List Entry) (M : State) : Type 0 w
   pub serial : (b : List ℕ) → Distinct b → Serial c b log (document-of (λ u. has u b) (M .tree))
 
 -- whoever has a log is open
-pub log-open : {c : Document} {log : ℕ → List Entry} {M : State} → Good c log M → (u : ℕ) {y : Entry} → List·Memᴰ y (log u) → M .header .is-open u ≡ true
+pub log-open : {c : Document} {log : ℕ → List Entry} {M : State} → Good c log M → (u : ℕ) {y : Entry} → List·Memᴰ y (log u)
+    → M .header .is-open u ≡ true
 log-open g u i = affirmed _ (λ e. List·Memᴰ·not-nil (rw (g .closed u e) at i))
 
 -- a granted step -------------------------------------------------------------------------------
@@ -101,7 +103,8 @@ module _ (c : Document) (log : ℕ → List Entry) (M : State) (g : Good c log M
   unfolding callers-document
   nothing-there = refuted _ (λ e.
       let a = any-at (λ m. here m d) (inserts s) e in
-      true≢false (sym (a .2) ∙ unheld-absent (seen-by t) (λ y. y .now .content) f (a .0) (unheld (a .0) (in-has (a .0) (inserts s) (a .1)))))
+      true≢false (sym (a .2) ∙ unheld-absent (seen-by t) (λ y. y .now .content) f (a .0)
+      (unheld (a .0) (in-has (a .0) (inserts s) (a .1)))))
 
   fit : fits s d ≡ true
   fit = rw (ok .there, ok .kind, ok .content, nothing-there, ok .place)
@@ -133,7 +136,8 @@ module _ (c : Document) (log : ℕ → List Entry) (M : State) (g : Good c log M
   -- the step in every document with t, and in every document without
   step-serial : (b : List ℕ) → Distinct b → Serial c b (noted t x log) (document-of (λ u. has u b) (after-step t s (needs s d) f))
   step-serial b n = rw (grant-shown (λ u. has u b) t (needs s d) (act t s f)) (by-test (has t b) with-t
-      (λ e. rw (act-hidden (holds log) f (g .covered) t nz S e s hs compat) (grant-other c t b log (document-of S f) x e before grantable absent)))
+      (λ e. rw (act-hidden (holds log) f (g .covered) t nz S e s hs compat)
+      (grant-other c t b log (document-of S f) x e before grantable absent)))
     where
       S : ℕ → Bool
       S u = has u b
@@ -162,21 +166,25 @@ module _ (c : Document) (log : ℕ → List Entry) (M : State) (g : Good c log M
   last-noted : List·Memᴰ x (noted t x log t)
   last-noted = rw (eq-eqb t t refl) (Memᴰ·append-right (log t) (List·Memᴰ·head refl))
 
-  at-target : (r : Place) × Inside r f × (number-of r ≡ target s) × (numbers-of (r .above) ≡ at (target s) d .above) × (every (seen-by t) (path r) ≡ true)
+  at-target : (r : Place) × Inside r f × (number-of r ≡ target s) × (numbers-of (r .above) ≡ at (target s) d .above) ×
+      (every (seen-by t) (path r) ≡ true)
   at-target = target-place (holds log) f (g .covered) t s hs compat
 
   step-stands : (u : ℕ) (y : Entry) → List·Memᴰ y (noted t x log u) → Standing (after-step t s (needs s d) f) u (y .step) (y .held)
   step-stands u y i = ⊎-elim
-      (λ j. standing-carried f _ (g .covered .distinct) u (y .step) (y .held) (g .standing u y j) (λ r k h. step-carries t s (needs s d) u f r k))
+      (λ j. standing-carried f _ (g .covered .distinct) u (y .step) (y .held) (g .standing u y j)
+      (λ r k h. step-carries t s (needs s d) u f r k))
       (λ j. rw (j .0, j .1) (step-standing t s (at (target s) d .above) f (at-target .0) (at-target .1) (at-target .2) (at-target .3)))
       (in-noted t x log u i)
 
-  step-brought : (r : Place) → Inside r (after-step t s (needs s d) f) → (r .it .inserter ≡ nobody → ⊥) → Brought (noted t x log) (number-of r) (r .it .inserter)
+  step-brought : (r : Place) → Inside r (after-step t s (needs s d) f) → (r .it .inserter ≡ nobody → ⊥)
+      → Brought (noted t x log) (number-of r) (r .it .inserter)
   step-brought r i ne =
       let a = step-place t s (needs s d) f r i in
       brought-as (noted t x log) (a .2) (a .3) (go (a .0) (λ e. ne (a .3 ∙ e)) (act-places t s f (a .0) (a .1)))
     where
-      go : (z : Place) → (z .it .inserter ≡ nobody → ⊥) → Old-place f z ⊎ New-place t s z → Brought (noted t x log) (number-of z) (z .it .inserter)
+      go : (z : Place) → (z .it .inserter ≡ nobody → ⊥) → Old-place f z ⊎ New-place t s z
+          → Brought (noted t x log) (number-of z) (z .it .inserter)
       go z nz (inl w) =
           let y = g .brought (w .0) (w .1) (λ e. nz (w .3 ∙ e)) in
           brought-as (noted t x log) (w .2) (w .3) (y .0, kept-noted (w .0 .it .inserter) (y .1), y .2)
@@ -187,7 +195,8 @@ module _ (c : Document) (log : ℕ → List Entry) (M : State) (g : Good c log M
   step-good = record {
     closed = shut;
     numbered = g .numbered;
-    covered = grant-covered (holds (noted t x log)) t (needs s d) (act t s f) (act-covered (holds log) (holds (noted t x log)) more f (g .covered) t nz s hs compat unheld
+    covered = grant-covered (holds (noted t x log)) t (needs s d) (act t s f)
+        (act-covered (holds log) (holds (noted t x log)) more f (g .covered) t nz s hs compat unheld
         (λ l i. in-locks-of (noted t x log t) x last-noted l i));
     standing = step-stands;
     brought = step-brought;
