@@ -7,23 +7,11 @@ use borrow.Author.Needs.{needs}
 use Rattle.judging.proofs.root_element.Statement.{statement}
 use Rattle.judging.proofs.root_element.Tie as tie
 
-start-tag-requires : tie.Need-start-tag-requires
-start-tag-requires c κs = search needs
-
-enum-known-x : tie.Need-enum-known-x
-enum-known-x c = search needs
-
-enum-known-next : tie.Need-enum-known-next
-enum-known-next c = search needs
-
 behind-root-requires : tie.Need-behind-root-requires
 behind-root-requires c κs =
     let args = c .before .before .before .before .before .before .args in
     let start-tag = c .before .before .before .start-tag in
     emptied-inside (subst (λ (r : Tag). ElementRead (args .s .now) (args .c .at) (args .spare) r) (c .before .next .given .1) (start-tag .ensures .0))
-
-enum-known-next-2 : tie.Need-enum-known-next-2
-enum-known-next-2 c = search needs
 
 root-content-requires : tie.Need-root-content-requires
 root-content-requires c κs =
@@ -59,11 +47,11 @@ pub root-element-spec : {M : Type 1} → statement M
 root-element-spec =
     tie.close
     (tie.spec
-    start-tag-requires
-    enum-known-x
-    enum-known-next
+    (λ c κs. search needs)
+    (λ c. search needs)
+    (λ c. search needs)
     behind-root-requires
-    enum-known-next-2
+    (λ c. search needs)
     root-content-requires
     returns
     returns-2

@@ -25,9 +25,6 @@ part-put-start c =
     let c8 = c2 .before .before .before .before .before .before in
     (second ((c8 .args .prefix .now) ++ ((label-at (nodes (c8 .args .s .now)) (c8 .args .p)) .content)) (c8 .args .suffix .now) (c2 .put-name .ensures) (c8 .pre .2)) .inside
 
-part-put-end : tie.Need-part-put-end
-part-put-end c = search needs
-
 put-requires : tie.Need-put-requires
 put-requires c κs =
     let c3 = c .before .before .before in
@@ -46,9 +43,6 @@ add-result c =
       c2 .put .ensures .count,
     )
 
-same-length : tie.Need-same-length
-same-length c = search needs
-
 returns : tie.Need-returns
 returns c =
     let c2 = c .before .before in
@@ -63,8 +57,8 @@ put-between-spec =
     put-name-requires
     sub-put
     part-put-start
-    part-put-end
+    (λ c. search needs)
     put-requires
     add-result
-    same-length
+    (λ c. search needs)
     returns)

@@ -28,9 +28,6 @@ part-put-body-start c =
     let c6 = c2 .before .before .before .before in
     (second prolog (body (lines (nodes (c6 .args .s .now)) (c6 .args .places .now) (c6 .args .count))) (c2 .put-prolog .ensures) (c6 .pre .2)) .inside
 
-part-put-body-end : tie.Need-part-put-body-end
-part-put-body-end c = search needs
-
 put-body-requires : tie.Need-put-body-requires
 unfolding written-rows
 put-body-requires c κs =
@@ -45,9 +42,6 @@ add-result c =
     let c6 = c2 .before .before .before .before in
     let c10 = c6 .before .before .before .before in
     omega (arith, (second prolog (body (lines (nodes (c10 .args .s .now)) (c10 .args .places .now) (c10 .args .count))) (c6 .put-prolog .ensures) (c10 .pre .2)) .small, c2 .put-body .ensures .count)
-
-same-length : tie.Need-same-length
-same-length c = search needs
 
 returns : tie.Need-returns
 unfolding written-rows
@@ -64,8 +58,8 @@ put-document-spec =
     put-prolog-requires
     sub-put-body
     part-put-body-start
-    part-put-body-end
+    (λ c. search needs)
     put-body-requires
     add-result
-    same-length
+    (λ c. search needs)
     returns)

@@ -24,9 +24,6 @@ part-put-content-start c =
     let c7 = c2 .before .before .before .before .before in
     (second (c7 .args .prefix .now) ((label-at (nodes (c7 .args .s .now)) (c7 .args .p)) .content) (c2 .put .ensures) (c7 .pre .2)) .inside
 
-part-put-content-end : tie.Need-part-put-content-end
-part-put-content-end c = search needs
-
 put-content-requires : tie.Need-put-content-requires
 put-content-requires c κs =
     let c3 = c .before .before .before in
@@ -39,9 +36,6 @@ add-result c =
     let c6 = c2 .before .before .before .before in
     let c11 = c6 .before .before .before .before .before in
     omega (arith, (second (c11 .args .prefix .now) ((label-at (nodes (c11 .args .s .now)) (c11 .args .p)) .content) (c6 .put .ensures) (c11 .pre .2)) .small, c2 .put-content .ensures .count)
-
-same-length : tie.Need-same-length
-same-length c = search needs
 
 returns : tie.Need-returns
 returns c =
@@ -57,8 +51,8 @@ put-name-spec =
     put-requires
     sub-put-content
     part-put-content-start
-    part-put-content-end
+    (λ c. search needs)
     put-content-requires
     add-result
-    same-length
+    (λ c. search needs)
     returns)

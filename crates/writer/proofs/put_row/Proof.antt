@@ -45,9 +45,6 @@ part-put-begin-start c =
     (next-begin (nodes (c8 .args .s .now)) (c8 .args .path .now) (c8 .args .top) (c8 .args .d) (c8 .args .p) (c2 .put-ends .ensures) (c8 .pre .7)
     (c8 .pre .2 .same (c8 .args .d - 1) (omega (arith, c8 .pre .3, c8 .pre .4))) (c4 .previous .ensures ∙ previous-is _ _ _ (c8 .pre .2))) .inside
 
-part-put-begin-end : tie.Need-part-put-begin-end
-part-put-begin-end c = search needs
-
 put-begin-requires : tie.Need-put-begin-requires
 put-begin-requires c κs =
     let c3 = c .before .before .before in
@@ -73,9 +70,6 @@ add-result c =
       c2 .put-begin .ensures .count,
     )
 
-same-length : tie.Need-same-length
-same-length c = search needs
-
 returns : tie.Need-returns
 returns c =
     let c2 = c .before .before in
@@ -96,8 +90,8 @@ put-row-spec =
     put-ends-requires
     sub-put-begin
     part-put-begin-start
-    part-put-begin-end
+    (λ c. search needs)
     put-begin-requires
     add-result
-    same-length
+    (λ c. search needs)
     returns)

@@ -8,15 +8,6 @@ use borrow.Author.Needs.{needs}
 use Rattle.writer.proofs.write.Statement.{statement}
 use Rattle.writer.proofs.write.Tie as tie
 
-formed-requires : tie.Need-formed-requires
-formed-requires c κs = search needs
-
-returns : tie.Need-returns
-returns c = write-unformed _ _ (sym (c .before .formed .ensures) ∙ not-true _ (c .if1 .taken))
-
-select-requires : tie.Need-select-requires
-select-requires c κs = form-layout (sym (c .before .formed .ensures) ∙ not-false _ (c .if1 .left))
-
 measure-requires : tie.Need-measure-requires
 measure-requires c κs =
     let c2 = c .before .before in
@@ -53,12 +44,6 @@ put-document-requires c κs =
           (form-holds _ (sym (c9 .formed .ensures) ∙ not-false _ (c8 .if1 .left)) .1) _ (omega arith),
     )
 
-cast-t13 : tie.Need-cast-t13
-cast-t13 c = search needs
-
-same-length : tie.Need-same-length
-same-length c = search needs
-
 returns-4 : tie.Need-returns-4
 returns-4 c =
     let c2 = c .before .before in
@@ -74,13 +59,13 @@ pub write-spec : {M : Type 1} → statement M
 write-spec =
     tie.close
     (tie.spec
-    formed-requires
-    returns
-    select-requires
+    (λ c κs. search needs)
+    (λ c. write-unformed _ _ (sym (c .before .formed .ensures) ∙ not-true _ (c .if1 .taken)))
+    (λ c κs. form-layout (sym (c .before .formed .ensures) ∙ not-false _ (c .if1 .left)))
     measure-requires
     returns-2
     returns-3
     put-document-requires
-    cast-t13
-    same-length
+    (λ c. search needs)
+    (λ c. search needs)
     returns-4)

@@ -4,9 +4,6 @@ use borrow.Author.Needs.{needs}
 use Rattle.measuring.proofs.names.follow.Statement.{statement}
 use Rattle.measuring.proofs.names.follow.Tie as tie
 
-enter-requires : tie.Need-enter-requires
-enter-requires c κs = search needs
-
 returns : tie.Need-returns
 returns c =
     let c2 = c .before .before in
@@ -24,4 +21,10 @@ returns-3 c =
     follow-other (c3 .pre .3) (c3 .pre .4) (λ e. c .before .if1 .left (c3 .pre .5 ∙ e)) (λ e. c .if2 .left (c3 .pre .5 ∙ e))
 
 pub follow-spec : {M : Type 1} → statement M
-follow-spec = tie.close (tie.spec enter-requires returns returns-2 returns-3)
+follow-spec =
+    tie.close
+    (tie.spec
+    (λ c κs. search needs)
+    returns
+    returns-2
+    returns-3)

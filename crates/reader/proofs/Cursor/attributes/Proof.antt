@@ -39,12 +39,6 @@ loop-holds c =
       increasing-none _,
     )
 
-part-requires : tie.Need-part-requires Inv-loop μ-loop
-part-requires c κs = search needs
-
-enum-known-j : tie.Need-enum-known-j Inv-loop μ-loop
-enum-known-j c = search needs
-
 returns : tie.Need-returns Inv-loop μ-loop
 returns c =
     let args = c .before .before .before .before .before .before .args in
@@ -54,9 +48,6 @@ returns c =
           (subst (λ (r : Part). TagRead (args .s .now) behind-part (loop .i) r) (c .before .j .given .1) (part .ensures)),
       loop .inv .5,
     )
-
-enum-known-c : tie.Need-enum-known-c Inv-loop μ-loop
-enum-known-c c = search needs
 
 returns-2 : tie.Need-returns-2 Inv-loop μ-loop
 returns-2 c =
@@ -68,9 +59,6 @@ returns-2 c =
       loop .inv .5,
     )
 
-enum-known-c-2 : tie.Need-enum-known-c-2 Inv-loop μ-loop
-enum-known-c-2 c = search needs
-
 returns-3 : tie.Need-returns-3 Inv-loop μ-loop
 returns-3 c =
     let args = c .before .before .before .before .before .before .args in
@@ -80,9 +68,6 @@ returns-3 c =
           (subst (λ (r : Part). TagRead (args .s .now) behind-part (loop .i) r) (c .before .c2 .given .1) (part .ensures)),
       loop .inv .5,
     )
-
-enum-known-c-3 : tie.Need-enum-known-c-3 Inv-loop μ-loop
-enum-known-c-3 c = search needs
 
 attribute-requires : tie.Need-attribute-requires Inv-loop μ-loop
 attribute-requires c κs =
@@ -95,9 +80,6 @@ attribute-requires c κs =
       loop .inv .7,
     )
 
-enum-known-x : tie.Need-enum-known-x Inv-loop μ-loop
-enum-known-x c = search needs
-
 returns-4 : tie.Need-returns-4 Inv-loop μ-loop
 returns-4 c =
     let c3 = c .before .before .before in
@@ -109,12 +91,6 @@ returns-4 c =
           (c6 .c3 .given .1) read (c .before .x .given .1),
       kept-less _ _ _ _ _ (inv .5) (read .kept) (omega arith),
     )
-
-enum-known-next : tie.Need-enum-known-next Inv-loop μ-loop
-enum-known-next c = search needs
-
-add-count : tie.Need-add-count Inv-loop μ-loop
-add-count c = search needs
 
 loop-less : tie.Need-loop-less Inv-loop μ-loop
 loop-less c =
@@ -156,18 +132,18 @@ attributes-spec =
     Inv-loop
     μ-loop
     loop-holds
-    part-requires
-    enum-known-j
+    (λ c κs. search needs)
+    (λ c. search needs)
     returns
-    enum-known-c
+    (λ c. search needs)
     returns-2
-    enum-known-c-2
+    (λ c. search needs)
     returns-3
-    enum-known-c-3
+    (λ c. search needs)
     attribute-requires
-    enum-known-x
+    (λ c. search needs)
     returns-4
-    enum-known-next
-    add-count
+    (λ c. search needs)
+    (λ c. search needs)
     loop-less
     loop-again)

@@ -7,15 +7,6 @@ use borrow.Author.Needs.{needs}
 use Rattle.reader.proofs.Cursor.child.Statement.{statement}
 use Rattle.reader.proofs.Cursor.child.Tie as tie
 
-content-requires : tie.Need-content-requires
-content-requires c κs = search needs
-
-enum-known-x : tie.Need-enum-known-x
-enum-known-x c = search needs
-
-enum-known-c : tie.Need-enum-known-c
-enum-known-c c = search needs
-
 tag-requires : tie.Need-tag-requires
 tag-requires c κs =
     let a = c .before .before .before .before .before .before .args in
@@ -43,4 +34,11 @@ returns-2 c =
 
 pub child-spec : {M : Type 1} → statement M
 child-spec =
-    tie.close (tie.spec content-requires enum-known-x enum-known-c tag-requires returns returns-2)
+    tie.close
+    (tie.spec
+    (λ c κs. search needs)
+    (λ c. search needs)
+    (λ c. search needs)
+    tag-requires
+    returns
+    returns-2)
