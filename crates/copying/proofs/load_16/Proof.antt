@@ -14,11 +14,6 @@ Inv-loop p a₀ i₀ a i = (i ≤ 16) × (length a₀ ≡ 16) × (a ≡ take i p
 abbrev μ-loop : tie.MeasureT-loop
 μ-loop p a₀ i₀ a i = 16 - i
 
-loop-again : tie.Need-loop-again Inv-loop μ-loop
-loop-again c =
-    let l = c .before .before in
-    (omega arith, refl, copy-more _ _ _ _ (omega arith) (omega arith) (l .loop .inv .2))
-
 returns : tie.Need-returns Inv-loop μ-loop
 returns c =
     let e : c .before .loop .i ≡ 16 = omega arith in
@@ -35,5 +30,5 @@ load-16-spec =
     (λ c. search needs)
     (λ c. search needs)
     (λ c. search needs)
-    loop-again
+    (λ c. (omega arith, refl, copy-more _ _ _ _ (omega arith) (omega arith) (c .before .before .loop .inv .2)))
     returns)

@@ -14,11 +14,6 @@ Inv-loop p a₀ i₀ a i = (i ≤ 8) × (length a₀ ≡ 8) × (a ≡ take i p +
 abbrev μ-loop : tie.MeasureT-loop
 μ-loop p a₀ i₀ a i = 8 - i
 
-loop-again : tie.Need-loop-again Inv-loop μ-loop
-loop-again c =
-    let l = c .before .before in
-    (omega arith, refl, copy-more _ _ _ _ (omega arith) (omega arith) (l .loop .inv .2))
-
 returns : tie.Need-returns Inv-loop μ-loop
 returns c =
     let e : c .before .loop .i ≡ 8 = omega arith in
@@ -35,5 +30,5 @@ load-8-spec =
     (λ c. search needs)
     (λ c. search needs)
     (λ c. search needs)
-    loop-again
+    (λ c. (omega arith, refl, copy-more _ _ _ _ (omega arith) (omega arith) (c .before .before .loop .inv .2)))
     returns)

@@ -28,11 +28,6 @@ loop-again c =
     let e = sym (c .before .has-entity .ensures) ∙ c .if1 .left in
     (omega arith, l .loop .inv .1, l .loop .inv .2 ∙ plain-on (k .args .p .now) (l .loop .i) (omega arith) e)
 
-returns-2 : tie.Need-returns-2 Inv-loop μ-loop
-returns-2 c =
-    let l = c .before in
-    sym (l .loop .inv .2 ∙ plain-end (c .before .before .before .args .p .now) (l .loop .i) (omega arith))
-
 pub is-plain-spec : {M : Type 1} → statement M
 is-plain-spec =
     tie.close
@@ -46,4 +41,4 @@ is-plain-spec =
     (λ c. search needs)
     (λ c. search needs)
     loop-again
-    returns-2)
+    (λ c. sym (c .before .loop .inv .2 ∙ plain-end (c .before .before .before .args .p .now) (c .before .loop .i) (omega arith))))

@@ -24,26 +24,11 @@ cast-kind c =
     let c3 = c .before .before .before in
     omega (arith, c3 .pre .1 .inside 0 (c3 .pre .1 .some), c3 .pre .0 .many, c3 .pre .0 .room)
 
-kind-requires : tie.Need-kind-requires Inv-loop μ-loop
-kind-requires c κs =
-    let c3 = c .before .before .before in
-    (c3 .pre .0, c3 .pre .1 .inside 0 (c3 .pre .1 .some))
-
 loop-holds : tie.Need-loop-holds Inv-loop μ-loop
 loop-holds c =
     let c4 = c .before .before .before .before in
     measuring-start (replicate 1024 0) (replicate 1024 0) (replicate 1024 0) (c4 .pre .1) (omega arith) refl refl refl
     (c .kind .ensures ∙ sym (kind-at _ _))
-
-mul-here : tie.Need-mul-here Inv-loop μ-loop
-mul-here c =
-    let c6 = c .before .before .before .before .before .before in
-    omega (arith, c6 .pre .1 .room)
-
-element-copy-out-here : tie.Need-element-copy-out-here Inv-loop μ-loop
-element-copy-out-here c =
-    let c6 = c .before .before .before .before .before .before in
-    omega (arith, c6 .pre .1 .room)
 
 cast-p : tie.Need-cast-p Inv-loop μ-loop
 cast-p c =
@@ -74,11 +59,6 @@ array-read-above c =
     let c4 = c .before .before .before .before in
     let c9 = c4 .before .before .before .before .before in
     omega (arith, c .before .depth .ensures, walk-deep (c9 .pre .1) (c4 .loop .inv .walk) (omega arith))
-
-previous-requires : tie.Need-previous-requires Inv-loop μ-loop
-previous-requires c κs =
-    let c5 = c .before .before .before .before .before in
-    c5 .loop .inv .walk .on-path .deep
 
 admit-requires : tie.Need-admit-requires Inv-loop μ-loop
 admit-requires c κs =
@@ -209,18 +189,18 @@ measure-spec =
     (λ c. search needs)
     (λ c. search needs)
     cast-kind
-    kind-requires
+    (λ c κs. (c .before .before .before .pre .0, c .before .before .before .pre .1 .inside 0 (c .before .before .before .pre .1 .some)))
     (λ c. search needs)
     loop-holds
-    mul-here
-    element-copy-out-here
+    (λ c. omega (arith, c .before .before .before .before .before .before .pre .1 .room))
+    (λ c. omega (arith, c .before .before .before .before .before .before .pre .1 .room))
     cast-p
     depth-requires
     (λ c. search needs)
     kind-requires-2
     sub-above
     array-read-above
-    previous-requires
+    (λ c κs. c .before .before .before .before .before .loop .inv .walk .on-path .deep)
     admit-requires
     (λ c. search needs)
     returns-2

@@ -27,11 +27,6 @@ cast-kind c =
     let c3 = c .before .before .before in
     omega (arith, c3 .pre .1 .inside 0 (c3 .pre .1 .some), c3 .pre .0 .many, c3 .pre .0 .room)
 
-kind-requires : tie.Need-kind-requires Inv-loop μ-loop
-kind-requires c κs =
-    let c3 = c .before .before .before in
-    (c3 .pre .0, c3 .pre .1 .inside 0 (c3 .pre .1 .some))
-
 loop-holds : tie.Need-loop-holds Inv-loop μ-loop
 loop-holds c =
     let c4 = c .before .before .before .before in (
@@ -40,16 +35,6 @@ loop-holds c =
       walk-start (replicate 1024 0) (replicate 1024 0) (c4 .pre .1) refl refl (c .kind .ensures ∙ sym (kind-at _ _)),
       partly-as (from-start (replicate 1024 0) (c4 .pre .1) refl) (partly-start _ _),
     )
-
-mul-p : tie.Need-mul-p Inv-loop μ-loop
-mul-p c =
-    let c6 = c .before .before .before .before .before .before in
-    omega (arith, c6 .pre .1 .room)
-
-element-copy-out-p : tie.Need-element-copy-out-p Inv-loop μ-loop
-element-copy-out-p c =
-    let c6 = c .before .before .before .before .before .before in
-    omega (arith, c6 .pre .1 .room)
 
 cast-depth : tie.Need-cast-depth Inv-loop μ-loop
 cast-depth c =
@@ -198,11 +183,11 @@ put-body-spec =
     (λ c. search needs)
     (λ c. search needs)
     cast-kind
-    kind-requires
+    (λ c κs. (c .before .before .before .pre .0, c .before .before .before .pre .1 .inside 0 (c .before .before .before .pre .1 .some)))
     (λ c. search needs)
     loop-holds
-    mul-p
-    element-copy-out-p
+    (λ c. omega (arith, c .before .before .before .before .before .before .pre .1 .room))
+    (λ c. omega (arith, c .before .before .before .before .before .before .pre .1 .room))
     cast-depth
     depth-requires
     (λ c. search needs)

@@ -9,21 +9,6 @@ use borrow.Author.Needs.{needs}
 use Rattle.writer.proofs.put_row.Statement.{statement}
 use Rattle.writer.proofs.put_row.Tie as tie
 
-sub-above : tie.Need-sub-above
-sub-above c =
-    let c2 = c .before .before in
-    omega (arith, c2 .pre .3)
-
-element-copy-out-above : tie.Need-element-copy-out-above
-element-copy-out-above c =
-    let c2 = c .before .before in
-    omega (arith, c2 .pre .3, c2 .pre .4, c2 .pre .1 .deep)
-
-previous-requires : tie.Need-previous-requires
-previous-requires c κs =
-    let c3 = c .before .before .before in
-    c3 .pre .1 .deep
-
 put-ends-requires : tie.Need-put-ends-requires
 put-ends-requires c κs =
     let c5 = c .before .before .before .before .before in
@@ -84,9 +69,9 @@ pub put-row-spec : {M : Type 1} → statement M
 put-row-spec =
     tie.close
     (tie.spec
-    sub-above
-    element-copy-out-above
-    previous-requires
+    (λ c. omega (arith, c .before .before .pre .3))
+    (λ c. omega (arith, c .before .before .pre .3, c .before .before .pre .4, c .before .before .pre .1 .deep))
+    (λ c κs. c .before .before .before .pre .1 .deep)
     put-ends-requires
     sub-put-begin
     part-put-begin-start

@@ -4,12 +4,6 @@ use borrow.Author.Needs.{needs}
 use Rattle.measuring.proofs.names.follow.Statement.{statement}
 use Rattle.measuring.proofs.names.follow.Tie as tie
 
-returns : tie.Need-returns
-returns c =
-    let c2 = c .before .before in
-    let c4 = c2 .before .before in
-    follow-attribute (sym (c4 .pre .5) ∙ c2 .if1 .taken) (c .enter .ensures)
-
 returns-2 : tie.Need-returns-2
 returns-2 c =
     let c3 = c .before .before .before in
@@ -25,6 +19,6 @@ follow-spec =
     tie.close
     (tie.spec
     (λ c κs. search needs)
-    returns
+    (λ c. follow-attribute (sym (c .before .before .before .before .pre .5) ∙ c .before .before .if1 .taken) (c .enter .ensures))
     returns-2
     returns-3)

@@ -16,11 +16,6 @@ Inv-loop s names lo count from to low₀ high₀ low high =
 abbrev μ-loop : tie.MeasureT-loop
 μ-loop s names lo count from to low₀ high₀ low high = high - low
 
-order-requires : tie.Need-order-requires Inv-loop μ-loop
-order-requires c κs =
-    let c4 = c .before .before .before .before in
-    (search needs, c4 .pre .3 .placed _ (search needs), search needs)
-
 returns : tie.Need-returns Inv-loop μ-loop
 unfolding entries
 returns c =
@@ -67,7 +62,7 @@ place-spec =
     (λ c. search needs)
     (λ c. search needs)
     (λ c. search needs)
-    order-requires
+    (λ c κs. (search needs, c .before .before .before .before .pre .3 .placed _ (search needs), search needs))
     (λ c. search needs)
     returns
     (λ c. search needs)
