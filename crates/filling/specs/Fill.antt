@@ -14,7 +14,7 @@ use Rattle.layout.specs.Flat.{flat}
 use Rattle.layout.specs.Layout.{state-size, is-open, Entry, nodes, Layout, Left}
 use Rattle.xml.specs.Bytes.{ampersand, slash, equals-sign, greater-than, Quote, mark}
 use Rattle.xml.specs.Shape.{Label, Shape, element, attribute, text, size, longest, document}
-use Rattle.xml.specs.Grammar.{Name, Blanks, Named, Entity, Value, behind, inside, Part, Root, Spells}
+use Rattle.xml.specs.Grammar.{Name, Blanks, Named, Entity, Value, unspaced, inside, Derives, Root, Spells}
 use Rattle.reader.specs.declared.Cursor.{Cursor}
 
 -- rows -----------------------------------------------------------------------------------
@@ -61,7 +61,7 @@ pub data Characters (stop : ℕ) : (s t c : List ℕ) → Type 0 where
 pub data Behind : (d : ℕ) (s : List ℕ) (l : List Row) → Type 0 where
   behind-root : {s : List ℕ} → Blanks s [] → Behind 1 s []
   behind-child : {d : ℕ} {n : Name} {s t : List ℕ} {f : Shape} {l : List Row}
-      → every name-byte n ≡ true → Part true (inside n) s f t → Behind d t l → Behind (suc d) s (listed (suc d) f l)
+      → every name-byte n ≡ true → Derives true (inside n) s f t → Behind d t l → Behind (suc d) s (listed (suc d) f l)
 
 -- s stands in a start tag, behind the element's name or a value; the attributes and the children are at depth d
 pub record InTag (d : ℕ) (s : List ℕ) (l : List Row) : Type 0 where
@@ -73,7 +73,7 @@ pub record InTag (d : ℕ) (s : List ℕ) (l : List Row) : Type 0 where
   pub outer : ℕ
   pub below : d ≡ suc outer
   pub spelled : every name-byte name ≡ true
-  pub part : Part true (behind name seen) s children next
+  pub part : Derives true (unspaced name seen) s children next
   pub after : Behind outer next later
   pub rows : l ≡ listed d children later
 
@@ -108,8 +108,8 @@ pub record AtText (stop e : ℕ) (place : ℕ → List ℕ → List Row → Type
   pub content : List ℕ
   pub behind : List ℕ
   pub later : List Row
-  pub characters : Characters stop s behind content
-  pub after : place d behind later
+  pub characters : Characters stop s unspaced content
+  pub after : place d unspaced later
   pub rows : l ≡ texts e content ++ later
 
 -- s stands behind a < among nodes at depth d
@@ -154,7 +154,7 @@ pub record Decodes (x : List ℕ) (stop at : ℕ) (b : List ℕ) (n : ℕ) (c : 
 pub record Fits (x s : List ℕ) (stop at d : ℕ) : Type 0 where
   pub behind : List ℕ
   pub content : List ℕ
-  pub characters : Characters stop (drop at x) behind content
+  pub characters : Characters stop (drop at x) unspaced content
   pub short : length content ≤ content-limit
   pub room : length (nodes s) + length (texts d content) ≤ node-limit
 

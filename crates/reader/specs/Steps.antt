@@ -23,8 +23,8 @@ use Rattle.reader.specs.declared.Reference.{Reference}
 use Rattle.reader.specs.declared.Reference.the-variants.{Byte, NoEntity}
 use Rattle.reader.specs.declared.Equals.{Equals}
 use Rattle.reader.specs.declared.Equals.the-variants.{Quoted, NoQuote}
-use Rattle.reader.specs.declared.Part.{Part}
-use Rattle.reader.specs.declared.Part.the-variants.{Open, Empty, Attribute, Wrong}
+use Rattle.reader.specs.declared.Item.{Item}
+use Rattle.reader.specs.declared.Item.the-variants.{Open, Empty, Attribute, Wrong}
 use Rattle.reader.specs.declared.Read.{Read}
 use Rattle.reader.specs.declared.Read.the-variants.{Past, Refused}
 
@@ -93,7 +93,7 @@ pub data EqualsRead (s : List ℕ) (at : ℕ) : Equals → Type 0 where
       → EqualsRead s at (NoQuote j)
 
 -- from a configuration in a start tag, which may depend on the element, those around it and the attributes so far
-pub data TagRead (s : List ℕ) (F : Name → List Name → List Name → Config) (at : ℕ) : Part → Type 0 where
+pub data TagRead (s : List ℕ) (F : Name → List Name → List Name → Config) (at : ℕ) : Item → Type 0 where
   tag-open : {c : Cursor} → at < c .at → c .at ≤ length s → node-offset s (c .at) ≡ c .at
       → ((n : Name) (ns seen : List Name) (m : ℕ) → Goes s (F n ns seen) m at (content n ns) m (c .at)) → TagRead s F at (Open c)
   tag-empty : {c : Cursor} → at < c .at → c .at ≤ length s → node-offset s (c .at) ≡ c .at
@@ -103,8 +103,8 @@ pub data TagRead (s : List ℕ) (F : Name → List Name → List Name → Config
   tag-wrong : {j : ℕ} → ((n : Name) (ns seen : List Name) (m : ℕ) → Leads s (F n ns seen) m at (bad 4 j)) → TagRead s F at (Wrong j)
 
 -- from behind a name or a value
-abbrev pub PartRead : List ℕ → ℕ → Part → Type 0
-PartRead s at r = TagRead s behind-part at r
+abbrev pub ItemRead : List ℕ → ℕ → Item → Type 0
+ItemRead s at r = TagRead s behind-part at r
 
 -- configurations in a start tag that go on alike where no name begins
 pub record TagPlace (F : Name → List Name → List Name → Config) : Type 0 where
@@ -112,5 +112,5 @@ pub record TagPlace (F : Name → List Name → List Name → Config) : Type 0 w
   pub calm : (n : Name) (ns seen : List Name) → is-over (phase (F n ns seen)) ≡ false
 
 -- from such a place
-pub record SlashRead (s : List ℕ) (at : ℕ) (r : Part) : Type 0 where
+pub record SlashRead (s : List ℕ) (at : ℕ) (r : Item) : Type 0 where
   pub reads : (F : Name → List Name → List Name → Config) → TagPlace F → TagRead s F at r

@@ -16,7 +16,7 @@ use Rattle.layout.specs.Layout.{nodes}
 use Rattle.xml.specs.Bytes.{slash, less-than, greater-than, blank, mark}
 use Rattle.xml.specs.Shape.{Shape, element, attribute, document}
 use Rattle.xml.specs.Grammar.{Name, Named, name}
-use Rattle.xml.specs.Grammar.{behind, inside, opened, Part, text-part, markup, element-part, end-tag}
+use Rattle.xml.specs.Grammar.{unspaced, inside, opened, Derives, derive-text, markup, derive-element, end-tag}
 use Rattle.xml.specs.Laws.Tokens.{span}
 use Rattle.xml.specs.Laws.Unique.{one-tree}
 use Rattle.reader.specs.declared.Cursor.{Cursor}
@@ -109,7 +109,7 @@ module _ {x s : List ℕ} {at d : ℕ} (F : Filling AtAttribute x s at d) (to : 
         (omega (arith, quote-there .0)) (omega (arith, F .deep))
 
 opened-rows : {d o : ℕ} {n : Name} {s t : List ℕ} {f : Shape} {l k : List Row} → d ≡ suc o → k ≡ listed d f l
-    → every name-byte n ≡ true → Part true (inside n) s f t → Behind o t l → Behind d s k
+    → every name-byte n ≡ true → Derives true (inside n) s f t → Behind o t l → Behind d s k
 opened-rows e r h p z = rw (r, e) (behind-child h p z)
 
 emptied-rows : (d : ℕ) {e o : ℕ} {s t : List ℕ} {f : Shape} {l k : List Row} → k ≡ listed d f l → f ≡ nil → e ≡ o → s ≡ t → Behind o t l → Behind e s k
@@ -126,7 +126,7 @@ module _ {x s : List ℕ} {i d : ℕ} (F : Filling InTag x s i d) (at : ℕ) (r 
   rest-there = rw (run-drop blank x i at r) (tag-rest (T .part))
 
   module _ (e : getD x at 0 ≡ greater-than) where
-    open-part : {y t : List ℕ} {f : Shape} → TagRest (T .name) y f t → drop at x ≡ y → (at < length x) × Part true (inside (T .name)) (drop (at + 1) x) f t
+    open-part : {y t : List ℕ} {f : Shape} → TagRest (T .name) y f t → drop at x ≡ y → (at < length x) × Derives true (inside (T .name)) (drop (at + 1) x) f t
     unfolding name-start
     open-part (rest-open {s = u} p) k = let n = next-byte x at greater-than u k in (n .0, rw (n .2) p)
     open-part (rest-empty {t = t}) k = absurd (omega (arith, next-byte x at slash (greater-than ∷ t) k .1))
@@ -200,10 +200,10 @@ module _ {x s : List ℕ} {i d : ℕ} (F : Filling InTag x s i d) (at : ℕ) (r 
 -- content ------------------------------------------------------------------------------------------
 
 -- the rows of an element and of what follows it
-in-content : {d : ℕ} {n : Name} {s t : List ℕ} {f : Shape} {l : List Row} → every name-byte n ≡ true → Part true (opened n) s f t → Behind d t l
+in-content : {d : ℕ} {n : Name} {s t : List ℕ} {f : Shape} {l : List Row} → every name-byte n ≡ true → Derives true (opened n) s f t → Behind d t l
     → AtTag (suc d) s (listed (suc d) f l)
 unfolding listed
-in-content {d} {n} {l = l} h (element-part {m = m} {u = u} {v = v} {g = g} {f = f} a p q) z = begins (record {
+in-content {d} {n} {l = l} h (derive-element {m = m} {u = u} {v = v} {g = g} {f = f} a p q) z = begins (record {
   name = m;
   behind-name = u;
   later = listed (suc (suc d)) g (listed (suc d) f l);
@@ -225,10 +225,10 @@ in-content {d} {n} {l = l} h (element-part {m = m} {u = u} {v = v} {g = g} {f = 
 })
 in-content {n = n} h (end-tag b) z = ends n refl h refl b z
 
-at-text : {d : ℕ} {n : Name} {s t : List ℕ} {f : Shape} {l : List Row} → every name-byte n ≡ true → Part true (inside n) s f t → Behind d t l
+at-text : {d : ℕ} {n : Name} {s t : List ℕ} {f : Shape} {l : List Row} → every name-byte n ≡ true → Derives true (inside n) s f t → Behind d t l
     → AtText less-than (suc d) AtTag (suc d) s (listed (suc d) f l)
 unfolding listed texts
-at-text {d} {l = l} h (text-part {u = u} {c = c} {b = b} {f = f} x p) z =
+at-text {d} {l = l} h (derive-text {u = u} {c = c} {b = b} {f = f} x p) z =
     record { content = b ∷ c; behind = u; later = listed (suc d) f l; characters = text-characters x; after = in-content h p z; rows = refl }
 at-text {d} {f = f} {l = l} h (markup {s = s} p) z =
     record { content = []; behind = s; later = listed (suc d) f l; characters = stop-here; after = in-content h p z; rows = refl }

@@ -15,8 +15,8 @@ use Rattle.xml.specs.Laws.Scan.{scan-at, scan-alike}
 use Rattle.xml.specs.Laws.Goes.{Goes, goes-then, goes-same}
 use Rattle.xml.specs.Laws.Tokens.{span, span-behind, name-at, Naming, name-short, name-long}
 use Rattle.reader.specs.declared.Cursor.{Cursor}
-use Rattle.reader.specs.declared.Part.{Part}
-use Rattle.reader.specs.declared.Part.the-variants.{Open, Empty, Attribute, Wrong}
+use Rattle.reader.specs.declared.Item.{Item}
+use Rattle.reader.specs.declared.Item.the-variants.{Open, Empty, Attribute, Wrong}
 use Rattle.reader.specs.declared.Read.{Read}
 use Rattle.reader.specs.declared.Read.the-variants.{Past, Refused}
 use Rattle.reader.specs.declared.Tag.{Tag}
@@ -59,7 +59,7 @@ placed-kept s os os′ n p k = record { placed = λ i h. rw (k .kept i h) (p .pl
 
 -- the loop over the attributes -------------------------------------------------------------------
 
-pub attribute-here : {s : List ℕ} {i : ℕ} {r : Part} {c : Cursor} → TagRead s behind-part i r → r ≡ Attribute c → Attributed s (c .at) × (i ≤ c .at)
+pub attribute-here : {s : List ℕ} {i : ℕ} {r : Item} {c : Cursor} → TagRead s behind-part i r → r ≡ Attribute c → Attributed s (c .at) × (i ≤ c .at)
 attribute-here {s} {i} z ez = go (subst (TagRead s behind-part i) ez z)
   where
     go : {s : List ℕ} {i : ℕ} {c : Cursor} → TagRead s behind-part i (Attribute c) → Attributed s (c .at) × (i ≤ c .at)
@@ -108,7 +108,7 @@ module _ (s os : List ℕ) (lo count at spare i n : ℕ) (t : AttributesTo s os 
   }
 
   -- an attribute at c, and what is read of it
-  module _ {os′ : List ℕ} {r : Part} {c : Cursor} {q : Read} (z : TagRead s behind-part i r) (ez : r ≡ Attribute c)
+  module _ {os′ : List ℕ} {r : Item} {c : Cursor} {q : Read} (z : TagRead s behind-part i r) (ez : r ≡ Attribute c)
       (y : AttributeEnters s os os′ lo count (c .at) n q) where
     found : TagRead s behind-part i (Attribute c)
     found = subst (TagRead s behind-part i) ez z

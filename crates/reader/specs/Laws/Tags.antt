@@ -22,8 +22,8 @@ use Rattle.xml.specs.Laws.Tokens.{span, span-go, span-some, span-byte, span-beh
 use Rattle.reader.specs.declared.Cursor.{Cursor}
 use Rattle.reader.specs.declared.Equals.{Equals}
 use Rattle.reader.specs.declared.Equals.the-variants.{Quoted, NoQuote}
-use Rattle.reader.specs.declared.Part.{Part}
-use Rattle.reader.specs.declared.Part.the-variants.{Open, Empty, Attribute, Wrong}
+use Rattle.reader.specs.declared.Item.{Item}
+use Rattle.reader.specs.declared.Item.the-variants.{Open, Empty, Attribute, Wrong}
 use Rattle.reader.specs.Steps.{Run, EqualsRead, quoted, no-quote, TagRead, tag-open, tag-empty, tag-attribute, tag-wrong, TagPlace, SlashRead}
 
 pub behind-place : TagPlace behind-part
@@ -103,14 +103,14 @@ module _ (s : List ℕ) (at i : ℕ) (r : Run blank s at i) where
       last a b = omega (arith, r .ends, span-go blank s at a b)
 
   -- what is read behind them
-  behind-spaces : {x : Part} → at < i → TagRead s in-tag i x → TagRead s behind-part at x
+  behind-spaces : {x : Item} → at < i → TagRead s in-tag i x → TagRead s behind-part at x
   behind-spaces h (tag-open {c = c} a b d f) = tag-open {c = c} (omega arith) b d (λ n ns seen m. goes-then (spaces h n ns seen m) (f n ns seen m))
   behind-spaces h (tag-empty {c = c} a b d f) = tag-empty {c = c} (omega arith) b d (λ n ns seen m. goes-then (spaces h n ns seen m) (f n ns seen m))
   behind-spaces h (tag-attribute {c = c} a b d e f) =
       tag-attribute {c = c} (omega arith) b d e (λ n ns seen m. goes-then (spaces h n ns seen m) (f n ns seen m))
   behind-spaces h (tag-wrong {j = j} f) = tag-wrong {j = j} (λ n ns seen m. spaces h n ns seen m .back _ (f n ns seen m))
 
-  pub part-any : {x : Part} → SlashRead s i x → TagRead s behind-part at x
+  pub part-any : {x : Item} → SlashRead s i x → TagRead s behind-part at x
   part-any {x} f = go (eqb i at) refl
     where
       go : (y : Bool) → eqb i at ≡ y → TagRead s behind-part at x

@@ -8,8 +8,8 @@ use Rattle.tree.specs.Content.{text-kind}
 use Rattle.xml.specs.Bytes.{less-than, equals-sign, greater-than, blank, Quote, mark, used}
 use Rattle.xml.specs.Shape.{Shape}
 use Rattle.xml.specs.Grammar.{Name, Blanks, no-blank, blank-then, NameBytes, no-name-byte, name-byte-then, Named, name, Value, value-close}
-use Rattle.xml.specs.Grammar.{value-byte, value-entity, Chars, chars-end, chars-byte, chars-entity, text-node, Place, behind, spaced, inside}
-use Rattle.xml.specs.Grammar.{opened, Part, spacing, empty, full, more, attribute-part, text-part, markup, element-part, end-tag, Root, root}
+use Rattle.xml.specs.Grammar.{value-byte, value-entity, Chars, chars-end, chars-byte, chars-entity, text-node, Place, unspaced, spaced, inside}
+use Rattle.xml.specs.Grammar.{opened, Derives, spacing, empty, full, more, derive-attribute, derive-text, markup, derive-element, end-tag, Root, root}
 use Rattle.xml.specs.Grammar.{Parses, bare, declared-short, declared-long}
 use Rattle.xml.specs.Laws.Words.{Words, whole, begun, follow, Word, First, first-whole, first-begun, first, no-first, entity-word, short-word}
 use Rattle.xml.specs.Laws.Words.{long-word}
@@ -30,7 +30,7 @@ abbrev pub Accepts : Bool → Config → List ℕ → List Event → Type 0
 Accepts u c s e = Reads u c s e epilog
 
 abbrev config-at : Place → List Name → Config
-config-at (behind n seen) ns = behind-part n ns seen
+config-at (unspaced n seen) ns = behind-part n ns seen
 config-at (spaced n seen) ns = in-tag n ns seen
 config-at (inside n) ns = content n ns
 config-at (opened n) ns = behind-open n ns
@@ -143,18 +143,18 @@ module _ {u : Bool} where
       over-blanks (before-equals n ns seen) (λ b h. s-before-blank h) x
       (s-before-equals ▸ over-blanks (behind-equals n ns seen) (λ b h. s-equals-blank h) y (s-equals-quote q ▸ a))
 
-  read-part : {p : Place} {s t : List ℕ} {f : Shape} {e : List Event} (ns : List Name) → Part u p s f t → Accepts u (closed ns) t e
+  read-part : {p : Place} {s t : List ℕ} {f : Shape} {e : List Event} (ns : List Name) → Derives u p s f t → Accepts u (closed ns) t e
       → Accepts u (config-at p ns) s (tell (suc (depth ns)) f e)
   unfolding tell tell-bytes depth
   read-part ns (spacing h p) a = s-behind (tag-blank h) ▸ read-part ns p a
   read-part ns empty a = s-behind tag-slash ▸ s-slash ▸ a
   read-part ns (full p) a = s-behind tag-close ▸ read-part ns p a
   read-part ns (more p) a = no-attribute (read-part ns p a)
-  read-part ns (attribute-part q (name {b = b} h l) k x y v p) a =
+  read-part ns (derive-attribute q (name {b = b} h l) k x y v p) a =
       s-in-tag-name h ▸ read-attribute-name (b ∷ []) l k (read-equals q x y (read-quote v (read-part ns p a)))
-  read-part ns (text-part x p) a = read-content x (read-part ns p a)
+  read-part ns (derive-text x p) a = read-content x (read-part ns p a)
   read-part ns (markup p) a = s-content-open ▸ read-part ns p a
-  read-part ns (element-part {n = n} (name {b = b} h l) p i) a = s-open-name h ▸ read-tag-name (b ∷ []) l (read-part (n ∷ ns) p (read-part ns i a))
+  read-part ns (derive-element {n = n} (name {b = b} h l) p i) a = s-open-name h ▸ read-tag-name (b ∷ []) l (read-part (n ∷ ns) p (read-part ns i a))
   read-part ns (end-tag {n = n} x) a = s-open-slash ▸ read-end n x a
 
   read-epilog : {s : List ℕ} → Blanks s [] → Accepts u epilog s []

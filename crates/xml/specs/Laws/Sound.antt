@@ -8,8 +8,8 @@ use Rattle.tree.specs.Content.{element-kind}
 use Rattle.xml.specs.Bytes.{less-than, equals-sign, greater-than, blank, Quote, mark, used, short-declaration, long-declaration}
 use Rattle.xml.specs.Shape.{Shape, element, attribute, text}
 use Rattle.xml.specs.Grammar.{Name, Blanks, no-blank, blank-then, NameBytes, no-name-byte, name-byte-then, Named, name, Value, value-close}
-use Rattle.xml.specs.Grammar.{value-byte, value-entity, Chars, chars-end, chars-byte, chars-entity, text-node, behind, spaced, inside, opened}
-use Rattle.xml.specs.Grammar.{Part, spacing, empty, full, more, attribute-part, text-part, markup, element-part, end-tag, Root, root, Parses}
+use Rattle.xml.specs.Grammar.{value-byte, value-entity, Chars, chars-end, chars-byte, chars-entity, text-node, unspaced, spaced, inside, opened}
+use Rattle.xml.specs.Grammar.{Derives, spacing, empty, full, more, derive-attribute, derive-text, markup, derive-element, end-tag, Root, root, Parses}
 use Rattle.xml.specs.Grammar.{bare, declared-short, declared-long}
 use Rattle.xml.specs.Laws.Words.{Words, declarations, Word, word-back, word-end, word-entity, word-declaration}
 use Rattle.xml.specs.Laws.Automaton.{Config, at-start, behind-first, prolog, behind-root, epilog, declaration, tag-name, behind-part, in-tag}
@@ -36,9 +36,9 @@ pub data Rest (u : Bool) : Config → List ℕ → List Event → Type 0 where
   r-declaration : {x : Words} {s t : List ℕ} {k : ℕ} {e : List Event} → Word x s t k → Rest u prolog t e → Rest u (declaration x) s e
   r-tag-name : {ns : List Name} {p : Name} {r s t : List ℕ} {e : List Event} → NameBytes r s t → Rest u (behind-part (p ++ r) ns []) t e
       → Rest u (tag-name ns p) s (tell-bytes r e)
-  r-behind : {n : Name} {ns seen : List Name} {s t : List ℕ} {f : Shape} {e : List Event} → Part u (behind n seen) s f t → Rest u (closed ns) t e
+  r-behind : {n : Name} {ns seen : List Name} {s t : List ℕ} {f : Shape} {e : List Event} → Derives u (unspaced n seen) s f t → Rest u (closed ns) t e
       → Rest u (behind-part n ns seen) s (tell (suc (depth ns)) f e)
-  r-in-tag : {n : Name} {ns seen : List Name} {s t : List ℕ} {f : Shape} {e : List Event} → Part u (spaced n seen) s f t → Rest u (closed ns) t e
+  r-in-tag : {n : Name} {ns seen : List Name} {s t : List ℕ} {f : Shape} {e : List Event} → Derives u (spaced n seen) s f t → Rest u (closed ns) t e
       → Rest u (in-tag n ns seen) s (tell (suc (depth ns)) f e)
   r-attribute : {n p : Name} {ns seen : List Name} {r s t : List ℕ} {e : List Event} → NameBytes r s t → (u && used seen (p ++ r)) ≡ false
       → Rest u (before-equals n ns ((p ++ r) ∷ seen)) t e
@@ -55,9 +55,9 @@ pub data Rest (u : Bool) : Config → List ℕ → List Event → Type 0 where
       → Rest u (in-value n ns seen q) t e
       → Rest u (value-reference n ns seen q x) s (byte k ∷ e)
   r-slash : {ns : List Name} {s : List ℕ} {e : List Event} → Rest u (closed ns) s e → Rest u (behind-slash ns) (greater-than ∷ s) e
-  r-content : {n : Name} {ns : List Name} {s t : List ℕ} {f : Shape} {e : List Event} → Part u (inside n) s f t → Rest u (closed ns) t e
+  r-content : {n : Name} {ns : List Name} {s t : List ℕ} {f : Shape} {e : List Event} → Derives u (inside n) s f t → Rest u (closed ns) t e
       → Rest u (content n ns) s (tell (suc (depth ns)) f e)
-  r-open : {n : Name} {ns : List Name} {s t : List ℕ} {f : Shape} {e : List Event} → Part u (opened n) s f t → Rest u (closed ns) t e
+  r-open : {n : Name} {ns : List Name} {s t : List ℕ} {f : Shape} {e : List Event} → Derives u (opened n) s f t → Rest u (closed ns) t e
       → Rest u (behind-open n ns) s (tell (suc (depth ns)) f e)
   r-text : {n : Name} {ns : List Name} {k : ℕ} {s t c : List ℕ} {e : List Event} → Chars k s t c → Rest u (behind-open n ns) t e
       → Rest u (in-text n ns k) s (tell-bytes c e)
@@ -84,7 +84,7 @@ module _ {u : Bool} where
   at-end (r-epilog x) = (x, refl)
 
   root-part : {n : Name} {s : List ℕ} {e : List Event} → Rest u (behind-part n [] []) s e
-      → (f : Shape) × (t : List ℕ) × Part u (behind n []) s f t × Blanks t [] × (e ≡ tell 2 f [])
+      → (f : Shape) × (t : List ℕ) × Derives u (unspaced n []) s f t × Blanks t [] × (e ≡ tell 2 f [])
   unfolding depth
   root-part (r-behind p r) = let x = at-end r in (_, _, p, x .0, rw (x .1))
 
@@ -117,10 +117,10 @@ module _ {u : Bool} where
       r-attribute {p = p} {e = e} no-name-byte (subst (λ (x : Name). (u && used seen x) ≡ false) (sym (append-nil p)) k)
       (subst (λ (x : Name). Rest u (before-equals n ns (x ∷ seen)) s e) (sym (append-nil p)) r)
 
-  child-in : {m n : Name} {ns : List Name} {s t v : List ℕ} {g : Shape} {e : List Event} → Named m s t → Part u (behind m []) t g v → Rest u (content n ns) v e
+  child-in : {m n : Name} {ns : List Name} {s t v : List ℕ} {g : Shape} {e : List Event} → Named m s t → Derives u (unspaced m []) t g v → Rest u (content n ns) v e
       → Rest u (behind-open n ns) s (born (suc (depth ns)) element-kind ∷ tell-bytes m (tell (suc (suc (depth ns))) g e))
   unfolding tell
-  child-in l p (r-content i r) = r-open (element-part l p i) r
+  child-in l p (r-content i r) = r-open (derive-element l p i) r
 
   child : {m n : Name} {ns : List Name} {s t : List ℕ} {e : List Event} → Named m s t → Rest u (behind-part m (n ∷ ns) []) t e
       → Rest u (behind-open n ns) s (born (suc (depth ns)) element-kind ∷ tell-bytes m e)
@@ -142,7 +142,7 @@ module _ {u : Bool} where
   back (s-tag-name-end h t) r = end-tag-name (back-tag t r)
   back (s-behind t) r = back-tag t r
   back (s-in-tag h t) r = no-attribute (back-tag t r)
-  back (s-in-tag-name h) (r-attribute l k (r-before x (r-equals q y (r-quote v (r-behind p r))))) = r-in-tag (attribute-part q (name h l) k x y v p) r
+  back (s-in-tag-name h) (r-attribute l k (r-before x (r-equals q y (r-quote v (r-behind p r))))) = r-in-tag (derive-attribute q (name h l) k x y v p) r
   back (s-attribute h) (r-attribute l k r) = r-attribute (name-byte-then h l) (rw append-assoc at k) (rw append-assoc at r)
   back (s-attribute-blank k h) (r-before x r) = end-attribute k (r-before (blank-then h x) r)
   back (s-attribute-equals k) r = end-attribute k (r-before no-blank r)
@@ -159,8 +159,8 @@ module _ {u : Bool} where
   back (s-value-word-end h) r = r-value-word (word-end h) r
   back (s-value-word-on h) (r-value-word w r) = r-value-word (word-back h w) r
   back s-slash r = r-slash r
-  back (s-content-byte h) (r-text x (r-open p r)) = r-content (text-part (chars-byte h x) p) r
-  back s-content-reference (r-text-word w (r-text x (r-open p r))) = r-content (text-part (chars-entity (word-entity w) x) p) r
+  back (s-content-byte h) (r-text x (r-open p r)) = r-content (derive-text (chars-byte h x) p) r
+  back s-content-reference (r-text-word w (r-text x (r-open p r))) = r-content (derive-text (chars-entity (word-entity w) x) p) r
   back s-content-open (r-open p r) = r-content (markup p) r
   back (s-text-byte h) (r-text x r) = r-text (chars-byte h x) r
   back s-text-reference (r-text-word w (r-text x r)) = r-text (chars-entity (word-entity w) x) r

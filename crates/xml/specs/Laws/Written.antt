@@ -14,7 +14,7 @@ use Rattle.xml.specs.Bytes.{text-literal, brackets, long-declaration}
 use Rattle.xml.specs.Shape.{Shape, element, attribute, text}
 use Rattle.xml.specs.Grammar.{Name, Blanks, no-blank, blank-then, NameBytes, no-name-byte, name-byte-then, Named, name, entity-amp, entity-gt}
 use Rattle.xml.specs.Grammar.{entity-lt, entity-quot, Value, value-close, value-byte, value-entity, Chars, chars-end, chars-byte, chars-entity}
-use Rattle.xml.specs.Grammar.{text-node, behind, inside, opened, Part, spacing, empty, full, attribute-part, text-part, markup, element-part}
+use Rattle.xml.specs.Grammar.{text-node, unspaced, inside, opened, Derives, spacing, empty, full, derive-attribute, derive-text, markup, derive-element}
 use Rattle.xml.specs.Grammar.{end-tag, Root, root, declared-long, Spells}
 use Rattle.xml.specs.Writing.{escape, escaped, value, childless, contents}
 use Rattle.xml.specs.Writing as writing
@@ -84,9 +84,9 @@ ending-full n f t h = rw (h, append-assoc (contents f) (bytes "</" ++ (n ++ byte
 
 -- what is written from a spot on
 abbrev Good : Spot → Name → Shape → List ℕ → Type 0
-Good (attributes seen) n f t = Part true (behind n seen) (writing.attributes f ++ (ending n f ++ t)) f t
-Good children n f t = Part true (inside n) (contents f ++ close n t) f t
-Good behind-text n f t = (u : List ℕ) × (contents f ++ close n t ≡ less-than ∷ u) × Part true (opened n) u f t
+Good (attributes seen) n f t = Derives true (unspaced n seen) (writing.attributes f ++ (ending n f ++ t)) f t
+Good children n f t = Derives true (inside n) (contents f ++ close n t) f t
+Good behind-text n f t = (u : List ℕ) × (contents f ++ close n t ≡ less-than ∷ u) × Derives true (opened n) u f t
 
 -- behind the attributes there is none
 abbrev NoAttribute : Spot → Shape → Type 0
@@ -123,13 +123,13 @@ value-of (b ∷ c) = refl
 
 -- an attribute, then l and x
 attribute-written : (n a : Name) (seen : List Name) (c l x t : List ℕ) (f : Shape) → spells-name a ≡ true → used seen a ≡ false → every text-byte c ≡ true
-    → Part true (behind n (a ∷ seen)) (l ++ x) f t
-    → Part true (behind n seen) ((bytes " " ++ (a ++ (bytes "=\"" ++ (value (text-node c) ++ (bytes "\"" ++ l))))) ++ x) (node (attribute a) (text-node c) f) t
+    → Derives true (unspaced n (a ∷ seen)) (l ++ x) f t
+    → Derives true (unspaced n seen) ((bytes " " ++ (a ++ (bytes "=\"" ++ (value (text-node c) ++ (bytes "\"" ++ l))))) ++ x) (node (attribute a) (text-node c) f) t
 unfolding blank
 attribute-written n a seen c l x t f i h k p =
     let q = append-assoc a (equals-sign ∷ quotation-mark ∷ (escaped c ++ (quotation-mark ∷ l))) x in
     let r = append-assoc (escaped c) (quotation-mark ∷ l) x in
-    rw (value-of c, q, r) (spacing refl (attribute-part double (named a _ i) h no-blank no-blank (value-written c (l ++ x) k) p))
+    rw (value-of c, q, r) (spacing refl (derive-attribute double (named a _ i) h no-blank no-blank (value-written c (l ++ x) k) p))
 
 written : {p : Spot} {f : Shape} (n : Name) (t : List ℕ) → Formed p f → Good p n f t
 unfolding writing.attributes contents
@@ -140,13 +140,13 @@ written n t (formed-attribute {seen = seen} {a = a} c {f = f} i h k r) =
     attribute-written n a seen c (writing.attributes f) (ending n f ++ t) t f i h k (written n t r)
 written n t (formed-text {b = b} {c = c} {f = f} h r) =
     let x = written n t r in
-    rw (append-assoc (escaped (b ∷ c)) (contents f) (close n t), x .1) (text-part (text-written 0 (b ∷ c) (x .0) h) (x .2))
+    rw (append-assoc (escaped (b ∷ c)) (contents f) (close n t), x .1) (derive-text (text-written 0 (b ∷ c) (x .0) h) (x .2))
 written n t (formed-element {m = m} {g = g} {f = f} i h r) =
     let later : List ℕ = contents f ++ close n t in
     let p = append-assoc m (writing.attributes g ++ (ending m g ++ contents f)) (close n t) in
     let q = append-assoc (writing.attributes g) (ending m g ++ contents f) (close n t) in
     let o = append-assoc (ending m g) (contents f) (close n t) in
-    (m ++ (writing.attributes g ++ (ending m g ++ later)), rw (p, q, o), element-part (named m _ i) (written m later h) (written n t r))
+    (m ++ (writing.attributes g ++ (ending m g ++ later)), rw (p, q, o), derive-element (named m _ i) (written m later h) (written n t r))
 written n t (no-text r) = let x = written n t r in rw (x .1) (markup (x .2))
 written n t (no-attribute {seen = seen} r) = written-last n seen t r (written n t r)
 
@@ -154,7 +154,7 @@ written n t (no-attribute {seen = seen} r) = written-last n seen t r (written n 
 pub written-root : {f : Shape} {s : List ℕ} → FormedRoot f → Blanks s (contents f) → Root true s f
 unfolding contents
 written-root (formed-root {n = n} {f = f} i r) b =
-    let x : Part true (behind n []) (writing.attributes f ++ (ending n f ++ [])) f [] = written n [] r in
+    let x : Derives true (unspaced n []) (writing.attributes f ++ (ending n f ++ [])) f [] = written n [] r in
     root b (named n _ i) x no-blank
 
 pub written-spells : {f : Shape} → FormedRoot f → Spells (long-declaration ++ (line-feed ∷ contents f)) f

@@ -1,8 +1,8 @@
 use Rattle.reader.specs.Laws.Tags.{part-any, place-end, place-close, part-joined, part-attribute, part-wrong}
 use mathlib.Core.Path.{refl, sym, _∙_}
 use borrow.Author.Needs.{needs}
-use Rattle.reader.proofs.Cursor.part.Statement.{statement}
-use Rattle.reader.proofs.Cursor.part.Tie as tie
+use Rattle.reader.proofs.Cursor.item.Statement.{statement}
+use Rattle.reader.proofs.Cursor.item.Tie as tie
 
 returns-2 : tie.Need-returns-2
 returns-2 c =
@@ -33,8 +33,8 @@ returns-6 c =
     let if4 = c .before .before .if4 in
     part-wrong _ _ _ (blanks .ensures) (if1 .left) (if4 .left) (if3 .left) (if2 .left) (sym (c .before .name-start .ensures) ∙ c .if5 .left)
 
-pub part-spec : {M : Type 1} → statement M
-part-spec =
+pub item-spec : {M : Type 1} → statement M
+item-spec =
     tie.close
     (tie.spec
     (λ c κs. search needs)
