@@ -53,7 +53,8 @@ Short (x ∷ l) = (length (x .1 .content) ≤ content-limit) × Short l
 pub data Characters (stop : ℕ) : (s t c : List ℕ) → Type 0 where
   stop-here : {t : List ℕ} → Characters stop (stop ∷ t) t []
   byte-then : {b : ℕ} {s t c : List ℕ} → (b ≡ stop → ⊥) → (b ≡ ampersand → ⊥) → Characters stop s t c → Characters stop (b ∷ s) t (b ∷ c)
-  reference-then : {b : ℕ} {s u t c : List ℕ} → (ampersand ≡ stop → ⊥) → Entity s u b → Characters stop u t c → Characters stop (ampersand ∷ s) t (b ∷ c)
+  reference-then : {b : ℕ} {s u t c : List ℕ} → (ampersand ≡ stop → ⊥) → Entity s u b → Characters stop u t c
+      → Characters stop (ampersand ∷ s) t (b ∷ c)
 
 -- places -----------------------------------------------------------------------------------
 
@@ -108,14 +109,15 @@ pub record AtText (stop e : ℕ) (place : ℕ → List ℕ → List Row → Type
   pub content : List ℕ
   pub behind : List ℕ
   pub later : List Row
-  pub characters : Characters stop s unspaced content
-  pub after : place d unspaced later
+  pub characters : Characters stop s behind content
+  pub after : place d behind later
   pub rows : l ≡ texts e content ++ later
 
 -- s stands behind a < among nodes at depth d
 pub data AtTag (d : ℕ) (s : List ℕ) (l : List Row) : Type 0 where
   begins : AtElement d s l → AtTag d s l
-  ends : {e : ℕ} (n : Name) {u t : List ℕ} → d ≡ suc e → every name-byte n ≡ true → s ≡ slash ∷ (n ++ u) → Blanks u (greater-than ∷ t) → Behind e t l
+  ends : {e : ℕ} (n : Name) {u t : List ℕ} → d ≡ suc e → every name-byte n ≡ true → s ≡ slash ∷ (n ++ u) → Blanks u (greater-than ∷ t)
+      → Behind e t l
       → AtTag d s l
 
 -- filling ------------------------------------------------------------------------------------
@@ -154,7 +156,7 @@ pub record Decodes (x : List ℕ) (stop at : ℕ) (b : List ℕ) (n : ℕ) (c : 
 pub record Fits (x s : List ℕ) (stop at d : ℕ) : Type 0 where
   pub behind : List ℕ
   pub content : List ℕ
-  pub characters : Characters stop (drop at x) unspaced content
+  pub characters : Characters stop (drop at x) behind content
   pub short : length content ≤ content-limit
   pub room : length (nodes s) + length (texts d content) ≤ node-limit
 

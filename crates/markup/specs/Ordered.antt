@@ -12,7 +12,8 @@ use Rattle.xml.specs.Writing.{below}
 abbrev pub in-start-tag : ℕ → Bool
 in-start-tag previous = eqb previous 0 || eqb previous attribute-kind
 
--- the column "Children" of document 01, for a node of a kind below a parent of a kind, behind a sibling of kind `previous` (0: it is the first)
+-- the column "Children" of document 01, for a node of a kind below a parent of a kind, behind a sibling of kind `previous` (0: it is the
+-- first)
 unfoldable pub may-stand : ℕ → ℕ → ℕ → Bool
 may-stand parent previous kind =
     takes parent kind && cond (eqb parent element-kind) (not (eqb kind attribute-kind) || in-start-tag previous) (eqb previous 0)

@@ -9,8 +9,8 @@ use Rattle.xml.specs.Bytes.{ampersand, brackets, Quote, mark}
 use Rattle.xml.specs.Grammar.{Name}
 use Rattle.xml.specs.Reading.{node-offset}
 use Rattle.xml.specs.Laws.Words.{Words, entities}
-use Rattle.xml.specs.Laws.Automaton.{behind-part, in-tag, before-equals, behind-quote, content, closed, tag-step}
-use Rattle.xml.specs.Laws.Automaton.{Config, born, byte, stuck, move, to, step}
+use Rattle.xml.specs.Laws.Automaton.{behind-part, in-tag, before-equals, behind-quote, content, closed, tag-step, Config, born, byte, stuck}
+use Rattle.xml.specs.Laws.Automaton.{move, to, step}
 use Rattle.xml.specs.Laws.Phases.{phase, is-over, pending}
 use Rattle.xml.specs.Laws.Judge.{Verdict, bad}
 use Rattle.xml.specs.Laws.Scan.{scan-at}
@@ -61,7 +61,8 @@ pub data CharactersRead (s : List ℕ) (stop at spare : ℕ) : Read → Type 0 w
       → ((C : ℕ → Config) (R : Words → Config) (D : Config) → Characters stop C R D → (v : Verdict) → Leads s D spare (c .at) v
       → scan-at s (C 0) spare 0 at ≡ v)
       → CharactersRead s stop at spare (Past c spare)
-  characters-refused : {x j : ℕ} → ((C : ℕ → Config) (R : Words → Config) (D : Config) → Characters stop C R D → scan-at s (C 0) spare 0 at ≡ bad x j)
+  characters-refused : {x j : ℕ}
+      → ((C : ℕ → Config) (R : Words → Config) (D : Config) → Characters stop C R D → scan-at s (C 0) spare 0 at ≡ bad x j)
       → CharactersRead s stop at spare (Refused x j)
 
 -- a value or a text from the configuration S on, before its first byte

@@ -149,8 +149,10 @@ impl Cursor {
 
     // A start tag from the first byte of its name on; the offset of the name is kept at place depth.
     pub fn start_tag(self, s: &[u8], names: &mut [usize; 1024], depth: usize, spare: usize) -> Tag
-        requires { ⌜ Named (now s) (self .at) × (depth + 2 + spare ≤ 1024) × Placed (now s) (now names) depth × (length (now names) ≡ 1024) ⌝ }
-        ensures { λ r. ⌜ ElementRead (now (s .entry)) (self .at) spare r × Kept depth (now (names .entry)) (now (names .exit)) × (getD (now (names .exit)) depth 0 ≡ self .at) ⌝ }
+        requires { ⌜ Named (now s) (self .at) × (depth + 2 + spare ≤ 1024) × Placed (now s) (now names) depth
+            × (length (now names) ≡ 1024) ⌝ }
+        ensures { λ r. ⌜ ElementRead (now (s .entry)) (self .at) spare r × Kept depth (now (names .entry)) (now (names .exit))
+            × (getD (now (names .exit)) depth 0 ≡ self .at) ⌝ }
     {
         let at = self.at;
         names[depth] = at;

@@ -3,7 +3,8 @@ use Prim.Native.Nat.{_-_}
 use mathlib.Core.Path.{refl, sym, _∙_}
 use lib.ListN.{length, replicate}
 use Rattle.layout.specs.Layout.{nodes}
-use Rattle.committed.specs.Laws.Selection.{Selecting, selecting-start, selecting-end, selecting-hidden, selecting-inserted, selecting-found}
+use Rattle.committed.specs.Laws.Selection.{Selecting, selecting-start, selecting-end, selecting-hidden, selecting-inserted}
+use Rattle.committed.specs.Laws.Selection.{selecting-found}
 use Rattle.committed.proofs.select.Statement.{statement}
 use Rattle.committed.proofs.select.Tie as tie
 
@@ -14,7 +15,9 @@ abbrev μ-loop : tie.MeasureT-loop
 μ-loop s total places₀ count₀ hidden₀ i₀ places count hidden i = length (nodes s) - i
 
 loop-again : tie.Need-loop-again Inv-loop μ-loop
-loop-again c = selecting-hidden (c .before .before .before .before .loop .inv) (search needs) (c .before .before .depth .ensures) (sym (c .before .left-out .ensures) ∙ c .if1 .taken)
+loop-again c =
+    selecting-hidden (c .before .before .before .before .loop .inv) (search needs) (c .before .before .depth .ensures)
+    (sym (c .before .left-out .ensures) ∙ c .if1 .taken)
 
 loop-again-2 : tie.Need-loop-again-2 Inv-loop μ-loop
 loop-again-2 c =
@@ -22,7 +25,8 @@ loop-again-2 c =
     let c3 = c2 .before in
     let c4 = c3 .before in
     let c6 = c4 .before .before in
-    selecting-inserted (c6 .loop .inv) (search needs) (c4 .depth .ensures) (sym (c3 .left-out .ensures) ∙ c2 .if1 .left) (c .before .inserter .ensures) (c .if2 .taken)
+    selecting-inserted (c6 .loop .inv) (search needs) (c4 .depth .ensures) (sym (c3 .left-out .ensures) ∙ c2 .if1 .left)
+    (c .before .inserter .ensures) (c .if2 .taken)
 
 loop-again-3 : tie.Need-loop-again-3 Inv-loop μ-loop
 loop-again-3 c =
@@ -30,7 +34,8 @@ loop-again-3 c =
     let c3 = c2 .before in
     let c4 = c3 .before in
     let c6 = c4 .before .before in
-    selecting-found (c6 .loop .inv) (search needs) (c4 .depth .ensures) (sym (c3 .left-out .ensures) ∙ c2 .if1 .left) (c .before .inserter .ensures) (search needs) (c .if2 .left)
+    selecting-found (c6 .loop .inv) (search needs) (c4 .depth .ensures) (sym (c3 .left-out .ensures) ∙ c2 .if1 .left)
+    (c .before .inserter .ensures) (search needs) (c .if2 .left)
 
 pub select-spec : {M : Type 1} → statement M
 select-spec =

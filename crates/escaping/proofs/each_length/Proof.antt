@@ -15,8 +15,12 @@ abbrev μ-loop : tie.MeasureT-loop
 
 loop-again : tie.Need-loop-again Inv-loop μ-loop
 loop-again c =
-    let l = c .before .before .before in
-    (omega arith, l .loop .inv .1, counting-byte _ (l .loop .inv .2) (omega arith) (c .byte-length .ensures .0) (c .byte-length .ensures .1))
+    let l = c .before .before .before in (
+      omega arith,
+      l .loop .inv .1,
+      counting-byte _ (l .loop .inv .2) (omega arith) (c .byte-length .ensures .0)
+          (c .byte-length .ensures .1),
+    )
 
 pub each-length-spec : {M : Type 1} → statement M
 each-length-spec =

@@ -10,7 +10,8 @@ use Rattle.escaping.proofs.put_each.Statement.{statement}
 use Rattle.escaping.proofs.put_each.Tie as tie
 
 abbrev Inv-loop : tie.InvT-loop
-Inv-loop out₀ p n at₀ j₀ out at j = (j ≤ n) × (n ≡ length p) × (length out ≡ length out₀) × Partly (escaped p) (escaped (drop j p)) out₀ out at
+Inv-loop out₀ p n at₀ j₀ out at j =
+    (j ≤ n) × (n ≡ length p) × (length out ≡ length out₀) × Partly (escaped p) (escaped (drop j p)) out₀ out at
 
 abbrev μ-loop : tie.MeasureT-loop
 μ-loop out₀ p n at₀ j₀ out at j = n - j

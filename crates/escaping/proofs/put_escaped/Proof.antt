@@ -11,7 +11,8 @@ use Rattle.escaping.proofs.put_escaped.Statement.{statement}
 use Rattle.escaping.proofs.put_escaped.Tie as tie
 
 abbrev Inv-loop : tie.InvT-loop
-Inv-loop out₀ p n at₀ j₀ out at j = (j ≤ n) × (n ≡ length p) × (length out ≡ length out₀) × Partly (escaped p) (escaped (drop j p)) out₀ out at
+Inv-loop out₀ p n at₀ j₀ out at j =
+    (j ≤ n) × (n ≡ length p) × (length out ≡ length out₀) × Partly (escaped p) (escaped (drop j p)) out₀ out at
 
 abbrev μ-loop : tie.MeasureT-loop
 μ-loop out₀ p n at₀ j₀ out at j = n - j
@@ -38,7 +39,12 @@ add-at : tie.Need-add-at Inv-loop μ-loop
 add-at c =
     let l = c .before .before .before .before .before .before in
     let a = l .before .before .before in
-    omega (arith, next-part (a .args .p .now) (l .loop .j) 8 (l .loop .inv .3) (a .pre .1) .small, c .before .before .put-eight .ensures .count)
+    omega (
+      arith,
+      next-part (a .args .p .now) (l .loop .j) 8 (l .loop .inv .3) (a .pre .1) .small,
+      c .before .before .put-eight .ensures
+          .count,
+    )
 
 loop-again : tie.Need-loop-again Inv-loop μ-loop
 loop-again c =
@@ -72,7 +78,12 @@ add-result : tie.Need-add-result Inv-loop μ-loop
 add-result c =
     let l = c .before .before .before .before .before .before in
     let a = l .before .before .before in
-    omega (arith, next-rest (a .args .p .now) (l .loop .j) (l .loop .inv .3) (a .pre .1) .small, c .before .before .put-rest .ensures .count)
+    omega (
+      arith,
+      next-rest (a .args .p .now) (l .loop .j) (l .loop .inv .3) (a .pre .1) .small,
+      c .before .before .put-rest .ensures
+          .count,
+    )
 
 returns : tie.Need-returns Inv-loop μ-loop
 returns c =

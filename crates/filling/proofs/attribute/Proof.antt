@@ -26,7 +26,8 @@ returns c = let p = c .before .before .before .before .before .before .before .b
     let r = c .before .before .before .before .before .before .before .before .before .before .before .name .ensures in
     let q = c .before .before .before .before .before .quote .ensures in
     let t = c .before .before .text .ensures in
-    let G = attribute-put (c .before .before .before .before .before .before .before .before .before .before .before .before .before .before .pre) _ r p _ q in
+    let G = attribute-put (c .before .before .before .before .before .before .before .before .before .before .before .before .before .before
+    .pre) _ r p _ q in
     (text-put G t, same-then (put-same _ p) (text-same G t), omega (arith, r .ends, q .forward, t .forward))
 
 pub attribute-spec : {M : Type 1} → statement M

@@ -39,8 +39,12 @@ loop-less c =
 
 loop-again : tie.Need-loop-again Inv-loop μ-loop
 loop-again c = let e = c .before .before .attribute .ensures in
-    let l = c .before .before .before .before .before .before .before .before .loop .inv in
-    (omega (arith, l .0, c .before .before .before .before .before .before .before .blanks .ensures .ends, e .2), same-then (l .1) (e .1), e .0)
+    let l = c .before .before .before .before .before .before .before .before .loop .inv in (
+      omega (arith, l .0, c .before .before .before .before .before .before .before .blanks .ensures .ends, e .2),
+      same-then (l .1) (e .1),
+      e
+          .0,
+    )
 
 pub attributes-spec : {M : Type 1} → statement M
 attributes-spec =

@@ -8,14 +8,19 @@ use Rattle.filling.proofs.child.Tie as tie
 
 end-tag-requires : tie.Need-end-tag-requires
 end-tag-requires c κs = let p = c .before .before .before .before .before .before .before .before .pre in
-    end-inside (text-put (in-element (p .0) (p .1)) (c .before .before .before .before .text .ensures)) (sym (c .before .peek .ensures) ∙ c .if1 .taken)
+    end-inside (text-put (in-element (p .0) (p .1)) (c .before .before .before .before .text .ensures))
+    (sym (c .before .peek .ensures) ∙ c .if1 .taken)
 
 returns : tie.Need-returns
 returns c = let p = c .before .before .before .before .before .before .before .before .before .pre in
     let t = c .before .before .before .before .before .text .ensures in
     let G = in-element (p .0) (p .1) in
-    let e = c .end-tag .ensures in
-    (end-put (text-put G t) (sym (c .before .before .peek .ensures) ∙ c .before .if1 .taken) _ e, text-same G t, omega (arith, t .forward, e .forward))
+    let e = c .end-tag .ensures in (
+      end-put (text-put G t) (sym (c .before .before .peek .ensures) ∙ c .before .if1 .taken) _ e,
+      text-same G t,
+      omega
+          (arith, t .forward, e .forward),
+    )
 
 start-tag-requires : tie.Need-start-tag-requires
 start-tag-requires c κs = let p = c .before .before .before .before .before .before .before .before .before .pre in

@@ -12,7 +12,8 @@ use Rattle.filling.proofs.decode.Statement.{statement}
 use Rattle.filling.proofs.decode.Tie as tie
 
 abbrev Inv-loop : tie.InvT-loop
-Inv-loop x stop buffer₀ i₀ n₀ buffer i n = (i₀ ≤ i) × (i ≤ length x) × (n ≤ 32) × (length buffer ≡ 32) × Decoding x stop i₀ i (take n buffer)
+Inv-loop x stop buffer₀ i₀ n₀ buffer i n =
+    (i₀ ≤ i) × (i ≤ length x) × (n ≤ 32) × (length buffer ≡ 32) × Decoding x stop i₀ i (take n buffer)
 
 abbrev μ-loop : tie.MeasureT-loop
 μ-loop x stop buffer₀ i₀ n₀ buffer i n = length x - i
@@ -23,8 +24,11 @@ returns c =
     (l .inv .3, decode-stop _ _ _ _ _ _ (l .inv .4) (l .inv .0) (l .inv .2) _ refl (search needs) (c .if1 .taken))
 
 returns-2 : tie.Need-returns-2 Inv-loop μ-loop
-returns-2 c = let l = c .before .before .before .before .loop in
-    (l .inv .3, decode-full _ _ _ _ _ _ (l .inv .4) (l .inv .0) (l .inv .2) (search needs) (c .before .if1 .left) _ refl (c .if2 .taken) (l .inv .3))
+returns-2 c = let l = c .before .before .before .before .loop in (
+  l .inv .3,
+  decode-full _ _ _ _ _ _ (l .inv .4) (l .inv .0) (l .inv .2) (search needs) (c .before .if1 .left) _ refl (c .if2 .taken)
+      (l .inv .3),
+)
 
 loop-again : tie.Need-loop-again Inv-loop μ-loop
 loop-again c =
@@ -88,7 +92,8 @@ loop-again-2 c =
     )
 
 returns-4 : tie.Need-returns-4 Inv-loop μ-loop
-returns-4 c = let l = c .before .loop in (l .inv .3, decode-end _ _ _ _ _ _ (l .inv .4) (l .inv .0) (l .inv .2) _ refl (search needs) (search needs))
+returns-4 c =
+    let l = c .before .loop in (l .inv .3, decode-end _ _ _ _ _ _ (l .inv .4) (l .inv .0) (l .inv .2) _ refl (search needs) (search needs))
 
 pub decode-spec : {M : Type 1} → statement M
 decode-spec =

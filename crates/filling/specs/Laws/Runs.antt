@@ -12,7 +12,8 @@ use Rattle.tree.specs.Laws.Tests.{and-left, and-right}
 use Rattle.xml.specs.Bytes.{slash, equals-sign, greater-than, blank, Quote, double, single, mark}
 use Rattle.xml.specs.Shape.{Shape, attribute}
 use Rattle.xml.specs.Grammar.{Name, Blanks, no-blank, blank-then, NameBytes, no-name-byte, name-byte-then, Named, name, Value, text-node}
-use Rattle.xml.specs.Grammar.{Place, unspaced, spaced, inside, opened, Derives, spacing, empty, full, more, derive-attribute, derive-text, markup, derive-element, end-tag}
+use Rattle.xml.specs.Grammar.{Place, unspaced, spaced, inside, opened, Derives, spacing, empty, full, more, derive-attribute, derive-text}
+use Rattle.xml.specs.Grammar.{markup, derive-element, end-tag}
 use Rattle.xml.specs.Laws.Tokens.{span}
 use Rattle.xml.specs.Laws.Transitions.{blank-no-name}
 use Rattle.reader.specs.Steps.{Run}
@@ -118,7 +119,8 @@ rest-of (markup p) = tt
 rest-of (derive-element m p i) = tt
 rest-of (end-tag x) = tt
 
-pub tag-rest : {n : Name} {seen : List Name} {s t : List ℕ} {f : Shape} → Derives true (unspaced n seen) s f t → TagRest n (drop (span blank s) s) f t
+pub tag-rest : {n : Name} {seen : List Name} {s t : List ℕ} {f : Shape} → Derives true (unspaced n seen) s f t
+    → TagRest n (drop (span blank s) s) f t
 tag-rest p = rest-of p
 
 -- no name goes on there

@@ -12,7 +12,8 @@ returns-3 c =
     let if2 = c .before .before .before .before .if2 in
     let peek3 = c .before .before .before .peek3 in
     let if3 = c .before .before .if3 in
-    start-short _ (sym (peek .ensures) ∙ if1 .left) (sym (peek2 .ensures) ∙ if2 .left) (sym (peek3 .ensures) ∙ if3 .taken) (c .declared .ensures)
+    start-short _ (sym (peek .ensures) ∙ if1 .left) (sym (peek2 .ensures) ∙ if2 .left) (sym (peek3 .ensures) ∙ if3 .taken)
+    (c .declared .ensures)
 
 returns-4 : tie.Need-returns-4
 returns-4 c =
@@ -22,7 +23,8 @@ returns-4 c =
     let if2 = c .before .before .before .before .if2 in
     let peek3 = c .before .before .before .peek3 in
     let if3 = c .before .before .if3 in
-    start-long _ (sym (peek .ensures) ∙ if1 .left) (sym (peek2 .ensures) ∙ if2 .left) (λ e. if3 .left (peek3 .ensures ∙ e)) (c .declared2 .ensures)
+    start-long _ (sym (peek .ensures) ∙ if1 .left) (sym (peek2 .ensures) ∙ if2 .left) (λ e. if3 .left (peek3 .ensures ∙ e))
+    (c .declared2 .ensures)
 
 pub find-root-spec : {M : Type 1} → statement M
 find-root-spec =

@@ -11,7 +11,8 @@ behind-root-requires : tie.Need-behind-root-requires
 behind-root-requires c κs =
     let args = c .before .before .before .before .before .before .args in
     let start-tag = c .before .before .before .start-tag in
-    emptied-inside (subst (λ (r : Tag). ElementRead (args .s .now) (args .c .at) (args .spare) r) (c .before .next .given .1) (start-tag .ensures .0))
+    emptied-inside (subst (λ (r : Tag). ElementRead (args .s .now) (args .c .at) (args .spare) r) (c .before .next .given .1)
+    (start-tag .ensures .0))
 
 root-content-requires : tie.Need-root-content-requires
 root-content-requires c κs =
@@ -19,21 +20,24 @@ root-content-requires c κs =
     let args = c .before .before .before .before .before .before .before .args in
     let start-tag = c .before .before .before .before .start-tag in
     let next2 = c .before .before .next2 in
-    opened-inside (start-tag .last .1 .1 .0) (start-tag .ensures .1 .as-long ∙ search needs) (start-tag .ensures .2) (omega (arith, pre .0 .inside)) (pre .1)
+    opened-inside (start-tag .last .1 .1 .0) (start-tag .ensures .1 .as-long ∙ search needs) (start-tag .ensures .2)
+    (omega (arith, pre .0 .inside)) (pre .1)
     (subst (λ (r : Tag). ElementRead (args .s .now) (args .c .at) (args .spare) r) (next2 .given .1) (start-tag .ensures .0))
 
 returns : tie.Need-returns
 returns c =
     let args = c .before .before .before .before .before .before .args in
     let start-tag = c .before .before .before .start-tag in
-    root-broken _ _ _ (subst (λ (r : Tag). ElementRead (args .s .now) (args .c .at) (args .spare) r) (c .before .x .given .1) (start-tag .ensures .0))
+    root-broken _ _ _ (subst (λ (r : Tag). ElementRead (args .s .now) (args .c .at) (args .spare) r) (c .before .x .given .1)
+    (start-tag .ensures .0))
 
 returns-2 : tie.Need-returns-2
 returns-2 c =
     let args = c .before .before .before .before .before .before .before .args in
     let start-tag = c .before .before .before .before .start-tag in
     let next = c .before .before .next in
-    root-empty _ _ _ _ (subst (λ (r : Tag). ElementRead (args .s .now) (args .c .at) (args .spare) r) (next .given .1) (start-tag .ensures .0)) (c .behind-root .ensures)
+    root-empty _ _ _ _ (subst (λ (r : Tag). ElementRead (args .s .now) (args .c .at) (args .spare) r) (next .given .1)
+    (start-tag .ensures .0)) (c .behind-root .ensures)
 
 returns-3 : tie.Need-returns-3
 returns-3 c =

@@ -24,7 +24,8 @@ returns-2 c =
     let args = c .before .before .before .before .before .before .args in
     let find-root = c .before .before .before .before .find-root in
     let c-here = c .before .before .c in
-    root-is _ _ _ (search needs) (subst (λ (r : Prolog). RootRead (args .s .now) at-start 0 r) (c-here .given .1) (find-root .ensures)) (c .root-element .ensures)
+    root-is _ _ _ (search needs) (subst (λ (r : Prolog). RootRead (args .s .now) at-start 0 r) (c-here .given .1) (find-root .ensures))
+    (c .root-element .ensures)
 
 pub unlimited-spec : {M : Type 1} → statement M
 unlimited-spec =

@@ -6,7 +6,8 @@ use Rattle.loading.proofs.empty.Statement.{statement}
 use Rattle.loading.proofs.empty.Tie as tie
 
 set-content-requires : tie.Need-set-content-requires
-set-content-requires c κs = let h = c .before .before .before .before .clear-writer .ensures .layout in (h, omega (arith, h .some, h .many), omega arith)
+set-content-requires c κs =
+    let h = c .before .before .before .before .clear-writer .ensures .layout in (h, omega (arith, h .some, h .many), omega arith)
 
 returns : tie.Need-returns
 returns c = let content = c .before .before .before .before .before .before in

@@ -10,7 +10,8 @@ use Rattle.loading.proofs.load.Statement.{statement}
 use Rattle.loading.proofs.load.Tie as tie
 
 returns-2 : tie.Need-returns-2
-returns-2 c = λ i r. load-open (sym (c .before .before .before .before .formed .ensures) ∙ not-false _ (c .before .before .before .if1 .left))
+returns-2 c =
+    λ i r. load-open (sym (c .before .before .before .before .formed .ensures) ∙ not-false _ (c .before .before .before .if1 .left))
     (sym (c .before .any-open .ensures) ∙ c .if2 .taken) i
 
 replace-requires : tie.Need-replace-requires
@@ -33,7 +34,8 @@ sub-t19 c =
 returns-3 : tie.Need-returns-3
 returns-3 c = let o = c .before .before .before .before in
     let f = o .before .before .before in
-    λ i r. load-failed (sym (f .before .formed .ensures) ∙ not-false _ (f .if1 .left)) (sym (o .before .any-open .ensures) ∙ o .if2 .left) _ _
+    λ i r. load-failed (sym (f .before .formed .ensures) ∙ not-false _ (f .if1 .left)) (sym (o .before .any-open .ensures) ∙ o .if2 .left) _
+    _
     (fails _ (omega arith) _ _ _ _ (c .before .cause .given .1) (c .before .before .before .judge .ensures)) i r
 
 returns-4 : tie.Need-returns-4
@@ -45,7 +47,8 @@ returns-4 c =
     let f = o .before .before .before in
     let good = sym (f .before .formed .ensures) ∙ not-false _ (f .if1 .left) in
     let none-open = sym (o .before .any-open .ensures) ∙ o .if2 .left in
-    λ i r. load-granted good none-open _ (stands _ (omega arith) (omega arith) _ _ _ (count .given .1) (judge .ensures)) (replace .ensures) i r
+    λ i r. load-granted good none-open _ (stands _ (omega arith) (omega arith) _ _ _ (count .given .1) (judge .ensures)) (replace .ensures)
+    i r
 
 pub load-spec : {M : Type 1} → statement M
 load-spec =

@@ -29,10 +29,12 @@ use Rattle.loading.specs.Laws.Opens.{none-open}
 
 -- the function `replace` ---------------------------------------------------------------------
 
-pub begun : {x s s′ : List ℕ} {left : ℕ} {q : ℕ → Bool} → Stands node-limit x left → Left s s′ q (flat 0 (tree-of node-0-alone)) → Begun x s′
+pub begun : {x s s′ : List ℕ} {left : ℕ} {q : ℕ → Bool} → Stands node-limit x left → Left s s′ q (flat 0 (tree-of node-0-alone))
+    → Begun x s′
 begun d k = record { shape = d .shape; spelled = d .spelled; few = d .few; short = d .short; layout = k .layout; alone = k .nodes }
 
-pub replaced : {x s s′ s″ : List ℕ} → any (is-open s) transactions ≡ false → Left s s′ (is-open s) (flat 0 (tree-of node-0-alone)) → Filled x s′ s″
+pub replaced : {x s s′ s″ : List ℕ} → any (is-open s) transactions ≡ false → Left s s′ (is-open s) (flat 0 (tree-of node-0-alone))
+    → Filled x s′ s″
     → Replaced x s s″
 replaced {s = s} e k f = record {
   layout = f .layout;

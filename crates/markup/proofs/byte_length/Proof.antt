@@ -6,10 +6,18 @@ use Rattle.markup.proofs.byte_length.Statement.{statement}
 use Rattle.markup.proofs.byte_length.Tie as tie
 
 add-result-3 : tie.Need-add-result-3
-add-result-3 c = omega (arith, bool-byte-small (eqb (c .args .b) 38), bool-byte-small (eqb (c .args .b) 60), bool-byte-small (eqb (c .args .b) 62))
+add-result-3 c =
+    omega (arith, bool-byte-small (eqb (c .args .b) 38), bool-byte-small (eqb (c .args .b) 60), bool-byte-small (eqb (c .args .b) 62))
 
 add-result-4 : tie.Need-add-result-4
-add-result-4 c = omega (arith, bool-byte-small (eqb (c .args .b) 38), bool-byte-small (eqb (c .args .b) 60), bool-byte-small (eqb (c .args .b) 62), bool-byte-small (eqb (c .args .b) 34))
+add-result-4 c =
+    omega (
+      arith,
+      bool-byte-small (eqb (c .args .b) 38),
+      bool-byte-small (eqb (c .args .b) 60),
+      bool-byte-small (eqb (c .args .b) 62),
+      bool-byte-small (eqb (c .args .b) 34),
+    )
 
 pub byte-length-spec : {M : Type 1} → statement M
 byte-length-spec =

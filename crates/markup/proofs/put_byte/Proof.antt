@@ -14,14 +14,16 @@ slice-write-out c =
     let c2 = c .before .before in
     let c3 = c2 .before in
     let c5 = c3 .before .before in
-    let h : 1 ≤ length (c5 .args .out .now) = rw (escape-plain _ (c3 .if1 .left) (c2 .if2 .left) (c .before .if3 .left) (c .if4 .left)) at (c5 .pre) in search needs
+    let h : 1 ≤ length (c5 .args .out .now) = rw (escape-plain _ (c3 .if1 .left) (c2 .if2 .left) (c .before .if3 .left) (c .if4 .left)) at
+    (c5 .pre) in search needs
 
 returns-5 : tie.Need-returns-5
 returns-5 c =
     let c2 = c .before .before in
     let c3 = c2 .before in
     let c5 = c3 .before .before in
-    let e = escape-plain _ (c3 .if1 .left) (c2 .if2 .left) (c .before .if3 .left) (c .if4 .left) in wrote-as (sym e) (wrote-byte _ _ (rw e at (c5 .pre)))
+    let e = escape-plain _ (c3 .if1 .left) (c2 .if2 .left) (c .before .if3 .left) (c .if4 .left) in
+    wrote-as (sym e) (wrote-byte _ _ (rw e at (c5 .pre)))
 
 pub put-byte-spec : {M : Type 1} → statement M
 put-byte-spec =

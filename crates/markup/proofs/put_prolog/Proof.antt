@@ -13,11 +13,15 @@ put-requires c κs = omega (arith, c .before .before .before .pre)
 
 sub-put : tie.Need-sub-put
 unfolding prolog
-sub-put c = inside long-declaration (line-feed ∷ []) _ _ _ (c .before .before .put .ensures) (c .before .before .before .before .before .before .pre)
+sub-put c =
+    inside long-declaration (line-feed ∷ []) _ _ _ (c .before .before .put .ensures)
+    (c .before .before .before .before .before .before .pre)
 
 part-put-start : tie.Need-part-put-start
 unfolding prolog
-part-put-start c = inside long-declaration (line-feed ∷ []) _ _ _ (c .before .before .put .ensures) (c .before .before .before .before .before .before .pre)
+part-put-start c =
+    inside long-declaration (line-feed ∷ []) _ _ _ (c .before .before .put .ensures)
+    (c .before .before .before .before .before .before .pre)
 
 put-requires-2 : tie.Need-put-requires-2
 unfolding prolog

@@ -1,7 +1,7 @@
 use borrow.Author.Needs.{needs}
 use native.Mathlib.Omega.{arith}
-use Rattle.measuring.specs.Laws.Measure.{Measuring, measuring-start, too-few, measured-long, measured-sum}
-use Rattle.measuring.specs.Laws.Measure.{measured-refused, measured-on}
+use Rattle.measuring.specs.Laws.Measure.{Measuring, measuring-start, too-few, measured-long, measured-sum, measured-refused}
+use Rattle.measuring.specs.Laws.Measure.{measured-on}
 use Rattle.measuring.specs.Laws.Walk.{walk-below, walk-deep, walk-parent, walk-kind}
 use Rattle.committed.specs.Laws.Contents.{kind-at}
 use Rattle.layout.specs.Layout.{nodes}

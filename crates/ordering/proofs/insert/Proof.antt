@@ -37,4 +37,5 @@ insert-spec =
     loop-again
     (λ c. search needs)
     (λ c. search needs)
-    (λ c. let c2 = c .before .before in shift-end (c .before .loop .inv .2) _ (omega arith) (c2 .pre .0) (omega (arith, c2 .pre .1, c2 .pre .2))))
+    (λ c. let c2 = c .before .before in shift-end (c .before .loop .inv .2) _ (omega arith) (c2 .pre .0)
+    (omega (arith, c2 .pre .1, c2 .pre .2))))

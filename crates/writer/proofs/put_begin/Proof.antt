@@ -48,8 +48,13 @@ put-opening-requires : tie.Need-put-opening-requires
 put-opening-requires c κs =
     let c3 = c .before .before .before in
     let c5 = c3 .before .before in
-    let c8 = c5 .before .before .before in
-    (c8 .pre .0, c8 .pre .1, c8 .pre .2, (next-opening _ _ _ (λ e. c5 .if1 .left (c8 .pre .2 ∙ e)) (c3 .put-tag-end .ensures) (c8 .pre .3)) .room)
+    let c8 = c5 .before .before .before in (
+      c8 .pre .0,
+      c8 .pre .1,
+      c8 .pre .2,
+      (next-opening _ _ _ (λ e. c5 .if1 .left (c8 .pre .2 ∙ e)) (c3 .put-tag-end .ensures) (c8 .pre .3))
+          .room,
+    )
 
 add-result : tie.Need-add-result
 add-result c =
@@ -57,7 +62,12 @@ add-result c =
     let c6 = c2 .before .before .before .before in
     let c8 = c6 .before .before in
     let c11 = c8 .before .before .before in
-    omega (arith, (next-opening _ _ _ (λ e. c8 .if1 .left (c11 .pre .2 ∙ e)) (c6 .put-tag-end .ensures) (c11 .pre .3)) .small, c2 .put-opening .ensures .count)
+    omega (
+      arith,
+      (next-opening _ _ _ (λ e. c8 .if1 .left (c11 .pre .2 ∙ e)) (c6 .put-tag-end .ensures) (c11 .pre .3)) .small,
+      c2
+          .put-opening .ensures .count,
+    )
 
 returns-2 : tie.Need-returns-2
 returns-2 c =

@@ -17,7 +17,8 @@ use Rattle.writer.proofs.put_body.Tie as tie
 
 abbrev Inv-loop : tie.InvT-loop
 Inv-loop out₀ s places count first path₀ kinds₀ top₀ at₀ i₀ out path kinds top at i = (i ≤ count) × (length out ≡ length out₀)
-    × Walk (nodes s) places path kinds top i × Partly (body (lines (nodes s) places count)) (from (nodes s) places count path top i) out₀ out at
+    × Walk (nodes s) places path kinds top i
+    × Partly (body (lines (nodes s) places count)) (from (nodes s) places count path top i) out₀ out at
 
 abbrev μ-loop : tie.MeasureT-loop
 μ-loop out₀ s places count first path₀ kinds₀ top₀ at₀ i₀ out path kinds top at i = count - i
@@ -137,7 +138,8 @@ loop-again c =
       omega arith,
       search needs,
       walk-on (c15 .pre .1) (c10 .loop .inv .2) (omega arith) (c7 .depth .ensures) refl (c6 .kind2 .ensures ∙ sym (kind-at _ _)),
-      (next-row (c15 .pre .1) (c10 .loop .inv .2) (omega arith) refl (c7 .depth .ensures) (c10 .loop .inv .3) (c15 .pre .2)) .on _ _ (c2 .put-row .ensures),
+      (next-row (c15 .pre .1) (c10 .loop .inv .2) (omega arith) refl (c7 .depth .ensures) (c10 .loop .inv .3) (c15 .pre .2)) .on _ _
+          (c2 .put-row .ensures),
     )
 
 sub-put-last-ends : tie.Need-sub-put-last-ends Inv-loop μ-loop
@@ -165,7 +167,12 @@ add-result c =
     let c2 = c .before .before in
     let c7 = c2 .before .before .before .before .before in
     let c12 = c7 .before .before .before .before .before in
-    omega (arith, (last-ends (c12 .pre .1) (c7 .loop .inv .2) (omega arith) (c7 .loop .inv .3) (c12 .pre .2)) .small, c2 .put-last-ends .ensures .count)
+    omega (
+      arith,
+      (last-ends (c12 .pre .1) (c7 .loop .inv .2) (omega arith) (c7 .loop .inv .3) (c12 .pre .2)) .small,
+      c2 .put-last-ends
+          .ensures .count,
+    )
 
 returns : tie.Need-returns Inv-loop μ-loop
 returns c =

@@ -44,7 +44,8 @@ returns-3 c =
     let c6 = c5 .before in
     let c7 = c6 .before in
     let c11 = c7 .before .before .before .before in
-    wrote-as (sym (end-empty _ _ (sym (c11 .pre .2) ∙ c7 .if2 .left) (sym (c6 .in-start-tag .ensures) ∙ c5 .if3 .taken))) (c2 .put2 .ensures)
+    wrote-as (sym (end-empty _ _ (sym (c11 .pre .2) ∙ c7 .if2 .left) (sym (c6 .in-start-tag .ensures) ∙ c5 .if3 .taken)))
+    (c2 .put2 .ensures)
 
 put-between-requires : tie.Need-put-between-requires
 put-between-requires c κs =
@@ -63,7 +64,8 @@ returns-4 c =
     let c7 = c6 .before in
     let c8 = c7 .before in
     let c12 = c8 .before .before .before .before in
-    wrote-as (sym (end-tag _ _ (sym (c12 .pre .2) ∙ c8 .if2 .left) (sym (c7 .in-start-tag .ensures) ∙ c6 .if3 .left))) (c2 .put-between .ensures)
+    wrote-as (sym (end-tag _ _ (sym (c12 .pre .2) ∙ c8 .if2 .left) (sym (c7 .in-start-tag .ensures) ∙ c6 .if3 .left)))
+    (c2 .put-between .ensures)
 
 pub put-end-spec : {M : Type 1} → statement M
 put-end-spec =

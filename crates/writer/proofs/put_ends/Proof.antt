@@ -42,10 +42,16 @@ put-ends-spec =
     (λ c. search needs)
     (λ c. omega (arith, ends-on (c .before .before .before .before .pre) (c .before .loop .inv .1) (omega arith) .index))
     (λ c. ends-on (c .before .before .before .before .pre) (c .before .loop .inv .1) (omega arith) .index)
-    (λ c. omega (arith, ends-on (c .before .before .before .before .before .pre) (c .before .before .loop .inv .1) (omega arith) .small-place))
+    (λ c. omega (
+      arith,
+      ends-on (c .before .before .before .before .before .pre) (c .before .before .loop .inv .1) (omega arith)
+          .small-place,
+    ))
     (λ c. ends-on (c .before .before .before .before .before .pre) (c .before .before .loop .inv .1) (omega arith) .index)
-    (λ c. ends-on (c .before .before .before .before .before .before .pre) (c .before .before .before .loop .inv .1) (omega arith) .piece .inside)
-    (λ c. ends-on (c .before .before .before .before .before .before .pre) (c .before .before .before .loop .inv .1) (omega arith) .piece .inside)
+    (λ c. ends-on (c .before .before .before .before .before .before .pre) (c .before .before .before .loop .inv .1) (omega arith) .piece
+    .inside)
+    (λ c. ends-on (c .before .before .before .before .before .before .pre) (c .before .before .before .loop .inv .1) (omega arith) .piece
+    .inside)
     (λ c. search needs)
     put-end-requires
     add-at

@@ -12,15 +12,19 @@ measure-requires : tie.Need-measure-requires
 measure-requires c κs =
     let c2 = c .before .before in
     let c3 = c2 .before in
-    let c4 = c3 .before in
-    (form-layout (sym (c4 .formed .ensures) ∙ not-false _ (c3 .if1 .left)), listed (form-holds _ (sym (c4 .formed .ensures) ∙ not-false _ (c3 .if1 .left)) .1) (c2 .select .ensures))
+    let c4 = c3 .before in (
+      form-layout (sym (c4 .formed .ensures) ∙ not-false _ (c3 .if1 .left)),
+      listed
+          (form-holds _ (sym (c4 .formed .ensures) ∙ not-false _ (c3 .if1 .left)) .1) (c2 .select .ensures),
+    )
 
 returns-2 : tie.Need-returns-2
 returns-2 c =
     let c4 = c .before .before .before .before in
     let c5 = c4 .before in
     let c6 = c5 .before in
-    write-14 (sym (c6 .formed .ensures) ∙ not-false _ (c5 .if1 .left)) (c4 .select .ensures) (c .before .measure .ensures .0) _ (c .if2 .taken)
+    write-14 (sym (c6 .formed .ensures) ∙ not-false _ (c5 .if1 .left)) (c4 .select .ensures) (c .before .measure .ensures .0) _
+    (c .if2 .taken)
 
 returns-3 : tie.Need-returns-3
 returns-3 c =
@@ -28,7 +32,8 @@ returns-3 c =
     let c5 = c2 .before .before .before in
     let c6 = c5 .before in
     let c7 = c6 .before in
-    write-13 (sym (c7 .formed .ensures) ∙ not-false _ (c6 .if1 .left)) (c5 .select .ensures) (c2 .measure .ensures .0) (c .before .if2 .left) _ (omega arith)
+    write-13 (sym (c7 .formed .ensures) ∙ not-false _ (c6 .if1 .left)) (c5 .select .ensures) (c2 .measure .ensures .0)
+    (c .before .if2 .left) _ (omega arith)
 
 put-document-requires : tie.Need-put-document-requires
 put-document-requires c κs =
@@ -52,7 +57,8 @@ returns-4 c =
     let c10 = c7 .before .before .before in
     let c11 = c10 .before in
     let c12 = c11 .before in
-    write-granted (sym (c12 .formed .ensures) ∙ not-false _ (c11 .if1 .left)) (c10 .select .ensures) (c7 .measure .ensures .0) (c6 .if2 .left) _ _ (omega arith)
+    write-granted (sym (c12 .formed .ensures) ∙ not-false _ (c11 .if1 .left)) (c10 .select .ensures) (c7 .measure .ensures .0)
+    (c6 .if2 .left) _ _ (omega arith)
     (c2 .put-document .ensures) (search needs)
 
 pub write-spec : {M : Type 1} → statement M

@@ -1,24 +1,32 @@
 -- The four places of cause 6, in document 01's words: where a node begins that the byte at i makes certain.
-use Prim.Native.Nat.{ℕ, zero, suc, _+_, _≤_, _<_}
-use mathlib.Core.Path.{_≡_, refl, sym, ap, _∙_, subst}
-use mathlib.Core.Bool.{Bool, true, false, cond, _||_, or-true}
+use Prim.Native.Nat.{ℕ, zero, suc, _≤_, _<_}
+use mathlib.Core.Path.{_≡_, refl, ap, subst}
+use mathlib.Core.Bool.{Bool, true, false, _||_, or-true}
 use mathlib.Core.Logic.{_⊎_, inl, inr}
 use mathlib.Core.List.{List, [], _∷_, _++_, append-nil}
 use native.Mathlib.Omega.{arith}
-use lib.Dec.{eqb, leb}
+use lib.Dec.{eqb}
 use lib.ListN.{length, take, getD}
 use lib.Seq.{take-suc}
-use borrow.Author.Tests.{leb-true, leb-false}
-use Rattle.tree.specs.Content.{name-start, text-byte}
+use Rattle.tree.specs.Content.{name-start}
 use Rattle.xml.specs.Bytes.{ampersand, less-than, greater-than, blank, Quote, double, single, mark, value-literal, text-literal}
 use Rattle.xml.specs.Grammar.{Name}
-use Rattle.xml.specs.Reading.{ManyNodes, Forces, FirstForced, opener, node-offset}
-use Rattle.xml.specs.Laws.Automaton.{Config, at-start, behind-first, prolog, behind-root, epilog, declaration, tag-name, behind-part, in-tag}
-use Rattle.xml.specs.Laws.Automaton.{before-equals, behind-equals, behind-slash, attribute-name, behind-quote, in-value, value-reference}
-use Rattle.xml.specs.Laws.Automaton.{content, behind-open, in-text, text-reference, end-name, closed, Event, Reads, stay, on}
-use Rattle.xml.specs.Laws.Transitions.{TagStep, tag-blank, tag-slash, tag-close, Step, step-is, for-blanks, s-start-blank, s-start-open, s-first-name, s-first-declaration, s-declaration-end, s-declaration-on, s-prolog-blank, s-prolog-open, s-root-name, s-tag-name, s-tag-name-end, s-behind, s-in-tag, s-in-tag-name, s-attribute, s-attribute-blank, s-attribute-equals, s-before-blank, s-before-equals, s-equals-blank, s-equals-quote, s-quote-byte, s-quote-reference, s-quote-end, s-value-byte, s-value-reference, s-value-end, s-value-word-end, s-value-word-on, s-slash, s-content-byte, s-content-reference, s-content-open, s-text-byte, s-text-reference, s-text-open, s-text-word-end, s-text-word-on, s-open-name, s-open-slash, s-end-byte, s-end-blank, s-end-close, s-epilog}
+use Rattle.xml.specs.Reading.{ManyNodes, FirstForced, opener, node-offset}
+use Rattle.xml.specs.Laws.Automaton.{Config, at-start, behind-first, prolog, behind-root, epilog, declaration, tag-name, behind-part}
+use Rattle.xml.specs.Laws.Automaton.{in-tag, before-equals, behind-equals, behind-slash, attribute-name, behind-quote, in-value}
+use Rattle.xml.specs.Laws.Automaton.{value-reference, content, behind-open, in-text, text-reference, end-name, closed, Event, Reads}
+use Rattle.xml.specs.Laws.Automaton.{stay, on}
+use Rattle.xml.specs.Laws.Transitions.{TagStep, tag-blank, tag-slash, tag-close, Step, step-is, for-blanks, s-start-blank}
+use Rattle.xml.specs.Laws.Transitions.{s-start-open, s-first-name, s-first-declaration, s-declaration-end, s-declaration-on}
+use Rattle.xml.specs.Laws.Transitions.{s-prolog-blank, s-prolog-open, s-root-name, s-tag-name, s-tag-name-end, s-behind, s-in-tag}
+use Rattle.xml.specs.Laws.Transitions.{s-in-tag-name, s-attribute, s-attribute-blank, s-attribute-equals, s-before-blank}
+use Rattle.xml.specs.Laws.Transitions.{s-before-equals, s-equals-blank, s-equals-quote, s-quote-byte, s-quote-reference, s-quote-end}
+use Rattle.xml.specs.Laws.Transitions.{s-value-byte, s-value-reference, s-value-end, s-value-word-end, s-value-word-on, s-slash}
+use Rattle.xml.specs.Laws.Transitions.{s-content-byte, s-content-reference, s-content-open, s-text-byte, s-text-reference}
+use Rattle.xml.specs.Laws.Transitions.{s-text-open, s-text-word-end, s-text-word-on, s-open-name, s-open-slash, s-end-byte}
+use Rattle.xml.specs.Laws.Transitions.{s-end-blank, s-end-close, s-epilog}
 use Rattle.xml.specs.Laws.Counts.{births, births-append}
-use Rattle.xml.specs.Laws.Completions.{Cut, cut, viable-read}
+use Rattle.xml.specs.Laws.Completions.{cut, viable-read}
 use Rattle.xml.specs.Laws.Forces.{many-forced, few-free}
 
 -- a byte that a value in these quotes may begin with
@@ -161,7 +169,8 @@ begun-at s zero l r x = absurd (start r x)
     start : {v : List Event} {c : Config} → Reads true at-start [] v c → Begins (place c) (getD s 0 0) → ⊥
     start stay x = x
 begun-at s (suc i) {v} {c} l r x =
-    opens s i (place c) (before (take i s) (getD s i 0) (subst (λ (p : List ℕ). Reads true at-start p v c) (take-suc s i 0 (omega arith)) r)) x
+    opens s i (place c) (before (take i s) (getD s i 0) (subst (λ (p : List ℕ). Reads true at-start p v c) (take-suc s i 0 (omega arith))
+    r)) x
 
 begins-with : {a d : Config} {b : ℕ} {v : List Event} → Reads true a (b ∷ []) v d → 1 ≤ births v → Begins (place a) b
 begins-with {a} {b = b} (on {v = v} h stay) k = go (facts (step-is h) .0)

@@ -1,17 +1,18 @@
 -- The children that a document of the grammar can have, and that its trees have them.
 use Prim.Native.Nat.{ℕ}
 use mathlib.Core.Path.{_≡_, refl, sym}
-use mathlib.Core.Bool.{Bool, true, false, not, _&&_, _||_, false≢true}
-use mathlib.Core.List.{List, [], _∷_, _++_}
+use mathlib.Core.Bool.{Bool, true, false, _&&_, _||_, false≢true}
+use mathlib.Core.List.{List, [], _∷_}
 use Rattle.tree.specs.Lists.{every}
 use Rattle.tree.specs.Forest.{nil, node}
-use Rattle.tree.specs.Content.{text-byte, name-start, name-byte, spells-name}
+use Rattle.tree.specs.Content.{text-byte, name-byte, spells-name}
 use Rattle.xml.specs.Bytes.{Quote, used, value-literal, text-literal}
 use Rattle.xml.specs.Shape.{Shape, element, attribute, text}
-use Rattle.xml.specs.Grammar.{Name, NameBytes, no-name-byte, name-byte-then, Named, name, Entity, entity-amp, entity-apos, entity-gt, entity-lt}
-use Rattle.xml.specs.Grammar.{entity-quot, Value, value-close, value-byte, value-entity, Chars, chars-end, chars-byte, chars-entity, text-node}
-use Rattle.xml.specs.Grammar.{Place, unspaced, spaced, inside, opened, Derives, spacing, empty, full, more, derive-attribute, derive-text, markup}
-use Rattle.xml.specs.Grammar.{derive-element, end-tag, Root, root, Parses, bare, declared-short, declared-long, Spells}
+use Rattle.xml.specs.Grammar.{Name, NameBytes, no-name-byte, name-byte-then, Named, name, Entity, entity-amp, entity-apos, entity-gt}
+use Rattle.xml.specs.Grammar.{entity-lt, entity-quot, Value, value-close, value-byte, value-entity, Chars, chars-end, chars-byte}
+use Rattle.xml.specs.Grammar.{chars-entity, text-node, Place, unspaced, spaced, inside, opened, Derives, spacing, empty, full, more}
+use Rattle.xml.specs.Grammar.{derive-attribute, derive-text, markup, derive-element, end-tag, Root, root, bare, declared-short}
+use Rattle.xml.specs.Grammar.{declared-long, Spells}
 
 -- where among the children of an element: among the attributes, those before named; behind them; behind a text
 pub data Spot : Type 0 where
@@ -21,10 +22,13 @@ pub data Spot : Type 0 where
 -- children that may stand from there on
 pub data Formed : Spot → Shape → Type 0 where
   formed-nil : {p : Spot} → Formed p nil
-  formed-attribute : {seen : List Name} {a : Name} (c : List ℕ) {f : Shape} → spells-name a ≡ true → used seen a ≡ false → every text-byte c ≡ true
+  formed-attribute : {seen : List Name} {a : Name} (c : List ℕ) {f : Shape} → spells-name a ≡ true → used seen a ≡ false
+      → every text-byte c ≡ true
       → Formed (attributes (a ∷ seen)) f → Formed (attributes seen) (node (attribute a) (text-node c) f)
-  formed-text : {b : ℕ} {c : List ℕ} {f : Shape} → every text-byte (b ∷ c) ≡ true → Formed behind-text f → Formed children (node (text (b ∷ c)) nil f)
-  formed-element : {m : Name} {g f : Shape} → spells-name m ≡ true → Formed (attributes []) g → Formed children f → Formed behind-text (node (element m) g f)
+  formed-text : {b : ℕ} {c : List ℕ} {f : Shape} → every text-byte (b ∷ c) ≡ true → Formed behind-text f
+      → Formed children (node (text (b ∷ c)) nil f)
+  formed-element : {m : Name} {g f : Shape} → spells-name m ≡ true → Formed (attributes []) g → Formed children f
+      → Formed behind-text (node (element m) g f)
   no-text : {f : Shape} → Formed behind-text f → Formed children f
   no-attribute : {seen : List Name} {f : Shape} → Formed children f → Formed (attributes seen) f
 

@@ -1,4 +1,6 @@
-use Rattle.reader.specs.Laws.StartTags.{placed-at}
+use Rattle.reader.specs.Laws.StartTags.{placed-at, AttributesTo, attributes-start, attributes-wrong, attributes-open}
+use Rattle.reader.specs.Laws.StartTags.{attributes-empty, attributes-bad, attributes-turn, attribute-here, attribute-behind}
+use Rattle.reader.specs.Laws.StartTags.{attribute-entered, kept-same, kept-less}
 use Prim.Native.Nat.{_+_, _-_, _≤_}
 use mathlib.Core.Path.{_≡_, _∙_, subst}
 use native.Mathlib.Omega.{arith}
@@ -6,14 +8,10 @@ use borrow.Author.Needs.{needs}
 use lib.ListN.{length}
 use Rattle.xml.specs.Laws.Automaton.{behind-part}
 use Rattle.reader.specs.declared.Item.{Item}
-use Rattle.reader.specs.declared.Read.{Read}
 use Rattle.reader.specs.Steps.{TagRead}
 use Rattle.ordering.specs.Sorted.{Increasing}
 use Rattle.ordering.specs.Laws.Sorted.{increasing-none}
-use Rattle.reader.specs.Elements.{Placed, Kept, attribute-names, AttributeEnters}
-use Rattle.reader.specs.Laws.StartTags.{AttributesTo, attributes-start, attributes-wrong, attributes-open, attributes-empty}
-use Rattle.reader.specs.Laws.StartTags.{attributes-bad, attributes-turn}
-use Rattle.reader.specs.Laws.StartTags.{attribute-here, attribute-behind, attribute-entered, kept-same, kept-less}
+use Rattle.reader.specs.Elements.{Placed, Kept, attribute-names}
 use Rattle.reader.proofs.Cursor.attributes.Statement.{statement}
 use Rattle.reader.proofs.Cursor.attributes.Tie as tie
 

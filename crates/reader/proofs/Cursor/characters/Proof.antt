@@ -7,8 +7,8 @@ use lib.ListN.{length, drop}
 use Rattle.xml.specs.Laws.Fixed.{entity-at}
 use Rattle.reader.specs.declared.Reference.{Reference}
 use Rattle.reader.specs.Steps.{Refers, one-byte, by-reference}
-use Rattle.reader.specs.Laws.Characters.{CharactersTo, characters-start, characters-end, characters-stop, characters-wrong, characters-full}
-use Rattle.reader.specs.Laws.Characters.{characters-lost, characters-turn, characters-reference, character-inside}
+use Rattle.reader.specs.Laws.Characters.{CharactersTo, characters-start, characters-end, characters-stop, characters-wrong}
+use Rattle.reader.specs.Laws.Characters.{characters-full, characters-lost, characters-turn, characters-reference, character-inside}
 use Rattle.reader.proofs.Cursor.characters.Statement.{statement}
 use Rattle.reader.proofs.Cursor.characters.Tie as tie
 
@@ -27,7 +27,8 @@ returns-2 : tie.Need-returns-2 Inv-loop μ-loop
 returns-2 c =
     let loop = c .before .before .before .before .before .loop in
     let if1 = c .before .before .if1 in
-    characters-wrong _ _ _ _ _ _ _ (loop .inv .3) (search needs) (if1 .left) (sym (c .before .may-stand .ensures) ∙ not-true _ (c .if2 .taken))
+    characters-wrong _ _ _ _ _ _ _ (loop .inv .3) (search needs) (if1 .left)
+    (sym (c .before .may-stand .ensures) ∙ not-true _ (c .if2 .taken))
 
 returns-3 : tie.Need-returns-3 Inv-loop μ-loop
 returns-3 c =

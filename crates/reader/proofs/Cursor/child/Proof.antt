@@ -13,7 +13,8 @@ tag-requires c κs =
     let pre = c .before .before .before .before .before .before .pre in
     let content = c .before .before .before .before .content in
     let c-here = c .before .before .c in
-    behind-text (pre .1) (subst (λ (r : Read). ContentRead (a .s .now) less-than (a .self .at) (a .spare) r) (c-here .given .1) (content .ensures))
+    behind-text (pre .1) (subst (λ (r : Read). ContentRead (a .s .now) less-than (a .self .at) (a .spare) r) (c-here .given .1)
+    (content .ensures))
 
 returns : tie.Need-returns
 returns c =
@@ -30,7 +31,8 @@ returns-2 c =
     let content = c .before .before .before .before .before .content in
     let c-here = c .before .before .before .c in
     text-past (a .s .now) (a .names .now) (a .depth) (a .spare) (a .self .at) (pre .1) _
-    (subst (λ (r : Read). ContentRead (a .s .now) less-than (a .self .at) (a .spare) r) (c-here .given .1) (content .ensures)) (c .tag .ensures)
+    (subst (λ (r : Read). ContentRead (a .s .now) less-than (a .self .at) (a .spare) r) (c-here .given .1) (content .ensures))
+    (c .tag .ensures)
 
 pub child-spec : {M : Type 1} → statement M
 child-spec =

@@ -24,7 +24,8 @@ returns-5 c =
     let if2 = c .before .before .before .before .if2 in
     let may-stand = c .before .before .before .may-stand in
     let if3 = c .before .before .if3 in
-    content-rest _ _ _ _ (search needs) (if2 .left) (sym (may-stand .ensures) ∙ not-false _ (if3 .left)) (search needs) (c .characters .ensures)
+    content-rest _ _ _ _ (search needs) (if2 .left) (sym (may-stand .ensures) ∙ not-false _ (if3 .left)) (search needs)
+    (c .characters .ensures)
 
 pub content-spec : {M : Type 1} → statement M
 content-spec =

@@ -5,7 +5,9 @@ use Rattle.reader.proofs.Cursor.root.Statement.{statement}
 use Rattle.reader.proofs.Cursor.root.Tie as tie
 
 returns-3 : tie.Need-returns-3
-returns-3 c = name-over _ _ _ (c .before .before .before .before .blanks .ensures) (c .before .before .before .if1 .left) (c .before .if2 .left) (c .if3 .taken)
+returns-3 c =
+    name-over _ _ _ (c .before .before .before .before .blanks .ensures) (c .before .before .before .if1 .left) (c .before .if2 .left)
+    (c .if3 .taken)
 
 returns-4 : tie.Need-returns-4
 returns-4 c =

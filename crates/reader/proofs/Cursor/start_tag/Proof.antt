@@ -28,8 +28,10 @@ returns-2 c =
     let name = c .before .before .before .before .name in
     let if1 = c .before .before .if1 in (
       element-rest _ _ _ _ (pre .0) (name .ensures) (if1 .left) (c .attributes .ensures .0),
-      kept-less _ _ _ _ _ (kept-set _ _ _ (a .depth) (a .self .at) (kept-same _ _) (search needs)) (c .attributes .ensures .1) (omega arith),
-      c .attributes .ensures .1 .kept (a .depth) (omega arith) ∙ getD-set-same (a .names .now) (a .depth) (a .self .at) 0 (omega (arith, pre .3)),
+      kept-less _ _ _ _ _ (kept-set _ _ _ (a .depth) (a .self .at) (kept-same _ _) (search needs)) (c .attributes .ensures .1)
+          (omega arith),
+      c .attributes .ensures .1 .kept (a .depth) (omega arith)
+          ∙ getD-set-same (a .names .now) (a .depth) (a .self .at) 0 (omega (arith, pre .3)),
     )
 
 pub start-tag-spec : {M : Type 1} → statement M

@@ -58,7 +58,8 @@ returns-5 c =
     let if3 = c .before .before .before .before .before .before .if3 in
     let if4 = c .before .before .before .before .before .if4 in
     let start-tag = c .before .before .before .start-tag in
-    start-opened (a .s .now) (a .names .now) (a .depth) (a .spare) (a .self .at) (pre .1) (if1 .left) (sym (name-start .ensures) ∙ not-false _ (if3 .left))
+    start-opened (a .s .now) (a .names .now) (a .depth) (a .spare) (a .self .at) (pre .1) (if1 .left)
+    (sym (name-start .ensures) ∙ not-false _ (if3 .left))
     (search needs) _ (start-tag .ensures .1) (start-tag .ensures .2)
     (subst (λ (r : Tag). ElementRead (a .s .now) (a .self .at) (a .spare - 1) r) (c .before .c .given .1) (start-tag .ensures .0))
 
@@ -71,7 +72,8 @@ returns-6 c =
     let if3 = c .before .before .before .before .before .before .if3 in
     let if4 = c .before .before .before .before .before .if4 in
     let start-tag = c .before .before .before .start-tag in
-    start-emptied (a .s .now) (a .names .now) (a .depth) (a .spare) (a .self .at) (pre .1) (if1 .left) (sym (name-start .ensures) ∙ not-false _ (if3 .left))
+    start-emptied (a .s .now) (a .names .now) (a .depth) (a .spare) (a .self .at) (pre .1) (if1 .left)
+    (sym (name-start .ensures) ∙ not-false _ (if3 .left))
     (search needs) _ (start-tag .ensures .1)
     (subst (λ (r : Tag). ElementRead (a .s .now) (a .self .at) (a .spare - 1) r) (c .before .c2 .given .1) (start-tag .ensures .0))
 
@@ -84,7 +86,8 @@ returns-7 c =
     let if3 = c .before .before .before .before .before .before .if3 in
     let if4 = c .before .before .before .before .before .if4 in
     let start-tag = c .before .before .before .start-tag in
-    start-broken (a .s .now) (a .names .now) (a .depth) (a .spare) (a .self .at) (pre .1) (if1 .left) (sym (name-start .ensures) ∙ not-false _ (if3 .left))
+    start-broken (a .s .now) (a .names .now) (a .depth) (a .spare) (a .self .at) (pre .1) (if1 .left)
+    (sym (name-start .ensures) ∙ not-false _ (if3 .left))
     (search needs) _ (start-tag .ensures .1)
     (subst (λ (r : Tag). ElementRead (a .s .now) (a .self .at) (a .spare - 1) r) (c .before .x .given .1) (start-tag .ensures .0))
 
