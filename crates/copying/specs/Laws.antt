@@ -13,47 +13,50 @@ abbrev pub ending : ℕ → List ℕ → List ℕ
 ending at p = take (length p - at) (drop at p)
 
 -- a window of W bytes is written at the start of a piece p; another one, at its end, begins at length p - W
-module _ (p o₀ o : List ℕ) (W r : ℕ) (w : Wrote (take W p) o₀ o r) (low : W ≤ length p) (high : length p ≤ W + W) (h : length p ≤ length o₀) where
-  wide : length (take W p) ≡ W
-  wide = length-take-le W p low
+module _ (p o₀ o : List ℕ) (W r : ℕ) (w : Wrote (take W p) o₀ o r) (low : W ≤ length p) (high : length p ≤ W + W) (h : length p ≤ length o₀)
+  where
+    wide : length (take W p) ≡ W
+    wide = length-take-le W p low
 
-  long : length o ≡ length o₀
-  long = ap length (w .bytes) ∙ simp (length-append, length-drop) (omega (arith, wide))
+    long : length o ≡ length o₀
+    long = ap length (w .bytes) ∙ simp (length-append, length-drop) (omega (arith, wide))
 
-  -- what stands before the second window
-  front : take (length p - W) o ≡ take (length p - W) p
-  front =
-      ap (take (length p - W)) (w .bytes) ∙ take-append-le (length p - W) (take W p) _ (omega (arith, wide))
-      ∙ take-take (length p - W) W p (omega arith)
+    -- what stands before the second window
+    front : take (length p - W) o ≡ take (length p - W) p
+    front =
+        ap (take (length p - W)) (w .bytes) ∙ take-append-le (length p - W) (take W p) _ (omega (arith, wide))
+        ∙ take-take (length p - W) W p (omega arith)
 
-  fronted : Wrote (take (length p - W) p) o o (length p - W)
-  fronted =
-      let n : length (take (length p - W) p) ≡ length p - W = length-take-le (length p - W) p (omega arith) in
-      record { count = sym n; bytes = sym (rw (n, ← front) (take-append-drop (length p - W) o)) }
+    fronted : Wrote (take (length p - W) p) o o (length p - W)
+    fronted =
+        let n : length (take (length p - W) p) ≡ length p - W = length-take-le (length p - W) p (omega arith) in
+        record { count = sym n; bytes = sym (rw (n, ← front) (take-append-drop (length p - W) o)) }
 
-  all : take (length p - W) p ++ drop (length p - W) p ≡ p
-  all = take-append-drop (length p - W) p
+    all : take (length p - W) p ++ drop (length p - W) p ≡ p
+    all = take-append-drop (length p - W) p
 
-  enough : length (take (length p - W) p ++ drop (length p - W) p) ≤ length o
-  enough = omega (arith, ap length all, long)
+    enough : length (take (length p - W) p ++ drop (length p - W) p) ≤ length o
+    enough = omega (arith, ap length all, long)
 
-  last : take W (ending (length p - W) p) ≡ drop (length p - W) p
-  last =
-      take-take W (length p - (length p - W)) (drop (length p - W) p) (omega arith)
-      ∙ take-all W (drop (length p - W) p) (simp length-drop (omega arith))
+    last : take W (ending (length p - W) p) ≡ drop (length p - W) p
+    last =
+        take-take W (length p - (length p - W)) (drop (length p - W) p) (omega arith)
+        ∙ take-all W (drop (length p - W) p) (simp length-drop (omega arith))
 
-  -- what stands behind both
-  kept : drop (length p) o ≡ drop (length p) o₀
-  kept =
-      let e : length (take W p) + (length p - W) ≡ length p = omega (arith, wide) in
-      ap (drop (length p)) (w .bytes)
-      ∙ ap (λ n. drop n (take W p ++ drop (length (take W p)) o₀)) (sym e)
-      ∙ drop-append-add (take W p) (drop (length (take W p)) o₀) (length p - W)
-      ∙ drop-drop (length p - W) (length (take W p)) o₀
-      ∙ ap (λ n. drop n o₀) e
+    -- what stands behind both
+    kept : drop (length p) o ≡ drop (length p) o₀
+    kept =
+        let e : length (take W p) + (length p - W) ≡ length p = omega (arith, wide) in
+        ap (drop (length p)) (w .bytes)
+        ∙ ap (λ n. drop n (take W p ++ drop (length (take W p)) o₀)) (sym e)
+        ∙ drop-append-add (take W p) (drop (length (take W p)) o₀) (length p - W)
+        ∙ drop-drop (length p - W) (length (take W p)) o₀
+        ∙ ap (λ n. drop n o₀) e
 
-  pub windows : (rest : List ℕ) (q : ℕ) → Wrote (take W (ending (length p - W) p)) (take (length o - (length p - W)) (drop (length p - W) o)) rest q
-      → Wrote p o₀ (putMid (length p - W) (length o - (length p - W)) o rest) ((length p - W) + q)
-  windows rest q v =
-      let x = wrote-as all (behind (take (length p - W) p) (drop (length p - W) p) o o (length p - W) fronted enough rest q (wrote-as last v)) in
-      record { count = x .count; bytes = rw (← kept) (x .bytes) }
+    pub windows : (rest : List ℕ) (q : ℕ)
+        → Wrote (take W (ending (length p - W) p)) (take (length o - (length p - W)) (drop (length p - W) o)) rest q
+        → Wrote p o₀ (putMid (length p - W) (length o - (length p - W)) o rest) ((length p - W) + q)
+    windows rest q v =
+        let x = wrote-as all (behind (take (length p - W) p) (drop (length p - W) p) o o (length p - W) fronted enough rest q
+        (wrote-as last v)) in
+        record { count = x .count; bytes = rw (← kept) (x .bytes) }

@@ -1,4 +1,5 @@
-// Copies of pieces of at most 32 bytes. A piece of W to 2 * W bytes is copied by two windows of W bytes, at its start and at its end, which may
+// Copies of pieces of at most 32 bytes. A piece of W to 2 * W bytes is copied by two windows of W bytes, at its start and at its end, which
+// may
 // overlap. Each window goes through a local array, so that it is one load and one store.
 ghost use mathlib.Core.Path.{_≡_};
 ghost use Prim.Native.Nat.{_≤_};

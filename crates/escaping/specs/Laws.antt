@@ -1,6 +1,6 @@
 -- Texts with entities, piece by piece, and texts that need none.
 use mathlib.Core.Path.{_≡_, refl, sym, ap, _∙_}
-use Prim.Native.Nat.{ℕ, suc, _+_, _*_, _-_, _≤_, _<_}
+use Prim.Native.Nat.{ℕ, _+_, _*_, _-_, _≤_, _<_}
 use mathlib.Core.Bool.{Bool, true, false, not, _&&_, _||_, true≢false, false≢true}
 use mathlib.Core.List.{List, [], _∷_, _++_, append-assoc, append-nil}
 use native.Mathlib.Omega.{arith}
@@ -112,7 +112,8 @@ module _ (b : ℕ) where
   unfolding has-entity
   entity-long e = go (eqb b 38) (eqb b 60) (eqb b 62) (eqb b 34) refl refl refl refl e
     where
-      go : (p q r s : Bool) → eqb b 38 ≡ p → eqb b 60 ≡ q → eqb b 62 ≡ r → eqb b 34 ≡ s → (p || (q || (r || s))) ≡ true → 2 ≤ length (escape b)
+      go : (p q r s : Bool) → eqb b 38 ≡ p → eqb b 60 ≡ q → eqb b 62 ≡ r → eqb b 34 ≡ s → (p || (q || (r || s))) ≡ true
+          → 2 ≤ length (escape b)
       go true q r s f g h i e = rw (eqb-true b 38 f) (omega arith)
       go false true r s f g h i e = rw (eqb-true b 60 g) (omega arith)
       go false false true s f g h i e = rw (eqb-true b 62 h) (omega arith)
@@ -172,19 +173,24 @@ plain-end c j h = rw (drop-of-length-le c h)
 -- lent output ----------------------------------------------------------------------------
 
 -- the next byte, b, is the j-th
-pub next-byte : (t : List ℕ) (j b : ℕ) {o₀ o : List ℕ} {at : ℕ} → Partly (escaped t) (escaped (drop j t)) o₀ o at → length (escaped t) ≤ length o₀
+pub next-byte : (t : List ℕ) (j b : ℕ) {o₀ o : List ℕ} {at : ℕ} → Partly (escaped t) (escaped (drop j t)) o₀ o at
+    → length (escaped t) ≤ length o₀
     → j < length t → b ≡ getD t j 0 → Next (escape b) (escaped t) (escaped (drop (j + 1) t)) o₀ o at
-next-byte t j b c h k e = next (escape b) (escaped (drop (j + 1) t)) (escaped-from t j k ∙ ap (λ (x : ℕ). escape x ++ escaped (drop (j + 1) t)) (sym e)) c h
+next-byte t j b c h k e =
+    next (escape b) (escaped (drop (j + 1) t)) (escaped-from t j k ∙ ap (λ (x : ℕ). escape x ++ escaped (drop (j + 1) t)) (sym e)) c h
 
 -- the next k bytes
-pub next-part : (t : List ℕ) (j k : ℕ) {o₀ o : List ℕ} {at : ℕ} → Partly (escaped t) (escaped (drop j t)) o₀ o at → length (escaped t) ≤ length o₀
+pub next-part : (t : List ℕ) (j k : ℕ) {o₀ o : List ℕ} {at : ℕ} → Partly (escaped t) (escaped (drop j t)) o₀ o at
+    → length (escaped t) ≤ length o₀
     → Next (escaped (part t j k)) (escaped t) (escaped (drop (j + k) t)) o₀ o at
 next-part t j k c h = next (escaped (part t j k)) (escaped (drop (j + k) t)) (escaped-part t j k) c h
 
 -- the rest
-pub next-rest : (t : List ℕ) (j : ℕ) {o₀ o : List ℕ} {at : ℕ} → Partly (escaped t) (escaped (drop j t)) o₀ o at → length (escaped t) ≤ length o₀
+pub next-rest : (t : List ℕ) (j : ℕ) {o₀ o : List ℕ} {at : ℕ} → Partly (escaped t) (escaped (drop j t)) o₀ o at
+    → length (escaped t) ≤ length o₀
     → Next (escaped (take (length t - j) (drop j t))) (escaped t) [] o₀ o at
 next-rest t j c h = rw (rest-part t j) (next (escaped (drop j t)) [] (sym (append-nil (escaped (drop j t)))) c h)
 
-pub no-byte : (t : List ℕ) (j : ℕ) {o₀ o : List ℕ} {at : ℕ} → Partly (escaped t) (escaped (drop j t)) o₀ o at → length t ≤ j → Wrote (escaped t) o₀ o at
+pub no-byte : (t : List ℕ) (j : ℕ) {o₀ o : List ℕ} {at : ℕ} → Partly (escaped t) (escaped (drop j t)) o₀ o at → length t ≤ j
+    → Wrote (escaped t) o₀ o at
 no-byte t j c h = partly-end (partly-as (escaped-end t j h) c)

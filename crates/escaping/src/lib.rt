@@ -1,4 +1,5 @@
-// Contents with entities: their length, and how they are put at the front of the lent bytes. A content has at most 32 bytes. Eight bytes at a
+// Contents with entities: their length, and how they are put at the front of the lent bytes. A content has at most 32 bytes. Eight bytes at
+// a
 // time are counted with no branch, and copied as they are where no entity stands for any of them.
 ghost use mathlib.Core.Path.{_≡_};
 ghost use Prim.Native.Nat.{_*_, _≤_};

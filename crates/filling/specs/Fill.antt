@@ -14,7 +14,7 @@ use Rattle.layout.specs.Flat.{flat}
 use Rattle.layout.specs.Layout.{state-size, is-open, Entry, nodes, Layout, Left, header}
 use Rattle.xml.specs.Bytes.{ampersand, slash, equals-sign, greater-than, Quote, mark}
 use Rattle.xml.specs.Shape.{Label, Shape, element, attribute, text, size, longest, document}
-use Rattle.xml.specs.Grammar.{Name, Blanks, Named, Entity, Value, behind, inside, Part, Root, Spells}
+use Rattle.xml.specs.Grammar.{Name, Blanks, Named, Entity, Value, unspaced, inside, Derives, Root, Spells}
 use Rattle.reader.specs.declared.Cursor.{Cursor}
 
 -- rows -----------------------------------------------------------------------------------
@@ -53,7 +53,8 @@ Short (x ∷ l) = (length (x .1 .content) ≤ content-limit) × Short l
 pub data Characters (stop : ℕ) : (s t c : List ℕ) → Type 0 where
   stop-here : {t : List ℕ} → Characters stop (stop ∷ t) t []
   byte-then : {b : ℕ} {s t c : List ℕ} → (b ≡ stop → ⊥) → (b ≡ ampersand → ⊥) → Characters stop s t c → Characters stop (b ∷ s) t (b ∷ c)
-  reference-then : {b : ℕ} {s u t c : List ℕ} → (ampersand ≡ stop → ⊥) → Entity s u b → Characters stop u t c → Characters stop (ampersand ∷ s) t (b ∷ c)
+  reference-then : {b : ℕ} {s u t c : List ℕ} → (ampersand ≡ stop → ⊥) → Entity s u b → Characters stop u t c
+      → Characters stop (ampersand ∷ s) t (b ∷ c)
 
 -- places -----------------------------------------------------------------------------------
 
@@ -61,7 +62,7 @@ pub data Characters (stop : ℕ) : (s t c : List ℕ) → Type 0 where
 pub data Behind : (d : ℕ) (s : List ℕ) (l : List Row) → Type 0 where
   behind-root : {s : List ℕ} → Blanks s [] → Behind 1 s []
   behind-child : {d : ℕ} {n : Name} {s t : List ℕ} {f : Shape} {l : List Row}
-      → every name-byte n ≡ true → Part true (inside n) s f t → Behind d t l → Behind (suc d) s (listed (suc d) f l)
+      → every name-byte n ≡ true → Derives true (inside n) s f t → Behind d t l → Behind (suc d) s (listed (suc d) f l)
 
 -- s stands in a start tag, behind the element's name or a value; the attributes and the children are at depth d
 pub record InTag (d : ℕ) (s : List ℕ) (l : List Row) : Type 0 where
@@ -73,7 +74,7 @@ pub record InTag (d : ℕ) (s : List ℕ) (l : List Row) : Type 0 where
   pub outer : ℕ
   pub below : d ≡ suc outer
   pub spelled : every name-byte name ≡ true
-  pub part : Part true (behind name seen) s children next
+  pub part : Derives true (unspaced name seen) s children next
   pub after : Behind outer next later
   pub rows : l ≡ listed d children later
 
@@ -115,7 +116,8 @@ pub record AtText (stop e : ℕ) (place : ℕ → List ℕ → List Row → Type
 -- s stands behind a < among nodes at depth d
 pub data AtTag (d : ℕ) (s : List ℕ) (l : List Row) : Type 0 where
   begins : AtElement d s l → AtTag d s l
-  ends : {e : ℕ} (n : Name) {u t : List ℕ} → d ≡ suc e → every name-byte n ≡ true → s ≡ slash ∷ (n ++ u) → Blanks u (greater-than ∷ t) → Behind e t l
+  ends : {e : ℕ} (n : Name) {u t : List ℕ} → d ≡ suc e → every name-byte n ≡ true → s ≡ slash ∷ (n ++ u) → Blanks u (greater-than ∷ t)
+      → Behind e t l
       → AtTag d s l
 
 -- filling ------------------------------------------------------------------------------------

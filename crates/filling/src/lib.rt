@@ -35,7 +35,8 @@ pub struct Content {
 // The characters of a value or a text decoded into a buffer, up to the byte that ends it.
 fn decode(from: Cursor, x: &[u8], stop: u8, buffer: &mut [u8; 32]) -> Content
     requires { ⌜ (from .at ≤ length (now x)) × (length (now buffer) ≡ 32) ⌝ }
-    ensures { λ r. ⌜ (length (now (buffer .exit)) ≡ 32) × Decodes (now (x .entry)) stop (from .at) (now (buffer .exit)) (r .length) (r .next) ⌝ }
+    ensures { λ r. ⌜ (length (now (buffer .exit)) ≡ 32)
+        × Decodes (now (x .entry)) stop (from .at) (now (buffer .exit)) (r .length) (r .next) ⌝ }
 {
     let mut i = from.at;
     let mut n: usize = 0;
@@ -123,7 +124,8 @@ fn end_tag(from: Cursor, x: &[u8]) -> Cursor
 // An attribute from the first byte of its name to behind its value.
 fn attribute(from: Cursor, s: &mut [u8], x: &[u8], depth: u16) -> Cursor
     requires { ⌜ Filling AtAttribute (now x) (now s) (from .at) depth ⌝ }
-    ensures { λ r. ⌜ Filling InTag (now (x .entry)) (now (s .exit)) (r .at) depth × Same (now (s .entry)) (now (s .exit)) × (from .at < r .at) ⌝ }
+    ensures { λ r. ⌜ Filling InTag (now (x .entry)) (now (s .exit)) (r .at) depth × Same (now (s .entry)) (now (s .exit))
+        × (from .at < r .at) ⌝ }
 {
     let at = from.at;
     let end = from.name(x);
@@ -146,7 +148,8 @@ pub struct Level {
 // A start tag from behind its name on; attributes and children are at this depth.
 fn attributes(from: Cursor, s: &mut [u8], x: &[u8], depth: u16) -> Level
     requires { ⌜ Filling InTag (now x) (now s) (from .at) depth ⌝ }
-    ensures { λ r. ⌜ Filling Behind (now (x .entry)) (now (s .exit)) (r .at) (r .depth) × Same (now (s .entry)) (now (s .exit)) × (from .at < r .at) ⌝ }
+    ensures { λ r. ⌜ Filling Behind (now (x .entry)) (now (s .exit)) (r .at) (r .depth) × Same (now (s .entry)) (now (s .exit))
+        × (from .at < r .at) ⌝ }
 {
     let mut i = from.at;
     loop {
@@ -171,7 +174,8 @@ fn attributes(from: Cursor, s: &mut [u8], x: &[u8], depth: u16) -> Level
 // A start tag from the first byte of its name on.
 fn start_tag(from: Cursor, s: &mut [u8], x: &[u8], depth: u16) -> Level
     requires { ⌜ Filling AtElement (now x) (now s) (from .at) depth ⌝ }
-    ensures { λ r. ⌜ Filling Behind (now (x .entry)) (now (s .exit)) (r .at) (r .depth) × Same (now (s .entry)) (now (s .exit)) × (from .at < r .at) ⌝ }
+    ensures { λ r. ⌜ Filling Behind (now (x .entry)) (now (s .exit)) (r .at) (r .depth) × Same (now (s .entry)) (now (s .exit))
+        × (from .at < r .at) ⌝ }
 {
     let at = from.at;
     let end = from.name(x);
@@ -184,7 +188,8 @@ fn start_tag(from: Cursor, s: &mut [u8], x: &[u8], depth: u16) -> Level
 // A text, which may be empty, and the tag behind it.
 fn child(from: Cursor, s: &mut [u8], x: &[u8], depth: u16) -> Level
     requires { ⌜ Filling Behind (now x) (now s) (from .at) depth × (1 < depth) ⌝ }
-    ensures { λ r. ⌜ Filling Behind (now (x .entry)) (now (s .exit)) (r .at) (r .depth) × Same (now (s .entry)) (now (s .exit)) × (from .at < r .at) ⌝ }
+    ensures { λ r. ⌜ Filling Behind (now (x .entry)) (now (s .exit)) (r .at) (r .depth) × Same (now (s .entry)) (now (s .exit))
+        × (from .at < r .at) ⌝ }
 {
     let tag = text(from, s, x, b'<', depth);
     let at = tag.at;

@@ -5,7 +5,7 @@ use Rattle.xml.specs.Laws.Automaton.{prolog}
 use Rattle.xml.specs.Laws.Tokens.{Reach, got, lost}
 use Rattle.xml.specs.Laws.Judge.{Verdict, fine, bad}
 use Rattle.reader.specs.declared.Prolog.{Prolog}
-use Rattle.reader.specs.declared.Prolog.the-variants.{Root, NoRoot}
+use Rattle.reader.specs.declared.Prolog.the-variants.{NoRoot}
 use Rattle.reader.specs.Prolog.{RootRead}
 use Rattle.judging.specs.declared.Judged.{Judged}
 use Rattle.judging.specs.declared.Judged.the-variants.{Accepted, Rejected}

@@ -50,7 +50,8 @@ fn replace(s: &mut [u8], x: &[u8])
     filling::fill(s, x);
 }
 
-// Load: the node count, or why the input is refused. Every input reads as one thing (the theorems `reading` and `one-reading` of crate xml).
+// Load: the node count, or why the input is refused. Every input reads as one thing (the theorems `reading` and `one-reading` of crate
+// xml).
 pub fn load(s: &mut [u8], x: &[u8]) -> Answer
     ensures { λ r. ⌜ ((i : Input) → ReadsAs (now (x .entry)) i → Performed (now (s .entry)) (now (s .exit)) r (load i)) ⌝ }
 {

@@ -46,12 +46,15 @@ module _ (a b o₀ o : List ℕ) (r : ℕ) (w : Wrote a o₀ o r) (h : length (a
   inside = omega (arith, long, w .count, simp length-append at h)
 
   lent : take (length o - r) (drop r o) ≡ drop (length a) o₀
-  lent = take-all (length o - r) (drop r o) (simp length-drop (omega arith)) ∙ rw (w .bytes) (drop-at a (drop (length a) o₀) r (sym (w .count)))
+  lent =
+      take-all (length o - r) (drop r o) (simp length-drop (omega arith))
+      ∙ rw (w .bytes) (drop-at a (drop (length a) o₀) r (sym (w .count)))
 
   pub room : length b ≤ length (take (length o - r) (drop r o))
   room = rw lent (simp length-drop (omega (arith, simp length-append at h)))
 
-  pub behind : (rest : List ℕ) (q : ℕ) → Wrote b (take (length o - r) (drop r o)) rest q → Wrote (a ++ b) o₀ (putMid r (length o - r) o rest) (r + q)
+  pub behind : (rest : List ℕ) (q : ℕ) → Wrote b (take (length o - r) (drop r o)) rest q
+      → Wrote (a ++ b) o₀ (putMid r (length o - r) o rest) (r + q)
   behind rest q v =
       let t : take r o ≡ a = rw (w .bytes) (take-at a (drop (length a) o₀) r (sym (w .count))) in
       let z : drop (length o - r) (drop r o) ≡ [] = drop-of-length-le (drop r o) {i = length o - r} (simp length-drop (omega arith)) in
@@ -94,7 +97,8 @@ module _ (text b rest o₀ o : List ℕ) (at : ℕ) (c : Partly text (b ++ rest)
   pub partly-room : length b ≤ length (take (length o - at) (drop at o))
   partly-room = room (c .done) b o₀ o at (c .wrote) enough
 
-  pub partly-on : (new : List ℕ) (q : ℕ) → Wrote b (take (length o - at) (drop at o)) new q → Partly text rest o₀ (putMid at (length o - at) o new) (at + q)
+  pub partly-on : (new : List ℕ) (q : ℕ) → Wrote b (take (length o - at) (drop at o)) new q
+      → Partly text rest o₀ (putMid at (length o - at) o new) (at + q)
   partly-on new q w = record {
     done = c .done ++ b;
     whole = c .whole ∙ sym (append-assoc (c .done) b rest);

@@ -1,3 +1,4 @@
+pub mod Ordered
 pub mod Rows
 pub mod Lending
 pub mod Laws

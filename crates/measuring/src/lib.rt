@@ -44,7 +44,8 @@ fn extra(s: &[u8], parent: usize, kind: u8, previous: u8) -> usize
 
 // What the node at p, of kind `kind`, adds to the length; its parent is of kind `above`.
 fn cost(s: &[u8], parent: usize, above: u8, previous: u8, p: usize, kind: u8) -> usize
-    requires { ⌜ (Layout (now s)) × (parent < length (nodes (now s))) × (above ≡ label-at (nodes (now s)) parent .kind) × (p < length (nodes (now s))) × (kind ≡ label-at (nodes (now s)) p .kind) ⌝ }
+    requires { ⌜ (Layout (now s)) × (parent < length (nodes (now s))) × (above ≡ label-at (nodes (now s)) parent .kind)
+        × (p < length (nodes (now s))) × (kind ≡ label-at (nodes (now s)) p .kind) ⌝ }
     ensures { λ r. ⌜ (r ≡ cost (label-at (nodes (now (s .entry))) parent) previous (label-at (nodes (now (s .entry))) p)) × (r ≤ 256) ⌝ }
 {
     if kind == 3 {

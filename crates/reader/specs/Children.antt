@@ -1,5 +1,5 @@
 -- Texts and tags in the content of the open elements, and the whole input.
-use Prim.Native.Nat.{ℕ, zero, suc, _+_, _-_, _≤_, _<_}
+use Prim.Native.Nat.{ℕ, _+_, _-_, _≤_}
 use mathlib.Core.Path.{_≡_}
 use mathlib.Core.List.{List, [], _∷_}
 use lib.ListN.{length, getD}
@@ -7,7 +7,7 @@ use Rattle.xml.specs.Bytes.{less-than}
 use Rattle.xml.specs.Grammar.{Name}
 use Rattle.xml.specs.Reading.{node-offset}
 use Rattle.xml.specs.Laws.Automaton.{Config, behind-open, epilog, closed}
-use Rattle.xml.specs.Laws.Judge.{Verdict, bad}
+use Rattle.xml.specs.Laws.Judge.{bad}
 use Rattle.xml.specs.Laws.Goes.{Leads, Goes}
 use Rattle.reader.specs.declared.Cursor.{Cursor}
 use Rattle.reader.specs.declared.Child.{Child}

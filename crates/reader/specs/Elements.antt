@@ -1,5 +1,5 @@
 -- Names of open elements and of attributes, kept as offsets into the input, and what whole attributes and tags lead to.
-use Prim.Native.Nat.{ℕ, zero, suc, _+_, _-_, _≤_, _<_}
+use Prim.Native.Nat.{ℕ, zero, suc, _+_, _≤_, _<_}
 use mathlib.Core.Path.{_≡_}
 use mathlib.Core.Bool.{Bool, true, false}
 use mathlib.Core.List.{List, [], _∷_}
@@ -41,7 +41,8 @@ pub data AttributeRead (s : List ℕ) (seen : List Name) (at spare : ℕ) : Read
   attribute-past : {c : Cursor} {m : ℕ} → at < c .at → c .at ≤ length s → m < spare
       → ((n : Name) (ns : List Name) → Goes s (in-tag n ns seen) spare at (behind-part n ns (name-at s at ∷ seen)) m (c .at))
       → AttributeRead s seen at spare (Past c m)
-  attribute-refused : {x j : ℕ} → ((n : Name) (ns : List Name) → Leads s (in-tag n ns seen) spare at (bad x j)) → AttributeRead s seen at spare (Refused x j)
+  attribute-refused : {x j : ℕ} → ((n : Name) (ns : List Name) → Leads s (in-tag n ns seen) spare at (bad x j))
+      → AttributeRead s seen at spare (Refused x j)
 
 -- the first n are as they were
 pub record Kept (n : ℕ) (os os′ : List ℕ) : Type 0 where
@@ -88,7 +89,8 @@ pub data AttributesRead (s : List ℕ) (at spare : ℕ) : Tag → Type 0 where
   attributes-emptied : {c : Cursor} {m : ℕ} → Onward s at spare c m
       → ((n : Name) (ns : List Name) → Goes s (behind-part n ns []) spare at (closed ns) m (c .at))
       → AttributesRead s at spare (Emptied c m)
-  attributes-broken : {x j : ℕ} → ((n : Name) (ns : List Name) → Leads s (behind-part n ns []) spare at (bad x j)) → AttributesRead s at spare (Broken x j)
+  attributes-broken : {x j : ℕ} → ((n : Name) (ns : List Name) → Leads s (behind-part n ns []) spare at (bad x j))
+      → AttributesRead s at spare (Broken x j)
 
 -- a name begins here
 pub record Named (s : List ℕ) (at : ℕ) : Type 0 where
@@ -98,12 +100,14 @@ pub record Named (s : List ℕ) (at : ℕ) : Type 0 where
 -- where a start tag leads from behind the first byte of its name
 pub data ElementRead (s : List ℕ) (at spare : ℕ) : Tag → Type 0 where
   element-opened : {c : Cursor} {m : ℕ} → Onward s at spare c m
-      → ((ns : List Name) (v : Verdict) → Leads s (content (name-at s at) ns) m (c .at) v → scan-at s (tag-name ns (getD s at 0 ∷ [])) spare 1 (at + 1) ≡ v)
+      → ((ns : List Name) (v : Verdict) → Leads s (content (name-at s at) ns) m (c .at) v → scan-at s (tag-name ns (getD s at 0 ∷ [])) spare
+      1 (at + 1) ≡ v)
       → ElementRead s at spare (Opened c m)
   element-emptied : {c : Cursor} {m : ℕ} → Onward s at spare c m
       → ((ns : List Name) (v : Verdict) → Leads s (closed ns) m (c .at) v → scan-at s (tag-name ns (getD s at 0 ∷ [])) spare 1 (at + 1) ≡ v)
       → ElementRead s at spare (Emptied c m)
-  element-broken : {x j : ℕ} → ((ns : List Name) → scan-at s (tag-name ns (getD s at 0 ∷ [])) spare 1 (at + 1) ≡ bad x j) → ElementRead s at spare (Broken x j)
+  element-broken : {x j : ℕ} → ((ns : List Name) → scan-at s (tag-name ns (getD s at 0 ∷ [])) spare 1 (at + 1) ≡ bad x j)
+      → ElementRead s at spare (Broken x j)
 
 -- where the end tag of an element named n leads
 pub data EndRead (s : List ℕ) (n : Name) (at : ℕ) : End → Type 0 where

@@ -15,6 +15,7 @@ use Rattle.reader.specs.Elements.{Named}
 -- where the bytes before the root element's name lead from a configuration
 pub data RootRead (s : List ℕ) (from : Config) (at : ℕ) : Prolog → Type 0 where
   root-at : {c : Cursor} → Named s (c .at)
-      → ((spare : ℕ) → 1 ≤ spare → (v : Verdict) → scan-at s (tag-name [] (getD s (c .at) 0 ∷ [])) (spare - 1) 1 (c .at + 1) ≡ v → Leads s from spare at v)
+      → ((spare : ℕ) → 1 ≤ spare → (v : Verdict) → scan-at s (tag-name [] (getD s (c .at) 0 ∷ [])) (spare - 1) 1 (c .at + 1) ≡ v → Leads s
+      from spare at v)
       → RootRead s from at (Root c)
   no-root : {j : ℕ} → ((spare : ℕ) → Leads s from spare at (bad 4 j)) → RootRead s from at (NoRoot j)

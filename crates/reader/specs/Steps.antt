@@ -9,8 +9,8 @@ use Rattle.xml.specs.Bytes.{ampersand, brackets, Quote, mark}
 use Rattle.xml.specs.Grammar.{Name}
 use Rattle.xml.specs.Reading.{node-offset}
 use Rattle.xml.specs.Laws.Words.{Words, entities}
-use Rattle.xml.specs.Laws.Automaton.{behind-part, in-tag, before-equals, behind-quote, content, closed, tag-step}
-use Rattle.xml.specs.Laws.Automaton.{Config, born, byte, stuck, move, to, step}
+use Rattle.xml.specs.Laws.Automaton.{behind-part, in-tag, before-equals, behind-quote, content, closed, tag-step, Config, born, byte, stuck}
+use Rattle.xml.specs.Laws.Automaton.{move, to, step}
 use Rattle.xml.specs.Laws.Phases.{phase, is-over, pending}
 use Rattle.xml.specs.Laws.Judge.{Verdict, bad}
 use Rattle.xml.specs.Laws.Scan.{scan-at}
@@ -23,8 +23,8 @@ use Rattle.reader.specs.declared.Reference.{Reference}
 use Rattle.reader.specs.declared.Reference.the-variants.{Byte, NoEntity}
 use Rattle.reader.specs.declared.Equals.{Equals}
 use Rattle.reader.specs.declared.Equals.the-variants.{Quoted, NoQuote}
-use Rattle.reader.specs.declared.Part.{Part}
-use Rattle.reader.specs.declared.Part.the-variants.{Open, Empty, Attribute, Wrong}
+use Rattle.reader.specs.declared.Item.{Item}
+use Rattle.reader.specs.declared.Item.the-variants.{Open, Empty, Attribute, Wrong}
 use Rattle.reader.specs.declared.Read.{Read}
 use Rattle.reader.specs.declared.Read.the-variants.{Past, Refused}
 
@@ -61,7 +61,8 @@ pub data CharactersRead (s : List ℕ) (stop at spare : ℕ) : Read → Type 0 w
       → ((C : ℕ → Config) (R : Words → Config) (D : Config) → Characters stop C R D → (v : Verdict) → Leads s D spare (c .at) v
       → scan-at s (C 0) spare 0 at ≡ v)
       → CharactersRead s stop at spare (Past c spare)
-  characters-refused : {x j : ℕ} → ((C : ℕ → Config) (R : Words → Config) (D : Config) → Characters stop C R D → scan-at s (C 0) spare 0 at ≡ bad x j)
+  characters-refused : {x j : ℕ}
+      → ((C : ℕ → Config) (R : Words → Config) (D : Config) → Characters stop C R D → scan-at s (C 0) spare 0 at ≡ bad x j)
       → CharactersRead s stop at spare (Refused x j)
 
 -- a value or a text from the configuration S on, before its first byte
@@ -93,7 +94,7 @@ pub data EqualsRead (s : List ℕ) (at : ℕ) : Equals → Type 0 where
       → EqualsRead s at (NoQuote j)
 
 -- from a configuration in a start tag, which may depend on the element, those around it and the attributes so far
-pub data TagRead (s : List ℕ) (F : Name → List Name → List Name → Config) (at : ℕ) : Part → Type 0 where
+pub data TagRead (s : List ℕ) (F : Name → List Name → List Name → Config) (at : ℕ) : Item → Type 0 where
   tag-open : {c : Cursor} → at < c .at → c .at ≤ length s → node-offset s (c .at) ≡ c .at
       → ((n : Name) (ns seen : List Name) (m : ℕ) → Goes s (F n ns seen) m at (content n ns) m (c .at)) → TagRead s F at (Open c)
   tag-empty : {c : Cursor} → at < c .at → c .at ≤ length s → node-offset s (c .at) ≡ c .at
@@ -103,8 +104,8 @@ pub data TagRead (s : List ℕ) (F : Name → List Name → List Name → Config
   tag-wrong : {j : ℕ} → ((n : Name) (ns seen : List Name) (m : ℕ) → Leads s (F n ns seen) m at (bad 4 j)) → TagRead s F at (Wrong j)
 
 -- from behind a name or a value
-abbrev pub PartRead : List ℕ → ℕ → Part → Type 0
-PartRead s at r = TagRead s behind-part at r
+abbrev pub ItemRead : List ℕ → ℕ → Item → Type 0
+ItemRead s at r = TagRead s behind-part at r
 
 -- configurations in a start tag that go on alike where no name begins
 pub record TagPlace (F : Name → List Name → List Name → Config) : Type 0 where
@@ -112,5 +113,5 @@ pub record TagPlace (F : Name → List Name → List Name → Config) : Type 0 w
   pub calm : (n : Name) (ns seen : List Name) → is-over (phase (F n ns seen)) ≡ false
 
 -- from such a place
-pub record SlashRead (s : List ℕ) (at : ℕ) (r : Part) : Type 0 where
+pub record SlashRead (s : List ℕ) (at : ℕ) (r : Item) : Type 0 where
   pub reads : (F : Name → List Name → List Name → Config) → TagPlace F → TagRead s F at r

@@ -44,7 +44,8 @@ impl Cursor {
     // The end tag of the innermost open element, from its slash on.
     fn end(self, s: &[u8], names: &[usize; 1024], depth: usize, spare: usize) -> Child
         requires { ⌜ (self .at < length (now s)) × (getD (now s) (self .at) 0 ≡ 47) × Deep (now s) (now names) depth spare ⌝ }
-        ensures { λ r. ⌜ ChildRead (now (s .entry)) (opened (stack (now (s .entry)) (now (names .entry)) 0 depth)) (self .at) spare (now (names .entry)) r ⌝ }
+        ensures { λ r. ⌜ ChildRead (now (s .entry)) (opened (stack (now (s .entry)) (now (names .entry)) 0 depth)) (self .at) spare
+            (now (names .entry)) r ⌝ }
     {
         let from = names[depth - 1];
         let next = Cursor { at: self.at + 1 };
@@ -57,7 +58,8 @@ impl Cursor {
     // A tag from behind its <; depth elements are open, the offsets of their names kept at the first places.
     pub fn tag(self, s: &[u8], names: &mut [usize; 1024], depth: usize, spare: usize) -> Child
         requires { ⌜ Behind (now s) (self .at) × Deep (now s) (now names) depth spare ⌝ }
-        ensures { λ r. ⌜ ChildRead (now (s .entry)) (opened (stack (now (s .entry)) (now (names .entry)) 0 depth)) (self .at) spare (now (names .exit)) r ⌝ }
+        ensures { λ r. ⌜ ChildRead (now (s .entry)) (opened (stack (now (s .entry)) (now (names .entry)) 0 depth)) (self .at) spare
+            (now (names .exit)) r ⌝ }
     {
         let at = self.at;
         if at >= s.len() {
@@ -83,7 +85,8 @@ impl Cursor {
     // A text, which may be empty, and the tag behind it.
     pub fn child(self, s: &[u8], names: &mut [usize; 1024], depth: usize, spare: usize) -> Child
         requires { ⌜ Beginning (now s) (self .at) × Deep (now s) (now names) depth spare ⌝ }
-        ensures { λ r. ⌜ ChildRead (now (s .entry)) (closed (stack (now (s .entry)) (now (names .entry)) 0 depth)) (self .at) spare (now (names .exit)) r ⌝ }
+        ensures { λ r. ⌜ ChildRead (now (s .entry)) (closed (stack (now (s .entry)) (now (names .entry)) 0 depth)) (self .at) spare
+            (now (names .exit)) r ⌝ }
     {
         let at = self.at;
         match self.content(s, b'<', at, spare) {

@@ -33,7 +33,7 @@ pub enum Equals {
 }
 
 // What comes next in a start tag: its end, of an empty-element tag too, or an attribute; or the offset of a wrong byte.
-pub enum Part {
+pub enum Item {
     Open(Cursor),
     Empty(Cursor),
     Attribute(Cursor),

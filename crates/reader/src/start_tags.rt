@@ -1,7 +1,7 @@
 // Start tags and their attributes.
 use super::Cursor;
 use super::Equals;
-use super::Part;
+use super::Item;
 use super::Read;
 use super::Tag;
 use super::names::enter;
@@ -9,7 +9,7 @@ ghost use mathlib.Core.Path.{_≡_};
 ghost use Prim.Native.Nat.{_+_, _<_, _≤_};
 ghost use lib.ListN.{length, getD};
 ghost use Rattle.ordering.specs.Sorted.{Increasing};
-ghost use Rattle.reader.specs.Steps.{EqualsRead, PartRead, SlashRead};
+ghost use Rattle.reader.specs.Steps.{EqualsRead, ItemRead, SlashRead};
 ghost use Rattle.reader.specs.Elements.{Placed, Attributed, Kept, attribute-names, AttributeEnters};
 ghost use Rattle.reader.specs.Elements.{AttributesRead, Named, ElementRead};
 
@@ -44,45 +44,45 @@ impl Cursor {
     }
 
     // From behind a name or a value in a start tag to behind the tag, or to an attribute's name.
-    pub fn part(self, s: &[u8]) -> Part
+    pub fn item(self, s: &[u8]) -> Item
         requires { ⌜ self .at ≤ length (now s) ⌝ }
-        ensures { λ r. ⌜ PartRead (now (s .entry)) (self .at) r ⌝ }
+        ensures { λ r. ⌜ ItemRead (now (s .entry)) (self .at) r ⌝ }
     {
         let from = self.at;
         let behind = self.blanks(s);
         let at = behind.at;
         if at >= s.len() {
-            return Part::Wrong(at);
+            return Item::Wrong(at);
         }
         let b = s[at];
         if b == b'>' {
-            return Part::Open(Cursor { at: at + 1 });
+            return Item::Open(Cursor { at: at + 1 });
         }
         if b == b'/' {
             return behind.slash(s);
         }
         if at == from {
-            return Part::Wrong(at);
+            return Item::Wrong(at);
         }
         if tree::name_start(b) {
-            return Part::Attribute(behind);
+            return Item::Attribute(behind);
         }
-        Part::Wrong(at)
+        Item::Wrong(at)
     }
 
     // An empty-element tag from its slash on.
-    fn slash(self, s: &[u8]) -> Part
+    fn slash(self, s: &[u8]) -> Item
         requires { ⌜ (self .at < length (now s)) × (getD (now s) (self .at) 0 ≡ 47) ⌝ }
         ensures { λ r. ⌜ SlashRead (now (s .entry)) (self .at) r ⌝ }
     {
         let at = self.at + 1;
         if at >= s.len() {
-            return Part::Wrong(at);
+            return Item::Wrong(at);
         }
         if s[at] != b'>' {
-            return Part::Wrong(at);
+            return Item::Wrong(at);
         }
-        Part::Empty(Cursor { at: at + 1 })
+        Item::Empty(Cursor { at: at + 1 })
     }
 
     // An attribute from the first byte of its name to behind its value; its name is put among those before it, which stand from lo on.
@@ -129,11 +129,11 @@ impl Cursor {
         let mut n = spare;
         loop {
             let here = Cursor { at: i };
-            match here.part(s) {
-                Part::Wrong(j) => return Tag::Broken(4, j),
-                Part::Open(c) => return Tag::Opened(c, n),
-                Part::Empty(c) => return Tag::Emptied(c, n),
-                Part::Attribute(c) => {
+            match here.item(s) {
+                Item::Wrong(j) => return Tag::Broken(4, j),
+                Item::Open(c) => return Tag::Opened(c, n),
+                Item::Empty(c) => return Tag::Emptied(c, n),
+                Item::Attribute(c) => {
                     match c.attribute(s, names, lo, count, n) {
                         Read::Refused(x, j) => return Tag::Broken(x, j),
                         Read::Past(next, m) => {
@@ -149,8 +149,10 @@ impl Cursor {
 
     // A start tag from the first byte of its name on; the offset of the name is kept at place depth.
     pub fn start_tag(self, s: &[u8], names: &mut [usize; 1024], depth: usize, spare: usize) -> Tag
-        requires { ⌜ Named (now s) (self .at) × (depth + 2 + spare ≤ 1024) × Placed (now s) (now names) depth × (length (now names) ≡ 1024) ⌝ }
-        ensures { λ r. ⌜ ElementRead (now (s .entry)) (self .at) spare r × Kept depth (now (names .entry)) (now (names .exit)) × (getD (now (names .exit)) depth 0 ≡ self .at) ⌝ }
+        requires { ⌜ Named (now s) (self .at) × (depth + 2 + spare ≤ 1024) × Placed (now s) (now names) depth
+            × (length (now names) ≡ 1024) ⌝ }
+        ensures { λ r. ⌜ ElementRead (now (s .entry)) (self .at) spare r × Kept depth (now (names .entry)) (now (names .exit))
+            × (getD (now (names .exit)) depth 0 ≡ self .at) ⌝ }
     {
         let at = self.at;
         names[depth] = at;

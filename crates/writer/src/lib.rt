@@ -25,7 +25,8 @@ fn put_content(out: &mut [u8], s: &[u8], p: usize) -> usize
 
 // The same, with entities.
 fn put_escaped(out: &mut [u8], s: &[u8], p: usize) -> usize
-    requires { ⌜ (Layout (now s)) × (p < length (nodes (now s))) × (length (escaped (label-at (nodes (now s)) p .content)) ≤ length (now out)) ⌝ }
+    requires { ⌜ (Layout (now s)) × (p < length (nodes (now s)))
+        × (length (escaped (label-at (nodes (now s)) p .content)) ≤ length (now out)) ⌝ }
     ensures { λ r. ⌜ Wrote (escaped (label-at (nodes (now (s .entry))) p .content)) (now (out .entry)) (now (out .exit)) r ⌝ }
 {
     escaping::put_escaped(out, committed::content(s, p))
@@ -33,7 +34,8 @@ fn put_escaped(out: &mut [u8], s: &[u8], p: usize) -> usize
 
 // A name behind a prefix.
 fn put_name(out: &mut [u8], s: &[u8], p: usize, prefix: &[u8]) -> usize
-    requires { ⌜ (Layout (now s)) × (p < length (nodes (now s))) × (length (now prefix ++ label-at (nodes (now s)) p .content) ≤ length (now out)) ⌝ }
+    requires { ⌜ (Layout (now s)) × (p < length (nodes (now s)))
+        × (length (now prefix ++ label-at (nodes (now s)) p .content) ≤ length (now out)) ⌝ }
     ensures { λ r. ⌜ Wrote (now (prefix .entry) ++ label-at (nodes (now (s .entry))) p .content) (now (out .entry)) (now (out .exit)) r ⌝ }
 {
     let at = markup::put(out, prefix);
@@ -42,8 +44,10 @@ fn put_name(out: &mut [u8], s: &[u8], p: usize, prefix: &[u8]) -> usize
 
 // A name between a prefix and a suffix.
 fn put_between(out: &mut [u8], s: &[u8], p: usize, prefix: &[u8], suffix: &[u8]) -> usize
-    requires { ⌜ (Layout (now s)) × (p < length (nodes (now s))) × (length ((now prefix ++ label-at (nodes (now s)) p .content) ++ now suffix) ≤ length (now out)) ⌝ }
-    ensures { λ r. ⌜ Wrote ((now (prefix .entry) ++ label-at (nodes (now (s .entry))) p .content) ++ now (suffix .entry)) (now (out .entry)) (now (out .exit)) r ⌝ }
+    requires { ⌜ (Layout (now s)) × (p < length (nodes (now s)))
+        × (length ((now prefix ++ label-at (nodes (now s)) p .content) ++ now suffix) ≤ length (now out)) ⌝ }
+    ensures { λ r. ⌜ Wrote ((now (prefix .entry) ++ label-at (nodes (now (s .entry))) p .content) ++ now (suffix .entry)) (now (out .entry))
+        (now (out .exit)) r ⌝ }
 {
     let at = put_name(out, s, p, prefix);
     at + markup::put(&mut out[at..], suffix)
@@ -67,7 +71,8 @@ fn put_tag_end(out: &mut [u8], above: u8, previous: u8) -> usize
 
 // The beginning of an element's start tag, or a text; the node at p is of kind `kind`.
 fn put_opening(out: &mut [u8], s: &[u8], p: usize, kind: u8) -> usize
-    requires { ⌜ (Layout (now s)) × (p < length (nodes (now s))) × (kind ≡ label-at (nodes (now s)) p .kind) × (length (opening (label-at (nodes (now s)) p)) ≤ length (now out)) ⌝ }
+    requires { ⌜ (Layout (now s)) × (p < length (nodes (now s))) × (kind ≡ label-at (nodes (now s)) p .kind)
+        × (length (opening (label-at (nodes (now s)) p)) ≤ length (now out)) ⌝ }
     ensures { λ r. ⌜ Wrote (opening (label-at (nodes (now (s .entry))) p)) (now (out .entry)) (now (out .exit)) r ⌝ }
 {
     if kind == 2 {
@@ -78,7 +83,8 @@ fn put_opening(out: &mut [u8], s: &[u8], p: usize, kind: u8) -> usize
 
 // What stands for the node at p, of kind `kind`, up to its children; its parent is of kind `above`.
 fn put_begin(out: &mut [u8], s: &[u8], above: u8, previous: u8, p: usize, kind: u8) -> usize
-    requires { ⌜ (Layout (now s)) × (p < length (nodes (now s))) × (kind ≡ label-at (nodes (now s)) p .kind) × (length (begin (of-kind above) previous (label-at (nodes (now s)) p)) ≤ length (now out)) ⌝ }
+    requires { ⌜ (Layout (now s)) × (p < length (nodes (now s))) × (kind ≡ label-at (nodes (now s)) p .kind)
+        × (length (begin (of-kind above) previous (label-at (nodes (now s)) p)) ≤ length (now out)) ⌝ }
     ensures { λ r. ⌜ Wrote (begin (of-kind above) previous (label-at (nodes (now (s .entry))) p)) (now (out .entry)) (now (out .exit)) r ⌝ }
 {
     if kind == 3 {
@@ -90,7 +96,8 @@ fn put_begin(out: &mut [u8], s: &[u8], above: u8, previous: u8, p: usize, kind: 
 
 // What stands for the node at p, of kind `kind`, behind its children, the last of which is of kind `last`.
 fn put_end(out: &mut [u8], s: &[u8], p: usize, kind: u8, last: u8) -> usize
-    requires { ⌜ (Layout (now s)) × (p < length (nodes (now s))) × (kind ≡ label-at (nodes (now s)) p .kind) × (length (end (label-at (nodes (now s)) p) last) ≤ length (now out)) ⌝ }
+    requires { ⌜ (Layout (now s)) × (p < length (nodes (now s))) × (kind ≡ label-at (nodes (now s)) p .kind)
+        × (length (end (label-at (nodes (now s)) p) last) ≤ length (now out)) ⌝ }
     ensures { λ r. ⌜ Wrote (end (label-at (nodes (now (s .entry))) p) last) (now (out .entry)) (now (out .exit)) r ⌝ }
 {
     if kind == 3 {
@@ -119,7 +126,8 @@ fn put_ends(
     requires { ⌜ (Layout (now s)) × (OnPath (nodes (now s)) (now path) top)
         × (OfKinds (nodes (now s)) (now path) (now kinds) top)
         × (length (ends (suc top - d) (open-labels (nodes (now s)) (now path) (suc top)) 0) ≤ length (now out)) ⌝ }
-    ensures { λ r. ⌜ Wrote (ends (suc top - d) (open-labels (nodes (now (s .entry))) (now (path .entry)) (suc top)) 0) (now (out .entry)) (now (out .exit)) r ⌝ }
+    ensures { λ r. ⌜ Wrote (ends (suc top - d) (open-labels (nodes (now (s .entry))) (now (path .entry)) (suc top)) 0) (now (out .entry))
+        (now (out .exit)) r ⌝ }
 {
     let mut at: usize = 0;
     let mut last: u8 = 0;
@@ -147,7 +155,8 @@ fn put_row(
 ) -> usize
     requires { ⌜ (Layout (now s)) × (OnPath (nodes (now s)) (now path) top)
         × (OfKinds (nodes (now s)) (now path) (now kinds) top)
-        × (1 ≤ d) × (d ≤ suc top) × (p < length (nodes (now s))) × (kind ≡ label-at (nodes (now s)) p .kind) × (length (row-text (nodes (now s)) (now path) top d p) ≤ length (now out)) ⌝ }
+        × (1 ≤ d) × (d ≤ suc top) × (p < length (nodes (now s))) × (kind ≡ label-at (nodes (now s)) p .kind) × (length (row-text
+        (nodes (now s)) (now path) top d p) ≤ length (now out)) ⌝ }
     ensures { λ r. ⌜ Wrote (row-text (nodes (now (s .entry))) (now (path .entry)) top d p) (now (out .entry)) (now (out .exit)) r ⌝ }
 {
     let above = kinds[d - 1];
@@ -156,7 +165,8 @@ fn put_row(
     at + put_begin(&mut out[at..], s, above, previous, p, kind)
 }
 
-// The ends of all open nodes, behind the last row. A function of its own, so that `put_ends` is called once and compiled into the rows' loop.
+// The ends of all open nodes, behind the last row. A function of its own, so that `put_ends` is called once and compiled into the rows'
+// loop.
 fn put_last_ends(
     out: &mut [u8],
     s: &[u8],
@@ -167,7 +177,8 @@ fn put_last_ends(
     requires { ⌜ (Layout (now s)) × (OnPath (nodes (now s)) (now path) top)
         × (OfKinds (nodes (now s)) (now path) (now kinds) top)
         × (length (ends (suc top - 0) (open-labels (nodes (now s)) (now path) (suc top)) 0) ≤ length (now out)) ⌝ }
-    ensures { λ r. ⌜ Wrote (ends (suc top - 0) (open-labels (nodes (now (s .entry))) (now (path .entry)) (suc top)) 0) (now (out .entry)) (now (out .exit)) r ⌝ }
+    ensures { λ r. ⌜ Wrote (ends (suc top - 0) (open-labels (nodes (now (s .entry))) (now (path .entry)) (suc top)) 0) (now (out .entry))
+        (now (out .exit)) r ⌝ }
 {
     let mut at: usize = 0;
     let mut last: u8 = 0;
@@ -184,7 +195,8 @@ fn put_last_ends(
 
 // What stands for the rows below the document's.
 fn put_body(out: &mut [u8], s: &[u8], places: &[u16; 1024], count: usize) -> usize
-    requires { ⌜ (Layout (now s)) × (Listed (nodes (now s)) (now places) count) × (length (body (lines (nodes (now s)) (now places) count)) ≤ length (now out)) ⌝ }
+    requires { ⌜ (Layout (now s)) × (Listed (nodes (now s)) (now places) count)
+        × (length (body (lines (nodes (now s)) (now places) count)) ≤ length (now out)) ⌝ }
     ensures { λ r. ⌜ Wrote (body (lines (nodes (now (s .entry))) (now (places .entry)) count)) (now (out .entry)) (now (out .exit)) r ⌝ }
 {
     let first = places[0];
@@ -210,8 +222,10 @@ fn put_body(out: &mut [u8], s: &[u8], places: &[u16; 1024], count: usize) -> usi
 
 // What stands for the rows of the document.
 fn put_document(out: &mut [u8], s: &[u8], places: &[u16; 1024], count: usize) -> usize
-    requires { ⌜ (Layout (now s)) × (Listed (nodes (now s)) (now places) count) × (length (written-rows (lines (nodes (now s)) (now places) count)) ≤ length (now out)) ⌝ }
-    ensures { λ r. ⌜ Wrote (written-rows (lines (nodes (now (s .entry))) (now (places .entry)) count)) (now (out .entry)) (now (out .exit)) r ⌝ }
+    requires { ⌜ (Layout (now s)) × (Listed (nodes (now s)) (now places) count)
+        × (length (written-rows (lines (nodes (now s)) (now places) count)) ≤ length (now out)) ⌝ }
+    ensures { λ r. ⌜ Wrote (written-rows (lines (nodes (now (s .entry))) (now (places .entry)) count)) (now (out .entry)) (now (out .exit))
+        r ⌝ }
 {
     let at = markup::put_prolog(out);
     at + put_body(&mut out[at..], s, places, count)

@@ -1,7 +1,8 @@
--- Bytes of markup, classes of bytes and fixed byte strings: document 01, "Reading and writing XML". Numbers in brackets are productions of XML 1.0.
+-- Bytes of markup, classes of bytes and fixed byte strings: document 01, "Reading and writing XML". Numbers in brackets are productions of
+-- XML 1.0.
 use Prim.Native.Nat.{ℕ, zero, suc}
-use mathlib.Core.Bool.{Bool, true, false, cond, not, _&&_, _||_}
-use mathlib.Core.List.{List, [], _∷_}
+use mathlib.Core.Bool.{Bool, cond, not, _&&_, _||_}
+use mathlib.Core.List.{List, []}
 use lib.Dec.{eqb}
 use Rattle.tree.specs.Text.{bytes}
 use Rattle.tree.specs.Lists.{any, same}

@@ -41,7 +41,8 @@ pub data Value (q : Quote) : (s t c : List ℕ) → Type 0 where
   value-byte : {b : ℕ} {s t c : List ℕ} → value-literal q b ≡ true → Value q s t c → Value q (b ∷ s) t (b ∷ c)
   value-entity : {b : ℕ} {s u t c : List ℕ} → Entity s u b → Value q u t c → Value q (ampersand ∷ s) t (b ∷ c)
 
--- CharData [14] and references [67] up to the < that ends them, that byte included, k literal bytes ] just before; the bytes of the text are c
+-- CharData [14] and references [67] up to the < that ends them, that byte included, k literal bytes ] just before; the bytes of the text
+-- are c
 pub data Chars : ℕ → (s t c : List ℕ) → Type 0 where
   chars-end : {k : ℕ} {t : List ℕ} → Chars k (less-than ∷ t) t []
   chars-byte : {k b : ℕ} {s t c : List ℕ} → text-literal k b ≡ true → Chars (brackets k b) s t c → Chars k (b ∷ s) t (b ∷ c)
@@ -55,39 +56,43 @@ text-node (b ∷ c) = node (text (b ∷ c)) nil nil
 -- places in an element named n: in its start tag behind the name or a value, or behind a blank, `seen` being the attribute names so far;
 -- behind the start tag or a child; behind a < there
 pub data Place : Type 0 where
-  behind spaced : (n : Name) (seen : List Name) → Place
+  unspaced spaced : (n : Name) (seen : List Name) → Place
   inside opened : (n : Name) → Place
 
--- from the place on to the end of the element; f are the children that stand there. `unique` asks for Unique Att Spec, the constraint of [40] and [44]
-pub data Part (unique : Bool) : Place → (s : List ℕ) (f : Shape) (t : List ℕ) → Type 0 where
+-- from the place on to the end of the element; f are the children that stand there. `unique` asks for Unique Att Spec, the constraint of
+-- [40] and [44]
+pub data Derives (unique : Bool) : Place → (s : List ℕ) (f : Shape) (t : List ℕ) → Type 0 where
   -- S in a start tag [40], [44]
   spacing : {n : Name} {seen : List Name} {b : ℕ} {s t : List ℕ} {f : Shape}
-      → blank b ≡ true → Part unique (spaced n seen) s f t → Part unique (behind n seen) (b ∷ s) f t
+      → blank b ≡ true → Derives unique (spaced n seen) s f t → Derives unique (unspaced n seen) (b ∷ s) f t
   -- EmptyElemTag [44]
-  empty : {n : Name} {seen : List Name} {t : List ℕ} → Part unique (behind n seen) (slash ∷ greater-than ∷ t) nil t
+  empty : {n : Name} {seen : List Name} {t : List ℕ} → Derives unique (unspaced n seen) (slash ∷ greater-than ∷ t) nil t
   -- the end of STag [40]
-  full : {n : Name} {seen : List Name} {s t : List ℕ} {f : Shape} → Part unique (inside n) s f t → Part unique (behind n seen) (greater-than ∷ s) f t
+  full : {n : Name} {seen : List Name} {s t : List ℕ} {f : Shape} → Derives unique (inside n) s f t
+      → Derives unique (unspaced n seen) (greater-than ∷ s) f t
   -- no attribute behind the blank
-  more : {n : Name} {seen : List Name} {s t : List ℕ} {f : Shape} → Part unique (behind n seen) s f t → Part unique (spaced n seen) s f t
+  more : {n : Name} {seen : List Name} {s t : List ℕ} {f : Shape} → Derives unique (unspaced n seen) s f t
+      → Derives unique (spaced n seen) s f t
   -- Attribute [41], with Eq [25] and AttValue [10]
-  attribute-part : {n a : Name} {seen : List Name} (q : Quote) {s u v w x t c : List ℕ} {f : Shape}
+  derive-attribute : {n a : Name} {seen : List Name} (q : Quote) {s u v w x t c : List ℕ} {f : Shape}
       → Named a s u → (unique && used seen a) ≡ false → Blanks u (equals-sign ∷ v) → Blanks v (mark q ∷ w) → Value q w x c
-      → Part unique (behind n (a ∷ seen)) x f t → Part unique (spaced n seen) s (node (attribute a) (text-node c) f) t
+      → Derives unique (unspaced n (a ∷ seen)) x f t → Derives unique (spaced n seen) s (node (attribute a) (text-node c) f) t
   -- CharData and references in content [43]
-  text-part : {n : Name} {s u t c : List ℕ} {b : ℕ} {f : Shape}
-      → Chars 0 s u (b ∷ c) → Part unique (opened n) u f t → Part unique (inside n) s (node (text (b ∷ c)) nil f) t
+  derive-text : {n : Name} {s u t c : List ℕ} {b : ℕ} {f : Shape}
+      → Chars 0 s u (b ∷ c) → Derives unique (opened n) u f t → Derives unique (inside n) s (node (text (b ∷ c)) nil f) t
   -- no text before the next tag
-  markup : {n : Name} {s t : List ℕ} {f : Shape} → Part unique (opened n) s f t → Part unique (inside n) (less-than ∷ s) f t
+  markup : {n : Name} {s t : List ℕ} {f : Shape} → Derives unique (opened n) s f t → Derives unique (inside n) (less-than ∷ s) f t
   -- element in content [39], [43]
-  element-part : {n m : Name} {s u v t : List ℕ} {g f : Shape}
-      → Named m s u → Part unique (behind m []) u g v → Part unique (inside n) v f t → Part unique (opened n) s (node (element m) g f) t
+  derive-element : {n m : Name} {s u v t : List ℕ} {g f : Shape}
+      → Named m s u → Derives unique (unspaced m []) u g v → Derives unique (inside n) v f t
+      → Derives unique (opened n) s (node (element m) g f) t
   -- ETag [42], by Element Type Match with the name of the start tag
-  end-tag : {n : Name} {u t : List ℕ} → Blanks u (greater-than ∷ t) → Part unique (opened n) (slash ∷ (n ++ u)) nil t
+  end-tag : {n : Name} {u t : List ℕ} → Blanks u (greater-than ∷ t) → Derives unique (opened n) (slash ∷ (n ++ u)) nil t
 
 -- the root element [39] with blanks around it, to the end of the input
 pub data Root (unique : Bool) : List ℕ → Shape → Type 0 where
   root : {n : Name} {s u v t : List ℕ} {f : Shape}
-      → Blanks s (less-than ∷ u) → Named n u v → Part unique (behind n []) v f t → Blanks t [] → Root unique s (node (element n) f nil)
+      → Blanks s (less-than ∷ u) → Named n u v → Derives unique (unspaced n []) v f t → Blanks t [] → Root unique s (node (element n) f nil)
 
 -- document [1] with its optional XMLDecl [23]: the bytes, and the root element that they spell
 pub data Parses (unique : Bool) : List ℕ → Shape → Type 0 where

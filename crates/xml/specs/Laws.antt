@@ -8,6 +8,7 @@ pub mod Counts
 pub mod Phases
 pub mod Completions
 pub mod Forces
+pub mod Offsets
 pub mod Judge
 pub mod Verdicts
 pub mod Structure

@@ -1,8 +1,8 @@
 -- What an input stands for, and why it is refused: document 01, "Refused calls" (load) and "Reading and writing XML".
-use Prim.Native.Nat.{ℕ, zero, suc, _-_, _≤_, _<_}
+use Prim.Native.Nat.{ℕ, zero, suc, _≤_, _<_}
 use mathlib.Core.Path.{_≡_}
 use mathlib.Core.Bool.{Bool, true, false, cond, _||_}
-use mathlib.Core.List.{List, [], _∷_, _++_}
+use mathlib.Core.List.{List, [], _++_}
 use lib.ListN.{length, take, getD}
 use lib.Dec.{eqb}
 use Rattle.tree.specs.Content.{content-limit}

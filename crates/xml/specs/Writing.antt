@@ -32,8 +32,8 @@ is-element a = eqb (a .kind) element-kind
 abbrev pub is-attribute : Label → Bool
 is-attribute a = eqb (a .kind) attribute-kind
 
-abbrev pub is-text : Label → Bool
-is-text a = eqb (a .kind) text-kind
+abbrev pub is-text-node : Label → Bool
+is-text-node a = eqb (a .kind) text-kind
 
 -- the value of an attribute with these children
 abbrev pub value : Shape → List ℕ
@@ -58,7 +58,7 @@ contents (node a ks fs) =
     cond (is-element a)
     (bytes "<" ++ (a .content ++ (attributes ks ++
     (cond (childless ks) (bytes "/>") (bytes ">" ++ (contents ks ++ (bytes "</" ++ (a .content ++ bytes ">")))) ++ contents fs))))
-    (cond (is-text a) (escaped (a .content) ++ contents fs) (contents fs))
+    (cond (is-text-node a) (escaped (a .content) ++ contents fs) (contents fs))
 
 -- the children of the topmost node
 abbrev pub below : Shape → Shape
@@ -84,12 +84,12 @@ repeats seen (node a ks fs) =
 
 abbrev pub begins-with-text : Shape → Bool
 begins-with-text nil = false
-begins-with-text (node a ks fs) = is-text a
+begins-with-text (node a ks fs) = is-text-node a
 
 -- "two neighbouring texts"
 unfoldable pub neighbouring-texts : Shape → Bool
 neighbouring-texts nil = false
-neighbouring-texts (node a ks fs) = (is-text a && begins-with-text fs) || neighbouring-texts ks || neighbouring-texts fs
+neighbouring-texts (node a ks fs) = (is-text-node a && begins-with-text fs) || neighbouring-texts ks || neighbouring-texts fs
 
 -- "not expressible: no root, two attributes of one element with one name, two neighbouring texts, more than 65,536 bytes in all"
 unfoldable pub expressible : Document → Bool

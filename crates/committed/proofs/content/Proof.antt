@@ -4,12 +4,6 @@ use borrow.Author.Needs.{needs}
 use Rattle.committed.proofs.content.Statement.{statement}
 use Rattle.committed.proofs.content.Tie as tie
 
-version-requires : tie.Need-version-requires
-version-requires c κs = search needs
-
-content-bytes-requires : tie.Need-content-bytes-requires
-content-bytes-requires c κs = search needs
-
 returns : tie.Need-returns
 returns c =
     let v = c .before .version in
@@ -18,4 +12,9 @@ returns c =
     (e ∙ v .ensures .1, rw e (size-small (a .args .s .now) (a .args .p) (v .result) _ refl (a .pre .0) (a .pre .1) (v .ensures .2)))
 
 pub content-spec : {M : Type 1} → statement M
-content-spec = tie.close (tie.spec version-requires content-bytes-requires returns)
+content-spec =
+    tie.close
+    (tie.spec
+    (λ c κs. search needs)
+    (λ c κs. search needs)
+    returns)

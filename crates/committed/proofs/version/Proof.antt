@@ -5,16 +5,15 @@ use borrow.Author.Needs.{needs}
 use Rattle.committed.proofs.version.Statement.{statement}
 use Rattle.committed.proofs.version.Tie as tie
 
-writer-requires : tie.Need-writer-requires
-writer-requires c κs = search needs
-
 returns : tie.Need-returns
 returns c =
     let v = version-saved _ _ (λ e. c .if1 .taken (c .before .writer .ensures ∙ e)) in
     (omega arith, v .0, v .1)
 
-returns-2 : tie.Need-returns-2
-returns-2 c = (omega arith, version-now _ _ (sym (c .before .writer .ensures) ∙ c .if1 .left), refl)
-
 pub version-spec : {M : Type 1} → statement M
-version-spec = tie.close (tie.spec writer-requires returns returns-2)
+version-spec =
+    tie.close
+    (tie.spec
+    (λ c κs. search needs)
+    returns
+    (λ c. (omega arith, version-now _ _ (sym (c .before .writer .ensures) ∙ c .if1 .left), refl)))

@@ -41,13 +41,16 @@ shape-of f =
     ∙ ap (λ (t : Marked → Bool). view t (λ a. unnumbered (as-shown (λ u. false) a)) f) none-shown
 
 shape-root : (f : Tree) (r : Root f)
-    → shape (document-of (λ u. false) f) ≡ node (record { kind = document-kind; content = committed-label (r .it) .content }) (view is-committed committed-label (r .below)) nil
+    → shape (document-of (λ u. false) f)
+    ≡ node (record { kind = document-kind; content = committed-label (r .it) .content }) (view is-committed committed-label (r .below)) nil
 unfolding view committed-label
 shape-root f r =
     shape-of f ∙ ap (view is-committed committed-label) (r .whole)
-    ∙ rw (eq-eqb (r .it .inserter) nobody (r .document .inserter)) (ap (λ (a : Label). node a (view is-committed committed-label (r .below)) nil) (top (r .it) (r .document .kind)))
+    ∙ rw (eq-eqb (r .it .inserter) nobody (r .document .inserter))
+    (ap (λ (a : Label). node a (view is-committed committed-label (r .below)) nil) (top (r .it) (r .document .kind)))
   where
-    top : (a : Marked) → a .now .kind ≡ document-kind → committed-label a ≡ record { kind = document-kind; content = committed-label a .content }
+    top : (a : Marked) → a .now .kind ≡ document-kind
+        → committed-label a ≡ record { kind = document-kind; content = committed-label a .content }
     top a e = ap (λ (k : ℕ). record { kind = k; content = committed-label a .content }) e
 
 -- depths of the rows of a tree -------------------------------------------------------------------
@@ -57,7 +60,8 @@ unfoldable legal : ℕ → List Line → Bool
 legal before [] = true
 legal before (x ∷ xs) = between 1 (suc before) (x .0) && legal (x .0) xs
 
-legal-flat : (before d : ℕ) (f : Shape) (t : List Line) → 1 ≤ d → d ≤ suc before → ((n : ℕ) → d ≤ suc n → legal n t ≡ true) → legal before (flat d f ++ t) ≡ true
+legal-flat : (before d : ℕ) (f : Shape) (t : List Line) → 1 ≤ d → d ≤ suc before → ((n : ℕ) → d ≤ suc n → legal n t ≡ true)
+    → legal before (flat d f ++ t) ≡ true
 unfolding legal flat
 legal-flat before d nil t a b k = k before b
 legal-flat before d (node x ks fs) t a b k =
@@ -107,9 +111,13 @@ module _ {s : List ℕ} {M : State} (h : Holds s M) where
     many = sym (ap length lines-are) ∙ length-lines (nodes s) (w .places) (w .count) enough
 
     at : (i : ℕ) → i < w .count → getD rows i (line-at (nodes s) 0) .0 ≡ depth (nodes s) (getD (w .places) i 0)
-    at i k = ap (λ (l : List Line). getD l i (line-at (nodes s) 0) .0) (sym lines-are) ∙ ap (λ (x : Line). x .0) (line-of (nodes s) (w .places) (w .count) enough i k)
+    at i k =
+        ap (λ (l : List Line). getD l i (line-at (nodes s) 0) .0) (sym lines-are)
+        ∙ ap (λ (x : Line). x .0) (line-of (nodes s) (w .places) (w .count) enough i k)
 
-    step : (i : ℕ) → suc i < w .count → (1 ≤ getD rows (suc i) (line-at (nodes s) 0) .0) × (getD rows (suc i) (line-at (nodes s) 0) .0 ≤ suc (getD rows i (line-at (nodes s) 0) .0))
+    step : (i : ℕ) → suc i < w .count
+        → (1 ≤ getD rows (suc i) (line-at (nodes s) 0) .0)
+        × (getD rows (suc i) (line-at (nodes s) 0) .0 ≤ suc (getD rows i (line-at (nodes s) 0) .0))
     unfolding legal
     step i k =
         legal-at (0, record { kind = document-kind; content = root-content }) (flat 1 root-below ++ [])

@@ -26,7 +26,8 @@ pub record Selecting (l : List Entry) (hidden i count : ℕ) (places : List ℕ)
 
 pub selecting-start : (l : List Entry) (places : List ℕ) → length places ≡ 1024 → Selecting l 0 0 0 places
 unfolding committed-lines lines
-selecting-start l places n = record { long = n; behind = omega arith; room = omega arith; inside = λ j z. absurd (omega arith); found = refl }
+selecting-start l places n =
+    record { long = n; behind = omega arith; room = omega arith; inside = λ j z. absurd (omega arith); found = refl }
 
 module _ {l : List Entry} {hidden i count : ℕ} {places : List ℕ} (c : Selecting l hidden i count places) where
   -- no row is left
@@ -43,7 +44,8 @@ module _ {l : List Entry} {hidden i count : ℕ} {places : List ℕ} (c : Select
     row : drop i l ≡ getD l i no-entry ∷ drop (i + 1) l
     row = drop-cons l i no-entry h ∙ rw (add-one i)
 
-    on : (hidden′ : ℕ) → prune is-committed hidden (drop i l) ≡ prune is-committed hidden′ (drop (i + 1) l) → Selecting l hidden′ (i + 1) count places
+    on : (hidden′ : ℕ) → prune is-committed hidden (drop i l) ≡ prune is-committed hidden′ (drop (i + 1) l)
+        → Selecting l hidden′ (i + 1) count places
     on hidden′ z = record {
       long = c .long;
       behind = omega arith;
@@ -76,7 +78,8 @@ module _ {l : List Entry} {hidden i count : ℕ} {places : List ℕ} (c : Select
             inside = λ j g. at j g (eqb j count) refl;
             found = c .found
                 ∙ rw (f, add-one count, take-suc-set places count i n, map-append (line-at l) (take count places) (i ∷ []))
-                (sym (append-assoc (map (line-at l) (take count places)) (line-at l i ∷ []) (map (second committed-label) (prune is-committed 0 (drop (i + 1) l)))));
+                (sym (append-assoc (map (line-at l) (take count places)) (line-at l i ∷ [])
+                (map (second committed-label) (prune is-committed 0 (drop (i + 1) l)))));
           }
         where
           at : (j : ℕ) → j < count + 1 → (b : Bool) → eqb j count ≡ b → getD (set places count i) j 0 < length l

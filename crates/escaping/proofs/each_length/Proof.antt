@@ -13,31 +13,14 @@ Inv-loop p n sum₀ i₀ sum i = (i ≤ n) × (n ≡ length p) × Counting p i s
 abbrev μ-loop : tie.MeasureT-loop
 μ-loop p n sum₀ i₀ sum i = n - i
 
-loop-holds : tie.Need-loop-holds Inv-loop μ-loop
-loop-holds c = (omega arith, refl, counting-start _)
-
-shared-slice-read-byte-length : tie.Need-shared-slice-read-byte-length Inv-loop μ-loop
-shared-slice-read-byte-length c = search needs
-
-byte-length-requires : tie.Need-byte-length-requires Inv-loop μ-loop
-byte-length-requires c κs = search needs
-
-add-sum : tie.Need-add-sum Inv-loop μ-loop
-add-sum c = omega (arith, c .before .before .before .loop .inv .2 .small)
-
-add-i : tie.Need-add-i Inv-loop μ-loop
-add-i c = search needs
-
-loop-less : tie.Need-loop-less Inv-loop μ-loop
-loop-less c = search needs
-
 loop-again : tie.Need-loop-again Inv-loop μ-loop
 loop-again c =
-    let l = c .before .before .before in
-    (omega arith, l .loop .inv .1, counting-byte _ (l .loop .inv .2) (omega arith) (c .byte-length .ensures .0) (c .byte-length .ensures .1))
-
-returns : tie.Need-returns Inv-loop μ-loop
-returns c = (counting-end (c .before .loop .inv .2) (omega arith), omega (arith, c .before .loop .inv .2 .small))
+    let l = c .before .before .before in (
+      omega arith,
+      l .loop .inv .1,
+      counting-byte _ (l .loop .inv .2) (omega arith) (c .byte-length .ensures .0)
+          (c .byte-length .ensures .1),
+    )
 
 pub each-length-spec : {M : Type 1} → statement M
 each-length-spec =
@@ -45,11 +28,11 @@ each-length-spec =
     (tie.spec
     Inv-loop
     μ-loop
-    loop-holds
-    shared-slice-read-byte-length
-    byte-length-requires
-    add-sum
-    add-i
-    loop-less
+    (λ c. (omega arith, refl, counting-start _))
+    (λ c. search needs)
+    (λ c κs. search needs)
+    (λ c. omega (arith, c .before .before .before .loop .inv .2 .small))
+    (λ c. search needs)
+    (λ c. search needs)
     loop-again
-    returns)
+    (λ c. (counting-end (c .before .loop .inv .2) (omega arith), omega (arith, c .before .loop .inv .2 .small))))

@@ -11,31 +11,10 @@ Inv-loop p sum₀ i₀ sum i = (i ≤ 8) × Counting p i sum
 abbrev μ-loop : tie.MeasureT-loop
 μ-loop p sum₀ i₀ sum i = 8 - i
 
-loop-holds : tie.Need-loop-holds Inv-loop μ-loop
-loop-holds c = (omega arith, counting-start _)
-
-shared-slice-read-byte-length : tie.Need-shared-slice-read-byte-length Inv-loop μ-loop
-shared-slice-read-byte-length c = search needs
-
-byte-length-requires : tie.Need-byte-length-requires Inv-loop μ-loop
-byte-length-requires c κs = search needs
-
-add-sum : tie.Need-add-sum Inv-loop μ-loop
-add-sum c = omega (arith, c .before .before .before .loop .inv .1 .small)
-
-add-i : tie.Need-add-i Inv-loop μ-loop
-add-i c = search needs
-
-loop-less : tie.Need-loop-less Inv-loop μ-loop
-loop-less c = search needs
-
 loop-again : tie.Need-loop-again Inv-loop μ-loop
 loop-again c =
     let l = c .before .before .before in
     (omega arith, counting-byte _ (l .loop .inv .1) (omega arith) (c .byte-length .ensures .0) (c .byte-length .ensures .1))
-
-returns : tie.Need-returns Inv-loop μ-loop
-returns c = (counting-end (c .before .loop .inv .1) (omega arith), omega (arith, c .before .loop .inv .1 .small))
 
 pub eight-length-spec : {M : Type 1} → statement M
 eight-length-spec =
@@ -43,11 +22,11 @@ eight-length-spec =
     (tie.spec
     Inv-loop
     μ-loop
-    loop-holds
-    shared-slice-read-byte-length
-    byte-length-requires
-    add-sum
-    add-i
-    loop-less
+    (λ c. (omega arith, counting-start _))
+    (λ c. search needs)
+    (λ c κs. search needs)
+    (λ c. omega (arith, c .before .before .before .loop .inv .1 .small))
+    (λ c. search needs)
+    (λ c. search needs)
     loop-again
-    returns)
+    (λ c. (counting-end (c .before .loop .inv .1) (omega arith), omega (arith, c .before .loop .inv .1 .small))))

@@ -14,27 +14,12 @@ Inv-loop p n i₀ i = (i ≤ n) × (n ≡ length p) × (plain p ≡ plain (drop 
 abbrev μ-loop : tie.MeasureT-loop
 μ-loop p n i₀ i = n - i
 
-loop-holds : tie.Need-loop-holds Inv-loop μ-loop
-loop-holds c = (omega arith, refl, refl)
-
-shared-slice-read-has-entity : tie.Need-shared-slice-read-has-entity Inv-loop μ-loop
-shared-slice-read-has-entity c = search needs
-
-has-entity-requires : tie.Need-has-entity-requires Inv-loop μ-loop
-has-entity-requires c κs = search needs
-
 returns : tie.Need-returns Inv-loop μ-loop
 returns c =
     let l = c .before .before .before .before in
     let k = l .before .before in
     let e = sym (c .before .has-entity .ensures) ∙ c .if1 .taken in
     sym (l .loop .inv .2 ∙ plain-not (k .args .p .now) (l .loop .i) (omega arith) e)
-
-add-i : tie.Need-add-i Inv-loop μ-loop
-add-i c = search needs
-
-loop-less : tie.Need-loop-less Inv-loop μ-loop
-loop-less c = search needs
 
 loop-again : tie.Need-loop-again Inv-loop μ-loop
 loop-again c =
@@ -43,22 +28,17 @@ loop-again c =
     let e = sym (c .before .has-entity .ensures) ∙ c .if1 .left in
     (omega arith, l .loop .inv .1, l .loop .inv .2 ∙ plain-on (k .args .p .now) (l .loop .i) (omega arith) e)
 
-returns-2 : tie.Need-returns-2 Inv-loop μ-loop
-returns-2 c =
-    let l = c .before in
-    sym (l .loop .inv .2 ∙ plain-end (c .before .before .before .args .p .now) (l .loop .i) (omega arith))
-
 pub is-plain-spec : {M : Type 1} → statement M
 is-plain-spec =
     tie.close
     (tie.spec
     Inv-loop
     μ-loop
-    loop-holds
-    shared-slice-read-has-entity
-    has-entity-requires
+    (λ c. (omega arith, refl, refl))
+    (λ c. search needs)
+    (λ c κs. search needs)
     returns
-    add-i
-    loop-less
+    (λ c. search needs)
+    (λ c. search needs)
     loop-again
-    returns-2)
+    (λ c. sym (c .before .loop .inv .2 ∙ plain-end (c .before .before .before .args .p .now) (c .before .loop .i) (omega arith))))

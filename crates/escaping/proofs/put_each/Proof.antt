@@ -10,16 +10,11 @@ use Rattle.escaping.proofs.put_each.Statement.{statement}
 use Rattle.escaping.proofs.put_each.Tie as tie
 
 abbrev Inv-loop : tie.InvT-loop
-Inv-loop out₀ p n at₀ j₀ out at j = (j ≤ n) × (n ≡ length p) × (length out ≡ length out₀) × Partly (escaped p) (escaped (drop j p)) out₀ out at
+Inv-loop out₀ p n at₀ j₀ out at j =
+    (j ≤ n) × (n ≡ length p) × (length out ≡ length out₀) × Partly (escaped p) (escaped (drop j p)) out₀ out at
 
 abbrev μ-loop : tie.MeasureT-loop
 μ-loop out₀ p n at₀ j₀ out at j = n - j
-
-loop-holds : tie.Need-loop-holds Inv-loop μ-loop
-loop-holds c = (omega arith, refl, refl, partly-start _ _)
-
-shared-slice-read-b : tie.Need-shared-slice-read-b Inv-loop μ-loop
-shared-slice-read-b c = search needs
 
 sub-put-byte : tie.Need-sub-put-byte Inv-loop μ-loop
 sub-put-byte c =
@@ -32,9 +27,6 @@ part-put-byte-start c =
     let l = c .before .before in
     let a = l .before .before .before in
     next-byte (a .args .p .now) (l .loop .j) _ (l .loop .inv .3) (a .pre) (omega (arith, l .loop .inv .1)) refl .inside
-
-part-put-byte-end : tie.Need-part-put-byte-end Inv-loop μ-loop
-part-put-byte-end c = search needs
 
 put-byte-requires : tie.Need-put-byte-requires Inv-loop μ-loop
 put-byte-requires c κs =
@@ -49,12 +41,6 @@ add-at c =
     let x = next-byte (a .args .p .now) (l .loop .j) _ (l .loop .inv .3) (a .pre) (omega (arith, l .loop .inv .1)) refl in
     omega (arith, x .small, c .before .before .put-byte .ensures .count)
 
-add-j : tie.Need-add-j Inv-loop μ-loop
-add-j c = search needs
-
-loop-less : tie.Need-loop-less Inv-loop μ-loop
-loop-less c = search needs
-
 loop-again : tie.Need-loop-again Inv-loop μ-loop
 loop-again c =
     let l = c .before .before .before .before .before .before in
@@ -65,9 +51,6 @@ loop-again c =
       search needs,
       n .on _ _ (c .before .before .put-byte .ensures),
     )
-
-same-length : tie.Need-same-length Inv-loop μ-loop
-same-length c = c .before .loop .inv .2
 
 returns : tie.Need-returns Inv-loop μ-loop
 returns c =
@@ -80,15 +63,15 @@ put-each-spec =
     (tie.spec
     Inv-loop
     μ-loop
-    loop-holds
-    shared-slice-read-b
+    (λ c. (omega arith, refl, refl, partly-start _ _))
+    (λ c. search needs)
     sub-put-byte
     part-put-byte-start
-    part-put-byte-end
+    (λ c. search needs)
     put-byte-requires
     add-at
-    add-j
-    loop-less
+    (λ c. search needs)
+    (λ c. search needs)
     loop-again
-    same-length
+    (λ c. c .before .loop .inv .2)
     returns)

@@ -11,16 +11,11 @@ use Rattle.escaping.proofs.put_escaped.Statement.{statement}
 use Rattle.escaping.proofs.put_escaped.Tie as tie
 
 abbrev Inv-loop : tie.InvT-loop
-Inv-loop out₀ p n at₀ j₀ out at j = (j ≤ n) × (n ≡ length p) × (length out ≡ length out₀) × Partly (escaped p) (escaped (drop j p)) out₀ out at
+Inv-loop out₀ p n at₀ j₀ out at j =
+    (j ≤ n) × (n ≡ length p) × (length out ≡ length out₀) × Partly (escaped p) (escaped (drop j p)) out₀ out at
 
 abbrev μ-loop : tie.MeasureT-loop
 μ-loop out₀ p n at₀ j₀ out at j = n - j
-
-loop-holds : tie.Need-loop-holds Inv-loop μ-loop
-loop-holds c = (omega arith, refl, refl, partly-start _ _)
-
-add-loop : tie.Need-add-loop Inv-loop μ-loop
-add-loop c = search needs
 
 sub-put-eight : tie.Need-sub-put-eight Inv-loop μ-loop
 sub-put-eight c =
@@ -34,21 +29,6 @@ part-put-eight-start c =
     let a = l .before .before .before in
     next-part (a .args .p .now) (l .loop .j) 8 (l .loop .inv .3) (a .pre .1) .inside
 
-part-put-eight-end : tie.Need-part-put-eight-end Inv-loop μ-loop
-part-put-eight-end c = search needs
-
-add-put-eight : tie.Need-add-put-eight Inv-loop μ-loop
-add-put-eight c = search needs
-
-sub-put-eight-2 : tie.Need-sub-put-eight-2 Inv-loop μ-loop
-sub-put-eight-2 c = search needs
-
-part-put-eight-start-2 : tie.Need-part-put-eight-start-2 Inv-loop μ-loop
-part-put-eight-start-2 c = search needs
-
-part-put-eight-end-2 : tie.Need-part-put-eight-end-2 Inv-loop μ-loop
-part-put-eight-end-2 c = search needs
-
 put-eight-requires : tie.Need-put-eight-requires Inv-loop μ-loop
 put-eight-requires c κs =
     let l = c .before .before .before in
@@ -59,13 +39,12 @@ add-at : tie.Need-add-at Inv-loop μ-loop
 add-at c =
     let l = c .before .before .before .before .before .before in
     let a = l .before .before .before in
-    omega (arith, next-part (a .args .p .now) (l .loop .j) 8 (l .loop .inv .3) (a .pre .1) .small, c .before .before .put-eight .ensures .count)
-
-add-j : tie.Need-add-j Inv-loop μ-loop
-add-j c = search needs
-
-loop-less : tie.Need-loop-less Inv-loop μ-loop
-loop-less c = search needs
+    omega (
+      arith,
+      next-part (a .args .p .now) (l .loop .j) 8 (l .loop .inv .3) (a .pre .1) .small,
+      c .before .before .put-eight .ensures
+          .count,
+    )
 
 loop-again : tie.Need-loop-again Inv-loop μ-loop
 loop-again c =
@@ -89,18 +68,6 @@ part-put-rest-start c =
     let a = l .before .before .before in
     next-rest (a .args .p .now) (l .loop .j) (l .loop .inv .3) (a .pre .1) .inside
 
-part-put-rest-end : tie.Need-part-put-rest-end Inv-loop μ-loop
-part-put-rest-end c = search needs
-
-sub-put-rest-2 : tie.Need-sub-put-rest-2 Inv-loop μ-loop
-sub-put-rest-2 c = search needs
-
-part-put-rest-start-2 : tie.Need-part-put-rest-start-2 Inv-loop μ-loop
-part-put-rest-start-2 c = search needs
-
-part-put-rest-end-2 : tie.Need-part-put-rest-end-2 Inv-loop μ-loop
-part-put-rest-end-2 c = search needs
-
 put-rest-requires : tie.Need-put-rest-requires Inv-loop μ-loop
 put-rest-requires c κs =
     let l = c .before .before .before in
@@ -111,10 +78,12 @@ add-result : tie.Need-add-result Inv-loop μ-loop
 add-result c =
     let l = c .before .before .before .before .before .before in
     let a = l .before .before .before in
-    omega (arith, next-rest (a .args .p .now) (l .loop .j) (l .loop .inv .3) (a .pre .1) .small, c .before .before .put-rest .ensures .count)
-
-same-length : tie.Need-same-length Inv-loop μ-loop
-same-length c = search needs
+    omega (
+      arith,
+      next-rest (a .args .p .now) (l .loop .j) (l .loop .inv .3) (a .pre .1) .small,
+      c .before .before .put-rest .ensures
+          .count,
+    )
 
 returns : tie.Need-returns Inv-loop μ-loop
 returns c =
@@ -128,27 +97,27 @@ put-escaped-spec =
     (tie.spec
     Inv-loop
     μ-loop
-    loop-holds
-    add-loop
+    (λ c. (omega arith, refl, refl, partly-start _ _))
+    (λ c. search needs)
     sub-put-eight
     part-put-eight-start
-    part-put-eight-end
-    add-put-eight
-    sub-put-eight-2
-    part-put-eight-start-2
-    part-put-eight-end-2
+    (λ c. search needs)
+    (λ c. search needs)
+    (λ c. search needs)
+    (λ c. search needs)
+    (λ c. search needs)
     put-eight-requires
     add-at
-    add-j
-    loop-less
+    (λ c. search needs)
+    (λ c. search needs)
     loop-again
     sub-put-rest
     part-put-rest-start
-    part-put-rest-end
-    sub-put-rest-2
-    part-put-rest-start-2
-    part-put-rest-end-2
+    (λ c. search needs)
+    (λ c. search needs)
+    (λ c. search needs)
+    (λ c. search needs)
     put-rest-requires
     add-result
-    same-length
+    (λ c. search needs)
     returns)

@@ -6,36 +6,26 @@ use borrow.Author.Needs.{needs}
 use Rattle.filling.proofs.child.Statement.{statement}
 use Rattle.filling.proofs.child.Tie as tie
 
-text-requires : tie.Need-text-requires
-text-requires c κs = let p = c .before .before .before .pre in (p .0 .inside, p .0 .layout, text-fits (in-element (p .0) (p .1)))
-
-peek-requires : tie.Need-peek-requires
-peek-requires c κs = search needs
-
 end-tag-requires : tie.Need-end-tag-requires
 end-tag-requires c κs = let p = c .before .before .before .before .before .before .before .before .pre in
-    end-inside (text-put (in-element (p .0) (p .1)) (c .before .before .before .before .text .ensures)) (sym (c .before .peek .ensures) ∙ c .if1 .taken)
-
-sub-t12 : tie.Need-sub-t12
-sub-t12 c = search needs
-
-same-length : tie.Need-same-length
-same-length c = search needs
+    end-inside (text-put (in-element (p .0) (p .1)) (c .before .before .before .before .text .ensures))
+    (sym (c .before .peek .ensures) ∙ c .if1 .taken)
 
 returns : tie.Need-returns
 returns c = let p = c .before .before .before .before .before .before .before .before .before .pre in
     let t = c .before .before .before .before .before .text .ensures in
     let G = in-element (p .0) (p .1) in
-    let e = c .end-tag .ensures in
-    (end-put (text-put G t) (sym (c .before .before .peek .ensures) ∙ c .before .if1 .taken) _ e, text-same G t, omega (arith, t .forward, e .forward))
+    let e = c .end-tag .ensures in (
+      end-put (text-put G t) (sym (c .before .before .peek .ensures) ∙ c .before .if1 .taken) _ e,
+      text-same G t,
+      omega
+          (arith, t .forward, e .forward),
+    )
 
 start-tag-requires : tie.Need-start-tag-requires
 start-tag-requires c κs = let p = c .before .before .before .before .before .before .before .before .before .pre in
     start-there (text-put (in-element (p .0) (p .1)) (c .before .before .before .before .before .text .ensures))
     (λ z. c .before .if1 .left (c .before .before .peek .ensures ∙ z))
-
-same-length-2 : tie.Need-same-length-2
-same-length-2 c = search needs
 
 returns-2 : tie.Need-returns-2
 returns-2 c = let p = c .before .before .before .before .before .before .before .before .before .before .before .before .pre in
@@ -47,12 +37,12 @@ pub child-spec : {M : Type 1} → statement M
 child-spec =
     tie.close
     (tie.spec
-    text-requires
-    peek-requires
+    (λ c κs. let p = c .before .before .before .pre in (p .0 .inside, p .0 .layout, text-fits (in-element (p .0) (p .1))))
+    (λ c κs. search needs)
     end-tag-requires
-    sub-t12
-    same-length
+    (λ c. search needs)
+    (λ c. search needs)
     returns
     start-tag-requires
-    same-length-2
+    (λ c. search needs)
     returns-2)

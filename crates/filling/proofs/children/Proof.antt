@@ -14,25 +14,15 @@ Inv-loop s₀ x at₀ depth₀ s at depth = Same s₀ s × Filling Behind x s at
 abbrev μ-loop : tie.MeasureT-loop
 μ-loop s₀ x at₀ depth₀ s at depth = length x - at
 
-loop-holds : tie.Need-loop-holds Inv-loop μ-loop
-loop-holds c = (same-same _, c .before .before .pre)
-
-child-requires : tie.Need-child-requires Inv-loop μ-loop
-child-requires c κs = (c .before .before .loop .inv .1, search needs)
-
-loop-less : tie.Need-loop-less Inv-loop μ-loop
-loop-less c = let e = c .before .before .child .ensures in omega (arith, e .2, e .0 .inside)
-
-loop-again : tie.Need-loop-again Inv-loop μ-loop
-loop-again c = let e = c .before .before .child .ensures in (same-then (c .before .before .before .before .before .loop .inv .0) (e .1), e .0)
-
-same-length : tie.Need-same-length Inv-loop μ-loop
-same-length c = c .before .loop .inv .0 .long
-
-returns : tie.Need-returns Inv-loop μ-loop
-returns c = filled-done (c .before .loop .inv .1) (search needs) (c .before .loop .inv .0)
-
 pub children-spec : {M : Type 1} → statement M
 children-spec =
     tie.close
-    (tie.spec Inv-loop μ-loop loop-holds child-requires loop-less loop-again same-length returns)
+    (tie.spec
+    Inv-loop
+    μ-loop
+    (λ c. (same-same _, c .before .before .pre))
+    (λ c κs. (c .before .before .loop .inv .1, search needs))
+    (λ c. let e = c .before .before .child .ensures in omega (arith, e .2, e .0 .inside))
+    (λ c. let e = c .before .before .child .ensures in (same-then (c .before .before .before .before .before .loop .inv .0) (e .1), e .0))
+    (λ c. c .before .loop .inv .0 .long)
+    (λ c. filled-done (c .before .loop .inv .1) (search needs) (c .before .loop .inv .0)))

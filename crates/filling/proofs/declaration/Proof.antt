@@ -4,15 +4,6 @@ use borrow.Author.Needs.{needs}
 use Rattle.filling.proofs.declaration.Statement.{statement}
 use Rattle.filling.proofs.declaration.Tie as tie
 
-peek-requires : tie.Need-peek-requires
-peek-requires c κs = search needs
-
-returns : tie.Need-returns
-returns c = declared-not _ (λ e. c .if1 .taken (c .before .peek .ensures ∙ e))
-
-peek-requires-2 : tie.Need-peek-requires-2
-peek-requires-2 c κs = search needs
-
 returns-2 : tie.Need-returns-2
 returns-2 c =
     let peek = c .before .before .before .peek in
@@ -28,4 +19,11 @@ returns-3 c =
     declared-wholly _ (sym (peek .ensures) ∙ if1 .left) (λ e. c .if2 .left (peek2 .ensures ∙ e))
 
 pub declaration-spec : {M : Type 1} → statement M
-declaration-spec = tie.close (tie.spec peek-requires returns peek-requires-2 returns-2 returns-3)
+declaration-spec =
+    tie.close
+    (tie.spec
+    (λ c κs. search needs)
+    (λ c. declared-not _ (λ e. c .if1 .taken (c .before .peek .ensures ∙ e)))
+    (λ c κs. search needs)
+    returns-2
+    returns-3)

@@ -12,19 +12,11 @@ use Rattle.filling.proofs.decode.Statement.{statement}
 use Rattle.filling.proofs.decode.Tie as tie
 
 abbrev Inv-loop : tie.InvT-loop
-Inv-loop x stop buffer₀ i₀ n₀ buffer i n = (i₀ ≤ i) × (i ≤ length x) × (n ≤ 32) × (length buffer ≡ 32) × Decoding x stop i₀ i (take n buffer)
+Inv-loop x stop buffer₀ i₀ n₀ buffer i n =
+    (i₀ ≤ i) × (i ≤ length x) × (n ≤ 32) × (length buffer ≡ 32) × Decoding x stop i₀ i (take n buffer)
 
 abbrev μ-loop : tie.MeasureT-loop
 μ-loop x stop buffer₀ i₀ n₀ buffer i n = length x - i
-
-loop-holds : tie.Need-loop-holds Inv-loop μ-loop
-loop-holds c = (search needs, search needs, search needs, search needs, decode-start _ _ _)
-
-shared-slice-read-b : tie.Need-shared-slice-read-b Inv-loop μ-loop
-shared-slice-read-b c = search needs
-
-add-t16 : tie.Need-add-t16 Inv-loop μ-loop
-add-t16 c = search needs
 
 returns : tie.Need-returns Inv-loop μ-loop
 returns c =
@@ -32,20 +24,11 @@ returns c =
     (l .inv .3, decode-stop _ _ _ _ _ _ (l .inv .4) (l .inv .0) (l .inv .2) _ refl (search needs) (c .if1 .taken))
 
 returns-2 : tie.Need-returns-2 Inv-loop μ-loop
-returns-2 c = let l = c .before .before .before .before .loop in
-    (l .inv .3, decode-full _ _ _ _ _ _ (l .inv .4) (l .inv .0) (l .inv .2) (search needs) (c .before .if1 .left) _ refl (c .if2 .taken) (l .inv .3))
-
-element-write-buffer : tie.Need-element-write-buffer Inv-loop μ-loop
-element-write-buffer c = search needs
-
-add-n : tie.Need-add-n Inv-loop μ-loop
-add-n c = search needs
-
-add-i : tie.Need-add-i Inv-loop μ-loop
-add-i c = search needs
-
-loop-less : tie.Need-loop-less Inv-loop μ-loop
-loop-less c = search needs
+returns-2 c = let l = c .before .before .before .before .loop in (
+  l .inv .3,
+  decode-full _ _ _ _ _ _ (l .inv .4) (l .inv .0) (l .inv .2) (search needs) (c .before .if1 .left) _ refl (c .if2 .taken)
+      (l .inv .3),
+)
 
 loop-again : tie.Need-loop-again Inv-loop μ-loop
 loop-again c =
@@ -58,15 +41,6 @@ loop-again c =
       decode-turn _ _ _ _ _ _ (l .inv .4) (l .inv .0) (l .inv .2) (search needs) (if1 .left)
           (one-byte {c = record { at = l .i + 1 }} (c .if3 .taken) refl) (search needs),
     )
-
-add-t12 : tie.Need-add-t12 Inv-loop μ-loop
-add-t12 c = search needs
-
-reference-requires : tie.Need-reference-requires Inv-loop μ-loop
-reference-requires c κs = search needs
-
-enum-known-lost : tie.Need-enum-known-lost Inv-loop μ-loop
-enum-known-lost c = search needs
 
 returns-3 : tie.Need-returns-3 Inv-loop μ-loop
 returns-3 c =
@@ -81,15 +55,6 @@ returns-3 c =
     let r = subst (λ (r : Reference). Refers x (l .i + 1) name r) (lost .given .1) (reference .ensures) in
     let k = by-reference (if3 .left) r in
     (l .inv .3, decode-lost _ _ _ _ _ _ (l .inv .4) (l .inv .0) (l .inv .2) (search needs) (c₆ .if1 .left) _ refl k)
-
-enum-known-value : tie.Need-enum-known-value Inv-loop μ-loop
-enum-known-value c = search needs
-
-element-write-buffer-2 : tie.Need-element-write-buffer-2 Inv-loop μ-loop
-element-write-buffer-2 c = search needs
-
-add-n-2 : tie.Need-add-n-2 Inv-loop μ-loop
-add-n-2 c = search needs
 
 loop-less-2 : tie.Need-loop-less-2 Inv-loop μ-loop
 loop-less-2 c =
@@ -127,7 +92,8 @@ loop-again-2 c =
     )
 
 returns-4 : tie.Need-returns-4 Inv-loop μ-loop
-returns-4 c = let l = c .before .loop in (l .inv .3, decode-end _ _ _ _ _ _ (l .inv .4) (l .inv .0) (l .inv .2) _ refl (search needs) (search needs))
+returns-4 c =
+    let l = c .before .loop in (l .inv .3, decode-end _ _ _ _ _ _ (l .inv .4) (l .inv .0) (l .inv .2) _ refl (search needs) (search needs))
 
 pub decode-spec : {M : Type 1} → statement M
 decode-spec =
@@ -135,23 +101,23 @@ decode-spec =
     (tie.spec
     Inv-loop
     μ-loop
-    loop-holds
-    shared-slice-read-b
-    add-t16
+    (λ c. (search needs, search needs, search needs, search needs, decode-start _ _ _))
+    (λ c. search needs)
+    (λ c. search needs)
     returns
     returns-2
-    element-write-buffer
-    add-n
-    add-i
-    loop-less
+    (λ c. search needs)
+    (λ c. search needs)
+    (λ c. search needs)
+    (λ c. search needs)
     loop-again
-    add-t12
-    reference-requires
-    enum-known-lost
+    (λ c. search needs)
+    (λ c κs. search needs)
+    (λ c. search needs)
     returns-3
-    enum-known-value
-    element-write-buffer-2
-    add-n-2
+    (λ c. search needs)
+    (λ c. search needs)
+    (λ c. search needs)
     loop-less-2
     loop-again-2
     returns-4)

@@ -9,8 +9,8 @@ use lib.ListN.{length, getD, take, drop, set, length-append, drop-of-length-le}
 use lib.Seq.{drop-cons, drop-drop, take-suc-set, length-take-le}
 use Rattle.tree.specs.Content.{content-limit, text-byte}
 use Rattle.xml.specs.Bytes.{ampersand, less-than, Quote, double, single, mark, value-literal, text-literal}
-use Rattle.xml.specs.Grammar.{Entity, entity-amp, entity-apos, entity-gt, entity-lt, entity-quot, Value, value-close, value-byte, value-entity}
-use Rattle.xml.specs.Grammar.{Chars, chars-end, chars-byte, chars-entity}
+use Rattle.xml.specs.Grammar.{Entity, entity-amp, entity-apos, entity-gt, entity-lt, entity-quot, Value, value-close, value-byte}
+use Rattle.xml.specs.Grammar.{value-entity, Chars, chars-end, chars-byte, chars-entity}
 use Rattle.xml.specs.Laws.Tokens.{Reach, got, lost}
 use Rattle.xml.specs.Laws.Fixed.{agree, word-at, entity-at}
 use Rattle.reader.specs.declared.Cursor.{Cursor}
@@ -86,7 +86,8 @@ record Reference-at (stop : ℕ) (s t c : List ℕ) : Type 0 where
 at-reference : {stop b : ℕ} {s t c : List ℕ} → Characters stop (b ∷ s) t c → (b ≡ stop → ⊥) → b ≡ ampersand → Reference-at stop s t c
 at-reference stop-here n m = absurd (n refl)
 at-reference (byte-then _ p r) n m = absurd (p m)
-at-reference (reference-then {b = k} {u = u} {c = c} _ x r) n m = record { byte = k; behind = u; more = c; entity = x; rest = r; content = refl }
+at-reference (reference-then {b = k} {u = u} {c = c} _ x r) n m =
+    record { byte = k; behind = u; more = c; entity = x; rest = r; content = refl }
 
 module _ (x : List ℕ) (stop i : ℕ) (h : i < length x) (n : getD x i 0 ≡ stop → ⊥) (t c : List ℕ) (d : Characters stop (drop i x) t c) where
   here : Characters stop (getD x i 0 ∷ drop (suc i) x) t c
@@ -104,14 +105,16 @@ module _ (x : List ℕ) (stop i : ℕ) (h : i < length x) (n : getD x i 0 ≡ st
       let y : next .at ≡ suc i + g .0 = omega arith in
       (v, ap (λ (j : ℕ). drop j x) y ∙ sym (drop-drop (g .0) (suc i) x) ∙ g .2)
 
-  pub next-character : {b : ℕ} {next : Cursor} → Character x i (Byte b next) → (r : List ℕ) × Characters stop (drop (next .at) x) t r × (c ≡ b ∷ r)
+  pub next-character : {b : ℕ} {next : Cursor} → Character x i (Byte b next)
+      → (r : List ℕ) × Characters stop (drop (next .at) x) t r × (c ≡ b ∷ r)
   next-character (one-byte m e) = let y = at-byte here n m in (y .0, rw (e, add-one i) (y .1), y .2)
   next-character {b} {next} (by-reference a r) =
       let y = at-reference here n a in
       let z = refer (y .entity) (entity-at (drop (i + 1) x)) refl r in
       (y .more, rw (z .1) (y .rest), y .content ∙ ap (λ (k : ℕ). k ∷ y .more) (sym (z .0)))
 
-  no-refer : {k j : ℕ} {u : List ℕ} → Entity (drop (suc i) x) u k → (q : Reach) → entity-at (drop (i + 1) x) ≡ q → Refers x (i + 1) q (NoEntity j) → ⊥
+  no-refer : {k j : ℕ} {u : List ℕ} → Entity (drop (suc i) x) u k → (q : Reach) → entity-at (drop (i + 1) x) ≡ q
+      → Refers x (i + 1) q (NoEntity j) → ⊥
   no-refer {k} e q p (no-entity {n = n} o) =
       let g = entity-got e in
       let z : got k (g .0) ≡ lost n = sym (g .1) ∙ rw (← add-one i) p in
@@ -142,7 +145,8 @@ module _ (x : List ℕ) (stop at i n : ℕ) (b : List ℕ) (g : Decoding x stop 
   }
 
   -- where no value or text stands
-  none : (c : Cursor) → c .at ≡ i → i ≤ length x → ((t r : List ℕ) → Characters stop (drop i x) t r → length (take n b ++ r) ≤ content-limit → ⊥)
+  none : (c : Cursor) → c .at ≡ i → i ≤ length x
+      → ((t r : List ℕ) → Characters stop (drop i x) t r → length (take n b ++ r) ≤ content-limit → ⊥)
       → Decodes x stop at b n c
   none c e h f = record {
     few = few;
@@ -159,7 +163,8 @@ module _ (x : List ℕ) (stop at i n : ℕ) (b : List ℕ) (g : Decoding x stop 
     decode-lost c e k = none c e (omega arith) (λ t r d m. no-other x stop i h s t r d k)
 
     pub decode-full : (c : Cursor) → c .at ≡ i → n ≡ content-limit → length b ≡ content-limit → Decodes x stop at b n c
-    decode-full c e f l = none c e (omega arith) (λ t r d m. some d (omega (arith, length-append (take n b) r, length-take-le n b (omega arith))))
+    decode-full c e f l =
+        none c e (omega arith) (λ t r d m. some d (omega (arith, length-append (take n b) r, length-take-le n b (omega arith))))
       where
         some : {t r : List ℕ} → Characters stop (drop i x) t r → length r ≤ 0 → ⊥
         some {t} {r} d m = go {a = getD x i 0} {u = drop (suc i) x} {t = t} {r = r} (rw (← drop-cons x i 0 h) d) s m
@@ -169,9 +174,14 @@ module _ (x : List ℕ) (stop at i n : ℕ) (b : List ℕ) (g : Decoding x stop 
             go (byte-then p q r) n m = omega arith
             go (reference-then p q r) n m = omega arith
 
-    pub decode-turn : {v : ℕ} {next : Cursor} → Character x i (Byte v next) → n < length b → Decoding x stop at (next .at) (take (n + 1) (set b n v))
+    pub decode-turn : {v : ℕ} {next : Cursor} → Character x i (Byte v next) → n < length b
+        → Decoding x stop at (next .at) (take (n + 1) (set b n v))
     decode-turn {v} {next} k l = record {
       comes = λ t c d. let y = g .comes t c d in
-          let z = next-character x stop i h s t (y .0) (y .1) k in
-          (z .0, z .1, rw (add-one n, take-suc-set b n v l, append-assoc (take n b) (v ∷ []) (z .0)) (y .2 ∙ ap (λ (u : List ℕ). take n b ++ u) (z .2)));
+          let z = next-character x stop i h s t (y .0) (y .1) k in (
+            z .0,
+            z .1,
+            rw (add-one n, take-suc-set b n v l, append-assoc (take n b) (v ∷ []) (z .0))
+                (y .2 ∙ ap (λ (u : List ℕ). take n b ++ u) (z .2)),
+          );
     }

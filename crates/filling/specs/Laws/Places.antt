@@ -15,17 +15,16 @@ use Rattle.layout.specs.Flat.{flat}
 use Rattle.layout.specs.Layout.{nodes}
 use Rattle.xml.specs.Bytes.{slash, less-than, greater-than, blank, mark}
 use Rattle.xml.specs.Shape.{Shape, element, attribute, document}
-use Rattle.xml.specs.Grammar.{Name, Named, name}
-use Rattle.xml.specs.Grammar.{behind, inside, opened, Part, text-part, markup, element-part, end-tag}
+use Rattle.xml.specs.Grammar.{Name, Named, name, inside, opened, Derives, derive-text, markup, derive-element, end-tag}
 use Rattle.xml.specs.Laws.Tokens.{span}
 use Rattle.xml.specs.Laws.Unique.{one-tree}
 use Rattle.reader.specs.declared.Cursor.{Cursor}
 use Rattle.reader.specs.Steps.{Run}
-use Rattle.filling.specs.Fill.{Row, listed, texts, Short, stop-here, Behind, behind-root, behind-child, InTag, AtAttribute, AtElement, AtText}
-use Rattle.filling.specs.Fill.{AtTag, begins, ends, Filling, Same, Put, QuoteAt, EndsAt, Filled}
+use Rattle.filling.specs.Fill.{Row, listed, texts, Short, stop-here, Behind, behind-root, behind-child, InTag, AtAttribute, AtElement}
+use Rattle.filling.specs.Fill.{AtText, AtTag, begins, ends, Filling, Same, Put, QuoteAt, EndsAt, Filled}
 use Rattle.filling.specs.Laws.Rows.{listed-text, rows-done}
-use Rattle.filling.specs.Laws.Runs.{run-drop, over-name, name-spelled, tag-no-name, equals-no-name, blanks-no-name, TagRest, rest-open}
-use Rattle.filling.specs.Laws.Runs.{rest-empty, rest-attribute, tag-rest}
+use Rattle.filling.specs.Laws.Runs.{run-drop, over-name, name-spelled, tag-no-name, equals-no-name, blanks-no-name, TagRest}
+use Rattle.filling.specs.Laws.Runs.{rest-open, rest-empty, rest-attribute, tag-rest}
 use Rattle.filling.specs.Laws.Decoding.{value-characters, text-characters}
 use Rattle.filling.specs.Laws.Tokens.{next-byte}
 use Rattle.filling.specs.Laws.Texts.{filled-by, moved}
@@ -64,7 +63,8 @@ module _ {x s : List ℕ} {at d : ℕ} (F : Filling AtElement x s at d) (to : �
   pub element-short : length (take (to - at) (drop at x)) ≤ content-limit
   element-short = rw (element-name .0) (short-first (d, element (E .name)) (E .later) (F .rows) (E .rows) (F .short))
 
-  pub element-put : {s′ : List ℕ} → Put s s′ ((d, record { kind = element-kind; content = take (to - at) (drop at x) }) ∷ []) → Filling InTag x s′ to (d + 1)
+  pub element-put : {s′ : List ℕ} → Put s s′ ((d, record { kind = element-kind; content = take (to - at) (drop at x) }) ∷ [])
+      → Filling InTag x s′ to (d + 1)
   element-put p =
       let q = rw (element-name .0) at p in
       filled-by F ((d, element (E .name)) ∷ []) (E .later) (E .rows) q to (d + 1) (rw (element-name .1, add-one d) (E .after)) (r .inside)
@@ -83,12 +83,14 @@ module _ {x s : List ℕ} {at d : ℕ} (F : Filling AtAttribute x s at d) (to : 
   attribute-room = omega (arith, F .room, ap length (A .rows))
 
   pub attribute-short : length (take (to - at) (drop at x)) ≤ content-limit
-  attribute-short = rw (attribute-name .0) (short-first (d, attribute (A .name)) (texts (suc d) (A .content) ++ A .later) (F .rows) (A .rows) (F .short))
+  attribute-short =
+      rw (attribute-name .0) (short-first (d, attribute (A .name)) (texts (suc d) (A .content) ++ A .later) (F .rows) (A .rows) (F .short))
 
   module _ {s′ : List ℕ} (p : Put s s′ ((d, record { kind = attribute-kind; content = take (to - at) (drop at x) }) ∷ [])) (c : Cursor)
       (q : QuoteAt x to c) where
     quote-there : (c .at < length x) × (getD x (c .at) 0 ≡ mark (A .quote)) × (drop (c .at + 1) x ≡ A .behind-quote)
-    quote-there = next-byte x (c .at) (mark (A .quote)) (A .behind-quote) (q .quotes (A .quote) (rw (attribute-name .1) (A .equals)) (A .quoted))
+    quote-there =
+        next-byte x (c .at) (mark (A .quote)) (A .behind-quote) (q .quotes (A .quote) (rw (attribute-name .1) (A .equals)) (A .quoted))
 
     pub quote-inside : c .at < length x
     quote-inside = quote-there .0
@@ -109,10 +111,11 @@ module _ {x s : List ℕ} {at d : ℕ} (F : Filling AtAttribute x s at d) (to : 
         (omega (arith, quote-there .0)) (omega (arith, F .deep))
 
 opened-rows : {d o : ℕ} {n : Name} {s t : List ℕ} {f : Shape} {l k : List Row} → d ≡ suc o → k ≡ listed d f l
-    → every name-byte n ≡ true → Part true (inside n) s f t → Behind o t l → Behind d s k
+    → every name-byte n ≡ true → Derives true (inside n) s f t → Behind o t l → Behind d s k
 opened-rows e r h p z = rw (r, e) (behind-child h p z)
 
-emptied-rows : (d : ℕ) {e o : ℕ} {s t : List ℕ} {f : Shape} {l k : List Row} → k ≡ listed d f l → f ≡ nil → e ≡ o → s ≡ t → Behind o t l → Behind e s k
+emptied-rows : (d : ℕ) {e o : ℕ} {s t : List ℕ} {f : Shape} {l k : List Row} → k ≡ listed d f l → f ≡ nil → e ≡ o → s ≡ t → Behind o t l
+    → Behind e s k
 unfolding listed
 emptied-rows d r n e u z = rw (r, n, e, u) z
 
@@ -126,7 +129,8 @@ module _ {x s : List ℕ} {i d : ℕ} (F : Filling InTag x s i d) (at : ℕ) (r 
   rest-there = rw (run-drop blank x i at r) (tag-rest (T .part))
 
   module _ (e : getD x at 0 ≡ greater-than) where
-    open-part : {y t : List ℕ} {f : Shape} → TagRest (T .name) y f t → drop at x ≡ y → (at < length x) × Part true (inside (T .name)) (drop (at + 1) x) f t
+    open-part : {y t : List ℕ} {f : Shape} → TagRest (T .name) y f t → drop at x ≡ y
+        → (at < length x) × Derives true (inside (T .name)) (drop (at + 1) x) f t
     unfolding name-start
     open-part (rest-open {s = u} p) k = let n = next-byte x at greater-than u k in (n .0, rw (n .2) p)
     open-part (rest-empty {t = t}) k = absurd (omega (arith, next-byte x at slash (greater-than ∷ t) k .1))
@@ -141,7 +145,8 @@ module _ {x s : List ℕ} {i d : ℕ} (F : Filling InTag x s i d) (at : ℕ) (r 
         moved F (at + 1) d (opened-rows (T .below) (T .rows) (T .spelled) (y .1) (T .after)) (omega (arith, y .0)) (F .deep)
 
   module _ (e : getD x at 0 ≡ slash) where
-    empty-part : {y t : List ℕ} {f : Shape} → TagRest (T .name) y f t → drop at x ≡ y → (at + 1 < length x) × (drop (at + 2) x ≡ t) × (f ≡ nil)
+    empty-part : {y t : List ℕ} {f : Shape} → TagRest (T .name) y f t → drop at x ≡ y
+        → (at + 1 < length x) × (drop (at + 2) x ≡ t) × (f ≡ nil)
     unfolding name-start
     empty-part (rest-open {s = u} p) k = absurd (omega (arith, next-byte x at greater-than u k .1))
     empty-part (rest-empty {t = t}) k =
@@ -200,10 +205,11 @@ module _ {x s : List ℕ} {i d : ℕ} (F : Filling InTag x s i d) (at : ℕ) (r 
 -- content ------------------------------------------------------------------------------------------
 
 -- the rows of an element and of what follows it
-in-content : {d : ℕ} {n : Name} {s t : List ℕ} {f : Shape} {l : List Row} → every name-byte n ≡ true → Part true (opened n) s f t → Behind d t l
+in-content : {d : ℕ} {n : Name} {s t : List ℕ} {f : Shape} {l : List Row} → every name-byte n ≡ true → Derives true (opened n) s f t
+    → Behind d t l
     → AtTag (suc d) s (listed (suc d) f l)
 unfolding listed
-in-content {d} {n} {l = l} h (element-part {m = m} {u = u} {v = v} {g = g} {f = f} a p q) z = begins (record {
+in-content {d} {n} {l = l} h (derive-element {m = m} {u = u} {v = v} {g = g} {f = f} a p q) z = begins (record {
   name = m;
   behind-name = u;
   later = listed (suc (suc d)) g (listed (suc d) f l);
@@ -225,11 +231,19 @@ in-content {d} {n} {l = l} h (element-part {m = m} {u = u} {v = v} {g = g} {f = 
 })
 in-content {n = n} h (end-tag b) z = ends n refl h refl b z
 
-at-text : {d : ℕ} {n : Name} {s t : List ℕ} {f : Shape} {l : List Row} → every name-byte n ≡ true → Part true (inside n) s f t → Behind d t l
+at-text : {d : ℕ} {n : Name} {s t : List ℕ} {f : Shape} {l : List Row} → every name-byte n ≡ true → Derives true (inside n) s f t
+    → Behind d t l
     → AtText less-than (suc d) AtTag (suc d) s (listed (suc d) f l)
 unfolding listed texts
-at-text {d} {l = l} h (text-part {u = u} {c = c} {b = b} {f = f} x p) z =
-    record { content = b ∷ c; behind = u; later = listed (suc d) f l; characters = text-characters x; after = in-content h p z; rows = refl }
+at-text {d} {l = l} h (derive-text {u = u} {c = c} {b = b} {f = f} x p) z =
+    record {
+      content = b ∷ c;
+      behind = u;
+      later = listed (suc d) f l;
+      characters = text-characters x;
+      after = in-content h p z;
+      rows = refl;
+    }
 at-text {d} {f = f} {l = l} h (markup {s = s} p) z =
     record { content = []; behind = s; later = listed (suc d) f l; characters = stop-here; after = in-content h p z; rows = refl }
 
@@ -291,4 +305,9 @@ pub filled-done : {x s s′ : List ℕ} {at d : ℕ} → Filling Behind x s′ a
 filled-done {s′ = s′} F h k =
     let e = nothing-left (F .rest) h in
     let w = rw e at (F .filled) in
-    record { same = k; layout = F .layout; nodes = λ f y. sym (rows-done s′) ∙ w ∙ ap (λ (g : Shape). flat 0 (tree-of (document g))) (one-tree (F .spelled) y) }
+    record {
+      same = k;
+      layout = F .layout;
+      nodes = λ f y. sym (rows-done s′) ∙ w ∙ ap (λ (g : Shape). flat 0 (tree-of (document g)))
+          (one-tree (F .spelled) y);
+    }

@@ -28,7 +28,8 @@ length-entries i (x ∷ l) = ap suc (length-entries (suc i) l)
 -- the rows l behind the rows k
 module _ {s s′ : List ℕ} (k : List Row) (p : Put s s′ k) where
   pub many-put : length (nodes s′) ≡ length (nodes s) + length k
-  many-put = ap length (p .nodes) ∙ length-append (nodes s) (entries (length (nodes s)) k) ∙ omega (arith, length-entries (length (nodes s)) k)
+  many-put =
+      ap length (p .nodes) ∙ length-append (nodes s) (entries (length (nodes s)) k) ∙ omega (arith, length-entries (length (nodes s)) k)
 
   pub rows-behind : (l : List Row) → with-rows s′ l ≡ with-rows s (k ++ l)
   rows-behind l =
@@ -55,7 +56,8 @@ unfolding listed longest Short
 short-listed d nil l h s = s
 short-listed d (node a g f) l h s = (omega arith, short-listed (suc d) g (listed d f l) (omega arith) (short-listed d f l (omega arith) s))
 
-flat-listed : (d i : ℕ) (f : Shape) (l : List Row) → flat d (view (λ a. true) unmarked (numbered i f)) ++ entries (i + size f) l ≡ entries i (listed d f l)
+flat-listed : (d i : ℕ) (f : Shape) (l : List Row)
+    → flat d (view (λ a. true) unmarked (numbered i f)) ++ entries (i + size f) l ≡ entries i (listed d f l)
 unfolding flat view numbered size entries listed
 flat-listed d i nil l = let p : i + 0 ≡ i = omega arith in rw p
 flat-listed d i (node a g f) l =
@@ -68,7 +70,8 @@ flat-listed d i (node a g f) l =
     rw p (ap (λ (t : List Entry). (d, unmarked (record { number = i; kind = a .kind; content = a .content })) ∷ t) z)
 
 -- node 0 alone, and the rows of the root element
-pub document-rows : (s : List ℕ) (f : Shape) → nodes s ≡ flat 0 (tree-of node-0-alone) → with-rows s (listed 1 f []) ≡ flat 0 (tree-of (document f))
+pub document-rows : (s : List ℕ) (f : Shape) → nodes s ≡ flat 0 (tree-of node-0-alone)
+    → with-rows s (listed 1 f []) ≡ flat 0 (tree-of (document f))
 unfolding flat tree-of node-0-alone view numbered entries
 document-rows s f e =
     rw e (ap (λ (t : List Entry). (0, unmarked (record { number = 0; kind = 1; content = [] })) ∷ t) (sym (flat-listed 1 1 f [])))

@@ -12,7 +12,8 @@ use Rattle.tree.specs.Laws.Tests.{and-left, and-right}
 use Rattle.xml.specs.Bytes.{slash, equals-sign, greater-than, blank, Quote, double, single, mark}
 use Rattle.xml.specs.Shape.{Shape, attribute}
 use Rattle.xml.specs.Grammar.{Name, Blanks, no-blank, blank-then, NameBytes, no-name-byte, name-byte-then, Named, name, Value, text-node}
-use Rattle.xml.specs.Grammar.{Place, behind, spaced, inside, opened, Part, spacing, empty, full, more, attribute-part, text-part, markup, element-part, end-tag}
+use Rattle.xml.specs.Grammar.{Place, unspaced, spaced, inside, opened, Derives, spacing, empty, full, more, derive-attribute, derive-text}
+use Rattle.xml.specs.Grammar.{markup, derive-element, end-tag}
 use Rattle.xml.specs.Laws.Tokens.{span}
 use Rattle.xml.specs.Laws.Transitions.{blank-no-name}
 use Rattle.reader.specs.Steps.{Run}
@@ -94,51 +95,52 @@ named-no-blank (name {b = b} {s = s} e n) = go (blank b) refl
 
 -- what stands behind the blanks in a start tag
 pub data TagRest (n : Name) : (s : List ℕ) (f : Shape) (t : List ℕ) → Type 0 where
-  rest-open : {s t : List ℕ} {f : Shape} → Part true (inside n) s f t → TagRest n (greater-than ∷ s) f t
+  rest-open : {s t : List ℕ} {f : Shape} → Derives true (inside n) s f t → TagRest n (greater-than ∷ s) f t
   rest-empty : {t : List ℕ} → TagRest n (slash ∷ greater-than ∷ t) nil t
   rest-attribute : {a : Name} (seen : List Name) (q : Quote) {s u v w x t c : List ℕ} {f : Shape}
-      → Named a s u → Blanks u (equals-sign ∷ v) → Blanks v (mark q ∷ w) → Value q w x c → Part true (behind n seen) x f t
+      → Named a s u → Blanks u (equals-sign ∷ v) → Blanks v (mark q ∷ w) → Value q w x c → Derives true (unspaced n seen) x f t
       → TagRest n s (node (attribute a) (text-node c) f) t
 
 abbrev Rest : Place → List ℕ → Shape → List ℕ → Type 0
-Rest (behind n seen) s f t = TagRest n (drop (span blank s) s) f t
+Rest (unspaced n seen) s f t = TagRest n (drop (span blank s) s) f t
 Rest (spaced n seen) s f t = TagRest n (drop (span blank s) s) f t
 Rest (inside n) s f t = Unit {0}
 Rest (opened n) s f t = Unit {0}
 
-rest-of : {p : Place} {s t : List ℕ} {f : Shape} → Part true p s f t → Rest p s f t
+rest-of : {p : Place} {s t : List ℕ} {f : Shape} → Derives true p s f t → Rest p s f t
 unfolding span blank
 rest-of (spacing h p) = rw h (rest-of p)
 rest-of empty = rest-empty
 rest-of (full p) = rest-open p
 rest-of (more p) = rest-of p
-rest-of (attribute-part {seen = seen} q m k x y v p) = rw (named-no-blank m) (rest-attribute _ q m x y v p)
-rest-of (text-part x p) = tt
+rest-of (derive-attribute {seen = seen} q m k x y v p) = rw (named-no-blank m) (rest-attribute _ q m x y v p)
+rest-of (derive-text x p) = tt
 rest-of (markup p) = tt
-rest-of (element-part m p i) = tt
+rest-of (derive-element m p i) = tt
 rest-of (end-tag x) = tt
 
-pub tag-rest : {n : Name} {seen : List Name} {s t : List ℕ} {f : Shape} → Part true (behind n seen) s f t → TagRest n (drop (span blank s) s) f t
+pub tag-rest : {n : Name} {seen : List Name} {s t : List ℕ} {f : Shape} → Derives true (unspaced n seen) s f t
+    → TagRest n (drop (span blank s) s) f t
 tag-rest p = rest-of p
 
 -- no name goes on there
 abbrev NoName : Place → List ℕ → Type 0
-NoName (behind n seen) s = span name-byte s ≡ 0
+NoName (unspaced n seen) s = span name-byte s ≡ 0
 NoName (spaced n seen) s = Unit {0}
 NoName (inside n) s = Unit {0}
 NoName (opened n) s = Unit {0}
 
-no-name : {p : Place} {s t : List ℕ} {f : Shape} → Part true p s f t → NoName p s
+no-name : {p : Place} {s t : List ℕ} {f : Shape} → Derives true p s f t → NoName p s
 unfolding span name-byte name-start
 no-name (spacing {b = b} h p) = rw (blank-no-name b h .0)
 no-name empty = refl
 no-name (full p) = refl
 no-name (more p) = tt
-no-name (attribute-part q m k x y v p) = tt
-no-name (text-part x p) = tt
+no-name (derive-attribute q m k x y v p) = tt
+no-name (derive-text x p) = tt
 no-name (markup p) = tt
-no-name (element-part m p i) = tt
+no-name (derive-element m p i) = tt
 no-name (end-tag x) = tt
 
-pub tag-no-name : {n : Name} {seen : List Name} {s t : List ℕ} {f : Shape} → Part true (behind n seen) s f t → span name-byte s ≡ 0
+pub tag-no-name : {n : Name} {seen : List Name} {s t : List ℕ} {f : Shape} → Derives true (unspaced n seen) s f t → span name-byte s ≡ 0
 tag-no-name p = no-name p

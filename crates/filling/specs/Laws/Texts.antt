@@ -54,7 +54,12 @@ module _ {x s : List ℕ} {stop at d : ℕ} {b : List ℕ} {n : ℕ} {c : Cursor
     text-some p = record {
       forward = g .forward;
       inside = g .inside;
-      put = λ t r k l. let y = g .bytes t r k l in (rw (← y .0, texts-some d (take n b) (omega (arith, length-bytes n b (g .few) long))) p, y .1);
+      put =
+          λ t r k l. let y = g .bytes t r k l in (
+            rw (← y .0, texts-some d (take n b) (omega (arith, length-bytes n b (g .few) long))) p,
+            y
+                .1,
+          );
     }
 
 -- its callers --------------------------------------------------------------------------------
@@ -69,7 +74,8 @@ pub same-same : (s : List ℕ) → Same s s
 same-same s = record { long = refl; behind = refl; header = refl }
 
 -- rows put, and the place behind them
-pub filled-by : {P Q : ℕ → List ℕ → List Row → Type 0} {x s s′ : List ℕ} {at d : ℕ} (F : Filling P x s at d) (k l : List Row) → F .rows ≡ k ++ l → Put s s′ k
+pub filled-by : {P Q : ℕ → List ℕ → List Row → Type 0} {x s s′ : List ℕ} {at d : ℕ} (F : Filling P x s at d) (k l : List Row)
+    → F .rows ≡ k ++ l → Put s s′ k
     → (at′ d′ : ℕ) → Q d′ (drop at′ x) l → at′ ≤ length x → d′ ≤ length (nodes s) + length k → Filling Q x s′ at′ d′
 filled-by {s = s} {s′ = s′} F k l e p at′ d′ q i h = record {
   shape = F .shape;
@@ -119,7 +125,8 @@ module _ {P : ℕ → List ℕ → List Row → Type 0} {stop e : ℕ} {x s : Li
 
     pub text-put : Filling P x s′ (c .at) d
     text-put =
-        filled-by F (texts e (F .rest .content)) (F .rest .later) (F .rest .rows) (this .0) (c .at) d (rw (this .1) (F .rest .after)) (t .inside)
+        filled-by F (texts e (F .rest .content)) (F .rest .later) (F .rest .rows) (this .0) (c .at) d (rw (this .1) (F .rest .after))
+        (t .inside)
         (omega (arith, F .deep))
 
     pub text-same : Same s s′

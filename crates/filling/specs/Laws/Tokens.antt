@@ -16,7 +16,8 @@ use Rattle.xml.specs.Grammar.{Blanks}
 use Rattle.reader.specs.declared.Cursor.{Cursor}
 use Rattle.reader.specs.Steps.{Run}
 use Rattle.filling.specs.Fill.{entries, with-rows, Put, QuoteAt, EndsAt}
-use Rattle.filling.specs.Laws.Runs.{run-drop, over-blanks, blanks-no-name, equals-no-blank, close-no-blank, close-no-name, quote-no-blank, over-spelled}
+use Rattle.filling.specs.Laws.Runs.{run-drop, over-blanks, blanks-no-name, equals-no-blank, close-no-blank, close-no-name}
+use Rattle.filling.specs.Laws.Runs.{quote-no-blank, over-spelled}
 
 -- the byte at i and what stands behind it
 pub next-byte : (x : List ℕ) (i b : ℕ) (v : List ℕ) → drop i x ≡ b ∷ v → (i < length x) × (getD x i 0 ≡ b) × (drop (i + 1) x ≡ v)

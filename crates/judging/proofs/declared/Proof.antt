@@ -3,17 +3,11 @@ use borrow.Author.Needs.{needs}
 use Rattle.judging.proofs.declared.Statement.{statement}
 use Rattle.judging.proofs.declared.Tie as tie
 
-agreement-requires : tie.Need-agreement-requires
-agreement-requires c κs = search needs
-
-root-requires : tie.Need-root-requires
-root-requires c κs = search needs
-
-returns : tie.Need-returns
-returns c = declared-whole _ _ _ (c .before .before .agreement .ensures) (c .before .if1 .taken) (c .root .ensures)
-
-returns-2 : tie.Need-returns-2
-returns-2 c = declared-part _ _ _ (c .before .agreement .ensures) (c .if1 .left)
-
 pub declared-spec : {M : Type 1} → statement M
-declared-spec = tie.close (tie.spec agreement-requires root-requires returns returns-2)
+declared-spec =
+    tie.close
+    (tie.spec
+    (λ c κs. search needs)
+    (λ c κs. search needs)
+    (λ c. declared-whole _ _ _ (c .before .before .agreement .ensures) (c .before .if1 .taken) (c .root .ensures))
+    (λ c. declared-part _ _ _ (c .before .agreement .ensures) (c .if1 .left)))

@@ -17,17 +17,11 @@ Inv-loop s names₀ spare i₀ depth₀ n₀ names i depth n = (i ≤ length s) 
 abbrev μ-loop : tie.MeasureT-loop
 μ-loop s names₀ spare i₀ depth₀ n₀ names i depth n = length s - i
 
-loop-holds : tie.Need-loop-holds Inv-loop μ-loop
-loop-holds c = (c .before .pre .0 .inside, content-start _ _ _ _ (c .before .pre .0) (c .before .pre .1))
-
 child-requires : tie.Need-child-requires Inv-loop μ-loop
 child-requires c κs =
     let l = c .before .before .loop in
     let test = c .before .loop-test in
     (l .inv .1 .begins-here, content-deep _ _ _ _ _ _ _ _ (l .inv .1) (test .taken))
-
-enum-known-x : tie.Need-enum-known-x Inv-loop μ-loop
-enum-known-x c = search needs
 
 returns : tie.Need-returns Inv-loop μ-loop
 returns c =
@@ -39,9 +33,6 @@ returns c =
     let whole = child .last .1 .1 .0 in
     let read = subst (λ (r : Child). ChildRead (a .s .now) open-names (l .i) (l .n) whole r) (x .given .1) (child .ensures) in
     content-stopped _ _ _ _ _ _ _ _ (l .inv .1) read
-
-enum-known-next : tie.Need-enum-known-next Inv-loop μ-loop
-enum-known-next c = search needs
 
 loop-less : tie.Need-loop-less Inv-loop μ-loop
 loop-less c =
@@ -67,24 +58,18 @@ loop-again c =
     let z = content-turn _ _ _ _ _ _ _ _ (l .inv .1) read in
     (z .2, z .0)
 
-behind-root-requires : tie.Need-behind-root-requires Inv-loop μ-loop
-behind-root-requires c κs = c .before .loop .inv .0
-
-returns-2 : tie.Need-returns-2 Inv-loop μ-loop
-returns-2 c = content-over _ _ _ _ _ _ _ _ (c .before .before .loop .inv .1) (c .before .loop-test .left) _ (c .behind-root .ensures)
-
 pub root-content-spec : {M : Type 1} → statement M
 root-content-spec =
     tie.close
     (tie.spec
     Inv-loop
     μ-loop
-    loop-holds
+    (λ c. (c .before .pre .0 .inside, content-start _ _ _ _ (c .before .pre .0) (c .before .pre .1)))
     child-requires
-    enum-known-x
+    (λ c. search needs)
     returns
-    enum-known-next
+    (λ c. search needs)
     loop-less
     loop-again
-    behind-root-requires
-    returns-2)
+    (λ c κs. c .before .loop .inv .0)
+    (λ c. content-over _ _ _ _ _ _ _ _ (c .before .before .loop .inv .1) (c .before .loop-test .left) _ (c .behind-root .ensures)))

@@ -7,23 +7,12 @@ use borrow.Author.Needs.{needs}
 use Rattle.judging.proofs.root_element.Statement.{statement}
 use Rattle.judging.proofs.root_element.Tie as tie
 
-start-tag-requires : tie.Need-start-tag-requires
-start-tag-requires c κs = search needs
-
-enum-known-x : tie.Need-enum-known-x
-enum-known-x c = search needs
-
-enum-known-next : tie.Need-enum-known-next
-enum-known-next c = search needs
-
 behind-root-requires : tie.Need-behind-root-requires
 behind-root-requires c κs =
     let args = c .before .before .before .before .before .before .args in
     let start-tag = c .before .before .before .start-tag in
-    emptied-inside (subst (λ (r : Tag). ElementRead (args .s .now) (args .c .at) (args .spare) r) (c .before .next .given .1) (start-tag .ensures .0))
-
-enum-known-next-2 : tie.Need-enum-known-next-2
-enum-known-next-2 c = search needs
+    emptied-inside (subst (λ (r : Tag). ElementRead (args .s .now) (args .c .at) (args .spare) r) (c .before .next .given .1)
+    (start-tag .ensures .0))
 
 root-content-requires : tie.Need-root-content-requires
 root-content-requires c κs =
@@ -31,21 +20,24 @@ root-content-requires c κs =
     let args = c .before .before .before .before .before .before .before .args in
     let start-tag = c .before .before .before .before .start-tag in
     let next2 = c .before .before .next2 in
-    opened-inside (start-tag .last .1 .1 .0) (start-tag .ensures .1 .as-long ∙ search needs) (start-tag .ensures .2) (omega (arith, pre .0 .inside)) (pre .1)
+    opened-inside (start-tag .last .1 .1 .0) (start-tag .ensures .1 .as-long ∙ search needs) (start-tag .ensures .2)
+    (omega (arith, pre .0 .inside)) (pre .1)
     (subst (λ (r : Tag). ElementRead (args .s .now) (args .c .at) (args .spare) r) (next2 .given .1) (start-tag .ensures .0))
 
 returns : tie.Need-returns
 returns c =
     let args = c .before .before .before .before .before .before .args in
     let start-tag = c .before .before .before .start-tag in
-    root-broken _ _ _ (subst (λ (r : Tag). ElementRead (args .s .now) (args .c .at) (args .spare) r) (c .before .x .given .1) (start-tag .ensures .0))
+    root-broken _ _ _ (subst (λ (r : Tag). ElementRead (args .s .now) (args .c .at) (args .spare) r) (c .before .x .given .1)
+    (start-tag .ensures .0))
 
 returns-2 : tie.Need-returns-2
 returns-2 c =
     let args = c .before .before .before .before .before .before .before .args in
     let start-tag = c .before .before .before .before .start-tag in
     let next = c .before .before .next in
-    root-empty _ _ _ _ (subst (λ (r : Tag). ElementRead (args .s .now) (args .c .at) (args .spare) r) (next .given .1) (start-tag .ensures .0)) (c .behind-root .ensures)
+    root-empty _ _ _ _ (subst (λ (r : Tag). ElementRead (args .s .now) (args .c .at) (args .spare) r) (next .given .1)
+    (start-tag .ensures .0)) (c .behind-root .ensures)
 
 returns-3 : tie.Need-returns-3
 returns-3 c =
@@ -59,11 +51,11 @@ pub root-element-spec : {M : Type 1} → statement M
 root-element-spec =
     tie.close
     (tie.spec
-    start-tag-requires
-    enum-known-x
-    enum-known-next
+    (λ c κs. search needs)
+    (λ c. search needs)
+    (λ c. search needs)
     behind-root-requires
-    enum-known-next-2
+    (λ c. search needs)
     root-content-requires
     returns
     returns-2

@@ -15,12 +15,11 @@ use Rattle.xml.specs.Laws.Counts.{births, tail, peak}
 use Rattle.xml.specs.Laws.Phases.{phase, pending}
 use Rattle.xml.specs.Laws.Forces.{extent}
 use Rattle.xml.specs.Laws.Scan.{scan-at, scan-alike}
-use Rattle.xml.specs.Laws.Goes.{Leads, scan-quiet}
-use Rattle.xml.specs.Laws.Tokens.{Reach, got, lost, one-more, reach, Wording, Landed, landed-more, word-scan}
+use Rattle.xml.specs.Laws.Goes.{scan-quiet}
+use Rattle.xml.specs.Laws.Tokens.{Reach, one-more, reach, Wording, Landed, landed-more, word-scan}
 use Rattle.xml.specs.Laws.Fixed.{word-at, agree, declaration-at, declarations-at}
-use Rattle.reader.specs.declared.Cursor.{Cursor}
 use Rattle.reader.specs.declared.Prolog.{Prolog}
-use Rattle.reader.specs.declared.Prolog.the-variants.{Root, NoRoot}
+use Rattle.reader.specs.declared.Prolog.the-variants.{NoRoot}
 use Rattle.ordering.specs.Agreement.{Agreement}
 use Rattle.reader.specs.Prolog.{RootRead, root-at, no-root}
 use Rattle.judging.specs.Judged.{DeclaredRead, behind-it, short-of-it}
@@ -35,7 +34,8 @@ there s i b e h = go (leb (length s) i) refl
 
 module _ (s : List ℕ) where
   -- no declaration
-  plain-start : (getD s 0 0 ≡ less-than → getD s 1 0 ≡ 63 → ⊥) → (m k : ℕ) → k ≤ content-limit → scan-at s at-start m k 0 ≡ scan-at s prolog m k 0
+  plain-start : (getD s 0 0 ≡ less-than → getD s 1 0 ≡ 63 → ⊥) → (m k : ℕ) → k ≤ content-limit
+      → scan-at s at-start m k 0 ≡ scan-at s prolog m k 0
   unfolding step blank
   plain-start f m k l = go (eqb (getD s 0 0) less-than) refl
     where

@@ -1,6 +1,6 @@
 -- The root element: its start tag, the loop over its content, what is behind it.
 use Prim.Native.Nat.{ℕ, _+_, _≤_, _<_}
-use mathlib.Core.Path.{_≡_, refl, sym, _∙_}
+use mathlib.Core.Path.{_≡_, refl, sym}
 use mathlib.Core.List.{List, [], _∷_}
 use native.Mathlib.Omega.{arith}
 use lib.ListN.{length, getD}
@@ -14,7 +14,7 @@ use Rattle.reader.specs.declared.Cursor.{Cursor}
 use Rattle.reader.specs.declared.Child.the-variants.{At, Stopped}
 use Rattle.reader.specs.declared.Tag.the-variants.{Opened, Emptied, Broken}
 use Rattle.reader.specs.Steps.{Run}
-use Rattle.reader.specs.Elements.{stack, Placed, Onward, ElementRead, element-opened, element-emptied, element-broken}
+use Rattle.reader.specs.Elements.{stack, Placed, ElementRead, element-opened, element-emptied, element-broken}
 use Rattle.reader.specs.Children.{Beginning, Deep, ChildRead, child-at, child-stopped}
 use Rattle.reader.specs.Laws.Tags.{no-blank-here}
 
@@ -41,7 +41,14 @@ pub record ContentTo (s os os′ : List ℕ) (at spare i deep n : ℕ) : Type 0 
 
 pub content-start : (s os : List ℕ) (at spare : ℕ) → Beginning s at → Deep s os 1 spare → ContentTo s os os at spare at 1 spare
 content-start s os at spare b d =
-    record { comes = goes-same s (closed (stack s os 0 1)) spare at at refl; begins-here = b; room = d .room; long = d .long; names = d .names }
+    record {
+      comes = goes-same s (closed (stack s os 0 1)) spare at at refl;
+      begins-here = b;
+      room = d .room;
+      long = d .long;
+      names = d
+          .names;
+    }
 
 module _ (s os os′ : List ℕ) (at spare i deep n : ℕ) (t : ContentTo s os os′ at spare i deep n) where
   pub content-deep : 0 < deep → Deep s os′ deep n
@@ -87,9 +94,16 @@ module _ (s : List ℕ) (at spare : ℕ) where
 pub emptied-inside : {s : List ℕ} {at spare m : ℕ} {c : Cursor} → ElementRead s at spare (Emptied c m) → c .at ≤ length s
 emptied-inside (element-emptied o f) = o .inside
 
-pub opened-inside : {s : List ℕ} {at spare m : ℕ} {c : Cursor} (os : List ℕ) → length os ≡ 1024 → getD os 0 0 ≡ at → at ≤ length s → 2 + spare ≤ 1024
+pub opened-inside : {s : List ℕ} {at spare m : ℕ} {c : Cursor} (os : List ℕ) → length os ≡ 1024 → getD os 0 0 ≡ at → at ≤ length s
+    → 2 + spare ≤ 1024
     → ElementRead s at spare (Opened c m) → Beginning s (c .at) × Deep s os 1 m
 opened-inside {s} os l e h p (element-opened o f) = (
   record { inside = o .inside; begins-here = o .begins-here },
-  record { some = omega arith; room = omega (arith, o .fewer); long = l; names = record { placed = λ i k. let z : i ≡ 0 = omega arith in rw (z, e) h } },
+  record {
+    some = omega arith;
+    room = omega (arith, o .fewer);
+    long = l;
+    names = record
+        { placed = λ i k. let z : i ≡ 0 = omega arith in rw (z, e) h };
+  },
 )

@@ -1,6 +1,6 @@
 -- The whole input and the limit on its length.
 use Prim.Native.Nat.{ℕ, suc, _+_, _-_, _≤_, _<_}
-use mathlib.Core.Path.{_≡_, refl, sym, ap, _∙_}
+use mathlib.Core.Path.{_≡_, sym, ap, _∙_}
 use mathlib.Core.Bool.{Bool, true, false}
 use mathlib.Core.List.{List, [], _∷_}
 use native.Mathlib.Omega.{arith}
@@ -28,7 +28,8 @@ module _ (s : List ℕ) (limit : ℕ) where
   pub root-is : {c : Cursor} (v : Verdict) → 2 ≤ limit → RootRead s at-start 0 (Root c)
       → scan-at s (tag-name [] (getD s (c .at) 0 ∷ [])) (limit - 2) 1 (c .at + 1) ≡ v → scan at-start (limit - 1) 0 0 0 s ≡ v
   unfolding scan-at
-  root-is v h (root-at n f) y = let p : limit - 1 - 1 ≡ limit - 2 = omega arith in f (limit - 1) (omega arith) v (rw p y) .leads 0 (omega arith)
+  root-is v h (root-at n f) y =
+      let p : limit - 1 - 1 ≡ limit - 2 = omega arith in f (limit - 1) (omega arith) v (rw p y) .leads 0 (omega arith)
 
 pub root-named : {s : List ℕ} {c : Cursor} → RootRead s at-start 0 (Root c) → Named s (c .at)
 root-named (root-at n f) = n
@@ -56,4 +57,6 @@ module _ (limit : ℕ) (s : List ℕ) (u v : Verdict) where
   judged-long h e f = rw (lt-ltb input-limit (length s) h) at (judgement-scan limit s) ∙ ap (limited true) e ∙ f
 
   pub judged-short : length s ≤ input-limit → scan at-start (limit - 1) 0 0 0 s ≡ u → limited false u ≡ v → judgement limit s ≡ v
-  judged-short h e f = rw (le-ltb input-limit (length s) h, take-all (suc input-limit) s (omega arith)) at (judgement-scan limit s) ∙ ap (limited false) e ∙ f
+  judged-short h e f =
+      rw (le-ltb input-limit (length s) h, take-all (suc input-limit) s (omega arith)) at (judgement-scan limit s) ∙ ap (limited false) e
+      ∙ f

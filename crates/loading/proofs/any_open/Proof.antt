@@ -12,29 +12,11 @@ Inv-loop s t₀ t = (1 ≤ t) × (t ≤ 17) × Asking (is-open s) t
 abbrev μ-loop : tie.MeasureT-loop
 μ-loop s t₀ t = 17 - t
 
-loop-holds : tie.Need-loop-holds Inv-loop μ-loop
-loop-holds c = (search needs, search needs, ask-start _)
-
-is-open-requires : tie.Need-is-open-requires Inv-loop μ-loop
-is-open-requires c κs = search needs
-
-returns : tie.Need-returns Inv-loop μ-loop
-returns c = ask-open _ _ (c .before .before .before .loop .inv .2) (search needs) (sym (c .before .is-open .ensures) ∙ c .if1 .taken)
-
-add-t : tie.Need-add-t Inv-loop μ-loop
-add-t c = search needs
-
-loop-less : tie.Need-loop-less Inv-loop μ-loop
-loop-less c = search needs
-
 loop-again : tie.Need-loop-again Inv-loop μ-loop
 loop-again c =
     let l = c .before .before .before .loop in
     let is-open = c .before .is-open in
     (search needs, search needs, ask-turn _ _ (l .inv .2) (search needs) (sym (is-open .ensures) ∙ c .if1 .left))
-
-returns-2 : tie.Need-returns-2 Inv-loop μ-loop
-returns-2 c = ask-none _ _ (c .before .loop .inv .2) (search needs)
 
 pub any-open-spec : {M : Type 1} → statement M
 any-open-spec =
@@ -42,10 +24,10 @@ any-open-spec =
     (tie.spec
     Inv-loop
     μ-loop
-    loop-holds
-    is-open-requires
-    returns
-    add-t
-    loop-less
+    (λ c. (search needs, search needs, ask-start _))
+    (λ c κs. search needs)
+    (λ c. ask-open _ _ (c .before .before .before .loop .inv .2) (search needs) (sym (c .before .is-open .ensures) ∙ c .if1 .taken))
+    (λ c. search needs)
+    (λ c. search needs)
     loop-again
-    returns-2)
+    (λ c. ask-none _ _ (c .before .loop .inv .2) (search needs)))

@@ -5,23 +5,9 @@ use borrow.Author.Needs.{needs}
 use Rattle.loading.proofs.empty.Statement.{statement}
 use Rattle.loading.proofs.empty.Tie as tie
 
-cut-requires : tie.Need-cut-requires
-cut-requires c κs = let h = form-layout (c .before .before .pre) in (h, omega arith, omega (arith, h .some, h .many))
-
-clear-writer-requires : tie.Need-clear-writer-requires
-clear-writer-requires c κs = search needs
-
-slice-aggregate-set-content : tie.Need-slice-aggregate-set-content
-slice-aggregate-set-content c = search needs
-
 set-content-requires : tie.Need-set-content-requires
-set-content-requires c κs = let h = c .before .before .before .before .clear-writer .ensures .layout in (h, omega (arith, h .some, h .many), omega arith)
-
-unlock-requires : tie.Need-unlock-requires
-unlock-requires c κs = let h = c .before .before .before .set-content .ensures .layout in (h, omega (arith, h .some, h .many))
-
-same-length : tie.Need-same-length
-same-length c = search needs
+set-content-requires c κs =
+    let h = c .before .before .before .before .clear-writer .ensures .layout in (h, omega (arith, h .some, h .many), omega arith)
 
 returns : tie.Need-returns
 returns c = let content = c .before .before .before .before .before .before in
@@ -34,10 +20,10 @@ pub empty-spec : {M : Type 1} → statement M
 empty-spec =
     tie.close
     (tie.spec
-    cut-requires
-    clear-writer-requires
-    slice-aggregate-set-content
+    (λ c κs. let h = form-layout (c .before .before .pre) in (h, omega arith, omega (arith, h .some, h .many)))
+    (λ c κs. search needs)
+    (λ c. search needs)
     set-content-requires
-    unlock-requires
-    same-length
+    (λ c κs. let h = c .before .before .before .set-content .ensures .layout in (h, omega (arith, h .some, h .many)))
+    (λ c. search needs)
     returns)

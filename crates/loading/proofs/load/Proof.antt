@@ -9,36 +9,10 @@ use borrow.Author.Needs.{needs}
 use Rattle.loading.proofs.load.Statement.{statement}
 use Rattle.loading.proofs.load.Tie as tie
 
-formed-requires : tie.Need-formed-requires
-formed-requires c κs = search needs
-
-same-length : tie.Need-same-length
-same-length c = search needs
-
-returns : tie.Need-returns
-returns c = λ i r. performed-unformed (sym (c .before .formed .ensures) ∙ not-true _ (c .if1 .taken)) _
-
-any-open-requires : tie.Need-any-open-requires
-any-open-requires c κs = form-layout (sym (c .before .before .formed .ensures) ∙ not-false _ (c .before .if1 .left))
-
-same-length-2 : tie.Need-same-length-2
-same-length-2 c = search needs
-
 returns-2 : tie.Need-returns-2
-returns-2 c = λ i r. load-open (sym (c .before .before .before .before .formed .ensures) ∙ not-false _ (c .before .before .before .if1 .left))
+returns-2 c =
+    λ i r. load-open (sym (c .before .before .before .before .formed .ensures) ∙ not-false _ (c .before .before .before .if1 .left))
     (sym (c .before .any-open .ensures) ∙ c .if2 .taken) i
-
-judge-requires : tie.Need-judge-requires
-judge-requires c κs = search needs
-
-enum-known-cause : tie.Need-enum-known-cause
-enum-known-cause c = search needs
-
-cast-t15 : tie.Need-cast-t15
-cast-t15 c = omega (arith, fails _ (omega arith) _ _ _ _ (c .before .cause .given .1) (c .before .before .before .judge .ensures) .most)
-
-enum-known-left : tie.Need-enum-known-left
-enum-known-left c = search needs
 
 replace-requires : tie.Need-replace-requires
 replace-requires c κs =
@@ -57,17 +31,12 @@ sub-t19 c =
     let count = c .before .before .before .before .before .left in
     omega (arith, stands _ (omega arith) (omega arith) _ _ _ (count .given .1) (judge .ensures) .nodes)
 
-same-length-3 : tie.Need-same-length-3
-same-length-3 c = search needs
-
 returns-3 : tie.Need-returns-3
 returns-3 c = let o = c .before .before .before .before in
     let f = o .before .before .before in
-    λ i r. load-failed (sym (f .before .formed .ensures) ∙ not-false _ (f .if1 .left)) (sym (o .before .any-open .ensures) ∙ o .if2 .left) _ _
+    λ i r. load-failed (sym (f .before .formed .ensures) ∙ not-false _ (f .if1 .left)) (sym (o .before .any-open .ensures) ∙ o .if2 .left) _
+    _
     (fails _ (omega arith) _ _ _ _ (c .before .cause .given .1) (c .before .before .before .judge .ensures)) i r
-
-same-length-4 : tie.Need-same-length-4
-same-length-4 c = search needs
 
 returns-4 : tie.Need-returns-4
 returns-4 c =
@@ -78,26 +47,27 @@ returns-4 c =
     let f = o .before .before .before in
     let good = sym (f .before .formed .ensures) ∙ not-false _ (f .if1 .left) in
     let none-open = sym (o .before .any-open .ensures) ∙ o .if2 .left in
-    λ i r. load-granted good none-open _ (stands _ (omega arith) (omega arith) _ _ _ (count .given .1) (judge .ensures)) (replace .ensures) i r
+    λ i r. load-granted good none-open _ (stands _ (omega arith) (omega arith) _ _ _ (count .given .1) (judge .ensures)) (replace .ensures)
+    i r
 
 pub load-spec : {M : Type 1} → statement M
 load-spec =
     tie.close
     (tie.spec
-    formed-requires
-    same-length
-    returns
-    any-open-requires
-    same-length-2
+    (λ c κs. search needs)
+    (λ c. search needs)
+    (λ c. λ i r. performed-unformed (sym (c .before .formed .ensures) ∙ not-true _ (c .if1 .taken)) _)
+    (λ c κs. form-layout (sym (c .before .before .formed .ensures) ∙ not-false _ (c .before .if1 .left)))
+    (λ c. search needs)
     returns-2
-    judge-requires
-    enum-known-cause
-    cast-t15
-    enum-known-left
+    (λ c κs. search needs)
+    (λ c. search needs)
+    (λ c. omega (arith, fails _ (omega arith) _ _ _ _ (c .before .cause .given .1) (c .before .before .before .judge .ensures) .most))
+    (λ c. search needs)
     replace-requires
     sub-t19
     (λ c. search needs)
-    same-length-3
+    (λ c. search needs)
     returns-3
-    same-length-4
+    (λ c. search needs)
     returns-4)

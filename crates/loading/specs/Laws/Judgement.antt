@@ -1,6 +1,6 @@
 -- What the judgement of an input says of load's input.
 use Prim.Native.Nat.{ℕ, zero, suc, _≤_, _<_}
-use mathlib.Core.Path.{_≡_, refl, sym, _∙_, subst}
+use mathlib.Core.Path.{_≡_, refl, subst}
 use mathlib.Core.Bool.{Bool, true, false, cond}
 use mathlib.Core.List.{List}
 use native.Mathlib.Omega.{arith}
@@ -51,7 +51,8 @@ fault-inside (too-long h) = omega arith
 fault-inside (long-content h) = omega (arith, h .inside)
 fault-inside {s} (many-nodes {i = i} h) = omega (arith, h .inside, node-offset-most s i)
 
-pub fails : (limit : ℕ) → 2 ≤ limit → (x : List ℕ) (c o : ℕ) (r : Judged) → r ≡ Rejected c o → judgement limit x ≡ verdict r → Fails limit x c o
+pub fails : (limit : ℕ) → 2 ≤ limit → (x : List ℕ) (c o : ℕ) (r : Judged) → r ≡ Rejected c o → judgement limit x ≡ verdict r
+    → Fails limit x c o
 fails limit some x c o r p e =
     let m = subst (Means limit x) (rw p at e) (judgement-means limit some x) in
     record {
@@ -59,6 +60,7 @@ fails limit some x c o r p e =
       only = λ i r. one-reading r (refused (m .0) (m .1));
     }
   where
-    go : FaultWithin limit x c o → (input-limit < length x → o ≤ input-limit) → (b : Bool) → leb (length x) input-limit ≡ b → o ≤ input-limit
+    go : FaultWithin limit x c o → (input-limit < length x → o ≤ input-limit) → (b : Bool) → leb (length x) input-limit ≡ b
+        → o ≤ input-limit
     go f h true p = omega (arith, leb-true (length x) input-limit p, fault-inside f)
     go f h false p = h (leb-false (length x) input-limit p)

@@ -10,12 +10,12 @@ use Rattle.tree.specs.Lists.{any}
 use Rattle.tree.specs.Document.{Document, node-0-alone, lines, legal}
 use Rattle.tree.specs.Steps.{how-many}
 use Rattle.tree.specs.Laws.Tests.{and-left}
-use Rattle.protocol.specs.State.{State, transactions, tree-of, with-tree}
+use Rattle.protocol.specs.State.{State, transactions, tree-of, with-tree, Header}
 use Rattle.protocol.specs.Calls.{node-limit, loadable, Input, unreadable, stands-for, load, refused, refused-at, next}
 use Rattle.protocol.specs.Answers.{answer-of, granted-answer}
 use Rattle.protocol.specs.declared.Answer.the-variants.{Count, Refused, RefusedAt}
 use Rattle.layout.specs.Flat.{flat}
-use Rattle.layout.specs.Layout.{is-open, nodes, Left, header}
+use Rattle.layout.specs.Layout.{is-open, header, nodes, Left}
 use Rattle.edits.specs.Laws.Kept.{unique-load}
 use Rattle.form.specs.Form.{form, Holds}
 use Rattle.form.specs.Laws.Steps.{valid-load}
@@ -29,10 +29,12 @@ use Rattle.loading.specs.Laws.Opens.{none-open}
 
 -- the function `replace` ---------------------------------------------------------------------
 
-pub begun : {x s s′ : List ℕ} {left : ℕ} {q : ℕ → Bool} → Stands node-limit x left → Left s s′ q (flat 0 (tree-of node-0-alone)) → Begun x s′
+pub begun : {x s s′ : List ℕ} {left : ℕ} {q : Header} → Stands node-limit x left → Left s s′ q (flat 0 (tree-of node-0-alone))
+    → Begun x s′
 begun d k = record { shape = d .shape; spelled = d .spelled; few = d .few; short = d .short; layout = k .layout; alone = k .nodes }
 
-pub replaced : {x s s′ s″ : List ℕ} → any (is-open s) transactions ≡ false → Left s s′ (header s) (flat 0 (tree-of node-0-alone)) → Filled x s′ s″
+pub replaced : {x s s′ s″ : List ℕ} → any (is-open s) transactions ≡ false → Left s s′ (header s) (flat 0 (tree-of node-0-alone))
+    → Filled x s′ s″
     → Replaced x s s″
 replaced {s = s} e k f = record {
   layout = f .layout;

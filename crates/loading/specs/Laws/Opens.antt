@@ -62,5 +62,6 @@ unfolding is-open
 none-open s h = fun-ext (λ u. go u (is-transaction u) refl)
   where
     go : (u : ℕ) (b : Bool) → is-transaction u ≡ b → is-open s u ≡ false
-    go u true e = none-from (is-open s) 16 1 u (sym (all-sixteen (is-open s)) ∙ h) (between-low 1 16 u e) (omega (arith, between-high 1 16 u e))
+    go u true e =
+        none-from (is-open s) 16 1 u (sym (all-sixteen (is-open s)) ∙ h) (between-low 1 16 u e) (omega (arith, between-high 1 16 u e))
     go u false e = rw e

@@ -27,11 +27,14 @@ returns-3 c =
     let c2 = c .before .before in
     let c3 = c2 .before in
     let c4 = c3 .before in
-    c .in-start-tag .ensures ∙ fits-attribute _ _ _ (sym (c4 .takes .ensures) ∙ not-false _ (c3 .if1 .left)) (c2 .if2 .left) (c .before .if3 .taken)
+    c .in-start-tag .ensures
+    ∙ fits-attribute _ _ _ (sym (c4 .takes .ensures) ∙ not-false _ (c3 .if1 .left)) (c2 .if2 .left) (c .before .if3 .taken)
 
 -- src/lib.rt:95:9
 returns-4 : tie.Need-returns-4
-returns-4 c = fits-text _ _ _ (sym (c .before .before .before .before .takes .ensures) ∙ not-false _ (c .before .before .before .if1 .left)) (c .before .before .if2 .left) (c .if4 .taken)
+returns-4 c =
+    fits-text _ _ _ (sym (c .before .before .before .before .takes .ensures) ∙ not-false _ (c .before .before .before .if1 .left))
+    (c .before .before .if2 .left) (c .if4 .taken)
 
 -- src/lib.rt:82:1
 returns-5 : tie.Need-returns-5

@@ -7,38 +7,27 @@ use borrow.Author.Needs.{needs}
 use Rattle.markup.proofs.put_prolog.Statement.{statement}
 use Rattle.markup.proofs.put_prolog.Tie as tie
 
-slice-aggregate-put : tie.Need-slice-aggregate-put
-slice-aggregate-put c = search needs
-
 put-requires : tie.Need-put-requires
 unfolding prolog
 put-requires c κs = omega (arith, c .before .before .before .pre)
 
 sub-put : tie.Need-sub-put
 unfolding prolog
-sub-put c = inside long-declaration (line-feed ∷ []) _ _ _ (c .before .before .put .ensures) (c .before .before .before .before .before .before .pre)
+sub-put c =
+    inside long-declaration (line-feed ∷ []) _ _ _ (c .before .before .put .ensures)
+    (c .before .before .before .before .before .before .pre)
 
 part-put-start : tie.Need-part-put-start
 unfolding prolog
-part-put-start c = inside long-declaration (line-feed ∷ []) _ _ _ (c .before .before .put .ensures) (c .before .before .before .before .before .before .pre)
-
-part-put-end : tie.Need-part-put-end
-part-put-end c = search needs
-
-slice-aggregate-put-2 : tie.Need-slice-aggregate-put-2
-slice-aggregate-put-2 c = search needs
+part-put-start c =
+    inside long-declaration (line-feed ∷ []) _ _ _ (c .before .before .put .ensures)
+    (c .before .before .before .before .before .before .pre)
 
 put-requires-2 : tie.Need-put-requires-2
 unfolding prolog
 put-requires-2 c κs =
     let c4 = c .before .before .before .before in
     room long-declaration (line-feed ∷ []) _ _ _ (c4 .put .ensures) (c4 .before .before .before .before .pre)
-
-add-result : tie.Need-add-result
-add-result c = search needs
-
-same-length : tie.Need-same-length
-same-length c = search needs
 
 returns : tie.Need-returns
 unfolding prolog
@@ -51,13 +40,13 @@ pub put-prolog-spec : {M : Type 1} → statement M
 put-prolog-spec =
     tie.close
     (tie.spec
-    slice-aggregate-put
+    (λ c. search needs)
     put-requires
     sub-put
     part-put-start
-    part-put-end
-    slice-aggregate-put-2
+    (λ c. search needs)
+    (λ c. search needs)
     put-requires-2
-    add-result
-    same-length
+    (λ c. search needs)
+    (λ c. search needs)
     returns)

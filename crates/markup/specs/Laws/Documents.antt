@@ -15,7 +15,8 @@ use Rattle.xml.specs.Reading.{input-limit}
 use Rattle.xml.specs.Writing.{attributes, childless, contents, write, repeats, neighbouring-texts, expressible}
 use Rattle.xml.specs.Writing as xml
 use Rattle.layout.specs.Flat.{flat}
-use Rattle.markup.specs.Rows.{in-order, ordered, begin, tag-end, end, ends, emit, extra, cost, judge, prolog, body, written-rows, measured}
+use Rattle.markup.specs.Rows.{in-order, ordered, begin, tag-end, end, ends, emit, extra, cost, judge, prolog, body, written-rows}
+use Rattle.markup.specs.Rows.{measured}
 use Rattle.markup.specs.Laws.Trees.{up-none, inner, emit-tree, spots, tree-spots, spots-tree, total, total-append}
 use Rattle.markup.specs.Laws.Order.{texts-behind, fits-tree, no-children, child-element, Root, no-root, root, root-of}
 use Rattle.markup.specs.Laws.Texts.{inner-rest}
@@ -32,7 +33,8 @@ unfolding inner contents begin tag-end end
 text-of c no-root = refl
 text-of c (root n {g = g} x) =
     rw (inner-rest n 0 refl x)
-    (ap (λ (l : List ℕ). 60 ∷ l) (go (attributes g) (cond (childless g) (bytes "/>") (bytes ">" ++ (contents g ++ (bytes "</" ++ (n ++ bytes ">")))))))
+    (ap (λ (l : List ℕ). 60 ∷ l) (go (attributes g) (cond (childless g) (bytes "/>")
+    (bytes ">" ++ (contents g ++ (bytes "</" ++ (n ++ bytes ">")))))))
   where
     go : (a x : List ℕ) → n ++ ((a ++ x) ++ []) ≡ n ++ (a ++ (x ++ []))
     go a x = simp append-assoc
@@ -79,7 +81,8 @@ judged c f n h =
     ∙ rw (spots-root c f, fits-tree (top c) 0 f) (go (in-order document-kind 0 f) refl)
   where
     go : (b : Bool) → in-order document-kind 0 f ≡ b
-        → verdict (b && not (neighbouring-texts f)) (repeated-in ((0, top c) ∷ []) (flat 1 f ++ [])) (length prolog + total (tree-spots (top c) 0 f))
+        → verdict (b && not (neighbouring-texts f)) (repeated-in ((0, top c) ∷ []) (flat 1 f ++ []))
+        (length prolog + total (tree-spots (top c) 0 f))
         ≡ cond (b && (((true && not (repeats [] f)) && not (neighbouring-texts f)) && leb n input-limit)) n 0
     go false e = refl
     go true e = rw (repeated-root c (root-of f e), ← h e) (regroup (neighbouring-texts f) (repeats [] f) (leb n input-limit) n)
@@ -92,14 +95,18 @@ module _ (d : Document) (c : List ℕ) (f : Shape) (e : shape d ≡ node (top c)
 
   write-length : in-order document-kind 0 f ≡ true → length (write d) ≡ length prolog + total (tree-spots (top c) 0 f)
   unfolding write prolog
-  write-length h = rw e (ap (λ (l : List ℕ). length (prolog ++ l)) (sym (text-of c (root-of f h))) ∙ simp length-append (omega (arith, length-of c (root-of f h))))
+  write-length h =
+      rw e (ap (λ (l : List ℕ). length (prolog ++ l)) (sym (text-of c (root-of f h))) ∙ simp length-append
+      (omega (arith, length-of c (root-of f h))))
 
   -- THE LAW of the length
   pub measured-is : measured (flat 0 (shape d)) ≡ cond (ordered d && expressible d) (length (write d)) 0
   unfolding measured expressible ordered flat in-order
   measured-is = rw e (go f (length (write d)) write-length)
     where
-      go : (f : Shape) (n : ℕ) → (in-order document-kind 0 f ≡ true → n ≡ length prolog + total (tree-spots (top c) 0 f)) → measured ((0, top c) ∷ (flat 1 f ++ []))
-          ≡ cond (in-order document-kind 0 f && (((not (xml.no-root f) && not (repeats [] f)) && not (neighbouring-texts f)) && leb n input-limit)) n 0
+      go : (f : Shape) (n : ℕ) → (in-order document-kind 0 f ≡ true → n ≡ length prolog + total (tree-spots (top c) 0 f))
+          → measured ((0, top c) ∷ (flat 1 f ++ []))
+          ≡ cond (in-order document-kind 0 f && (((not (xml.no-root f) && not (repeats [] f)) && not (neighbouring-texts f)) && leb n
+          input-limit)) n 0
       go nil n h = refl
       go (node b ks fs) n h = judged c (node b ks fs) n h

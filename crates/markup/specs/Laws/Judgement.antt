@@ -21,7 +21,8 @@ unfolding judge spots all-fit total repeated-in
 judge-is es last pre sum [] = let z : sum + 0 ≡ sum = omega arith in rw z
 judge-is es last pre sum (x ∷ xs) =
     let c : ℕ = cost (parent-of es (x .0)) (previous-of es last (x .0)) (x .1) in
-    go (fits (parent-of es (x .0) .kind) (previous-of es last (x .0)) (x .1 .kind)) (repeated pre x) c (judge-is (opened es x) 0 (x ∷ pre) (sum + c) xs)
+    go (fits (parent-of es (x .0) .kind) (previous-of es last (x .0)) (x .1 .kind)) (repeated pre x) c
+    (judge-is (opened es x) 0 (x ∷ pre) (sum + c) xs)
   where
     g : Bool
     g = all-fit (spots (opened es x) 0 xs)

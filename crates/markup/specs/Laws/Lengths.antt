@@ -34,11 +34,35 @@ inner-length n last e no-children = omega arith
 inner-length n last e (bare-attribute a {f = f} r) =
     simp (length-append, total-append) (omega (arith, inner-length n 3 refl r, end-open n last e, end-open n 3 refl, end-quote a 0))
 inner-length n last e (valued-attribute a c {f = f} r) =
-    simp (length-append, total-append) (omega (arith, inner-length n 3 refl r, end-open n last e, end-open n 3 refl, end-quote a 4, end-text c 0))
+    simp (length-append, total-append) (omega (
+      arith,
+      inner-length n 3 refl r,
+      end-open n last e,
+      end-open n 3 refl,
+      end-quote a 4,
+      end-text
+          c 0,
+    ))
 inner-length {b = true} n last e (child-element m {g = g} {f = f} x r) =
-    rw e (simp (length-append, total-append) (omega (arith, inner-length m 0 refl x, inner-length n 2 refl r, end-open n last e, end-shut n 2 refl, end-open m 0 refl)))
+    rw e (simp (length-append, total-append) (omega (
+      arith,
+      inner-length m 0 refl x,
+      inner-length n 2 refl r,
+      end-open n last e,
+      end-shut n
+          2 refl,
+      end-open m 0 refl,
+    )))
 inner-length {b = false} n last e (child-element m {g = g} {f = f} x r) =
-    rw e (simp (length-append, total-append) (omega (arith, inner-length m 0 refl x, inner-length n 2 refl r, end-shut n last e, end-shut n 2 refl, end-open m 0 refl)))
+    rw e (simp (length-append, total-append) (omega (
+      arith,
+      inner-length m 0 refl x,
+      inner-length n 2 refl r,
+      end-shut n last e,
+      end-shut n
+          2 refl,
+      end-open m 0 refl,
+    )))
 inner-length {b = true} n last e (child-text c {f = f} r) =
     rw e (simp (length-append, total-append) (omega (arith, inner-length n 4 refl r, end-text c 0, end-open n last e, end-shut n 4 refl)))
 inner-length {b = false} n last e (child-text c {f = f} r) =

@@ -40,7 +40,8 @@ before-high : (d : ℕ) (a : Label) (pre : List Line) → names-before (suc d) (
 unfolding names-before
 before-high d a pre = rw (lt-ltb d (suc d) (omega arith))
 
-pub repeated-tree : {b : Bool} {f : Shape} (d : ℕ) (pre : List Line) (seen : List (List ℕ)) (t : List Line) → Children b f → (b ≡ true → names-before d pre ≡ seen)
+pub repeated-tree : {b : Bool} {f : Shape} (d : ℕ) (pre : List Line) (seen : List (List ℕ)) (t : List Line) → Children b f
+    → (b ≡ true → names-before d pre ≡ seen)
     → repeated-in pre (flat d f ++ t) ≡ (repeats seen f || repeated-in (over pre (flat d f)) t)
 unfolding repeated-in repeated repeats flat over
 repeated-tree d pre seen t no-children h = refl

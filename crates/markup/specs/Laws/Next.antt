@@ -4,7 +4,8 @@ use Prim.Native.Nat.{ℕ, _+_, _-_, _≤_}
 use mathlib.Core.List.{List, [], _++_, append-nil}
 use lib.ListN.{length, take, drop}
 use borrow.Rule.Slice.PartMut.{putMid}
-use Rattle.markup.specs.Lending.{Wrote, Partly, partly-as, partly-end, partly-long, partly-small, partly-inside, partly-room, partly-on}
+use Rattle.markup.specs.Lending.{Wrote, Partly, partly-as, partly-end, partly-long, partly-small, partly-inside, partly-room}
+use Rattle.markup.specs.Lending.{partly-on}
 
 -- b is the next piece of the text, and rest is what comes behind it
 pub record Next (b text rest o₀ o : List ℕ) (at : ℕ) : Type 0 where
@@ -12,9 +13,11 @@ pub record Next (b text rest o₀ o : List ℕ) (at : ℕ) : Type 0 where
   pub long : length o ≡ length o₀
   pub room : length b ≤ length (take (length o - at) (drop at o))
   pub small : at + length b ≤ length o₀
-  pub on : (new : List ℕ) (q : ℕ) → Wrote b (take (length o - at) (drop at o)) new q → Partly text rest o₀ (putMid at (length o - at) o new) (at + q)
+  pub on : (new : List ℕ) (q : ℕ) → Wrote b (take (length o - at) (drop at o)) new q
+      → Partly text rest o₀ (putMid at (length o - at) o new) (at + q)
 
-pub next : (b rest : List ℕ) {text rest′ o₀ o : List ℕ} {at : ℕ} → rest′ ≡ b ++ rest → Partly text rest′ o₀ o at → length text ≤ length o₀ → Next b text rest o₀ o at
+pub next : (b rest : List ℕ) {text rest′ o₀ o : List ℕ} {at : ℕ} → rest′ ≡ b ++ rest → Partly text rest′ o₀ o at → length text ≤ length o₀
+    → Next b text rest o₀ o at
 next b rest {text} {rest′} {o₀} {o} {at} e c h =
     let d : Partly text (b ++ rest) o₀ o at = partly-as e c in
     record {
@@ -29,6 +32,7 @@ next b rest {text} {rest′} {o₀} {o} {at} e c h =
 pub second : (a b : List ℕ) {o₀ o : List ℕ} {r : ℕ} → Wrote a o₀ o r → length (a ++ b) ≤ length o₀ → Next b (a ++ b) [] o₀ o r
 second a b {o₀} {o} {r} w h = next b [] (sym (append-nil b)) (record { done = a; whole = refl; wrote = w }) h
 
-pub both : {b text o₀ o : List ℕ} {at : ℕ} → Next b text [] o₀ o at → (new : List ℕ) (q : ℕ) → Wrote b (take (length o - at) (drop at o)) new q
+pub both : {b text o₀ o : List ℕ} {at : ℕ} → Next b text [] o₀ o at → (new : List ℕ) (q : ℕ)
+    → Wrote b (take (length o - at) (drop at o)) new q
     → Wrote text o₀ (putMid at (length o - at) o new) (at + q)
 both n new q w = partly-end (n .on new q w)

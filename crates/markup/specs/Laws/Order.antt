@@ -29,7 +29,8 @@ regroup true false true false o₂ true n₂ = refl
 regroup true false true false o₂ false n₂ = refl
 
 -- THE LAW: the nodes fit where the children are in order and no texts are neighbours
-pub fits-tree : (parent : Label) (last : ℕ) (f : Shape) → all-fit (tree-spots parent last f) ≡ (in-order (parent .kind) last f && not (texts-behind last f))
+pub fits-tree : (parent : Label) (last : ℕ) (f : Shape)
+    → all-fit (tree-spots parent last f) ≡ (in-order (parent .kind) last f && not (texts-behind last f))
 unfolding tree-spots all-fit in-order texts-behind neighbouring-texts fits
 fits-tree parent last nil = go (eqb last text-kind)
   where
@@ -38,7 +39,8 @@ fits-tree parent last nil = go (eqb last text-kind)
     go false = refl
 fits-tree parent last (node a ks fs) =
     rw (all-fit-append (tree-spots a 0 ks) (tree-spots parent (a .kind) fs), fits-tree a 0 ks, fits-tree parent (a .kind) fs)
-    (regroup (may-stand (parent .kind) last (a .kind)) (eqb last text-kind && eqb (a .kind) text-kind) (in-order (a .kind) 0 ks) (neighbouring-texts ks)
+    (regroup (may-stand (parent .kind) last (a .kind)) (eqb last text-kind && eqb (a .kind) text-kind) (in-order (a .kind) 0 ks)
+    (neighbouring-texts ks)
     (in-order (parent .kind) (a .kind) fs) (eqb (a .kind) text-kind && begins-with-text fs) (neighbouring-texts fs))
 
 -- the children of an element; true: attributes may come
@@ -69,7 +71,8 @@ kinded (suc zero) c h = absurd (false≢true h)
 kinded (suc (suc zero)) c h = kind-element c
 kinded (suc (suc (suc zero))) c h = kind-attribute c
 kinded (suc (suc (suc (suc zero)))) c h = kind-text c
-kinded (suc (suc (suc (suc (suc k))))) c h = absurd (omega (arith, leb-true (suc (suc (suc (suc (suc k))))) 4 (and-right (leb 2 (suc (suc (suc (suc (suc k)))))) _ h)))
+kinded (suc (suc (suc (suc (suc k))))) c h =
+    absurd (omega (arith, leb-true (suc (suc (suc (suc (suc k))))) 4 (and-right (leb 2 (suc (suc (suc (suc (suc k)))))) _ h)))
 
 -- the parts of an ordered tree
 module _ (parent last : ℕ) (a : Label) (ks fs : Shape) (h : in-order parent last (node a ks fs) ≡ true) where
@@ -105,10 +108,14 @@ no-second parent last (node a ks fs) p q h =
 value-of : (f : Shape) → in-order attribute-kind 0 f ≡ true → Value f
 unfolding takes
 value-of nil h = no-value
-value-of (node a ks fs) h = go (a .kind) (eqb-true (a .kind) text-kind (taken attribute-kind 0 a ks fs h)) (inside attribute-kind 0 a ks fs h) (behind attribute-kind 0 a ks fs h)
+value-of (node a ks fs) h =
+    go (a .kind) (eqb-true (a .kind) text-kind (taken attribute-kind 0 a ks fs h)) (inside attribute-kind 0 a ks fs h)
+    (behind attribute-kind 0 a ks fs h)
   where
-    go : (k : ℕ) → k ≡ text-kind → in-order k 0 ks ≡ true → in-order attribute-kind k fs ≡ true → Value (node (record { kind = k; content = a .content }) ks fs)
-    go k e i b = rw e (rw (text-alone ks (rw e at i), no-second attribute-kind text-kind fs refl refl (rw e at b)) (text-value (a .content)))
+    go : (k : ℕ) → k ≡ text-kind → in-order k 0 ks ≡ true → in-order attribute-kind k fs ≡ true
+        → Value (node (record { kind = k; content = a .content }) ks fs)
+    go k e i b =
+        rw e (rw (text-alone ks (rw e at i), no-second attribute-kind text-kind fs refl refl (rw e at b)) (text-value (a .content)))
 
 pub children-of : (last : ℕ) (f : Shape) → in-order element-kind last f ≡ true → Children (in-start-tag last) f
 unfolding may-stand takes
@@ -120,11 +127,13 @@ children-of last (node a ks fs) h =
     taken-element : (a : Label) → in-order element-kind last (node a ks fs) ≡ true → between element-kind text-kind (a .kind) ≡ true
     taken-element a h = taken element-kind last a ks fs h
 
-    attribute-case : (n : List ℕ) (vs : Shape) → may-stand element-kind last attribute-kind ≡ true → Value vs → Children true fs → Children (in-start-tag last) (node (attribute n) vs fs)
+    attribute-case : (n : List ℕ) (vs : Shape) → may-stand element-kind last attribute-kind ≡ true → Value vs → Children true fs
+        → Children (in-start-tag last) (node (attribute n) vs fs)
     attribute-case n vs s no-value r = rw s (bare-attribute n r)
     attribute-case n vs s (text-value c) r = rw s (valued-attribute n c r)
 
-    go : (a : Label) → Kinded a → may-stand element-kind last (a .kind) ≡ true → in-order (a .kind) 0 ks ≡ true → (in-order element-kind 0 ks ≡ true → Children true ks)
+    go : (a : Label) → Kinded a → may-stand element-kind last (a .kind) ≡ true → in-order (a .kind) 0 ks ≡ true
+        → (in-order element-kind 0 ks ≡ true → Children true ks)
         → in-order element-kind (a .kind) fs ≡ true → (in-order element-kind (a .kind) fs ≡ true → Children (in-start-tag (a .kind)) fs)
         → Children (in-start-tag last) (node a ks fs)
     go a (kind-element n) s i u b v = child-element n (u i) (v b)
@@ -134,7 +143,11 @@ children-of last (node a ks fs) h =
 pub root-of : (f : Shape) → in-order document-kind 0 f ≡ true → Root f
 unfolding takes
 root-of nil h = no-root
-root-of (node a ks fs) h = go (a .kind) (eqb-true (a .kind) element-kind (taken document-kind 0 a ks fs h)) (inside document-kind 0 a ks fs h) (behind document-kind 0 a ks fs h)
+root-of (node a ks fs) h =
+    go (a .kind) (eqb-true (a .kind) element-kind (taken document-kind 0 a ks fs h)) (inside document-kind 0 a ks fs h)
+    (behind document-kind 0 a ks fs h)
   where
-    go : (k : ℕ) → k ≡ element-kind → in-order k 0 ks ≡ true → in-order document-kind k fs ≡ true → Root (node (record { kind = k; content = a .content }) ks fs)
-    go k e i b = rw e (rw (no-second document-kind element-kind fs refl refl (rw e at b)) (root (a .content) (children-of 0 ks (rw e at i))))
+    go : (k : ℕ) → k ≡ element-kind → in-order k 0 ks ≡ true → in-order document-kind k fs ≡ true
+        → Root (node (record { kind = k; content = a .content }) ks fs)
+    go k e i b =
+        rw e (rw (no-second document-kind element-kind fs refl refl (rw e at b)) (root (a .content) (children-of 0 ks (rw e at i))))

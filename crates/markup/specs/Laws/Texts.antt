@@ -25,7 +25,9 @@ no-attributes (child-element n g f) = no-attributes f
 no-attributes (child-text c f) = no-attributes f
 
 -- the same pieces, grouped as the passes and as the definitions group them
-attribute-pieces : (a v r x : List ℕ) → ((bytes " " ++ a) ++ bytes "=\"") ++ ((v ++ bytes "\"") ++ (r ++ x)) ≡ (bytes " " ++ (a ++ (bytes "=\"" ++ (v ++ (bytes "\"" ++ r))))) ++ x
+attribute-pieces : (a v r x : List ℕ)
+    → ((bytes " " ++ a) ++ bytes "=\"") ++ ((v ++ bytes "\"") ++ (r ++ x))
+    ≡ (bytes " " ++ (a ++ (bytes "=\"" ++ (v ++ (bytes "\"" ++ r))))) ++ x
 attribute-pieces a v r x = ap (λ (l : List ℕ). 32 ∷ l) (go (61 ∷ 34 ∷ []) (34 ∷ []))
   where
     go : (p q : List ℕ) → (a ++ p) ++ ((v ++ q) ++ (r ++ x)) ≡ (a ++ (p ++ (v ++ (q ++ r)))) ++ x
@@ -34,7 +36,8 @@ attribute-pieces a v r x = ap (λ (l : List ℕ). 32 ∷ l) (go (61 ∷ 34 ∷ [
 element-pieces : (m a x c t : List ℕ) → m ++ ((a ++ x) ++ (c ++ t)) ≡ (m ++ (a ++ (x ++ c))) ++ t
 element-pieces m a x c t = simp append-assoc
 
-pub inner-rest : {b : Bool} {f : Shape} (n : List ℕ) (last : ℕ) → in-start-tag last ≡ b → Children b f → inner (element n) last f ≡ rest b n f
+pub inner-rest : {b : Bool} {f : Shape} (n : List ℕ) (last : ℕ) → in-start-tag last ≡ b → Children b f
+    → inner (element n) last f ≡ rest b n f
 unfolding inner begin end tag-end attributes contents
 inner-rest {b = true} n last e no-children = rw e
 inner-rest {b = false} n last e no-children = rw e
@@ -46,10 +49,13 @@ inner-rest n last e (valued-attribute a c {f = f} r) =
     ∙ attribute-pieces a (escaped c) (attributes f) (cond (childless f) (bytes "/>") (bytes ">" ++ (contents f ++ end-tag n)))
 inner-rest {b = true} n last e (child-element m {g = g} {f = f} x r) =
     rw (e, inner-rest m 0 refl x, inner-rest n 2 refl r, no-attributes r)
-    (ap (λ (l : List ℕ). 62 ∷ 60 ∷ l) (element-pieces m (attributes g) (cond (childless g) (bytes "/>") (bytes ">" ++ (contents g ++ end-tag m))) (contents f) (end-tag n)))
+    (ap (λ (l : List ℕ). 62 ∷ 60 ∷ l) (element-pieces m (attributes g)
+    (cond (childless g) (bytes "/>") (bytes ">" ++ (contents g ++ end-tag m))) (contents f) (end-tag n)))
 inner-rest {b = false} n last e (child-element m {g = g} {f = f} x r) =
     rw (e, inner-rest m 0 refl x, inner-rest n 2 refl r)
-    (ap (λ (l : List ℕ). 60 ∷ l) (element-pieces m (attributes g) (cond (childless g) (bytes "/>") (bytes ">" ++ (contents g ++ end-tag m))) (contents f) (end-tag n)))
+    (ap (λ (l : List ℕ). 60 ∷ l) (element-pieces m (attributes g) (cond (childless g) (bytes "/>") (bytes ">" ++ (contents g ++ end-tag m)))
+    (contents f) (end-tag n)))
 inner-rest {b = true} n last e (child-text c {f = f} r) =
     rw (e, inner-rest n 4 refl r, no-attributes r) (ap (λ (l : List ℕ). 62 ∷ l) (sym (append-assoc (escaped c) (contents f) (end-tag n))))
-inner-rest {b = false} n last e (child-text c {f = f} r) = rw (e, inner-rest n 4 refl r) (sym (append-assoc (escaped c) (contents f) (end-tag n)))
+inner-rest {b = false} n last e (child-text c {f = f} r) =
+    rw (e, inner-rest n 4 refl r) (sym (append-assoc (escaped c) (contents f) (end-tag n)))

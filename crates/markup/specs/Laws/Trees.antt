@@ -32,7 +32,8 @@ unfoldable pub inner : Label → ℕ → Shape → List ℕ
 inner parent last nil = end parent last
 inner parent last (node a ks fs) = begin parent last a ++ (inner a 0 ks ++ inner parent (a .kind) fs)
 
-emit-pop : (a : Label) (es : List Label) (last : ℕ) (t : List Line) → Up (length es) t → emit (a ∷ es) last t ≡ end a last ++ emit es (a .kind) t
+emit-pop : (a : Label) (es : List Label) (last : ℕ) (t : List Line) → Up (length es) t
+    → emit (a ∷ es) last t ≡ end a last ++ emit es (a .kind) t
 unfolding emit ends
 emit-pop a es last [] up-none = refl
 emit-pop a es last (x ∷ t) (up-row h) = rw (one-more (length es) (x .0) h) (simp append-assoc)
@@ -50,7 +51,8 @@ emit-tree parent zs last (node a ks fs) t u =
     let d : ℕ = suc (length zs) in
     ap (λ (l : List Line). emit (parent ∷ zs) last ((d, a) ∷ l)) (append-assoc (flat (suc d) ks) (flat d fs) t)
     ∙ emit-down a parent zs last (flat (suc d) ks ++ (flat d fs ++ t))
-    ∙ rw (emit-tree a (parent ∷ zs) 0 ks (flat d fs ++ t) (up-flat (length zs) fs t u), emit-tree parent zs (a .kind) fs t u) (simp append-assoc)
+    ∙ rw (emit-tree a (parent ∷ zs) 0 ks (flat d fs ++ t) (up-flat (length zs) fs t u), emit-tree parent zs (a .kind) fs t u)
+    (simp append-assoc)
 
 -- nodes in their places ------------------------------------------------------------------------
 
@@ -89,7 +91,8 @@ spots-tree parent zs last (node a ks fs) t u =
     let d : ℕ = suc (length zs) in
     ap (λ (l : List Line). spots (parent ∷ zs) last ((d, a) ∷ l)) (append-assoc (flat (suc d) ks) (flat d fs) t)
     ∙ spots-down a parent zs last (flat (suc d) ks ++ (flat d fs ++ t))
-    ∙ rw (spots-tree a (parent ∷ zs) 0 ks (flat d fs ++ t) (up-flat (length zs) fs t u), spots-tree parent zs (a .kind) fs t u) (simp append-assoc)
+    ∙ rw (spots-tree a (parent ∷ zs) 0 ks (flat d fs ++ t) (up-flat (length zs) fs t u), spots-tree parent zs (a .kind) fs t u)
+    (simp append-assoc)
 
 -- every node fits, and the lengths of all
 unfoldable pub all-fit : List Spot → Bool

@@ -5,15 +5,6 @@ use borrow.Author.Needs.{needs}
 use Rattle.measuring.proofs.admit.Statement.{statement}
 use Rattle.measuring.proofs.admit.Tie as tie
 
-fits-requires : tie.Need-fits-requires
-fits-requires c κs = search needs
-
-returns : tie.Need-returns
-returns c = is-unfit (rw (← c .before .before .before .pre .5) (sym (c .before .fits2 .ensures) ∙ not-true _ (c .if1 .taken)))
-
-follow-requires : tie.Need-follow-requires
-follow-requires c κs = search needs
-
 returns-2 : tie.Need-returns-2
 returns-2 c =
     let c2 = c .before .before in
@@ -22,4 +13,10 @@ returns-2 c =
     is-fit (rw (← c5 .pre .5) (sym (c3 .fits2 .ensures) ∙ not-false _ (c2 .if1 .left))) (c .follow .ensures)
 
 pub admit-spec : {M : Type 1} → statement M
-admit-spec = tie.close (tie.spec fits-requires returns follow-requires returns-2)
+admit-spec =
+    tie.close
+    (tie.spec
+    (λ c κs. search needs)
+    (λ c. is-unfit (rw (← c .before .before .before .pre .5) (sym (c .before .fits2 .ensures) ∙ not-true _ (c .if1 .taken))))
+    (λ c κs. search needs)
+    returns-2)

@@ -6,29 +6,11 @@ use borrow.Author.Needs.{needs}
 use Rattle.measuring.proofs.cost.Statement.{statement}
 use Rattle.measuring.proofs.cost.Tie as tie
 
-size-requires : tie.Need-size-requires
-size-requires c κs = search needs
-
-add-result : tie.Need-add-result
-add-result c = search needs
-
 returns : tie.Need-returns
 returns c = (
   ap (λ n. n + 4) (c .size .ensures .0) ∙ cost-attribute _ _ _ (sym (c .before .before .before .pre .4) ∙ c .before .if1 .taken),
   omega (arith, c .size .ensures .1),
 )
-
-extra-requires : tie.Need-extra-requires
-extra-requires c κs = search needs
-
-size-requires-2 : tie.Need-size-requires-2
-size-requires-2 c κs = search needs
-
-add-result-2 : tie.Need-add-result-2
-add-result-2 c = search needs
-
-add-result-3 : tie.Need-add-result-3
-add-result-3 c = search needs
 
 returns-2 : tie.Need-returns-2
 returns-2 c =
@@ -38,12 +20,6 @@ returns-2 c =
           ∙ cost-element _ _ _ (sym (c4 .before .pre .4) ∙ c .before .if2 .taken),
       omega (arith, c .size2 .ensures .1, c2 .extra .ensures .1),
     )
-
-escaped-size-requires : tie.Need-escaped-size-requires
-escaped-size-requires c κs = search needs
-
-add-result-4 : tie.Need-add-result-4
-add-result-4 c = search needs
 
 returns-3 : tie.Need-returns-3
 returns-3 c =
@@ -60,14 +36,14 @@ pub cost-spec : {M : Type 1} → statement M
 cost-spec =
     tie.close
     (tie.spec
-    size-requires
-    add-result
+    (λ c κs. search needs)
+    (λ c. search needs)
     returns
-    extra-requires
-    size-requires-2
-    add-result-2
-    add-result-3
+    (λ c κs. search needs)
+    (λ c κs. search needs)
+    (λ c. search needs)
+    (λ c. search needs)
     returns-2
-    escaped-size-requires
-    add-result-4
+    (λ c κs. search needs)
+    (λ c. search needs)
     returns-3)

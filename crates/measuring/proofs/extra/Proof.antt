@@ -7,21 +7,6 @@ use borrow.Author.Needs.{needs}
 use Rattle.measuring.proofs.extra.Statement.{statement}
 use Rattle.measuring.proofs.extra.Tie as tie
 
-returns : tie.Need-returns
-returns c = (extra-other _ _ (λ e. c .if1 .taken (c .before .before .pre .2 ∙ e)), omega arith)
-
-in-start-tag-requires : tie.Need-in-start-tag-requires
-in-start-tag-requires c κs = search needs
-
-returns-2 : tie.Need-returns-2
-returns-2 c = (extra-later _ _ (sym (c .before .in-start-tag .ensures) ∙ not-true _ (c .if2 .taken)), omega arith)
-
-size-requires : tie.Need-size-requires
-size-requires c κs = search needs
-
-add-result : tie.Need-add-result
-add-result c = search needs
-
 returns-3 : tie.Need-returns-3
 returns-3 c =
     let c2 = c .before .before in
@@ -33,4 +18,11 @@ returns-3 c =
 
 pub extra-spec : {M : Type 1} → statement M
 extra-spec =
-    tie.close (tie.spec returns in-start-tag-requires returns-2 size-requires add-result returns-3)
+    tie.close
+    (tie.spec
+    (λ c. (extra-other _ _ (λ e. c .if1 .taken (c .before .before .pre .2 ∙ e)), omega arith))
+    (λ c κs. search needs)
+    (λ c. (extra-later _ _ (sym (c .before .in-start-tag .ensures) ∙ not-true _ (c .if2 .taken)), omega arith))
+    (λ c κs. search needs)
+    (λ c. search needs)
+    returns-3)

@@ -1,7 +1,7 @@
 use borrow.Author.Needs.{needs}
 use native.Mathlib.Omega.{arith}
-use Rattle.measuring.specs.Laws.Measure.{Measuring, measuring-start, too-few, measured-long, measured-sum}
-use Rattle.measuring.specs.Laws.Measure.{measured-refused, measured-on}
+use Rattle.measuring.specs.Laws.Measure.{Measuring, measuring-start, too-few, measured-long, measured-sum, measured-refused}
+use Rattle.measuring.specs.Laws.Measure.{measured-on}
 use Rattle.measuring.specs.Laws.Walk.{walk-below, walk-deep, walk-parent, walk-kind}
 use Rattle.committed.specs.Laws.Contents.{kind-at}
 use Rattle.layout.specs.Layout.{nodes}
@@ -19,43 +19,16 @@ abbrev μ-loop : tie.MeasureT-loop
 μ-loop s places count first path₀ kinds₀ top₀ names₀ kept₀ sum₀ i₀ path kinds top names kept sum i =
     count - i
 
-returns : tie.Need-returns Inv-loop μ-loop
-returns c = (too-few _ _ _ (c .before .before .pre .1) (c .if1 .taken), omega arith)
-
-element-copy-out-first : tie.Need-element-copy-out-first Inv-loop μ-loop
-element-copy-out-first c = search needs
-
-array-write-path : tie.Need-array-write-path Inv-loop μ-loop
-array-write-path c = search needs
-
 cast-kind : tie.Need-cast-kind Inv-loop μ-loop
 cast-kind c =
     let c3 = c .before .before .before in
     omega (arith, c3 .pre .1 .inside 0 (c3 .pre .1 .some), c3 .pre .0 .many, c3 .pre .0 .room)
-
-kind-requires : tie.Need-kind-requires Inv-loop μ-loop
-kind-requires c κs =
-    let c3 = c .before .before .before in
-    (c3 .pre .0, c3 .pre .1 .inside 0 (c3 .pre .1 .some))
-
-array-write-kinds : tie.Need-array-write-kinds Inv-loop μ-loop
-array-write-kinds c = search needs
 
 loop-holds : tie.Need-loop-holds Inv-loop μ-loop
 loop-holds c =
     let c4 = c .before .before .before .before in
     measuring-start (replicate 1024 0) (replicate 1024 0) (replicate 1024 0) (c4 .pre .1) (omega arith) refl refl refl
     (c .kind .ensures ∙ sym (kind-at _ _))
-
-mul-here : tie.Need-mul-here Inv-loop μ-loop
-mul-here c =
-    let c6 = c .before .before .before .before .before .before in
-    omega (arith, c6 .pre .1 .room)
-
-element-copy-out-here : tie.Need-element-copy-out-here Inv-loop μ-loop
-element-copy-out-here c =
-    let c6 = c .before .before .before .before .before .before in
-    omega (arith, c6 .pre .1 .room)
 
 cast-p : tie.Need-cast-p Inv-loop μ-loop
 cast-p c =
@@ -68,9 +41,6 @@ depth-requires c κs =
     let c2 = c .before .before in
     let c7 = c2 .before .before .before .before .before in
     (c7 .pre .0, c7 .pre .1 .inside (c2 .loop .i) (omega arith))
-
-cast-d : tie.Need-cast-d Inv-loop μ-loop
-cast-d c = search needs
 
 kind-requires-2 : tie.Need-kind-requires-2 Inv-loop μ-loop
 kind-requires-2 c κs =
@@ -90,11 +60,6 @@ array-read-above c =
     let c9 = c4 .before .before .before .before .before in
     omega (arith, c .before .depth .ensures, walk-deep (c9 .pre .1) (c4 .loop .inv .walk) (omega arith))
 
-previous-requires : tie.Need-previous-requires Inv-loop μ-loop
-previous-requires c κs =
-    let c5 = c .before .before .before .before .before in
-    c5 .loop .inv .walk .on-path .deep
-
 admit-requires : tie.Need-admit-requires Inv-loop μ-loop
 admit-requires c κs =
     let c3 = c .before .before .before in
@@ -108,9 +73,6 @@ admit-requires c κs =
       c3 .kind2 .ensures ∙ sym (kind-at _ _),
     )
 
-enum-told : tie.Need-enum-told Inv-loop μ-loop
-enum-told c = search needs
-
 returns-2 : tie.Need-returns-2 Inv-loop μ-loop
 returns-2 c =
     let c2 = c .before .before in
@@ -123,9 +85,6 @@ returns-2 c =
           (c6 .kind2 .ensures ∙ sym (kind-at _ _)) (c4 .previous .ensures) (c2 .admit .ensures) (c .enum-told .given .1),
       omega arith,
     )
-
-enum-known-n : tie.Need-enum-known-n Inv-loop μ-loop
-enum-known-n c = search needs
 
 sub-parent : tie.Need-sub-parent Inv-loop μ-loop
 sub-parent c =
@@ -196,12 +155,6 @@ array-write-kinds-2 c =
     let c17 = c12 .before .before .before .before .before in
     omega (arith, c9 .depth .ensures, walk-deep (c17 .pre .1) (c12 .loop .inv .walk) (omega arith))
 
-add-i : tie.Need-add-i Inv-loop μ-loop
-add-i c = search needs
-
-loop-less : tie.Need-loop-less Inv-loop μ-loop
-loop-less c = search needs
-
 loop-again : tie.Need-loop-again Inv-loop μ-loop
 loop-again c =
     let c2 = c .before .before in
@@ -232,26 +185,26 @@ measure-spec =
     (tie.spec
     Inv-loop
     μ-loop
-    returns
-    element-copy-out-first
-    array-write-path
+    (λ c. (too-few _ _ _ (c .before .before .pre .1) (c .if1 .taken), omega arith))
+    (λ c. search needs)
+    (λ c. search needs)
     cast-kind
-    kind-requires
-    array-write-kinds
+    (λ c κs. (c .before .before .before .pre .0, c .before .before .before .pre .1 .inside 0 (c .before .before .before .pre .1 .some)))
+    (λ c. search needs)
     loop-holds
-    mul-here
-    element-copy-out-here
+    (λ c. omega (arith, c .before .before .before .before .before .before .pre .1 .room))
+    (λ c. omega (arith, c .before .before .before .before .before .before .pre .1 .room))
     cast-p
     depth-requires
-    cast-d
+    (λ c. search needs)
     kind-requires-2
     sub-above
     array-read-above
-    previous-requires
+    (λ c κs. c .before .before .before .before .before .loop .inv .walk .on-path .deep)
     admit-requires
-    enum-told
+    (λ c. search needs)
     returns-2
-    enum-known-n
+    (λ c. search needs)
     sub-parent
     mul-parent
     array-read-parent
@@ -261,8 +214,8 @@ measure-spec =
     mul-path
     array-write-path-2
     array-write-kinds-2
-    add-i
-    loop-less
+    (λ c. search needs)
+    (λ c. search needs)
     loop-again
     returns-3
     returns-4)

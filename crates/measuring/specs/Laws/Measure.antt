@@ -22,8 +22,8 @@ use Rattle.measuring.specs.declared.Admission.{Admission}
 use Rattle.measuring.specs.declared.Admission.the-variants.{Refused, Kept}
 use Rattle.measuring.specs.Walk.{open-labels, before-lines, previous-kind, Walk}
 use Rattle.measuring.specs.Names.{tag-names, names-at, Follows, Followed, is-again, is-followed, Admitted, is-unfit, is-fit}
-use Rattle.measuring.specs.Laws.Walk.{parent-is, opened-is, previous-is}
-use Rattle.measuring.specs.Laws.Walk.{walk-start, walk-below, walk-steps, walk-deep, walk-kind, walk-on}
+use Rattle.measuring.specs.Laws.Walk.{parent-is, opened-is, previous-is, walk-start, walk-below, walk-steps, walk-deep, walk-kind}
+use Rattle.measuring.specs.Laws.Walk.{walk-on}
 use Rattle.measuring.specs.Laws.Tags.{Tagged, tagged-start, tagged-names, tagged-on}
 use Rattle.measuring.specs.Laws.Names.{not-attribute, is-attribute, inside-none}
 
@@ -33,7 +33,8 @@ pub record Measuring (l : List Entry) (places : List ℕ) (count : ℕ) (path ki
   pub walk : Walk l places path kinds top i
   pub behind : i ≤ count
   pub small : sum ≤ 39 + 256 * i
-  pub whole : measured (lines l places count) ≡ judge (open-labels l path (suc top)) 0 (before-lines l places i) sum (drop i (lines l places count))
+  pub whole : measured (lines l places count)
+      ≡ judge (open-labels l path (suc top)) 0 (before-lines l places i) sum (drop i (lines l places count))
   pub tags : Tagged kinds top (before-lines l places i)
   pub fewer : kept < i
   pub inside : Inside l names kept
@@ -45,13 +46,18 @@ pub measuring-start : {l : List Entry} {places : List ℕ} {count : ℕ} (path k
     → Measuring l places count (set path 0 (getD places 0 0)) (set kinds 0 k) 0 names 0 1 39
 unfolding measured prolog open-labels before-lines tag-names
 measuring-start {l} {places} {count} path kinds names c m n o q {k} g =
-    let e : lines l places count ≡ line-at l (getD places 0 0) ∷ drop 1 (lines l places count) = lines-from l places count (omega (arith, c .long, c .room)) 0 (omega arith) in
-    let f : drop 1 (lines l places count) ≡ line-at l (getD places 1 0) ∷ drop 2 (lines l places count) = lines-from l places count (omega (arith, c .long, c .room)) 1 (omega arith) in
+    let e : lines l places count ≡ line-at l (getD places 0 0) ∷ drop 1 (lines l places count) = lines-from l places count
+    (omega (arith, c .long, c .room)) 0 (omega arith) in
+    let f : drop 1 (lines l places count)
+    ≡ line-at l (getD places 1 0) ∷ drop 2 (lines l places count) = lines-from l places count (omega (arith, c .long, c .room)) 1
+    (omega arith) in
     record {
       walk = walk-start path kinds c n o g;
       behind = omega arith;
       small = omega arith;
-      whole = ap measured (e ∙ ap (λ (k : List Line). line-at l (getD places 0 0) ∷ k) f) ∙ rw (f, getD-set-same path 0 (getD places 0 0) 0 (omega arith));
+      whole =
+          ap measured (e ∙ ap (λ (k : List Line). line-at l (getD places 0 0) ∷ k) f)
+          ∙ rw (f, getD-set-same path 0 (getD places 0 0) 0 (omega arith));
       tags = rw (c .first) (tagged-start (set kinds 0 k) (label-at l (getD places 0 0)));
       fewer = omega arith;
       inside = inside-none q;
@@ -64,7 +70,8 @@ unfolding measured
 too-few l places count c m =
     let h : count ≤ length places = omega (arith, c .long, c .room) in
     let e : lines l places count ≡ line-at l (getD places 0 0) ∷ drop 1 (lines l places count) = lines-from l places count h 0 (c .some) in
-    let f : drop 1 (lines l places count) ≡ [] = drop-of-length-le (lines l places count) {i = 1} (omega (arith, length-lines l places count h)) in
+    let f : drop 1 (lines l places count)
+    ≡ [] = drop-of-length-le (lines l places count) {i = 1} (omega (arith, length-lines l places count h)) in
     sym (ap measured (e ∙ ap (λ (k : List Line). line-at l (getD places 0 0) ∷ k) f))
 
 module _ {l : List Entry} {places path kinds names : List ℕ} {count top kept i sum : ℕ} (c : Listed l places count)
@@ -84,7 +91,8 @@ module _ {l : List Entry} {places path kinds names : List ℕ} {count top kept i
     measured-sum k = sym (last ∙ rw (le-leb sum 65536 k))
 
   -- the i-th row: p is its place, d its depth, b its kind, a the kind of its parent, and k the kind of its previous sibling
-  module _ (h : i < count) {d p a b k : ℕ} (ep : p ≡ getD places i 0) (ed : d ≡ depth l p) (ea : a ≡ getD kinds (d - 1) 0) (eb : b ≡ label-at l p .kind)
+  module _ (h : i < count) {d p a b k : ℕ} (ep : p ≡ getD places i 0) (ed : d ≡ depth l p) (ea : a ≡ getD kinds (d - 1) 0)
+      (eb : b ≡ label-at l p .kind)
       (ek : k ≡ previous-kind kinds top d) where
     depth-is : d ≡ depth l (getD places i 0)
     depth-is = ed ∙ ap (depth l) ep
@@ -159,7 +167,8 @@ module _ {l : List Entry} {places path kinds names : List ℕ} {count top kept i
                 opened-is l path (suc top) d p deep (omega (arith, depth-is, walk-deep c (v .walk) h, v .walk .on-path .long)),
                 add-one i,
               )
-              (ap (λ (x : Line). judge (open-labels l (set path d p) (suc d)) 0 (x ∷ before-lines l places i) (sum + n) (drop (suc i) (lines l places count))) same-line);
+              (ap (λ (x : Line). judge (open-labels l (set path d p) (suc d)) 0 (x ∷ before-lines l places i) (sum + n)
+              (drop (suc i) (lines l places count))) same-line);
           tags = rw (add-one i, ← same-line, eb)
               (tagged-on (v .tags) low deep (label-at l p) fits-here
               (omega (arith, depth-is, walk-deep c (v .walk) h, v .walk .of-kinds .long)));

@@ -1,6 +1,6 @@
 -- Names of attributes: which rows have one, and those that are kept behind a node.
 use mathlib.Core.Path.{_≡_, refl, _∙_, subst}
-use Prim.Native.Nat.{ℕ, _+_, _≤_, _<_}
+use Prim.Native.Nat.{ℕ, _+_, _<_}
 use mathlib.Core.Bool.{false}
 use mathlib.Core.List.{List}
 use native.Mathlib.Omega.{arith}
@@ -43,7 +43,8 @@ unfolding entries
 ordered-at l os m {w} {r} o = let z : m ≡ 0 + m = omega arith in subst (λ (i : ℕ). Ordered w (label-at l (getD os i 0) .content) r) z o
 
 -- a name put at place k
-pub entered : {l : List Entry} {os os′ : List ℕ} {n k p : ℕ} → Inserted os os′ k n p → n < 1024 → Inside l os n → Increasing (names-at l os) n
+pub entered : {l : List Entry} {os os′ : List ℕ} {n k p : ℕ} → Inserted os os′ k n p → n < 1024 → Inside l os n
+    → Increasing (names-at l os) n
     → Between (names-at l os) n k k (label-at l p .content) → p < length l → Entered l os os′ n p (Kept (n + 1))
 entered {l} x h v i b q = is-entered refl
     (record { long = x .as-long ∙ v .long; room = omega arith; inside = each-entry x (λ o. o < length l) (v .inside) q })

@@ -26,7 +26,8 @@ module _ (l : List Entry) (path : List ℕ) where
   drop-open zero d h = let z : d ≡ 0 = omega arith in rw z
   drop-open (suc n) d h = go (leb d n) refl (λ k. drop-open n d k)
     where
-      go : (b : Bool) → leb d n ≡ b → (d ≤ n → drop (n - d) (open-labels l path n) ≡ open-labels l path d) → drop (suc n - d) (open-labels l path (suc n)) ≡ open-labels l path d
+      go : (b : Bool) → leb d n ≡ b → (d ≤ n → drop (n - d) (open-labels l path n) ≡ open-labels l path d)
+          → drop (suc n - d) (open-labels l path (suc n)) ≡ open-labels l path d
       go true e r =
           let k : d ≤ n = leb-true d n e in
           let z : suc n - d ≡ suc (n - d) = omega arith in
@@ -65,7 +66,8 @@ module _ (l : List Entry) (path : List ℕ) where
   pub previous-some : (n d : ℕ) → d < n → label-at l (getD path d 0) .kind ≡ previous-of (open-labels l path n) 0 d
   previous-some n d h =
       let z : n - d ≡ suc (n - suc d) = omega arith in
-      rw (length-open n, z) (sym (List·getD-map (λ (a : Label). a .kind) (open-labels l path n) (n - suc d) no-label ∙ ap (λ (a : Label). a .kind) (at-open n d h)))
+      rw (length-open n, z) (sym (List·getD-map (λ (a : Label). a .kind) (open-labels l path n) (n - suc d) no-label ∙ ap
+      (λ (a : Label). a .kind) (at-open n d h)))
 
   -- a place stored at a depth leaves those above it
   set-open : (n d p : ℕ) → n ≤ d → open-labels l (set path d p) n ≡ open-labels l path n
@@ -74,7 +76,8 @@ module _ (l : List Entry) (path : List ℕ) where
   set-open (suc n) d p h = rw (getD-set-other path d n p 0 (λ e. omega arith), set-open n d p (omega arith))
 
   -- the open nodes behind the node at p, of depth d
-  pub opened-is : (n d p : ℕ) → d ≤ n → d < length path → opened (open-labels l path n) (d, label-at l p) ≡ open-labels l (set path d p) (suc d)
+  pub opened-is : (n d p : ℕ) → d ≤ n → d < length path
+      → opened (open-labels l path n) (d, label-at l p) ≡ open-labels l (set path d p) (suc d)
   unfolding open-labels
   opened-is n d p h k = rw (length-open n, drop-open n d h, getD-set-same path d p 0 k, set-open d d p (omega arith))
 
@@ -104,7 +107,8 @@ previous-is l path {kinds} {top} d o = go (leb d top) refl
 
 -- a place and its kind stored at depth d
 set-kinds : {l : List Entry} (path kinds : List ℕ) (d p : ℕ) {k : ℕ} → length path ≡ 1024 → length kinds ≡ 1024 → d < 1024
-    → ((j : ℕ) → j < d → getD kinds j 0 ≡ label-at l (getD path j 0) .kind) → k ≡ label-at l p .kind → OfKinds l (set path d p) (set kinds d k) d
+    → ((j : ℕ) → j < d → getD kinds j 0 ≡ label-at l (getD path j 0) .kind) → k ≡ label-at l p .kind
+    → OfKinds l (set path d p) (set kinds d k) d
 set-kinds {l} path kinds d p {k} m n h above e = record { long = length-set kinds d k ∙ n; same = λ j i. go j i (eqb j d) refl }
   where
     go : (j : ℕ) → j ≤ d → (b : Bool) → eqb j d ≡ b → getD (set kinds d k) j 0 ≡ label-at l (getD (set path d p) j 0) .kind
@@ -115,7 +119,8 @@ set-kinds {l} path kinds d p {k} m n h above e = record { long = length-set kind
 
 -- the pass -------------------------------------------------------------------------------------------
 
-pub walk-start : {l : List Entry} {places : List ℕ} {count : ℕ} (path kinds : List ℕ) → Listed l places count → length path ≡ 1024 → length kinds ≡ 1024
+pub walk-start : {l : List Entry} {places : List ℕ} {count : ℕ} (path kinds : List ℕ) → Listed l places count → length path ≡ 1024
+    → length kinds ≡ 1024
     → {k : ℕ} → k ≡ label-at l (getD places 0 0) .kind → Walk l places (set path 0 (getD places 0 0)) (set kinds 0 k) 0 1
 walk-start {l} {places} path kinds c n m e = record {
   on-path = record {
@@ -129,7 +134,8 @@ walk-start {l} {places} path kinds c n m e = record {
   row = sym (c .first);
 }
 
-module _ {l : List Entry} {places path kinds : List ℕ} {count top i : ℕ} (c : Listed l places count) (w : Walk l places path kinds top i) (h : i < count) where
+module _ {l : List Entry} {places path kinds : List ℕ} {count top i : ℕ} (c : Listed l places count) (w : Walk l places path kinds top i)
+    (h : i < count) where
   same-place : suc (i - 1) ≡ i
   same-place = omega (arith, w .some)
 

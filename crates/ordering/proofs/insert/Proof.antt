@@ -11,12 +11,6 @@ Inv-loop list₀ at end place i₀ list i = (at ≤ i) × (i ≤ end) × Shiftin
 abbrev μ-loop : tie.MeasureT-loop
 μ-loop list₀ at end place i₀ list i = i
 
-element-write-list : tie.Need-element-write-list Inv-loop μ-loop
-element-write-list c =
-    let c2 = c .before .before in
-    let c3 = c2 .before in
-    omega (arith, c3 .pre .1, c3 .pre .2, c2 .loop .inv .2 .as-long)
-
 loop-again : tie.Need-loop-again Inv-loop μ-loop
 loop-again c =
     let c2 = c .before .before in
@@ -37,10 +31,11 @@ insert-spec =
     (λ c. search needs)
     (λ c. search needs)
     (λ c. search needs)
-    element-write-list
+    (λ c. omega (arith, c .before .before .before .pre .1, c .before .before .before .pre .2, c .before .before .loop .inv .2 .as-long))
     (λ c. search needs)
     (λ c. search needs)
     loop-again
     (λ c. search needs)
     (λ c. search needs)
-    (λ c. let c2 = c .before .before in shift-end (c .before .loop .inv .2) _ (omega arith) (c2 .pre .0) (omega (arith, c2 .pre .1, c2 .pre .2))))
+    (λ c. let c2 = c .before .before in shift-end (c .before .loop .inv .2) _ (omega arith) (c2 .pre .0)
+    (omega (arith, c2 .pre .1, c2 .pre .2))))

@@ -64,7 +64,8 @@ module _ (s : List ℕ) (at spare : ℕ) (x : Attributed s at) where
   attribute-many : (seen : List Name) → spare ≡ 0 → AttributeRead s seen at spare (Refused 6 at)
   unfolding births tail peak
   attribute-many seen l = attribute-refused {x = 6} {j = at} (λ n ns. rw (x .begins-here) at
-      (stops-many s (in-tag n ns seen) spare at (x .inside) (attribute-name n ns seen (b ∷ [])) (depth (n ∷ ns)) attribute-kind (byte b ∷ [])
+      (stops-many s (in-tag n ns seen) spare at (x .inside) (attribute-name n ns seen (b ∷ [])) (depth (n ∷ ns)) attribute-kind
+      (byte b ∷ [])
       (born-step n ns seen) l (omega arith)))
 
   module _ (room : 1 ≤ spare) (to : ℕ) (r : Run name-byte s at to) where
@@ -73,7 +74,8 @@ module _ (s : List ℕ) (at spare : ℕ) (x : Attributed s at) where
         → scan-at s (in-tag n ns seen) spare k at ≡ scan-at s (attribute-name n ns seen (b ∷ [])) (spare - 1) 1 (at + 1)
     unfolding births tail peak
     named n ns seen k h =
-        scan-born s (in-tag n ns seen) spare at (x .inside) (attribute-name n ns seen (b ∷ [])) (depth (n ∷ ns)) attribute-kind (byte b ∷ [])
+        scan-born s (in-tag n ns seen) spare at (x .inside) (attribute-name n ns seen (b ∷ [])) (depth (n ∷ ns)) attribute-kind
+        (byte b ∷ [])
         (born-step n ns seen) refl room k h (omega arith)
 
     attribute-long : (seen : List Name) → content-limit < to - at → AttributeRead s seen at spare (Refused 5 (at + 32))
@@ -99,7 +101,8 @@ module _ (s : List ℕ) (at spare : ℕ) (x : Attributed s at) where
 
       attribute-repeated : (seen : List Name) → used seen (name-at s at) ≡ true → AttributeRead s seen at spare (Refused 4 to)
       unfolding step
-      attribute-repeated seen e = attribute-refused {x = 4} {j = to} (λ n ns. record { leads = λ k m. whole n ns seen k m ∙ go n ns (leb (length s) to) refl })
+      attribute-repeated seen e =
+          attribute-refused {x = 4} {j = to} (λ n ns. record { leads = λ k m. whole n ns seen k m ∙ go n ns (leb (length s) to) refl })
         where
           go : (n : Name) (ns : List Name) (t : Bool) → leb (length s) to ≡ t
               → scan-at s (attribute-name n ns seen (name-at s at)) (spare - 1) (to - at) to ≡ bad 4 to
@@ -176,5 +179,6 @@ module _ {s os : List ℕ} {lo count at spare : ℕ} (x : Attributed s at) where
           kept = k;
         }
 
-pub quoted-inside : {s : List ℕ} {at q : ℕ} {c : Cursor} → EqualsRead s at (Quoted q c) → (1 ≤ c .at) × (c .at ≤ length s) × (c .at - 1 ≡ node-offset s (c .at))
+pub quoted-inside : {s : List ℕ} {at q : ℕ} {c : Cursor} → EqualsRead s at (Quoted q c)
+    → (1 ≤ c .at) × (c .at ≤ length s) × (c .at - 1 ≡ node-offset s (c .at))
 quoted-inside (quoted q a b d f) = (omega arith, b, sym d)

@@ -1,6 +1,6 @@
 -- Tags and texts in the content of the open elements.
 use Prim.Native.Nat.{ℕ, zero, suc, _+_, _-_, _≤_, _<_}
-use mathlib.Core.Path.{_≡_, refl, sym, ap, _∙_, subst}
+use mathlib.Core.Path.{_≡_, refl, sym, ap, _∙_}
 use mathlib.Core.Bool.{Bool, true, false}
 use mathlib.Core.List.{List, [], _∷_}
 use native.Mathlib.Omega.{arith}
@@ -11,8 +11,8 @@ use borrow.Author.Tests.{ne-eqb, eqb-true, eqb-false}
 use Rattle.tree.specs.Content.{element-kind, name-start}
 use Rattle.xml.specs.Bytes.{less-than, slash}
 use Rattle.xml.specs.Grammar.{Name}
-use Rattle.xml.specs.Reading.{opener, node-offset}
-use Rattle.xml.specs.Laws.Automaton.{Config, content, behind-open, tag-name, end-name, closed, born, byte, depth, stuck, move, to, step}
+use Rattle.xml.specs.Reading.{opener}
+use Rattle.xml.specs.Laws.Automaton.{Config, content, behind-open, tag-name, end-name, closed, born, byte, depth, move, step}
 use Rattle.xml.specs.Laws.Counts.{births, tail, peak}
 use Rattle.xml.specs.Laws.Judge.{Verdict, bad, byte-before, offset-before}
 use Rattle.xml.specs.Laws.Scan.{scan-at}
@@ -23,14 +23,12 @@ use Rattle.reader.specs.declared.Child.{Child}
 use Rattle.reader.specs.declared.Child.the-variants.{At, Stopped}
 use Rattle.reader.specs.declared.End.{End}
 use Rattle.reader.specs.declared.End.the-variants as end-variants
-use Rattle.reader.specs.declared.Read.{Read}
 use Rattle.reader.specs.declared.Read.the-variants.{Past, Refused}
-use Rattle.reader.specs.declared.Tag.{Tag}
 use Rattle.reader.specs.declared.Tag.the-variants.{Opened, Emptied, Broken}
 use Rattle.reader.specs.Steps.{ContentRead, content-past, content-refused}
-use Rattle.reader.specs.Elements.{stack, Placed, Kept, Onward, Named, ElementRead, element-opened, element-emptied, element-broken, EndRead}
+use Rattle.reader.specs.Elements.{stack, Placed, Kept, ElementRead, element-opened, element-emptied, element-broken, EndRead}
 use Rattle.reader.specs.Elements.{end-behind, end-mismatch}
-use Rattle.reader.specs.Children.{opened, Behind, Beginning, Deep, ChildRead, child-at, child-stopped}
+use Rattle.reader.specs.Children.{opened, Behind, Deep, ChildRead, child-at, child-stopped}
 use Rattle.reader.specs.Laws.Contents.{text-contents}
 use Rattle.reader.specs.Laws.StartTags.{stack-same, placed-kept}
 
@@ -105,7 +103,8 @@ module _ (s os : List ℕ) (deep spare at : ℕ) (x : Deep s os deep spare) wher
       start-many y l =
           let p = offset-before s at (before at (y .some) (y .opens)) .0 in
           stopped os 6 (at - 1)
-          (rw p at (stops-many s (behind-open n ns) spare at h (tag-name (n ∷ ns) (b ∷ [])) (depth (n ∷ ns)) element-kind (byte b ∷ []) starts l (omega arith)))
+          (rw p at (stops-many s (behind-open n ns) spare at h (tag-name (n ∷ ns) (b ∷ [])) (depth (n ∷ ns)) element-kind (byte b ∷ [])
+          starts l (omega arith)))
         where
           before : (at : ℕ) → 1 ≤ at → getD s (at - 1) 0 ≡ less-than → opener (byte-before s at) ≡ true
           before zero h o = absurd (omega arith)
@@ -116,7 +115,8 @@ module _ (s os : List ℕ) (deep spare at : ℕ) (x : Deep s os deep spare) wher
         unfolding births tail peak
         born-to p = record {
           leads = λ j m.
-              scan-born s (behind-open n ns) spare at h (tag-name (n ∷ ns) (b ∷ [])) (depth (n ∷ ns)) element-kind (byte b ∷ []) starts refl room j m
+              scan-born s (behind-open n ns) spare at h (tag-name (n ∷ ns) (b ∷ [])) (depth (n ∷ ns)) element-kind (byte b ∷ []) starts refl
+              room j m
               (omega arith) ∙ p;
         }
 
@@ -139,7 +139,8 @@ module _ (s os : List ℕ) (deep spare at : ℕ) (x : Deep s os deep spare) wher
         start-opened {c} {m} q (element-opened o f) =
             child-at {c = c} {d = deep + 1} {m = m}
             (record { further = o .further; inside = o .inside; begins-here = o .begins-here; fewer = omega (arith, o .fewer) })
-            (omega (arith, x .room, o .fewer)) (k .as-long ∙ x .long) (placed-next s os′ deep (placed-kept s os os′ deep (x .names) k) (rw q (omega arith)))
+            (omega (arith, x .room, o .fewer)) (k .as-long ∙ x .long) (placed-next s os′ deep (placed-kept s os os′ deep (x .names) k)
+            (rw q (omega arith)))
             (rw (from-is, one-deeper s os′ deep, q, ← around) (record { back = λ v y. born-to (f (n ∷ ns) v y) }))
 
   -- a text before it
@@ -150,16 +151,21 @@ module _ (s os : List ℕ) (deep spare at : ℕ) (x : Deep s os deep spare) wher
       → ChildRead s (closed (stack s os 0 deep)) at spare os′ (Stopped y j)
   text-refused {y} {j} (content-refused f) os′ = child-stopped {x = y} {j = j} (rw within-is (f _ _ _ _ (text-contents n ns)))
 
-  pub text-past : {c : Cursor} {m : ℕ} {r : Child} (os′ : List ℕ) → ContentRead s less-than at spare (Past c m) → ChildRead s from (c .at) m os′ r
+  pub text-past : {c : Cursor} {m : ℕ} {r : Child} (os′ : List ℕ) → ContentRead s less-than at spare (Past c m)
+      → ChildRead s from (c .at) m os′ r
       → ChildRead s (closed (stack s os 0 deep)) at spare os′ r
   text-past {c} os′ (content-past a b d e f) (child-at {c = c′} {d = d′} {m = m′} o p q r w) =
       child-at {c = c′} {d = d′} {m = m′}
-      (record { further = omega (arith, o .further); inside = o .inside; begins-here = o .begins-here; fewer = omega (arith, o .fewer) }) p q r
+      (record { further = omega (arith, o .further); inside = o .inside; begins-here = o .begins-here; fewer = omega (arith, o .fewer) }) p
+      q r
       (rw within-is (goes-then (f _ _ _ _ (text-contents n ns)) (rw from-is at w)))
   text-past {c} os′ (content-past a b d e f) (child-stopped {x = y} {j = j} w) =
       child-stopped {x = y} {j = j} (rw within-is (f _ _ _ _ (text-contents n ns) .back _ (rw from-is at w)))
 
 pub behind-text : {s os : List ℕ} {deep at spare m : ℕ} {c : Cursor} → Deep s os deep spare → ContentRead s less-than at spare (Past c m)
     → Behind s (c .at) × Deep s os deep m
-behind-text x (content-past a b d e f) =
-    (record { inside = b; some = omega arith; opens = d }, record { some = x .some; room = omega (arith, x .room); long = x .long; names = x .names })
+behind-text x (content-past a b d e f) = (
+  record { inside = b; some = omega arith; opens = d },
+  record
+      { some = x .some; room = omega (arith, x .room); long = x .long; names = x .names },
+)

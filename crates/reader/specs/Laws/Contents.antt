@@ -1,7 +1,7 @@
 -- A value or a text, which may be empty, and that the automaton's configurations are those of one.
-use Prim.Native.Nat.{ℕ, zero, suc, _+_, _-_, _≤_, _<_}
-use mathlib.Core.Path.{_≡_, refl, sym, ap, _∙_, subst}
-use mathlib.Core.Bool.{Bool, true, false, cond, not, _&&_, _||_, false≢true, and-true}
+use Prim.Native.Nat.{ℕ, suc, _+_, _-_, _≤_, _<_}
+use mathlib.Core.Path.{_≡_, refl, sym, ap, _∙_}
+use mathlib.Core.Bool.{Bool, true, false, _||_, false≢true}
 use mathlib.Core.List.{List, [], _∷_}
 use native.Mathlib.Omega.{arith}
 use lib.Dec.{eqb}
@@ -12,19 +12,18 @@ use Rattle.xml.specs.Bytes.{ampersand, less-than, brackets, Quote, double, sing
 use Rattle.xml.specs.Grammar.{Name}
 use Rattle.xml.specs.Reading.{node-offset}
 use Rattle.xml.specs.Laws.Words.{Words, entities}
-use Rattle.xml.specs.Laws.Automaton.{Config, behind-part, behind-quote, in-value, value-reference, content, behind-open, in-text, text-reference}
-use Rattle.xml.specs.Laws.Automaton.{Event, born, byte, depth, stuck, move, to, step}
+use Rattle.xml.specs.Laws.Automaton.{Config, behind-part, behind-quote, in-value, value-reference, content, behind-open, in-text}
+use Rattle.xml.specs.Laws.Automaton.{text-reference, born, byte, depth, stuck, move, to, step}
 use Rattle.xml.specs.Laws.Counts.{births, tail, peak}
-use Rattle.xml.specs.Laws.Phases.{phase, is-over, pending}
-use Rattle.xml.specs.Laws.Judge.{Verdict, bad}
+use Rattle.xml.specs.Laws.Judge.{bad}
 use Rattle.xml.specs.Laws.Scan.{scan-at}
-use Rattle.xml.specs.Laws.Goes.{Leads, Goes, goes-step, stops-end, stops-stuck, stops-many, scan-quiet, scan-byte, scan-born}
-use Rattle.xml.specs.Laws.Tokens.{Wording}
+use Rattle.xml.specs.Laws.Goes.{Leads, goes-step, stops-end, stops-stuck, stops-many, scan-quiet, scan-byte, scan-born}
 use Rattle.reader.specs.declared.Cursor.{Cursor}
 use Rattle.reader.specs.declared.Read.{Read}
 use Rattle.reader.specs.declared.Read.the-variants.{Past, Refused}
 use Rattle.reader.specs.Classes.{literal, begins}
-use Rattle.reader.specs.Steps.{Characters, CharactersRead, characters-past, characters-refused, Contents, ContentRead, content-past, content-refused}
+use Rattle.reader.specs.Steps.{Characters, CharactersRead, characters-past, characters-refused, Contents, ContentRead, content-past}
+use Rattle.reader.specs.Steps.{content-refused}
 
 module _ (s : List ℕ) (stop at spare : ℕ) where
   pub content-end : length s ≤ at → ContentRead s stop at spare (Refused 4 at)
@@ -40,9 +39,11 @@ module _ (s : List ℕ) (stop at spare : ℕ) where
     module _ (other : getD s at 0 ≡ stop → ⊥) where
       pub content-wrong : begins stop 0 (getD s at 0) ≡ false → ContentRead s stop at spare (Refused 4 at)
       unfolding begins
-      content-wrong e = content-refused {x = 4} {j = at} (λ S C R D x. stops-stuck s S spare at h (go x (eqb (getD s at 0) ampersand) refl e))
+      content-wrong e =
+          content-refused {x = 4} {j = at} (λ S C R D x. stops-stuck s S spare at h (go x (eqb (getD s at 0) ampersand) refl e))
         where
-          go : {S : Config} {C : ℕ → Config} {R : Words → Config} {D : Config} → Contents stop S C R D → (y : Bool) → eqb (getD s at 0) ampersand ≡ y
+          go : {S : Config} {C : ℕ → Config} {R : Words → Config} {D : Config} → Contents stop S C R D → (y : Bool)
+              → eqb (getD s at 0) ampersand ≡ y
               → (y || literal stop 0 (getD s at 0)) ≡ false → step true S (getD s at 0) ≡ stuck
           go x true p q = absurd (false≢true (sym q))
           go x false p q = x .no-first (getD s at 0) other (eqb-false (getD s at 0) ampersand p) q
@@ -56,14 +57,17 @@ module _ (s : List ℕ) (stop at spare : ℕ) where
         unfolding births tail peak
         content-many q begin p = content-refused {x = 6} {j = begin} (λ S C R D x. rw p (go S C R D x (eqb (getD s at 0) ampersand) refl))
           where
-            go : (S : Config) (C : ℕ → Config) (R : Words → Config) (D : Config) → Contents stop S C R D → (y : Bool) → eqb (getD s at 0) ampersand ≡ y
+            go : (S : Config) (C : ℕ → Config) (R : Words → Config) (D : Config) → Contents stop S C R D → (y : Bool)
+                → eqb (getD s at 0) ampersand ≡ y
                 → Leads s S spare at (bad 6 (node-offset s at))
             go S C R D x true a =
-                stops-many s S spare at h (R entities) (x .depth) (x .kind) [] (ap (step true S) (eqb-true (getD s at 0) ampersand a) ∙ x .first-refers) q
+                stops-many s S spare at h (R entities) (x .depth) (x .kind) []
+                (ap (step true S) (eqb-true (getD s at 0) ampersand a) ∙ x .first-refers) q
                 (omega (arith, x .inner .due entities))
             go S C R D x false a =
                 let b = getD s at 0 in
-                stops-many s S spare at h (C (brackets 0 b)) (x .depth) (x .kind) (byte b ∷ []) (x .first b other (itself (eqb-false b ampersand a))) q
+                stops-many s S spare at h (C (brackets 0 b)) (x .depth) (x .kind) (byte b ∷ [])
+                (x .first b other (itself (eqb-false b ampersand a))) q
                 (omega (arith, x .inner .calm (brackets 0 b)))
 
         module _ (room : 1 ≤ spare) where
@@ -85,7 +89,8 @@ module _ (s : List ℕ) (stop at spare : ℕ) where
                   let i = itself (eqb-false b ampersand a) in
                   scan-born s S spare at h (C (brackets 0 b)) (x .depth) (x .kind) (byte b ∷ []) (x .first b other i) refl room k m
                   (omega (arith, x .inner .calm (brackets 0 b)))
-                  ∙ sym (scan-byte s (C 0) (spare - 1) at h (C (brackets 0 b)) b (x .inner .plainly 0 b other i) (x .inner .calm (brackets 0 b))
+                  ∙ sym (scan-byte s (C 0) (spare - 1) at h (C (brackets 0 b)) b (x .inner .plainly 0 b other i)
+                  (x .inner .calm (brackets 0 b))
                   0 (omega arith))
 
           pub content-rest : {r : Read} → CharactersRead s stop at (spare - 1) r → ContentRead s stop at spare r
@@ -169,7 +174,8 @@ module _ (n : Name) (ns seen : List Name) where
   }
     where
       refers-on : (q : Quote)
-          → step true (behind-quote n ns seen q) ampersand ≡ move (value-reference n ns seen q entities) (born (suc (depth (n ∷ ns))) text-kind ∷ [])
+          → step true (behind-quote n ns seen q) ampersand
+          ≡ move (value-reference n ns seen q entities) (born (suc (depth (n ∷ ns))) text-kind ∷ [])
       refers-on double = refl
       refers-on single = refl
 

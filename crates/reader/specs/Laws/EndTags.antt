@@ -27,7 +27,8 @@ use Rattle.reader.specs.Laws.Names.{name-of, length-name}
 
 module _ (s : List ℕ) (n : Name) (ns : List Name) (m : ℕ) where
   -- a byte of the name
-  agree-here : (x : ℕ) (w : List ℕ) (at : ℕ) → at < length s → agree (x ∷ w) (drop at s) ≡ cond (eqb (getD s at 0) x) (suc (agree w (drop (suc at) s))) 0
+  agree-here : (x : ℕ) (w : List ℕ) (at : ℕ) → at < length s
+      → agree (x ∷ w) (drop at s) ≡ cond (eqb (getD s at 0) x) (suc (agree w (drop (suc at) s))) 0
   unfolding agree
   agree-here x w at h = rw (drop-cons s at 0 h)
 
@@ -46,7 +47,8 @@ module _ (s : List ℕ) (n : Name) (ns : List Name) (m : ℕ) where
       go true q f = absurd (omega (arith, agree-over x w at (leb-true (length s) at q)))
       go false q f = next (leb-false (length s) at q) (eqb (getD s at 0) x) refl
         where
-          next : at < length s → (y : Bool) → eqb (getD s at 0) x ≡ y → Goes s (end-name n ns (x ∷ w)) m at (end-name n ns []) m (at + suc (length w))
+          next : at < length s → (y : Bool) → eqb (getD s at 0) x ≡ y
+              → Goes s (end-name n ns (x ∷ w)) m at (end-name n ns []) m (at + suc (length w))
           next h true y =
               let a : agree (x ∷ w) (drop at s) ≡ suc (agree w (drop (suc at) s)) = agree-here x w at h ∙ rw y in
               goes-then (goes-step s (end-name n ns (x ∷ w)) m at h (end-name n ns w) (rw y) refl)
@@ -54,7 +56,8 @@ module _ (s : List ℕ) (n : Name) (ns : List Name) (m : ℕ) where
               (goes-then (f (omega arith)) (goes-same s (end-name n ns []) m (suc at + length w) (at + suc (length w)) (omega arith))))
           next h false y = let a : agree (x ∷ w) (drop at s) ≡ 0 = agree-here x w at h ∙ rw y in absurd (omega arith)
 
-  part-name : (w : List ℕ) (at : ℕ) → (agree w (drop at s) ≡ length w → ⊥) → Leads s (end-name n ns w) m at (bad 4 (at + agree w (drop at s)))
+  part-name : (w : List ℕ) (at : ℕ) → (agree w (drop at s) ≡ length w → ⊥)
+      → Leads s (end-name n ns w) m at (bad 4 (at + agree w (drop at s)))
   unfolding step agree
   part-name [] at e = absurd (e refl)
   part-name (x ∷ w) at e = go (leb (length s) at) refl (part-name w (suc at))
@@ -68,7 +71,8 @@ module _ (s : List ℕ) (n : Name) (ns : List Name) (m : ℕ) where
           rw p (stops-end s (end-name n ns (x ∷ w)) m at h refl)
       go false q f = next (leb-false (length s) at q) (eqb (getD s at 0) x) refl
         where
-          next : at < length s → (y : Bool) → eqb (getD s at 0) x ≡ y → Leads s (end-name n ns (x ∷ w)) m at (bad 4 (at + agree (x ∷ w) (drop at s)))
+          next : at < length s → (y : Bool) → eqb (getD s at 0) x ≡ y
+              → Leads s (end-name n ns (x ∷ w)) m at (bad 4 (at + agree (x ∷ w) (drop at s)))
           next h true y =
               let a : agree (x ∷ w) (drop at s) ≡ suc (agree w (drop (suc at) s)) = agree-here x w at h ∙ rw y in
               let p : at + agree (x ∷ w) (drop at s) ≡ suc at + agree w (drop (suc at) s) = omega arith in
@@ -113,4 +117,5 @@ module _ (s : List ℕ) (at from to : ℕ) (r : Run name-byte s from to) (k : �
       unfolding step blank
       end-closed c e p =
           end-behind {c = c} (omega (arith, b .ends)) (omega arith) (rw p (no-opener s i (rw e)))
-          (λ ns m. goes-then (to-close ns m) (rw p (goes-step s (end-name (name-at s from) ns []) m i o (closed ns) (rw e) (calm-closed ns))))
+          (λ ns m. goes-then (to-close ns m) (rw p (goes-step s (end-name (name-at s from) ns []) m i o (closed ns) (rw e)
+          (calm-closed ns))))

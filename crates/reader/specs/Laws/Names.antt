@@ -136,8 +136,10 @@ module _ (s : List ℕ) (from to other n : ℕ) (a : Run name-byte s from to) (g
 
 -- a name put among the others ------------------------------------------------------------------
 
-pub enter-new : {s os os′ : List ℕ} {lo count k at : ℕ} → Inserted os os′ (lo + k) (lo + count) at → Increasing (attribute-names s os lo) count
-    → Between (attribute-names s os lo) count k k (name-at s at) → Placed s os (lo + count) → at ≤ length s → EnterRead s os os′ lo count at true
+pub enter-new : {s os os′ : List ℕ} {lo count k at : ℕ} → Inserted os os′ (lo + k) (lo + count) at
+    → Increasing (attribute-names s os lo) count
+    → Between (attribute-names s os lo) count k k (name-at s at) → Placed s os (lo + count) → at ≤ length s
+    → EnterRead s os os′ lo count at true
 enter-new {s} {lo = lo} x i b p h = is-entered (record {
   placed = record { placed = each-entry x (λ o. o ≤ length s) (p .placed) h };
   added = entry-added (name-at s) lo refl refl x i b;

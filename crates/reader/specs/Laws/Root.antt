@@ -10,7 +10,7 @@ use Rattle.tree.specs.Content.{element-kind, name-start}
 use Rattle.xml.specs.Bytes.{blank, less-than}
 use Rattle.xml.specs.Laws.Automaton.{prolog, behind-root, tag-name, byte, step}
 use Rattle.xml.specs.Laws.Counts.{births, tail, peak}
-use Rattle.xml.specs.Laws.Goes.{Leads, Goes, goes-then, goes-same, goes-step, stops-end, stops-stuck, scan-born}
+use Rattle.xml.specs.Laws.Goes.{Goes, goes-then, goes-same, goes-step, stops-end, stops-stuck, scan-born}
 use Rattle.xml.specs.Laws.Tokens.{goes-blanks}
 use Rattle.reader.specs.declared.Cursor.{Cursor}
 use Rattle.reader.specs.declared.Prolog.the-variants.{Root, NoRoot}
@@ -29,7 +29,9 @@ module _ (s : List ℕ) (at i : ℕ) (r : Run blank s at i) where
   module _ (h : i < length s) where
     pub root-wrong : (getD s i 0 ≡ less-than → ⊥) → RootRead s prolog at (NoRoot i)
     unfolding step
-    root-wrong e = no-root {j = i} (λ m. to-root m .back _ (stops-stuck s prolog m i h (rw (no-blank-here s at i r h, ne-eqb (getD s i 0) less-than e))))
+    root-wrong e =
+        no-root {j = i} (λ m. to-root m .back _ (stops-stuck s prolog m i h
+        (rw (no-blank-here s at i r h, ne-eqb (getD s i 0) less-than e))))
 
     module _ (e : getD s i 0 ≡ less-than) where
       to-name : (m : ℕ) → Goes s prolog m at behind-root m (i + 1)
@@ -48,6 +50,7 @@ module _ (s : List ℕ) (at i : ℕ) (r : Run blank s at i) where
         unfolding step births tail peak
         name-right c f p = root-at {c = c} (record { inside = rw p k; starts = rw p f }) (λ m l v y. to-name m .back v (record {
           leads = λ j k′.
-              scan-born s behind-root m (i + 1) k (tag-name [] (getD s (i + 1) 0 ∷ [])) 1 element-kind (byte (getD s (i + 1) 0) ∷ []) (rw f) refl
+              scan-born s behind-root m (i + 1) k (tag-name [] (getD s (i + 1) 0 ∷ [])) 1 element-kind (byte (getD s (i + 1) 0) ∷ []) (rw f)
+              refl
               l j k′ (omega arith) ∙ (rw p at y);
         }))

@@ -15,8 +15,8 @@ use Rattle.xml.specs.Laws.Scan.{scan-at, scan-alike}
 use Rattle.xml.specs.Laws.Goes.{Goes, goes-then, goes-same}
 use Rattle.xml.specs.Laws.Tokens.{span, span-behind, name-at, Naming, name-short, name-long}
 use Rattle.reader.specs.declared.Cursor.{Cursor}
-use Rattle.reader.specs.declared.Part.{Part}
-use Rattle.reader.specs.declared.Part.the-variants.{Open, Empty, Attribute, Wrong}
+use Rattle.reader.specs.declared.Item.{Item}
+use Rattle.reader.specs.declared.Item.the-variants.{Open, Empty, Attribute, Wrong}
 use Rattle.reader.specs.declared.Read.{Read}
 use Rattle.reader.specs.declared.Read.the-variants.{Past, Refused}
 use Rattle.reader.specs.declared.Tag.{Tag}
@@ -24,10 +24,10 @@ use Rattle.reader.specs.declared.Tag.the-variants.{Opened, Emptied, Brok
 use Rattle.reader.specs.Steps.{Run, TagRead, tag-open, tag-empty, tag-attribute, tag-wrong}
 use Rattle.ordering.specs.Sorted.{Lists}
 use Rattle.ordering.specs.Laws.Sorted.{lists-none}
-use Rattle.reader.specs.Elements.{stack, Placed, Attributed, AttributeRead, attribute-past, attribute-refused, Kept}
-use Rattle.reader.specs.Elements.{attribute-names, Entered, NamesRead, names-past, AttributeEnters}
-use Rattle.reader.specs.Elements.{AttributesRead, attributes-opened, attributes-emptied, attributes-broken, Named}
-use Rattle.reader.specs.Elements.{ElementRead, element-opened, element-emptied, element-broken}
+use Rattle.reader.specs.Elements.{stack, Placed, Attributed, AttributeRead, attribute-past, attribute-refused, Kept, attribute-names}
+use Rattle.reader.specs.Elements.{Entered, NamesRead, names-past, AttributeEnters, AttributesRead, attributes-opened}
+use Rattle.reader.specs.Elements.{attributes-emptied, attributes-broken, Named, ElementRead, element-opened, element-emptied}
+use Rattle.reader.specs.Elements.{element-broken}
 use Rattle.reader.specs.Laws.Attributes.{start-name}
 
 -- offsets --------------------------------------------------------------------------------------
@@ -49,7 +49,8 @@ pub kept-same : (n : ℕ) (os : List ℕ) → Kept n os os
 kept-same n os = record { as-long = refl; kept = λ i h. refl }
 
 pub kept-set : (n : ℕ) (os os′ : List ℕ) (k v : ℕ) → Kept n os os′ → n ≤ k → Kept n os (set os′ k v)
-kept-set n os os′ k v x h = record { as-long = length-set os′ k v ∙ x .as-long; kept = λ i m. getD-set-other os′ k i v 0 (λ e. omega arith) ∙ x .kept i m }
+kept-set n os os′ k v x h =
+    record { as-long = length-set os′ k v ∙ x .as-long; kept = λ i m. getD-set-other os′ k i v 0 (λ e. omega arith) ∙ x .kept i m }
 
 pub kept-less : (n m : ℕ) (os os′ os″ : List ℕ) → Kept n os os′ → Kept m os′ os″ → n ≤ m → Kept n os os″
 kept-less n m os os′ os″ x y h = record { as-long = y .as-long ∙ x .as-long; kept = λ i l. y .kept i (omega arith) ∙ x .kept i l }
@@ -59,7 +60,8 @@ placed-kept s os os′ n p k = record { placed = λ i h. rw (k .kept i h) (p .pl
 
 -- the loop over the attributes -------------------------------------------------------------------
 
-pub attribute-here : {s : List ℕ} {i : ℕ} {r : Part} {c : Cursor} → TagRead s behind-part i r → r ≡ Attribute c → Attributed s (c .at) × (i ≤ c .at)
+pub attribute-here : {s : List ℕ} {i : ℕ} {r : Item} {c : Cursor} → TagRead s behind-part i r → r ≡ Attribute c
+    → Attributed s (c .at) × (i ≤ c .at)
 attribute-here {s} {i} z ez = go (subst (TagRead s behind-part i) ez z)
   where
     go : {s : List ℕ} {i : ℕ} {c : Cursor} → TagRead s behind-part i (Attribute c) → Attributed s (c .at) × (i ≤ c .at)
@@ -108,7 +110,7 @@ module _ (s os : List ℕ) (lo count at spare i n : ℕ) (t : AttributesTo s os 
   }
 
   -- an attribute at c, and what is read of it
-  module _ {os′ : List ℕ} {r : Part} {c : Cursor} {q : Read} (z : TagRead s behind-part i r) (ez : r ≡ Attribute c)
+  module _ {os′ : List ℕ} {r : Item} {c : Cursor} {q : Read} (z : TagRead s behind-part i r) (ez : r ≡ Attribute c)
       (y : AttributeEnters s os os′ lo count (c .at) n q) where
     found : TagRead s behind-part i (Attribute c)
     found = subst (TagRead s behind-part i) ez z
@@ -149,7 +151,8 @@ module _ (s : List ℕ) (at spare to : ℕ) (x : Named s at) (r : Run name-byte 
 
   module _ (short : to - at ≤ content-limit) where
     -- behind the name
-    to-part : (ns : List Name) → scan-at s (tag-name ns (getD s at 0 ∷ [])) spare 1 (at + 1) ≡ scan-at s (behind-part (name-at s at) ns []) spare (to - at) to
+    to-part : (ns : List Name)
+        → scan-at s (tag-name ns (getD s at 0 ∷ [])) spare 1 (at + 1) ≡ scan-at s (behind-part (name-at s at) ns []) spare (to - at) to
     unfolding step
     to-part ns =
         let p : span name-byte (drop at s) ≡ to - at = omega (arith, r .ends) in
@@ -167,7 +170,8 @@ module _ (s : List ℕ) (at spare to : ℕ) (x : Named s at) (r : Run name-byte 
         element-emptied {c = c} {m = m}
         (record { further = omega (arith, o .further, r .ends); inside = o .inside; begins-here = o .begins-here; fewer = o .fewer })
         (λ ns v y. to-part ns ∙ f (name-at s at) ns .back v y .leads (to - at) short)
-    element-rest (attributes-broken {x = x} {j = j} f) = element-broken {x = x} {j = j} (λ ns. to-part ns ∙ f (name-at s at) ns .leads (to - at) short)
+    element-rest (attributes-broken {x = x} {j = j} f) =
+        element-broken {x = x} {j = j} (λ ns. to-part ns ∙ f (name-at s at) ns .leads (to - at) short)
 
 pub placed-at : (s os : List ℕ) (n m : ℕ) → n ≡ m → Placed s os n → Placed s os m
 placed-at s os n m e p = subst (Placed s os) e p

@@ -1,30 +1,30 @@
 -- Parts of a start tag: its end, the way to an attribute's name, the way from the name to the opening quote.
-use Prim.Native.Nat.{ℕ, zero, suc, _+_, _-_, _≤_, _<_}
+use Prim.Native.Nat.{ℕ, suc, _+_, _-_, _≤_, _<_}
 use mathlib.Core.Path.{_≡_, refl, sym, ap, _∙_, subst}
-use mathlib.Core.Bool.{Bool, true, false, cond, _||_, false≢true}
+use mathlib.Core.Bool.{Bool, true, false}
 use mathlib.Core.List.{List, [], _∷_}
 use native.Mathlib.Omega.{arith}
 use native.Mathlib.Numerals.{add-one}
 use lib.Dec.{eqb}
 use lib.ListN.{length, getD, drop}
 use borrow.Author.Tests.{ne-eqb, eqb-true, eqb-false}
-use Rattle.tree.specs.Content.{name-start, name-byte}
+use Rattle.tree.specs.Content.{name-start}
 use Rattle.xml.specs.Bytes.{blank, slash, greater-than, equals-sign, quotation-mark, apostrophe, Quote, double, single, mark}
 use Rattle.xml.specs.Grammar.{Name}
 use Rattle.xml.specs.Reading.{opener, node-offset}
 use Rattle.xml.specs.Laws.Automaton.{Config, behind-part, in-tag, before-equals, behind-equals, behind-slash, behind-quote, content, closed}
-use Rattle.xml.specs.Laws.Automaton.{stuck, move, to, tag-step, step}
+use Rattle.xml.specs.Laws.Automaton.{to, tag-step, step}
 use Rattle.xml.specs.Laws.Transitions.{for-blanks, blank-no-name}
-use Rattle.xml.specs.Laws.Phases.{phase, is-over, pending}
-use Rattle.xml.specs.Laws.Judge.{bad, byte-before, offset-before, offset-at}
-use Rattle.xml.specs.Laws.Goes.{Leads, Goes, goes-then, goes-same, goes-step, stops-end, stops-stuck}
+use Rattle.xml.specs.Laws.Phases.{phase, pending}
+use Rattle.xml.specs.Laws.Judge.{offset-before, offset-at}
+use Rattle.xml.specs.Laws.Goes.{Goes, goes-then, goes-same, goes-step, stops-end, stops-stuck}
 use Rattle.xml.specs.Laws.Tokens.{span, span-go, span-some, span-byte, span-behind, goes-blanks}
 use Rattle.reader.specs.declared.Cursor.{Cursor}
-use Rattle.reader.specs.declared.Equals.{Equals}
 use Rattle.reader.specs.declared.Equals.the-variants.{Quoted, NoQuote}
-use Rattle.reader.specs.declared.Part.{Part}
-use Rattle.reader.specs.declared.Part.the-variants.{Open, Empty, Attribute, Wrong}
-use Rattle.reader.specs.Steps.{Run, EqualsRead, quoted, no-quote, TagRead, tag-open, tag-empty, tag-attribute, tag-wrong, TagPlace, SlashRead}
+use Rattle.reader.specs.declared.Item.{Item}
+use Rattle.reader.specs.declared.Item.the-variants.{Open, Empty, Attribute, Wrong}
+use Rattle.reader.specs.Steps.{Run, EqualsRead, quoted, no-quote, TagRead, tag-open, tag-empty, tag-attribute, tag-wrong, TagPlace}
+use Rattle.reader.specs.Steps.{SlashRead}
 
 pub behind-place : TagPlace behind-part
 unfolding step
@@ -64,7 +64,8 @@ module _ (s : List ℕ) (i : ℕ) (F : Name → List Name → List Name → Conf
 
     module _ (e : getD s i 0 ≡ slash) where
       pub slash-end : length s ≤ i + 1 → TagRead s F i (Wrong (i + 1))
-      slash-end k = tag-wrong {j = i + 1} (λ n ns seen m. place-slash n ns seen m e .back _ (stops-end s (behind-slash ns) m (i + 1) k refl))
+      slash-end k =
+          tag-wrong {j = i + 1} (λ n ns seen m. place-slash n ns seen m e .back _ (stops-end s (behind-slash ns) m (i + 1) k refl))
 
       pub slash-wrong : i + 1 < length s → (getD s (i + 1) 0 ≡ greater-than → ⊥) → TagRead s F i (Wrong (i + 1))
       unfolding step
@@ -75,10 +76,12 @@ module _ (s : List ℕ) (i : ℕ) (F : Name → List Name → List Name → Conf
       unfolding step
       slash-close c k o p =
           tag-empty {c = c} (omega arith) (omega arith) (rw p (no-opener s (i + 1) (rw o)))
-          (λ n ns seen m. goes-then (place-slash n ns seen m e) (rw p (goes-step s (behind-slash ns) m (i + 1) k (closed ns) (rw o) (calm-closed ns))))
+          (λ n ns seen m. goes-then (place-slash n ns seen m e) (rw p (goes-step s (behind-slash ns) m (i + 1) k (closed ns) (rw o)
+          (calm-closed ns))))
 
     -- no such byte
-    pub place-wrong : blank (getD s i 0) ≡ false → (getD s i 0 ≡ slash → ⊥) → (getD s i 0 ≡ greater-than → ⊥) → name-start (getD s i 0) ≡ false
+    pub place-wrong : blank (getD s i 0) ≡ false → (getD s i 0 ≡ slash → ⊥) → (getD s i 0 ≡ greater-than → ⊥)
+        → name-start (getD s i 0) ≡ false
         → TagRead s F i (Wrong i)
     unfolding tag-step
     place-wrong a b d e = tag-wrong {j = i} (λ n ns seen m. stops-stuck s (F n ns seen) m i h
@@ -94,7 +97,8 @@ module _ (s : List ℕ) (at i : ℕ) (r : Run blank s at i) where
       let x = span-some blank s at 0 (omega (arith, r .ends)) in
       goes-then (goes-step s (behind-part n ns seen) m at (x .0) (in-tag n ns seen) (rw (x .1)) refl)
       (goes-then (goes-same s (in-tag n ns seen) m (at + 1) (suc at) (add-one at))
-      (goes-then (goes-blanks s (in-tag n ns seen) m (λ b e. stay b e) refl (suc at)) (goes-same s (in-tag n ns seen) m _ i (last (x .0) (x .1)))))
+      (goes-then (goes-blanks s (in-tag n ns seen) m (λ b e. stay b e) refl (suc at))
+      (goes-same s (in-tag n ns seen) m _ i (last (x .0) (x .1)))))
     where
       stay : (b : ℕ) → blank b ≡ true → step true (in-tag n ns seen) b ≡ to (in-tag n ns seen)
       stay b e = rw (blank-no-name b e .1, e)
@@ -103,14 +107,16 @@ module _ (s : List ℕ) (at i : ℕ) (r : Run blank s at i) where
       last a b = omega (arith, r .ends, span-go blank s at a b)
 
   -- what is read behind them
-  behind-spaces : {x : Part} → at < i → TagRead s in-tag i x → TagRead s behind-part at x
-  behind-spaces h (tag-open {c = c} a b d f) = tag-open {c = c} (omega arith) b d (λ n ns seen m. goes-then (spaces h n ns seen m) (f n ns seen m))
-  behind-spaces h (tag-empty {c = c} a b d f) = tag-empty {c = c} (omega arith) b d (λ n ns seen m. goes-then (spaces h n ns seen m) (f n ns seen m))
+  behind-spaces : {x : Item} → at < i → TagRead s in-tag i x → TagRead s behind-part at x
+  behind-spaces h (tag-open {c = c} a b d f) =
+      tag-open {c = c} (omega arith) b d (λ n ns seen m. goes-then (spaces h n ns seen m) (f n ns seen m))
+  behind-spaces h (tag-empty {c = c} a b d f) =
+      tag-empty {c = c} (omega arith) b d (λ n ns seen m. goes-then (spaces h n ns seen m) (f n ns seen m))
   behind-spaces h (tag-attribute {c = c} a b d e f) =
       tag-attribute {c = c} (omega arith) b d e (λ n ns seen m. goes-then (spaces h n ns seen m) (f n ns seen m))
   behind-spaces h (tag-wrong {j = j} f) = tag-wrong {j = j} (λ n ns seen m. spaces h n ns seen m .back _ (f n ns seen m))
 
-  pub part-any : {x : Part} → SlashRead s i x → TagRead s behind-part at x
+  pub part-any : {x : Item} → SlashRead s i x → TagRead s behind-part at x
   part-any {x} f = go (eqb i at) refl
     where
       go : (y : Bool) → eqb i at ≡ y → TagRead s behind-part at x
@@ -136,7 +142,8 @@ module _ (s : List ℕ) (at i : ℕ) (r : Run blank s at i) where
         let v : i - 1 + 1 ≡ i = omega (arith, r .ends) in
         let w : node-offset s i ≡ i = rw v at (no-opener s (i - 1) (blank-no-opener (getD s (i - 1) 0) (rw u at (x .1)))) in
         behind-spaces (omega (arith, r .ends))
-        (tag-attribute {c = c} (omega arith) (omega arith) (rw q w) (rw q e) (λ n ns seen m. goes-same s (in-tag n ns seen) m i (c .at) (sym q)))
+        (tag-attribute {c = c} (omega arith) (omega arith) (rw q w) (rw q e)
+        (λ n ns seen m. goes-same s (in-tag n ns seen) m i (c .at) (sym q)))
 
     pub part-wrong : (i ≡ at → ⊥) → (getD s i 0 ≡ slash → ⊥) → (getD s i 0 ≡ greater-than → ⊥) → name-start (getD s i 0) ≡ false
         → TagRead s behind-part at (Wrong i)
@@ -148,7 +155,8 @@ module _ (s : List ℕ) (at i : ℕ) (r : Run blank s at i) where
   to-sign : (n : Name) (ns seen : List Name) (m : ℕ) → Goes s (before-equals n ns seen) m at (before-equals n ns seen) m i
   unfolding step
   to-sign n ns seen m =
-      goes-then (goes-blanks s (before-equals n ns seen) m (λ b e. rw e) refl at) (goes-same s (before-equals n ns seen) m _ i (sym (r .ends)))
+      goes-then (goes-blanks s (before-equals n ns seen) m (λ b e. rw e) refl at)
+      (goes-same s (before-equals n ns seen) m _ i (sym (r .ends)))
 
   pub sign-end : length s ≤ i → EqualsRead s at (NoQuote i)
   sign-end h = no-quote {j = i} (λ n ns seen m. to-sign n ns seen m .back _ (stops-end s (before-equals n ns seen) m i h refl))
@@ -165,7 +173,8 @@ module _ (s : List ℕ) (at i : ℕ) (r : Run blank s at i) where
       to-quote n ns seen m =
           goes-then (to-sign n ns seen m)
           (goes-then (goes-step s (before-equals n ns seen) m i h (behind-equals n ns seen) (rw e) refl)
-          (goes-then (goes-blanks s (behind-equals n ns seen) m (λ b z. rw z) refl (i + 1)) (goes-same s (behind-equals n ns seen) m _ j (sym (q .ends)))))
+          (goes-then (goes-blanks s (behind-equals n ns seen) m (λ b z. rw z) refl (i + 1))
+          (goes-same s (behind-equals n ns seen) m _ j (sym (q .ends)))))
 
       pub quote-end : length s ≤ j → EqualsRead s at (NoQuote j)
       quote-end k = no-quote {j = j} (λ n ns seen m. to-quote n ns seen m .back _ (stops-end s (behind-equals n ns seen) m j k refl))
@@ -186,7 +195,8 @@ module _ (s : List ℕ) (at i : ℕ) (r : Run blank s at i) where
             (rw p (goes-step s (behind-equals n ns seen) m j k (behind-quote n ns seen x)
             (ap (step true (behind-equals n ns seen)) o ∙ opens x n ns seen) refl)))
           where
-            opens : (x : Quote) (n : Name) (ns seen : List Name) → step true (behind-equals n ns seen) (mark x) ≡ to (behind-quote n ns seen x)
+            opens : (x : Quote) (n : Name) (ns seen : List Name)
+                → step true (behind-equals n ns seen) (mark x) ≡ to (behind-quote n ns seen x)
             opens double n ns seen = refl
             opens single n ns seen = refl
 

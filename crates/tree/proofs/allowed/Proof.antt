@@ -9,15 +9,9 @@ returns : tie.Need-returns
 unfolding allowed
 returns c = rw (eq-eqb _ _ (c .if1 .taken))
 
-is-name-requires : tie.Need-is-name-requires
-is-name-requires c κs = search needs
-
 returns-2 : tie.Need-returns-2
 unfolding allowed
 returns-2 c = c .is-name .ensures ∙ rw (ne-eqb _ _ (c .before .before .if1 .left), eq-eqb _ _ (c .before .if2 .taken))
-
-is-name-requires-2 : tie.Need-is-name-requires-2
-is-name-requires-2 c κs = search needs
 
 returns-3 : tie.Need-returns-3
 unfolding allowed
@@ -26,9 +20,6 @@ returns-3 c =
     let if2 = c .before .before .if2 in
     let if3 = c .before .if3 in
     c .is-name2 .ensures ∙ rw (ne-eqb _ _ (if1 .left), ne-eqb _ _ (if2 .left), eq-eqb _ _ (if3 .taken))
-
-is-text-requires : tie.Need-is-text-requires
-is-text-requires c κs = search needs
 
 returns-4 : tie.Need-returns-4
 unfolding allowed
@@ -52,10 +43,10 @@ allowed-spec =
     tie.close
     (tie.spec
     returns
-    is-name-requires
+    (λ c κs. search needs)
     returns-2
-    is-name-requires-2
+    (λ c κs. search needs)
     returns-3
-    is-text-requires
+    (λ c κs. search needs)
     returns-4
     returns-5)

@@ -5,27 +5,12 @@ use borrow.Author.Needs.{needs}
 use Rattle.tree.proofs.is_name.Statement.{statement}
 use Rattle.tree.proofs.is_name.Tie as tie
 
-returns : tie.Need-returns
-returns c = sym (name-empty _ (c .if1 .taken))
-
-returns-2 : tie.Need-returns-2
-returns-2 c = sym (name-long _ (c .if2 .taken))
-
-shared-slice-read-name-start : tie.Need-shared-slice-read-name-start
-shared-slice-read-name-start c = search needs
-
-name-start-requires : tie.Need-name-start-requires
-name-start-requires c κs = search needs
-
 returns-3 : tie.Need-returns-3
 returns-3 c =
     let if1 = c .before .before .before .before .if1 in
     let if2 = c .before .before .before .if2 in
     let name-start = c .before .name-start in
     sym (name-is _ (if1 .left) (if2 .left) ∙ rw (sym (name-start .ensures) ∙ not-true _ (c .if3 .taken)))
-
-all-stand-requires : tie.Need-all-stand-requires
-all-stand-requires c κs = search needs
 
 returns-4 : tie.Need-returns-4
 returns-4 c =
@@ -39,10 +24,10 @@ pub is-name-spec : {M : Type 1} → statement M
 is-name-spec =
     tie.close
     (tie.spec
-    returns
-    returns-2
-    shared-slice-read-name-start
-    name-start-requires
+    (λ c. sym (name-empty _ (c .if1 .taken)))
+    (λ c. sym (name-long _ (c .if2 .taken)))
+    (λ c. search needs)
+    (λ c κs. search needs)
     returns-3
-    all-stand-requires
+    (λ c κs. search needs)
     returns-4)

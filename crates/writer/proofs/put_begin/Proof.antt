@@ -10,12 +10,6 @@ use borrow.Author.Needs.{needs}
 use Rattle.writer.proofs.put_begin.Statement.{statement}
 use Rattle.writer.proofs.put_begin.Tie as tie
 
-slice-aggregate-put-between : tie.Need-slice-aggregate-put-between
-slice-aggregate-put-between c = search needs
-
-slice-aggregate-put-between-2 : tie.Need-slice-aggregate-put-between-2
-slice-aggregate-put-between-2 c = search needs
-
 put-between-requires : tie.Need-put-between-requires
 put-between-requires c κs =
     let c3 = c .before .before .before in
@@ -23,9 +17,6 @@ put-between-requires c κs =
     let e = begin-attribute (of-kind (c6 .args .above)) (c6 .args .previous) (label-at (nodes (c6 .args .s .now)) (c6 .args .p))
     (sym (c6 .pre .2) ∙ c3 .if1 .taken) in
     (c6 .pre .0, c6 .pre .1, rw e at (c6 .pre .3))
-
-same-length : tie.Need-same-length
-same-length c = search needs
 
 returns : tie.Need-returns
 returns c =
@@ -53,15 +44,17 @@ part-put-opening-start c =
     let c7 = c4 .before .before .before in
     (next-opening _ _ _ (λ e. c4 .if1 .left (c7 .pre .2 ∙ e)) (c2 .put-tag-end .ensures) (c7 .pre .3)) .inside
 
-part-put-opening-end : tie.Need-part-put-opening-end
-part-put-opening-end c = search needs
-
 put-opening-requires : tie.Need-put-opening-requires
 put-opening-requires c κs =
     let c3 = c .before .before .before in
     let c5 = c3 .before .before in
-    let c8 = c5 .before .before .before in
-    (c8 .pre .0, c8 .pre .1, c8 .pre .2, (next-opening _ _ _ (λ e. c5 .if1 .left (c8 .pre .2 ∙ e)) (c3 .put-tag-end .ensures) (c8 .pre .3)) .room)
+    let c8 = c5 .before .before .before in (
+      c8 .pre .0,
+      c8 .pre .1,
+      c8 .pre .2,
+      (next-opening _ _ _ (λ e. c5 .if1 .left (c8 .pre .2 ∙ e)) (c3 .put-tag-end .ensures) (c8 .pre .3))
+          .room,
+    )
 
 add-result : tie.Need-add-result
 add-result c =
@@ -69,10 +62,12 @@ add-result c =
     let c6 = c2 .before .before .before .before in
     let c8 = c6 .before .before in
     let c11 = c8 .before .before .before in
-    omega (arith, (next-opening _ _ _ (λ e. c8 .if1 .left (c11 .pre .2 ∙ e)) (c6 .put-tag-end .ensures) (c11 .pre .3)) .small, c2 .put-opening .ensures .count)
-
-same-length-2 : tie.Need-same-length-2
-same-length-2 c = search needs
+    omega (
+      arith,
+      (next-opening _ _ _ (λ e. c8 .if1 .left (c11 .pre .2 ∙ e)) (c6 .put-tag-end .ensures) (c11 .pre .3)) .small,
+      c2
+          .put-opening .ensures .count,
+    )
 
 returns-2 : tie.Need-returns-2
 returns-2 c =
@@ -86,16 +81,16 @@ pub put-begin-spec : {M : Type 1} → statement M
 put-begin-spec =
     tie.close
     (tie.spec
-    slice-aggregate-put-between
-    slice-aggregate-put-between-2
+    (λ c. search needs)
+    (λ c. search needs)
     put-between-requires
-    same-length
+    (λ c. search needs)
     returns
     put-tag-end-requires
     sub-put-opening
     part-put-opening-start
-    part-put-opening-end
+    (λ c. search needs)
     put-opening-requires
     add-result
-    same-length-2
+    (λ c. search needs)
     returns-2)

@@ -17,29 +17,16 @@ use Rattle.writer.proofs.put_body.Tie as tie
 
 abbrev Inv-loop : tie.InvT-loop
 Inv-loop out₀ s places count first path₀ kinds₀ top₀ at₀ i₀ out path kinds top at i = (i ≤ count) × (length out ≡ length out₀)
-    × Walk (nodes s) places path kinds top i × Partly (body (lines (nodes s) places count)) (from (nodes s) places count path top i) out₀ out at
+    × Walk (nodes s) places path kinds top i
+    × Partly (body (lines (nodes s) places count)) (from (nodes s) places count path top i) out₀ out at
 
 abbrev μ-loop : tie.MeasureT-loop
 μ-loop out₀ s places count first path₀ kinds₀ top₀ at₀ i₀ out path kinds top at i = count - i
-
-element-copy-out-first : tie.Need-element-copy-out-first Inv-loop μ-loop
-element-copy-out-first c = search needs
-
-array-write-path : tie.Need-array-write-path Inv-loop μ-loop
-array-write-path c = search needs
 
 cast-kind : tie.Need-cast-kind Inv-loop μ-loop
 cast-kind c =
     let c3 = c .before .before .before in
     omega (arith, c3 .pre .1 .inside 0 (c3 .pre .1 .some), c3 .pre .0 .many, c3 .pre .0 .room)
-
-kind-requires : tie.Need-kind-requires Inv-loop μ-loop
-kind-requires c κs =
-    let c3 = c .before .before .before in
-    (c3 .pre .0, c3 .pre .1 .inside 0 (c3 .pre .1 .some))
-
-array-write-kinds : tie.Need-array-write-kinds Inv-loop μ-loop
-array-write-kinds c = search needs
 
 loop-holds : tie.Need-loop-holds Inv-loop μ-loop
 loop-holds c =
@@ -49,16 +36,6 @@ loop-holds c =
       walk-start (replicate 1024 0) (replicate 1024 0) (c4 .pre .1) refl refl (c .kind .ensures ∙ sym (kind-at _ _)),
       partly-as (from-start (replicate 1024 0) (c4 .pre .1) refl) (partly-start _ _),
     )
-
-mul-p : tie.Need-mul-p Inv-loop μ-loop
-mul-p c =
-    let c6 = c .before .before .before .before .before .before in
-    omega (arith, c6 .pre .1 .room)
-
-element-copy-out-p : tie.Need-element-copy-out-p Inv-loop μ-loop
-element-copy-out-p c =
-    let c6 = c .before .before .before .before .before .before in
-    omega (arith, c6 .pre .1 .room)
 
 cast-depth : tie.Need-cast-depth Inv-loop μ-loop
 cast-depth c =
@@ -71,9 +48,6 @@ depth-requires c κs =
     let c2 = c .before .before in
     let c7 = c2 .before .before .before .before .before in
     (c7 .pre .0, c7 .pre .1 .inside (c2 .loop .i) (omega arith))
-
-cast-d : tie.Need-cast-d Inv-loop μ-loop
-cast-d c = search needs
 
 cast-kind-2 : tie.Need-cast-kind-2 Inv-loop μ-loop
 cast-kind-2 c =
@@ -98,9 +72,6 @@ part-put-row-start c =
     let c4 = c .before .before .before .before in
     let c9 = c4 .before .before .before .before .before in
     (next-row (c9 .pre .1) (c4 .loop .inv .2) (omega arith) refl (c .before .depth .ensures) (c4 .loop .inv .3) (c9 .pre .2)) .inside
-
-part-put-row-end : tie.Need-part-put-row-end Inv-loop μ-loop
-part-put-row-end c = search needs
 
 cast-put-row : tie.Need-cast-put-row Inv-loop μ-loop
 cast-put-row c =
@@ -157,12 +128,6 @@ array-write-kinds-2 c =
     let c15 = c10 .before .before .before .before .before in
     omega (arith, c7 .depth .ensures, (walk-deep (c15 .pre .1) (c10 .loop .inv .2) (omega arith)))
 
-add-i : tie.Need-add-i Inv-loop μ-loop
-add-i c = search needs
-
-loop-less : tie.Need-loop-less Inv-loop μ-loop
-loop-less c = search needs
-
 loop-again : tie.Need-loop-again Inv-loop μ-loop
 loop-again c =
     let c2 = c .before .before in
@@ -173,7 +138,8 @@ loop-again c =
       omega arith,
       search needs,
       walk-on (c15 .pre .1) (c10 .loop .inv .2) (omega arith) (c7 .depth .ensures) refl (c6 .kind2 .ensures ∙ sym (kind-at _ _)),
-      (next-row (c15 .pre .1) (c10 .loop .inv .2) (omega arith) refl (c7 .depth .ensures) (c10 .loop .inv .3) (c15 .pre .2)) .on _ _ (c2 .put-row .ensures),
+      (next-row (c15 .pre .1) (c10 .loop .inv .2) (omega arith) refl (c7 .depth .ensures) (c10 .loop .inv .3) (c15 .pre .2)) .on _ _
+          (c2 .put-row .ensures),
     )
 
 sub-put-last-ends : tie.Need-sub-put-last-ends Inv-loop μ-loop
@@ -185,9 +151,6 @@ part-put-last-ends-start : tie.Need-part-put-last-ends-start Inv-loop μ-loop
 part-put-last-ends-start c =
     let c6 = c .before .before .before .before .before .before in
     (last-ends (c6 .pre .1) (c .before .loop .inv .2) (omega arith) (c .before .loop .inv .3) (c6 .pre .2)) .inside
-
-part-put-last-ends-end : tie.Need-part-put-last-ends-end Inv-loop μ-loop
-part-put-last-ends-end c = search needs
 
 put-last-ends-requires : tie.Need-put-last-ends-requires Inv-loop μ-loop
 put-last-ends-requires c κs =
@@ -204,10 +167,12 @@ add-result c =
     let c2 = c .before .before in
     let c7 = c2 .before .before .before .before .before in
     let c12 = c7 .before .before .before .before .before in
-    omega (arith, (last-ends (c12 .pre .1) (c7 .loop .inv .2) (omega arith) (c7 .loop .inv .3) (c12 .pre .2)) .small, c2 .put-last-ends .ensures .count)
-
-same-length : tie.Need-same-length Inv-loop μ-loop
-same-length c = search needs
+    omega (
+      arith,
+      (last-ends (c12 .pre .1) (c7 .loop .inv .2) (omega arith) (c7 .loop .inv .3) (c12 .pre .2)) .small,
+      c2 .put-last-ends
+          .ensures .count,
+    )
 
 returns : tie.Need-returns Inv-loop μ-loop
 returns c =
@@ -222,35 +187,35 @@ put-body-spec =
     (tie.spec
     Inv-loop
     μ-loop
-    element-copy-out-first
-    array-write-path
+    (λ c. search needs)
+    (λ c. search needs)
     cast-kind
-    kind-requires
-    array-write-kinds
+    (λ c κs. (c .before .before .before .pre .0, c .before .before .before .pre .1 .inside 0 (c .before .before .before .pre .1 .some)))
+    (λ c. search needs)
     loop-holds
-    mul-p
-    element-copy-out-p
+    (λ c. omega (arith, c .before .before .before .before .before .before .pre .1 .room))
+    (λ c. omega (arith, c .before .before .before .before .before .before .pre .1 .room))
     cast-depth
     depth-requires
-    cast-d
+    (λ c. search needs)
     cast-kind-2
     kind-requires-2
     sub-put-row
     part-put-row-start
-    part-put-row-end
+    (λ c. search needs)
     cast-put-row
     put-row-requires
     add-at
     mul-path
     array-write-path-2
     array-write-kinds-2
-    add-i
-    loop-less
+    (λ c. search needs)
+    (λ c. search needs)
     loop-again
     sub-put-last-ends
     part-put-last-ends-start
-    part-put-last-ends-end
+    (λ c. search needs)
     put-last-ends-requires
     add-result
-    same-length
+    (λ c. search needs)
     returns)

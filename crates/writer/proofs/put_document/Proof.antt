@@ -19,24 +19,27 @@ unfolding written-rows
 sub-put-body c =
     let c2 = c .before .before in
     let c6 = c2 .before .before .before .before in
-    (second prolog (body (lines (nodes (c6 .args .s .now)) (c6 .args .places .now) (c6 .args .count))) (c2 .put-prolog .ensures) (c6 .pre .2)) .inside
+    (second prolog (body (lines (nodes (c6 .args .s .now)) (c6 .args .places .now) (c6 .args .count))) (c2 .put-prolog .ensures)
+    (c6 .pre .2)) .inside
 
 part-put-body-start : tie.Need-part-put-body-start
 unfolding written-rows
 part-put-body-start c =
     let c2 = c .before .before in
     let c6 = c2 .before .before .before .before in
-    (second prolog (body (lines (nodes (c6 .args .s .now)) (c6 .args .places .now) (c6 .args .count))) (c2 .put-prolog .ensures) (c6 .pre .2)) .inside
-
-part-put-body-end : tie.Need-part-put-body-end
-part-put-body-end c = search needs
+    (second prolog (body (lines (nodes (c6 .args .s .now)) (c6 .args .places .now) (c6 .args .count))) (c2 .put-prolog .ensures)
+    (c6 .pre .2)) .inside
 
 put-body-requires : tie.Need-put-body-requires
 unfolding written-rows
 put-body-requires c κs =
     let c3 = c .before .before .before in
-    let c7 = c3 .before .before .before .before in
-    (c7 .pre .0, c7 .pre .1, (second prolog (body (lines (nodes (c7 .args .s .now)) (c7 .args .places .now) (c7 .args .count))) (c3 .put-prolog .ensures) (c7 .pre .2)) .room)
+    let c7 = c3 .before .before .before .before in (
+      c7 .pre .0,
+      c7 .pre .1,
+      (second prolog (body (lines (nodes (c7 .args .s .now)) (c7 .args .places .now) (c7 .args .count)))
+          (c3 .put-prolog .ensures) (c7 .pre .2)) .room,
+    )
 
 add-result : tie.Need-add-result
 unfolding written-rows
@@ -44,10 +47,12 @@ add-result c =
     let c2 = c .before .before in
     let c6 = c2 .before .before .before .before in
     let c10 = c6 .before .before .before .before in
-    omega (arith, (second prolog (body (lines (nodes (c10 .args .s .now)) (c10 .args .places .now) (c10 .args .count))) (c6 .put-prolog .ensures) (c10 .pre .2)) .small, c2 .put-body .ensures .count)
-
-same-length : tie.Need-same-length
-same-length c = search needs
+    omega (
+      arith,
+      (second prolog (body (lines (nodes (c10 .args .s .now)) (c10 .args .places .now) (c10 .args .count)))
+          (c6 .put-prolog .ensures) (c10 .pre .2)) .small,
+      c2 .put-body .ensures .count,
+    )
 
 returns : tie.Need-returns
 unfolding written-rows
@@ -55,7 +60,8 @@ returns c =
     let c2 = c .before .before in
     let c6 = c2 .before .before .before .before in
     let c10 = c6 .before .before .before .before in
-    both (second prolog (body (lines (nodes (c10 .args .s .now)) (c10 .args .places .now) (c10 .args .count))) (c6 .put-prolog .ensures) (c10 .pre .2)) _ _ (c2 .put-body .ensures)
+    both (second prolog (body (lines (nodes (c10 .args .s .now)) (c10 .args .places .now) (c10 .args .count))) (c6 .put-prolog .ensures)
+    (c10 .pre .2)) _ _ (c2 .put-body .ensures)
 
 pub put-document-spec : {M : Type 1} → statement M
 put-document-spec =
@@ -64,8 +70,8 @@ put-document-spec =
     put-prolog-requires
     sub-put-body
     part-put-body-start
-    part-put-body-end
+    (λ c. search needs)
     put-body-requires
     add-result
-    same-length
+    (λ c. search needs)
     returns)

@@ -8,18 +8,12 @@ use borrow.Author.Needs.{needs}
 use Rattle.writer.proofs.put_end.Statement.{statement}
 use Rattle.writer.proofs.put_end.Tie as tie
 
-slice-aggregate-put : tie.Need-slice-aggregate-put
-slice-aggregate-put c = search needs
-
 put-requires : tie.Need-put-requires
 put-requires c κs =
     let c2 = c .before .before in
     let c5 = c2 .before .before .before in
     let e = end-attribute (label-at (nodes (c5 .args .s .now)) (c5 .args .p)) (c5 .args .last) (sym (c5 .pre .2) ∙ c2 .if1 .taken) in
     omega (arith, rw e at (c5 .pre .3))
-
-same-length : tie.Need-same-length
-same-length c = search needs
 
 returns : tie.Need-returns
 returns c =
@@ -33,12 +27,6 @@ returns-2 c =
     let c4 = c .before .before .before .before in
     wrote-as (sym (end-other _ _ (λ e. c .before .if1 .left (c4 .pre .2 ∙ e)) (λ e. c .if2 .taken (c4 .pre .2 ∙ e)))) (wrote-none _)
 
-in-start-tag-requires : tie.Need-in-start-tag-requires
-in-start-tag-requires c κs = search needs
-
-slice-aggregate-put-2 : tie.Need-slice-aggregate-put-2
-slice-aggregate-put-2 c = search needs
-
 put-requires-2 : tie.Need-put-requires-2
 put-requires-2 c κs =
     let c2 = c .before .before in
@@ -49,9 +37,6 @@ put-requires-2 c κs =
     (sym (c3 .in-start-tag .ensures) ∙ c2 .if3 .taken) in
     omega (arith, rw e at (c8 .pre .3))
 
-same-length-2 : tie.Need-same-length-2
-same-length-2 c = search needs
-
 returns-3 : tie.Need-returns-3
 returns-3 c =
     let c2 = c .before .before in
@@ -59,13 +44,8 @@ returns-3 c =
     let c6 = c5 .before in
     let c7 = c6 .before in
     let c11 = c7 .before .before .before .before in
-    wrote-as (sym (end-empty _ _ (sym (c11 .pre .2) ∙ c7 .if2 .left) (sym (c6 .in-start-tag .ensures) ∙ c5 .if3 .taken))) (c2 .put2 .ensures)
-
-slice-aggregate-put-between : tie.Need-slice-aggregate-put-between
-slice-aggregate-put-between c = search needs
-
-slice-aggregate-put-between-2 : tie.Need-slice-aggregate-put-between-2
-slice-aggregate-put-between-2 c = search needs
+    wrote-as (sym (end-empty _ _ (sym (c11 .pre .2) ∙ c7 .if2 .left) (sym (c6 .in-start-tag .ensures) ∙ c5 .if3 .taken)))
+    (c2 .put2 .ensures)
 
 put-between-requires : tie.Need-put-between-requires
 put-between-requires c κs =
@@ -77,9 +57,6 @@ put-between-requires c κs =
     (sym (c4 .in-start-tag .ensures) ∙ c3 .if3 .left) in
     (c9 .pre .0, c9 .pre .1, rw e at (c9 .pre .3))
 
-same-length-3 : tie.Need-same-length-3
-same-length-3 c = search needs
-
 returns-4 : tie.Need-returns-4
 returns-4 c =
     let c2 = c .before .before in
@@ -87,24 +64,25 @@ returns-4 c =
     let c7 = c6 .before in
     let c8 = c7 .before in
     let c12 = c8 .before .before .before .before in
-    wrote-as (sym (end-tag _ _ (sym (c12 .pre .2) ∙ c8 .if2 .left) (sym (c7 .in-start-tag .ensures) ∙ c6 .if3 .left))) (c2 .put-between .ensures)
+    wrote-as (sym (end-tag _ _ (sym (c12 .pre .2) ∙ c8 .if2 .left) (sym (c7 .in-start-tag .ensures) ∙ c6 .if3 .left)))
+    (c2 .put-between .ensures)
 
 pub put-end-spec : {M : Type 1} → statement M
 put-end-spec =
     tie.close
     (tie.spec
-    slice-aggregate-put
+    (λ c. search needs)
     put-requires
-    same-length
+    (λ c. search needs)
     returns
     returns-2
-    in-start-tag-requires
-    slice-aggregate-put-2
+    (λ c κs. search needs)
+    (λ c. search needs)
     put-requires-2
-    same-length-2
+    (λ c. search needs)
     returns-3
-    slice-aggregate-put-between
-    slice-aggregate-put-between-2
+    (λ c. search needs)
+    (λ c. search needs)
     put-between-requires
-    same-length-3
+    (λ c. search needs)
     returns-4)

@@ -7,18 +7,12 @@ use borrow.Author.Needs.{needs}
 use Rattle.writer.proofs.put_opening.Statement.{statement}
 use Rattle.writer.proofs.put_opening.Tie as tie
 
-slice-aggregate-put-name : tie.Need-slice-aggregate-put-name
-slice-aggregate-put-name c = search needs
-
 put-name-requires : tie.Need-put-name-requires
 put-name-requires c κs =
     let c2 = c .before .before in
     let c5 = c2 .before .before .before in
     let e = opening-element (label-at (nodes (c5 .args .s .now)) (c5 .args .p)) (sym (c5 .pre .2) ∙ c2 .if1 .taken) in
     (c5 .pre .0, c5 .pre .1, rw e at (c5 .pre .3))
-
-same-length : tie.Need-same-length
-same-length c = search needs
 
 returns : tie.Need-returns
 returns c =
@@ -33,9 +27,6 @@ put-escaped-requires c κs =
     let e = opening-text (label-at (nodes (c4 .args .s .now)) (c4 .args .p)) (λ e. c .before .if1 .left (c4 .pre .2 ∙ e)) in
     (c4 .pre .0, c4 .pre .1, rw e at (c4 .pre .3))
 
-same-length-2 : tie.Need-same-length-2
-same-length-2 c = search needs
-
 returns-2 : tie.Need-returns-2
 returns-2 c =
     let c2 = c .before .before in
@@ -47,10 +38,10 @@ pub put-opening-spec : {M : Type 1} → statement M
 put-opening-spec =
     tie.close
     (tie.spec
-    slice-aggregate-put-name
+    (λ c. search needs)
     put-name-requires
-    same-length
+    (λ c. search needs)
     returns
     put-escaped-requires
-    same-length-2
+    (λ c. search needs)
     returns-2)

@@ -8,18 +8,6 @@ use borrow.Author.Needs.{needs}
 use Rattle.writer.proofs.put_tag_end.Statement.{statement}
 use Rattle.writer.proofs.put_tag_end.Tie as tie
 
-returns : tie.Need-returns
-returns c = wrote-as (sym (tag-end-other _ _ (c .if1 .taken))) (wrote-none _)
-
-in-start-tag-requires : tie.Need-in-start-tag-requires
-in-start-tag-requires c κs = search needs
-
-returns-2 : tie.Need-returns-2
-returns-2 c = wrote-as (sym (tag-end-later _ _ (sym (c .before .in-start-tag .ensures) ∙ not-true _ (c .if2 .taken)))) (wrote-none _)
-
-slice-aggregate-put : tie.Need-slice-aggregate-put
-slice-aggregate-put c = search needs
-
 put-requires : tie.Need-put-requires
 put-requires c κs =
     let c2 = c .before .before in
@@ -29,9 +17,6 @@ put-requires c κs =
     let e = tag-end-first (of-kind (c6 .args .above)) (c6 .args .previous) (c4 .if1 .left)
     (sym (c3 .in-start-tag .ensures) ∙ not-false _ (c2 .if2 .left)) in
     omega (arith, rw e at (c6 .pre))
-
-same-length : tie.Need-same-length
-same-length c = search needs
 
 returns-3 : tie.Need-returns-3
 returns-3 c =
@@ -45,10 +30,10 @@ pub put-tag-end-spec : {M : Type 1} → statement M
 put-tag-end-spec =
     tie.close
     (tie.spec
-    returns
-    in-start-tag-requires
-    returns-2
-    slice-aggregate-put
+    (λ c. wrote-as (sym (tag-end-other _ _ (c .if1 .taken))) (wrote-none _))
+    (λ c κs. search needs)
+    (λ c. wrote-as (sym (tag-end-later _ _ (sym (c .before .in-start-tag .ensures) ∙ not-true _ (c .if2 .taken)))) (wrote-none _))
+    (λ c. search needs)
     put-requires
-    same-length
+    (λ c. search needs)
     returns-3)

@@ -66,7 +66,8 @@ unfolding write
 write-some d = omega arith
 
 -- n is the length that was measured
-module _ {s : List ℕ} {w : Rows} {n : ℕ} (f : form s ≡ true) (c : Selected (nodes s) w) (e : n ≡ measured (lines (nodes s) (w .places) (w .count))) where
+module _ {s : List ℕ} {w : Rows} {n : ℕ} (f : form s ≡ true) (c : Selected (nodes s) w)
+    (e : n ≡ measured (lines (nodes s) (w .places) (w .count))) where
   module _ (M : State) (h : Holds s M) where
     abbrev d : Document
     d = committed-document M
@@ -102,7 +103,8 @@ module _ {s : List ℕ} {w : Rows} {n : ℕ} (f : form s ≡ true) (c : Selected
 
   pub write-14 : (o : List ℕ) → n ≡ 0 → Written s o o (Refused 14)
   unfolding writing text-after writable
-  write-14 o z = written-by s o o (Refused 14) f (λ M h b. (rw (not-expressible M h b z), rw (not-expressible M h b z))) (λ M h b. (refl, refl)) refl
+  write-14 o z =
+      written-by s o o (Refused 14) f (λ M h b. (rw (not-expressible M h b z), rw (not-expressible M h b z))) (λ M h b. (refl, refl)) refl
 
   module _ (z : n ≡ 0 → ⊥) where
     pub write-13 : (o : List ℕ) → length o < n → Written s o o (Refused 13)
@@ -112,10 +114,13 @@ module _ {s : List ℕ} {w : Rows} {n : ℕ} (f : form s ≡ true) (c : Selected
         (λ M h b. (rw (is-expressible M h b z, short M h b), rw (is-expressible M h b z, short M h b)))
         (λ M h b. absurd (z (none M h b))) refl
       where
-        short : (M : State) (h : Holds s M) → ordered (committed-document M) ≡ true → leb (length (write (committed-document M))) (length o) ≡ false
-        short M h b = lt-leb (length (write (committed-document M))) (length o) (omega (arith, by-expressible M h b true (is-expressible M h b z)))
+        short : (M : State) (h : Holds s M) → ordered (committed-document M) ≡ true
+            → leb (length (write (committed-document M))) (length o) ≡ false
+        short M h b =
+            lt-leb (length (write (committed-document M))) (length o) (omega (arith, by-expressible M h b true (is-expressible M h b z)))
 
-    pub write-granted : (o o′ : List ℕ) {r : ℕ} → n ≤ length o → Wrote (written-rows (lines (nodes s) (w .places) (w .count))) o o′ r → length o′ ≡ length o → Written s o o′ (Count n)
+    pub write-granted : (o o′ : List ℕ) {r : ℕ} → n ≤ length o → Wrote (written-rows (lines (nodes s) (w .places) (w .count))) o o′ r
+        → length o′ ≡ length o → Written s o o′ (Count n)
     unfolding writing text-after writable
     write-granted o o′ k v l =
         written-by s o o′ (Count n) f
@@ -125,8 +130,10 @@ module _ {s : List ℕ} {w : Rows} {n : ℕ} (f : form s ≡ true) (c : Selected
         ))
         (λ M h b. absurd (z (none M h b))) l
       where
-        fits : (M : State) (h : Holds s M) → ordered (committed-document M) ≡ true → leb (length (write (committed-document M))) (length o) ≡ true
-        fits M h b = le-leb (length (write (committed-document M))) (length o) (omega (arith, by-expressible M h b true (is-expressible M h b z)))
+        fits : (M : State) (h : Holds s M) → ordered (committed-document M) ≡ true
+            → leb (length (write (committed-document M))) (length o) ≡ true
+        fits M h b =
+            le-leb (length (write (committed-document M))) (length o) (omega (arith, by-expressible M h b true (is-expressible M h b z)))
 
     -- the text that was measured fits
     pub enough : (M : State) → Holds s M → (m : ℕ) → n ≤ m → length (written-rows (lines (nodes s) (w .places) (w .count))) ≤ m

@@ -41,14 +41,17 @@ unfolding begin tag-end
 begin-kind parent previous a = refl
 
 -- the end of the parent's start tag, and then a node that is no attribute
-pub next-opening : (parent : Label) (previous : ℕ) (a : Label) {o₀ o : List ℕ} {r : ℕ} → (a .kind ≡ 3 → ⊥) → Wrote (tag-end parent previous) o₀ o r
+pub next-opening : (parent : Label) (previous : ℕ) (a : Label) {o₀ o : List ℕ} {r : ℕ} → (a .kind ≡ 3 → ⊥)
+    → Wrote (tag-end parent previous) o₀ o r
     → length (begin parent previous a) ≤ length o₀ → Next (opening a) (begin parent previous a) [] o₀ o r
 next-opening parent previous a n w h =
     let e = begin-other parent previous a n in
     rw e (second (tag-end parent previous) (opening a) w (rw e at h))
 
-pub begin-room : (parent : Label) (previous : ℕ) (a : Label) {n : ℕ} → (a .kind ≡ 3 → ⊥) → length (begin parent previous a) ≤ n → length (tag-end parent previous) ≤ n
-begin-room parent previous a k h = omega (arith, length-append (tag-end parent previous) (opening a), ap length (begin-other parent previous a k))
+pub begin-room : (parent : Label) (previous : ℕ) (a : Label) {n : ℕ} → (a .kind ≡ 3 → ⊥) → length (begin parent previous a) ≤ n
+    → length (tag-end parent previous) ≤ n
+begin-room parent previous a k h =
+    omega (arith, length-append (tag-end parent previous) (opening a), ap length (begin-other parent previous a k))
 
 module _ (a : Label) where
   pub opening-element : a .kind ≡ 2 → opening a ≡ bytes "<" ++ a .content

@@ -4,24 +4,26 @@ use Prim.Native.Nat.{ℕ, zero, suc, _+_, _-_, _≤_, _<_}
 use mathlib.Core.List.{List, [], _∷_, _++_, append-nil}
 use native.Mathlib.Omega.{arith}
 use native.Mathlib.Numerals.{add-one}
-use lib.ListN.{length, getD, drop, set, drop-of-length-le, length-append}
+use lib.ListN.{length, getD, take, drop, set, drop-of-length-le, length-append}
+use borrow.Rule.Slice.PartMut.{putMid}
 use lib.Seq.{getD-set-same}
-use Rattle.layout.specs.Layout.{Entry}
+use Rattle.layout.specs.Layout.{Entry, Layout, nodes}
 use Rattle.lookup.specs.Places.{depth}
 use Rattle.xml.specs.Shape.{Label}
 use Rattle.markup.specs.Rows.{begin, end, ends, previous-of, emit, body}
 use Rattle.committed.specs.Lines.{label-at, line-at, lines, Listed}
 use Rattle.committed.specs.Laws.Lines.{length-lines, lines-from}
-use Rattle.measuring.specs.Walk.{open-labels, Walk}
+use Rattle.measuring.specs.Walk.{open-labels, OnPath, OfKinds, Walk}
 use Rattle.measuring.specs.Laws.Walk.{length-open, parent-is, opened-is, walk-below, walk-steps, walk-deep}
-use Rattle.markup.specs.Lending.{Wrote, Partly, partly-as, partly-end}
+use Rattle.markup.specs.Lending.{Wrote, Partly, partly-start, partly-as, partly-end}
 use Rattle.writer.specs.Texts.{of-kind, row-text}
 use Rattle.markup.specs.Laws.Next.{Next, next, second}
 use Rattle.writer.specs.Laws.Pieces.{begin-kind}
 
 -- one open node more ends
 pub ends-more : (l : List Entry) (path : List ℕ) (e d last : ℕ) → d < e
-    → ends (e - d) (open-labels l path e) last ≡ end (label-at l (getD path (e - 1) 0)) last ++ ends (e - 1 - d) (open-labels l path (e - 1)) (label-at l (getD path (e - 1) 0) .kind)
+    → ends (e - d) (open-labels l path e) last
+    ≡ end (label-at l (getD path (e - 1) 0)) last ++ ends (e - 1 - d) (open-labels l path (e - 1)) (label-at l (getD path (e - 1) 0) .kind)
 unfolding ends open-labels
 ends-more l path zero d last h = absurd (omega arith)
 ends-more l path (suc e) d last h =
@@ -33,13 +35,48 @@ pub ends-none : (es : List Label) (e d last : ℕ) → e ≤ d → ends (e - d) 
 unfolding ends
 ends-none es e d last h = let z : e - d ≡ 0 = omega arith in rw z
 
--- the next end is that of the node at depth e - 1
-pub next-end : (l : List Entry) (path : List ℕ) (e d last : ℕ) {text o₀ o : List ℕ} {at : ℕ} → Partly text (ends (e - d) (open-labels l path e) last) o₀ o at → length text ≤ length o₀ → d < e
-    → Next (end (label-at l (getD path (e - 1) 0)) last) text (ends (e - 1 - d) (open-labels l path (e - 1)) (label-at l (getD path (e - 1) 0) .kind)) o₀ o at
-next-end l path e d last c h k = next (end (label-at l (getD path (e - 1) 0)) last) _ (ends-more l path e d last k) c h
+-- the loop over the ends of the open nodes, from depth top up to depth d, with e nodes still open
+pub record EndsTo (l : List Entry) (path : List ℕ) (top d : ℕ) (o₀ o : List ℕ) (at last e : ℕ) : Type 0 where
+  pub most : e ≤ suc top
+  pub partly : Partly (ends (suc top - d) (open-labels l path (suc top)) 0) (ends (e - d) (open-labels l path e) last) o₀ o at
 
-pub no-end : (l : List Entry) (path : List ℕ) (e d last : ℕ) {text o₀ o : List ℕ} {at : ℕ} → Partly text (ends (e - d) (open-labels l path e) last) o₀ o at → e ≤ d → Wrote text o₀ o at
-no-end l path e d last c h = partly-end (partly-as (ends-none (open-labels l path e) e d last h) c)
+pub ends-start : {l : List Entry} {path o : List ℕ} {top d : ℕ} → EndsTo l path top d o o 0 0 (top + 1)
+ends-start {top = top} = rw (add-one top) (record { most = omega arith; partly = partly-start _ _ })
+
+pub ends-over : {l : List Entry} {path o₀ o : List ℕ} {top d at last e : ℕ} → EndsTo l path top d o₀ o at last e → e ≤ d
+    → Wrote (ends (suc top - d) (open-labels l path (suc top)) 0) o₀ o at
+ends-over {l} {path} {d = d} {last = last} {e = e} x h = partly-end (partly-as (ends-none (open-labels l path e) e d last h) (x .partly))
+
+-- the next end is that of the node at depth e - 1
+pub record EndsOn (l : List Entry) (path kinds : List ℕ) (top d : ℕ) (o₀ o : List ℕ) (at last e : ℕ) : Type 0 where
+  pub index : e - 1 < 1024
+  pub place : getD path (e - 1) 0 < length l
+  pub small-place : getD path (e - 1) 0 < 1024
+  pub kind : getD kinds (e - 1) 0 ≡ label-at l (getD path (e - 1) 0) .kind
+  pub piece : Next (end (label-at l (getD path (e - 1) 0)) last) (ends (suc top - d) (open-labels l path (suc top)) 0)
+      (ends (e - 1 - d) (open-labels l path (e - 1)) (getD kinds (e - 1) 0)) o₀ o at
+
+module _ {s path kinds o₀ : List ℕ} {top d : ℕ} (p : Layout s × OnPath (nodes s) path top × OfKinds (nodes s) path kinds top
+    × (length (ends (suc top - d) (open-labels (nodes s) path (suc top)) 0) ≤ length o₀))
+    {o : List ℕ} {at last e : ℕ} (x : EndsTo (nodes s) path top d o₀ o at last e) (h : d < e) where
+  pub ends-on : EndsOn (nodes s) path kinds top d o₀ o at last e
+  ends-on =
+      let k = p .2 .same (e - 1) (omega (arith, x .most)) in
+      let i = p .1 .inside (e - 1) (omega (arith, x .most)) in
+      record {
+        index = omega (arith, x .most, p .1 .deep);
+        place = i;
+        small-place = omega (arith, i, p .0 .many, p .0 .room);
+        kind = k;
+        piece =
+            rw k (next (end (label-at (nodes s) (getD path (e - 1) 0)) last) _ (ends-more (nodes s) path e d last h) (x .partly) (p .3));
+      }
+
+  -- once it is written
+  pub ends-turn : (new : List ℕ) (q : ℕ)
+      → Wrote (end (label-at (nodes s) (getD path (e - 1) 0)) last) (take (length o - at) (drop at o)) new q
+      → EndsTo (nodes s) path top d o₀ (putMid at (length o - at) o new) (at + q) (getD kinds (e - 1) 0) (e - 1)
+  ends-turn new q w = record { most = omega (arith, x .most); partly = ends-on .piece .on new q w }
 
 -- the ends before a row, and then the row
 module _ (l : List Entry) (path : List ℕ) (top d p : ℕ) where
@@ -49,11 +86,13 @@ module _ (l : List Entry) (path : List ℕ) (top d p : ℕ) where
 
   -- k is the kind of its parent, q that of its previous sibling
   pub next-begin : {k q r : ℕ} {o₀ o : List ℕ} → Wrote (ends (suc top - d) (open-labels l path (suc top)) 0) o₀ o r
-      → length (row-text l path top d p) ≤ length o₀ → k ≡ label-at l (getD path (d - 1) 0) .kind → q ≡ previous-of (open-labels l path (suc top)) 0 d
+      → length (row-text l path top d p) ≤ length o₀ → k ≡ label-at l (getD path (d - 1) 0) .kind
+      → q ≡ previous-of (open-labels l path (suc top)) 0 d
       → Next (begin (of-kind k) q (label-at l p)) (row-text l path top d p) [] o₀ o r
   unfolding row-text
   next-begin {k} {q} w h e f =
-      let g : begin (label-at l (getD path (d - 1) 0)) (previous-of (open-labels l path (suc top)) 0 d) (label-at l p) ≡ begin (of-kind k) q (label-at l p)
+      let g : begin (label-at l (getD path (d - 1) 0)) (previous-of (open-labels l path (suc top)) 0 d) (label-at l p)
+      ≡ begin (of-kind k) q (label-at l p)
       = rw (e, f) (begin-kind (label-at l (getD path (d - 1) 0)) (previous-of (open-labels l path (suc top)) 0 d) (label-at l p)) in
       rw (← g) (second (ends (suc top - d) (open-labels l path (suc top)) 0)
       (begin (label-at l (getD path (d - 1) 0)) (previous-of (open-labels l path (suc top)) 0 d) (label-at l p)) w h)
@@ -66,38 +105,43 @@ pub from-start : {l : List Entry} {places : List ℕ} {count : ℕ} (path : List
     → body (lines l places count) ≡ from l places count (set path 0 (getD places 0 0)) 0 1
 unfolding body open-labels
 from-start {l} {places} {count} path c n =
-    let e : lines l places count ≡ line-at l (getD places 0 0) ∷ drop 1 (lines l places count) = lines-from l places count (omega (arith, c .long, c .room)) 0 (c .some) in
+    let e : lines l places count ≡ line-at l (getD places 0 0) ∷ drop 1 (lines l places count) = lines-from l places count
+    (omega (arith, c .long, c .room)) 0 (c .some) in
     ap body e ∙ rw (getD-set-same path 0 (getD places 0 0) 0 (omega arith))
 
-module _ {l : List Entry} {places path kinds : List ℕ} {count top i : ℕ} (c : Listed l places count) (w : Walk l places path kinds top i) where
-  pub from-end : count ≤ i → from l places count path top i ≡ ends (suc top - 0) (open-labels l path (suc top)) 0 ++ []
-  unfolding emit
-  from-end h =
-      let n : count ≤ length places = omega (arith, c .long, c .room) in
-      let z : suc top - 0 ≡ suc top = omega arith in
-      rw (drop-of-length-le (lines l places count) {i = i} (omega (arith, length-lines l places count n)), length-open l path (suc top), z) (sym (append-nil _))
+module _ {l : List Entry} {places path kinds : List ℕ} {count top i : ℕ} (c : Listed l places count) (w : Walk l places path kinds top i)
+  where
+    pub from-end : count ≤ i → from l places count path top i ≡ ends (suc top - 0) (open-labels l path (suc top)) 0 ++ []
+    unfolding emit
+    from-end h =
+        let n : count ≤ length places = omega (arith, c .long, c .room) in
+        let z : suc top - 0 ≡ suc top = omega arith in
+        rw (drop-of-length-le (lines l places count) {i = i} (omega (arith, length-lines l places count n)), length-open l path (suc top), z)
+        (sym (append-nil _))
 
-  -- p is the place of the i-th row, d its depth
-  pub from-on : i < count → {d p : ℕ} → p ≡ getD places i 0 → d ≡ depth l p
-      → from l places count path top i ≡ row-text l path top d p ++ from l places count (set path d p) d (i + 1)
-  unfolding emit row-text
-  from-on h {d} {p} ep ed =
-      let n : count ≤ length places = omega (arith, c .long, c .room) in
-      let ei : d ≡ depth l (getD places i 0) = ed ∙ ap (depth l) ep in
-      let row : drop i (lines l places count) ≡ (d, label-at l p) ∷ drop (suc i) (lines l places count) = lines-from l places count n i h ∙ rw (ei, ep) in
-      let b : d ≤ suc top = omega (arith, walk-steps c w h) in
-      rw (
-        row,
-        parent-is l path (suc top) d (omega (arith, walk-below c w h)) b,
-        opened-is l path (suc top) d p b (omega (arith, walk-deep c w h, w .on-path .long)),
-        add-one i,
-        length-open l path (suc top),
-      )
+    -- p is the place of the i-th row, d its depth
+    pub from-on : i < count → {d p : ℕ} → p ≡ getD places i 0 → d ≡ depth l p
+        → from l places count path top i ≡ row-text l path top d p ++ from l places count (set path d p) d (i + 1)
+    unfolding emit row-text
+    from-on h {d} {p} ep ed =
+        let n : count ≤ length places = omega (arith, c .long, c .room) in
+        let ei : d ≡ depth l (getD places i 0) = ed ∙ ap (depth l) ep in
+        let row : drop i (lines l places count) ≡ (d, label-at l p) ∷ drop (suc i) (lines l places count) = lines-from l places count n i h
+        ∙ rw (ei, ep) in
+        let b : d ≤ suc top = omega (arith, walk-steps c w h) in
+        rw (
+          row,
+          parent-is l path (suc top) d (omega (arith, walk-below c w h)) b,
+          opened-is l path (suc top) d p b (omega (arith, walk-deep c w h, w .on-path .long)),
+          add-one i,
+          length-open l path (suc top),
+        )
 
-  pub next-row : i < count → {d p : ℕ} → p ≡ getD places i 0 → d ≡ depth l p → {text o₀ o : List ℕ} {at : ℕ} → Partly text (from l places count path top i) o₀ o at → length text ≤ length o₀
-      → Next (row-text l path top d p) text (from l places count (set path d p) d (i + 1)) o₀ o at
-  next-row h {d} {p} ep ed q k = next (row-text l path top d p) (from l places count (set path d p) d (i + 1)) (from-on h ep ed) q k
+    pub next-row : i < count → {d p : ℕ} → p ≡ getD places i 0 → d ≡ depth l p → {text o₀ o : List ℕ} {at : ℕ}
+        → Partly text (from l places count path top i) o₀ o at → length text ≤ length o₀
+        → Next (row-text l path top d p) text (from l places count (set path d p) d (i + 1)) o₀ o at
+    next-row h {d} {p} ep ed q k = next (row-text l path top d p) (from l places count (set path d p) d (i + 1)) (from-on h ep ed) q k
 
-  pub last-ends : count ≤ i → {text o₀ o : List ℕ} {at : ℕ} → Partly text (from l places count path top i) o₀ o at → length text ≤ length o₀
-      → Next (ends (suc top - 0) (open-labels l path (suc top)) 0) text [] o₀ o at
-  last-ends h q k = next (ends (suc top - 0) (open-labels l path (suc top)) 0) [] (from-end h) q k
+    pub last-ends : count ≤ i → {text o₀ o : List ℕ} {at : ℕ} → Partly text (from l places count path top i) o₀ o at → length text ≤ length o₀
+        → Next (ends (suc top - 0) (open-labels l path (suc top)) 0) text [] o₀ o at
+    last-ends h q k = next (ends (suc top - 0) (open-labels l path (suc top)) 0) [] (from-end h) q k

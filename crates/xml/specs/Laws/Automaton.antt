@@ -1,13 +1,13 @@
 -- The reading, a byte a step: an automaton that carries what remains to be read, so that every configuration can be completed.
 use Prim.Native.Nat.{ℕ, suc}
 use mathlib.Core.Path.{_≡_}
-use mathlib.Core.Bool.{Bool, true, false, cond, _&&_}
+use mathlib.Core.Bool.{Bool, cond, _&&_}
 use mathlib.Core.List.{List, [], _∷_, _++_}
 use lib.Dec.{eqb}
 use Rattle.tree.specs.Forest.{nil, node}
 use Rattle.tree.specs.Content.{element-kind, attribute-kind, text-kind, name-start, name-byte}
-use Rattle.xml.specs.Bytes.{ampersand, slash, less-than, equals-sign, greater-than, quotation-mark, apostrophe, blank, Quote, double, single}
-use Rattle.xml.specs.Bytes.{mark, value-literal, text-literal, brackets, used}
+use Rattle.xml.specs.Bytes.{ampersand, slash, less-than, equals-sign, greater-than, quotation-mark, apostrophe, blank, Quote, double}
+use Rattle.xml.specs.Bytes.{single, mark, value-literal, text-literal, brackets, used}
 use Rattle.xml.specs.Shape.{Shape}
 use Rattle.xml.specs.Grammar.{Name}
 use Rattle.xml.specs.Laws.Words.{Words, Found, no-word, whole, begun, follow, entities, declarations}
@@ -64,19 +64,22 @@ word-step (begun x) f g = g x
 unfoldable pub step : Bool → Config → ℕ → Move
 step unique at-start b = cond (blank b) (to prolog) (cond (eqb b less-than) (to behind-first) stuck)
 step unique behind-first b =
-    cond (name-start b) (move (tag-name [] (b ∷ [])) (born 1 element-kind ∷ byte b ∷ [])) (cond (eqb b 63) (to (declaration declarations)) stuck)
+    cond (name-start b) (move (tag-name [] (b ∷ [])) (born 1 element-kind ∷ byte b ∷ []))
+    (cond (eqb b 63) (to (declaration declarations)) stuck)
 step unique (declaration x) b = word-step (follow x b) (λ k. to prolog) (λ y. to (declaration y))
 step unique prolog b = cond (blank b) (to prolog) (cond (eqb b less-than) (to behind-root) stuck)
 step unique behind-root b = cond (name-start b) (move (tag-name [] (b ∷ [])) (born 1 element-kind ∷ byte b ∷ [])) stuck
 step unique (tag-name ns p) b = cond (name-byte b) (move (tag-name ns (p ++ (b ∷ []))) (byte b ∷ [])) (tag-step p ns [] b)
 step unique (behind-part n ns seen) b = tag-step n ns seen b
 step unique (in-tag n ns seen) b =
-    cond (name-start b) (move (attribute-name n ns seen (b ∷ [])) (born (depth (n ∷ ns)) attribute-kind ∷ byte b ∷ [])) (tag-step n ns seen b)
+    cond (name-start b) (move (attribute-name n ns seen (b ∷ [])) (born (depth (n ∷ ns)) attribute-kind ∷ byte b ∷ []))
+    (tag-step n ns seen b)
 step unique (attribute-name n ns seen p) b =
     cond (name-byte b) (move (attribute-name n ns seen (p ++ (b ∷ []))) (byte b ∷ []))
     (cond (unique && used seen p) stuck
     (cond (blank b) (to (before-equals n ns (p ∷ seen))) (cond (eqb b equals-sign) (to (behind-equals n ns (p ∷ seen))) stuck)))
-step unique (before-equals n ns seen) b = cond (blank b) (to (before-equals n ns seen)) (cond (eqb b equals-sign) (to (behind-equals n ns seen)) stuck)
+step unique (before-equals n ns seen) b =
+    cond (blank b) (to (before-equals n ns seen)) (cond (eqb b equals-sign) (to (behind-equals n ns seen)) stuck)
 step unique (behind-equals n ns seen) b =
     cond (blank b) (to (behind-equals n ns seen))
     (cond (eqb b quotation-mark) (to (behind-quote n ns seen double)) (cond (eqb b apostrophe) (to (behind-quote n ns seen single)) stuck))
@@ -108,7 +111,8 @@ step unique epilog b = cond (blank b) (to epilog) stuck
 -- the bytes s are read from c on to d; e is what they tell
 pub data Reads (unique : Bool) : (c : Config) (s : List ℕ) (e : List Event) (d : Config) → Type 0 where
   stay : {c : Config} → Reads unique c [] [] c
-  on : {c d a : Config} {b : ℕ} {s : List ℕ} {v w : List Event} → step unique c b ≡ move d v → Reads unique d s w a → Reads unique c (b ∷ s) (v ++ w) a
+  on : {c d a : Config} {b : ℕ} {s : List ℕ} {v w : List Event} → step unique c b ≡ move d v → Reads unique d s w a
+      → Reads unique c (b ∷ s) (v ++ w) a
 
 -- the events of a tree at a depth, in document order, then e
 unfoldable pub tell-bytes : List ℕ → List Event → List Event

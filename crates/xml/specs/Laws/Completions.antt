@@ -1,7 +1,7 @@
 -- Every configuration can be completed, so every prefix that is read is the beginning of a document.
-use Prim.Native.Nat.{ℕ, zero, suc, _+_, _≤_, _<_}
-use mathlib.Core.Path.{_≡_, refl, sym, ap, ap₂, _∙_, subst}
-use mathlib.Core.Bool.{Bool, true, false, _&&_, and-false, false≢true}
+use Prim.Native.Nat.{ℕ, zero, suc, _+_, _<_}
+use mathlib.Core.Path.{_≡_, refl, sym, ap, _∙_}
+use mathlib.Core.Bool.{Bool, true, false, and-false, false≢true}
 use mathlib.Core.List.{List, [], _∷_, _++_, append-assoc}
 use native.Mathlib.Omega.{arith}
 use lib.Dec.{eqb}
@@ -9,19 +9,19 @@ use lib.ListN.{length, replicate, length-append, length-replicate}
 use Rattle.tree.specs.Lists.{same}
 use Rattle.tree.specs.Content.{element-kind, name-start, name-byte}
 use Rattle.xml.specs.Bytes.{Quote, double, used}
-use Rattle.xml.specs.Shape.{Shape}
-use Rattle.xml.specs.Grammar.{Name, no-blank, NameBytes, no-name-byte, name-byte-then, Parses}
+use Rattle.xml.specs.Grammar.{Name, no-blank, NameBytes, no-name-byte, name-byte-then}
 use Rattle.xml.specs.Reading.{Viable}
-use Rattle.xml.specs.Laws.Words.{Words, some-word}
-use Rattle.xml.specs.Laws.Automaton.{Config, at-start, behind-first, prolog, behind-root, epilog, declaration, tag-name, behind-part, in-tag}
-use Rattle.xml.specs.Laws.Automaton.{before-equals, behind-equals, behind-slash, attribute-name, behind-quote, in-value, value-reference}
-use Rattle.xml.specs.Laws.Automaton.{content, behind-open, in-text, text-reference, end-name, Event, born, byte, closed, step, move, Reads}
-use Rattle.xml.specs.Laws.Automaton.{stay, on, tell-bytes, tell}
-use Rattle.xml.specs.Laws.Transitions.{tag-slash, Step, s-start-open, s-first-name, s-prolog-open, s-root-name, s-behind, s-before-equals}
-use Rattle.xml.specs.Laws.Transitions.{s-equals-quote, s-quote-end, s-value-end, s-slash, s-content-open, s-text-open, s-open-slash}
+use Rattle.xml.specs.Laws.Words.{some-word}
+use Rattle.xml.specs.Laws.Automaton.{Config, at-start, behind-first, prolog, behind-root, epilog, declaration, tag-name, behind-part}
+use Rattle.xml.specs.Laws.Automaton.{in-tag, before-equals, behind-equals, behind-slash, attribute-name, behind-quote, in-value}
+use Rattle.xml.specs.Laws.Automaton.{value-reference, content, behind-open, in-text, text-reference, end-name, Event, born, byte}
+use Rattle.xml.specs.Laws.Automaton.{closed, Reads, stay, on, tell-bytes}
+use Rattle.xml.specs.Laws.Transitions.{tag-slash, Step, s-start-open, s-first-name, s-prolog-open, s-root-name, s-behind}
+use Rattle.xml.specs.Laws.Transitions.{s-before-equals, s-equals-quote, s-quote-end, s-value-end, s-slash, s-content-open}
+use Rattle.xml.specs.Laws.Transitions.{s-text-open, s-open-slash}
 use Rattle.xml.specs.Laws.Sound.{sound}
-use Rattle.xml.specs.Laws.Complete.{Accepts, _▸_, value-word, text-word, declaration-word, no-attribute, read-tag-name, read-attribute-name}
-use Rattle.xml.specs.Laws.Complete.{read-end, complete}
+use Rattle.xml.specs.Laws.Complete.{Accepts, _▸_, value-word, text-word, declaration-word, no-attribute, read-tag-name}
+use Rattle.xml.specs.Laws.Complete.{read-attribute-name, read-end, complete}
 use Rattle.xml.specs.Laws.Phases.{Phase, early, reading, referring, over, phase}
 
 -- bytes that complete c and tell nothing more
@@ -109,7 +109,8 @@ unfolding tell-bytes
 complete-attribute true n ns seen p =
     let r : List ℕ = replicate (suc (total seen)) 65 in
     let x : Ends true (before-equals n ns ((p ++ r) ∷ seen)) = by s-before-equals (close-equals n ns ((p ++ r) ∷ seen)) in
-    let h : used seen (p ++ r) ≡ false = unused seen (p ++ r) (rw length-append (omega (arith, length-replicate {A = ℕ} (suc (total seen)) 65))) in
+    let h : used seen (p ++ r) ≡ false = unused seen (p ++ r) (rw length-append
+    (omega (arith, length-replicate {A = ℕ} (suc (total seen)) 65))) in
     record {
       bytes = r ++ x .0;
       events = tell-bytes r [];
@@ -127,7 +128,8 @@ completion u behind-first = completed _ ending-early first-name
 completion u prolog = completed _ ending-early root-after
 completion u behind-root = completed _ ending-early root-name
 completion u epilog = completed [] ending-over ([], stay)
-completion u (declaration x) = let y = root-after in let w = some-word x (y .0) in completed _ ending-early (w .0, declaration-word (w .2) (y .1))
+completion u (declaration x) =
+    let y = root-after in let w = some-word x (y .0) in completed _ ending-early (w .0, declaration-word (w .2) (y .1))
 completion u (tag-name ns p) = completed [] ending-reading (close-name ns p)
 completion u (behind-part n ns seen) = completed [] ending-reading (close-tag n ns seen)
 completion u (in-tag n ns seen) = let x = close-tag n ns seen in completed [] ending-reading (x .0, no-attribute (x .1))
@@ -138,7 +140,8 @@ completion u (attribute-name n ns seen p) = complete-attribute u n ns seen p
 completion u (behind-quote n ns seen q) = completed [] ending-reading (by s-quote-end (close-tag n ns seen))
 completion u (in-value n ns seen q) = completed [] ending-reading (close-value n ns seen q)
 completion u (value-reference n ns seen q x) =
-    let y = close-value n ns seen q in let w = some-word x (y .0) in completed (byte (w .1) ∷ []) ending-referring (w .0, value-word (w .2) (y .1))
+    let y = close-value n ns seen q in
+    let w = some-word x (y .0) in completed (byte (w .1) ∷ []) ending-referring (w .0, value-word (w .2) (y .1))
 completion u (content n ns) = completed [] ending-reading (close (n ∷ ns))
 completion u (behind-open n ns) = completed [] ending-reading (close-open n ns)
 completion u (in-text n ns k) = completed [] ending-reading (by s-text-open (close-open n ns))

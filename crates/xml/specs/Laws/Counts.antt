@@ -1,6 +1,6 @@
 -- How many nodes events tell of, and how long contents become.
-use Prim.Native.Nat.{ℕ, zero, suc, _+_, _≤_, _<_, max}
-use mathlib.Core.Path.{_≡_, refl, sym, ap, ap₂, _∙_, subst}
+use Prim.Native.Nat.{ℕ, suc, _+_, _≤_, max}
+use mathlib.Core.Path.{_≡_, refl, ap, _∙_}
 use mathlib.Core.List.{List, [], _∷_, _++_}
 use native.Mathlib.Omega.{arith}
 use lib.ListN.{length}
@@ -78,7 +78,8 @@ unfolding peak tell longest
 peak-most m k d nil e h l r = r k h
 peak-most m k d (node a g f) e h l r =
     let p = peak-bytes 0 (a .content) (tell (suc d) g (tell d f e)) in
-    let q = peak-most m (0 + length (a .content)) (suc d) g (tell d f e) (omega arith) (omega arith) (λ j i. peak-most m j d f e i (omega arith) r) in
+    let q = peak-most m (0 + length (a .content)) (suc d) g (tell d f e) (omega arith) (omega arith)
+    (λ j i. peak-most m j d f e i (omega arith) r) in
     omega arith
 
 -- at least the content of each node

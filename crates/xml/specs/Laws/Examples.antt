@@ -114,11 +114,13 @@ abbrev late : ℕ → List ℕ → Verdict
 late zero s = judgement node-limit s
 late (suc n) s = judge prolog (node-limit - 1) 0 space (suc n) s
 
-blank-judged : (i : ℕ) (s : List ℕ) → i < input-limit → judge prolog (node-limit - 1) 0 space i (space ∷ s) ≡ judge prolog (node-limit - 1) 0 space (suc i) s
+blank-judged : (i : ℕ) (s : List ℕ) → i < input-limit
+    → judge prolog (node-limit - 1) 0 space i (space ∷ s) ≡ judge prolog (node-limit - 1) 0 space (suc i) s
 unfolding judge step blank births tail peak
 blank-judged i s h = rw (lt-leb input-limit i h)
 
-late-judged : (n i : ℕ) (s : List ℕ) → i + n ≤ input-limit → judge prolog (node-limit - 1) 0 space i (input n s) ≡ judge prolog (node-limit - 1) 0 space (i + n) s
+late-judged : (n i : ℕ) (s : List ℕ) → i + n ≤ input-limit
+    → judge prolog (node-limit - 1) 0 space i (input n s) ≡ judge prolog (node-limit - 1) 0 space (i + n) s
 late-judged zero i s h = ap (λ (k : ℕ). judge prolog (node-limit - 1) 0 space k s) (omega arith)
 late-judged (suc n) i s h =
     blank-judged i (input n s) (omega arith) ∙ late-judged n (suc i) s (omega arith)
@@ -130,7 +132,8 @@ first-blank s = refl
 
 is-late : (n : ℕ) (s : List ℕ) → n ≤ input-limit → judgement node-limit (input n s) ≡ late n s
 is-late zero s h = refl
-is-late (suc n) s h = first-blank (input n s) ∙ late-judged n 1 s (omega arith) ∙ ap (λ (k : ℕ). judge prolog (node-limit - 1) 0 space k s) (omega arith)
+is-late (suc n) s h =
+    first-blank (input n s) ∙ late-judged n 1 s (omega arith) ∙ ap (λ (k : ℕ). judge prolog (node-limit - 1) 0 space k s) (omega arith)
 
 all-late : (l : List Limit) → every (λ x. leb (x .0) input-limit) l ≡ true
     → map (λ (x : Limit). judgement node-limit (input (x .0) (x .1))) l ≡ map (λ (x : Limit). late (x .0) (x .1)) l

@@ -1,8 +1,8 @@
 -- A legal document can be written and read back exactly if none of the four reasons of cause 14 applies.
-use Prim.Native.Nat.{ℕ, zero, suc, _+_, _≤_, _<_, max}
-use mathlib.Core.Path.{_≡_, refl, sym, ap, ap₂, _∙_, subst}
+use Prim.Native.Nat.{ℕ, suc, _+_, _≤_}
+use mathlib.Core.Path.{_≡_, refl, sym, ap₂, _∙_}
 use mathlib.Core.Bool.{Bool, true, false, cond, not, _&&_, _||_, false≢true}
-use mathlib.Core.List.{List, [], _∷_, _++_}
+use mathlib.Core.List.{List, [], _∷_}
 use mathlib.Core.Logic.{_↔_}
 use native.Mathlib.Omega.{arith}
 use lib.Dec.{eqb, leb}
@@ -10,17 +10,18 @@ use lib.ListN.{length, length-append}
 use borrow.Author.Tests.{eqb-true, eqb-false, leb-true, not-true}
 use Rattle.tree.specs.Lists.{every}
 use Rattle.tree.specs.Forest.{nil, node, rows, view}
-use Rattle.tree.specs.Content.{content-limit, element-kind, attribute-kind, text-kind, text-byte, is-name, is-text, spells-name, spells-text, allowed}
-use Rattle.tree.specs.Content.{takes, attributes-first, children-rule}
+use Rattle.tree.specs.Content.{content-limit, element-kind, attribute-kind, text-kind, text-byte, is-name, is-text, spells-name}
+use Rattle.tree.specs.Content.{spells-text, allowed, takes, attributes-first, children-rule}
 use Rattle.tree.specs.Document.{Node, Document, lines, top-kinds, ruled, rooted, legal}
-use Rattle.protocol.specs.Calls.{node-limit, loadable, stands-for}
+use Rattle.protocol.specs.Calls.{node-limit}
 use Rattle.xml.specs.Bytes.{used}
-use Rattle.xml.specs.Shape.{Label, Shape, element, attribute, text, size, longest, numbered, document, unnumbered, shape}
+use Rattle.xml.specs.Shape.{Shape, element, text, size, longest, numbered, shape}
 use Rattle.xml.specs.Grammar.{Name, text-node, Spells}
-use Rattle.xml.specs.Reading.{input-limit, ReadsAs}
+use Rattle.xml.specs.Reading.{input-limit}
 use Rattle.xml.specs.Writing.{below, write, no-root, repeats, begins-with-text, neighbouring-texts, expressible, renumbered, ReadBack}
-use Rattle.xml.specs.Laws.Structure.{Spot, attributes, children, behind-text, Formed, formed-nil, formed-attribute, formed-text, formed-element}
-use Rattle.xml.specs.Laws.Structure.{no-text, no-attribute, FormedRoot, formed-root, left-of, right-of, neither, spelled-formed}
+use Rattle.xml.specs.Laws.Structure.{Spot, attributes, children, behind-text, Formed, formed-nil, formed-attribute, formed-text}
+use Rattle.xml.specs.Laws.Structure.{formed-element, no-text, no-attribute, FormedRoot, formed-root, left-of, right-of, neither}
+use Rattle.xml.specs.Laws.Structure.{spelled-formed}
 use Rattle.xml.specs.Laws.Loadable.{not-attribute, spelled-loadable}
 use Rattle.xml.specs.Laws.Readings.{accepted-iff}
 use Rattle.xml.specs.Laws.Written.{written-spells}
@@ -67,7 +68,8 @@ texts : (f : Document) → ruled f ≡ true → children-rule attribute-kind (to
 unfolding shape view ruled children-rule takes allowed
 texts nil r h = ([], refl, refl)
 texts (node a ks (node b js fs)) r h =
-    let l = leb-true (suc (suc (length (top-kinds fs)))) 1 (right-of (every (takes attribute-kind) (top-kinds (node a ks (node b js fs)))) _ h) in
+    let l = leb-true (suc (suc (length (top-kinds fs)))) 1 (right-of (every (takes attribute-kind) (top-kinds (node a ks (node b js fs)))) _
+    h) in
     absurd (omega arith)
 texts (node a ks nil) r h =
     let k : a .kind ≡ text-kind = eqb-true (a .kind) text-kind (left-of _ _ (left-of _ _ h)) in
@@ -102,7 +104,8 @@ module _ (i : ℕ) (c : List ℕ) (ks fs : Document) (seen : List Name) where
   abbrev child-of : ℕ → Document
   child-of k = node (record { number = i; kind = k; content = c }) ks fs
 
-  child : {k : ℕ} → ChildKind k → allowed k c ≡ true → children-rule k (top-kinds ks) ≡ true → ruled ks ≡ true → Clear seen (shape (child-of k))
+  child : {k : ℕ} → ChildKind k → allowed k c ≡ true → children-rule k (top-kinds ks) ≡ true → ruled ks ≡ true
+      → Clear seen (shape (child-of k))
       → (every (takes element-kind) (top-kinds ks) ≡ true → Clear [] (shape ks) → Children ks [])
       → ((seen : List Name) → Clear seen (shape fs) → Children fs seen) → Children (child-of k) seen
   unfolding shape view repeats neighbouring-texts attributes-first allowed children-rule is-name
@@ -133,7 +136,8 @@ module _ (i : ℕ) (c : List ℕ) (ks fs : Document) (seen : List Name) where
       λ h. rw n (text-child c a (outer h (neither (begins-with-text (shape fs)) _ (nei .0) .0))) in
       record { first = λ h. no-attribute (this h); behind = this; after-text = λ h k. absurd (false≢true (sym k)) }
 
-formed-of : (f : Document) (seen : List Name) → ruled f ≡ true → every (takes element-kind) (top-kinds f) ≡ true → Clear seen (shape f) → Children f seen
+formed-of : (f : Document) (seen : List Name) → ruled f ≡ true → every (takes element-kind) (top-kinds f) ≡ true → Clear seen (shape f)
+    → Children f seen
 unfolding shape view ruled
 formed-of nil seen r h clear = record { first = λ _. formed-nil; behind = λ _. formed-nil; after-text = λ _ _. formed-nil }
 formed-of (node a ks fs) seen r h clear =
@@ -162,9 +166,11 @@ element-root c js r p q =
     let rule = right-of (allowed 2 c) (children-rule 2 (top-kinds js)) y in
     let kids = formed-of js [] (right-of (allowed 2 c && children-rule 2 (top-kinds js)) _ x) (left-of _ _ rule)
     (neither (repeats [] (shape js)) _ p .0, neither (neighbouring-texts (shape js)) _ q .0) in
-    formed-root (right-of (leb (length c) content-limit) _ (left-of (allowed 2 c) _ y)) (kids .first (right-of (every (takes 2) (top-kinds js)) _ rule))
+    formed-root (right-of (leb (length c) content-limit) _ (left-of (allowed 2 c) _ y))
+    (kids .first (right-of (every (takes 2) (top-kinds js)) _ rule))
 
-root-of : (ks : Document) → ruled ks ≡ true → children-rule 1 (top-kinds ks) ≡ true → no-root (shape ks) ≡ false → repeats [] (shape ks) ≡ false
+root-of : (ks : Document) → ruled ks ≡ true → children-rule 1 (top-kinds ks) ≡ true → no-root (shape ks) ≡ false
+    → repeats [] (shape ks) ≡ false
     → neighbouring-texts (shape ks) ≡ false → FormedRoot (shape ks)
 unfolding shape view ruled children-rule takes
 root-of nil r h n p q = absurd (false≢true (sym n))
@@ -236,7 +242,8 @@ formed-clear (formed-nil {p = children}) = (λ seen. refl, refl)
 formed-clear (formed-nil {p = behind-text}) = (λ seen. refl, refl, refl)
 formed-clear (formed-attribute c n h k r) = let x = formed-clear r in (rw (h, x .0), rw (value-clear c, x .1))
 formed-clear (formed-text h r) = let x = formed-clear r in (x .0, rw (x .2, x .1))
-formed-clear (formed-element n h r) = let x = formed-clear h in let y = formed-clear r in (λ seen. rw (x .0, y .0 seen), rw (x .1, y .1), refl)
+formed-clear (formed-element n h r) =
+    let x = formed-clear h in let y = formed-clear r in (λ seen. rw (x .0, y .0 seen), rw (x .1, y .1), refl)
 formed-clear (no-text r) = let x = formed-clear r in (x .0, x .1)
 formed-clear (no-attribute {seen = seen} r) = let x = formed-clear r in (x .0 seen, x .1)
 
@@ -255,7 +262,8 @@ unfolding allowed is-name is-text
 allowed-short k c h = go (eqb k 1) (eqb k 2 || eqb k 3) (eqb k 4) h
   where
     go : (x y z : Bool)
-        → cond x (eqb (length c) 0) (cond y (leb (length c) content-limit && spells-name c) (z && (leb (length c) content-limit && spells-text c))) ≡ true
+        → cond x (eqb (length c) 0) (cond y (leb (length c) content-limit && spells-name c)
+        (z && (leb (length c) content-limit && spells-text c))) ≡ true
         → length c ≤ content-limit
     go true y z h = omega (arith, eqb-true (length c) 0 h)
     go false true z h = leb-true (length c) content-limit (left-of _ _ h)
@@ -288,7 +296,8 @@ shape-numbered i (node a ks fs) = rw (shape-numbered (suc i) ks, shape-numbered 
 expressible-parts : (d : Document) → expressible d ≡ true → Writable d × (length (write d) ≤ input-limit)
 unfolding expressible
 expressible-parts d h =
-    let x = left-of (not (no-root (below (shape d))) && not (repeats [] (below (shape d))) && not (neighbouring-texts (below (shape d)))) _ h in
+    let x = left-of (not (no-root (below (shape d))) && not (repeats [] (below (shape d))) && not (neighbouring-texts (below (shape d)))) _
+    h in
     let y = left-of (not (no-root (below (shape d))) && not (repeats [] (below (shape d)))) _ x in (
       (
         not-true _ (left-of _ _ y),
@@ -296,7 +305,8 @@ expressible-parts d h =
         not-true _ (right-of (not (no-root (below (shape d))) && not (repeats [] (below (shape d)))) _ x),
       ),
       leb-true (length (write d)) input-limit
-          (right-of (not (no-root (below (shape d))) && not (repeats [] (below (shape d))) && not (neighbouring-texts (below (shape d)))) _ h),
+          (right-of (not (no-root (below (shape d))) && not (repeats [] (below (shape d))) && not (neighbouring-texts (below (shape d)))) _
+          h),
     )
 
 pub read-back : (d : Document) → legal d ≡ true → expressible d ≡ true → length (lines d) ≤ node-limit → ReadBack d

@@ -1,14 +1,15 @@
 -- The entities and the declarations as fixed byte strings, compared whole.
-use Prim.Native.Nat.{ℕ, zero, suc, _+_}
+use Prim.Native.Nat.{ℕ, suc}
 use mathlib.Core.Path.{_≡_, refl, sym, ap, _∙_}
 use mathlib.Core.Bool.{Bool, true, false, cond}
 use mathlib.Core.List.{List, [], _∷_, _++_}
 use lib.Dec.{eqb, eqb·zero-suc, eqb·suc-suc}
 use lib.ListN.{length, getD}
-use borrow.Author.Tests.{eqb-true}
 use Rattle.tree.specs.Text.{bytes}
-use Rattle.xml.specs.Bytes.{ampersand, apostrophe, greater-than, less-than, quotation-mark, amp, apos, gt, lt, quot, short-declaration, long-declaration}
-use Rattle.xml.specs.Laws.Words.{Words, last, then, fork, Found, no-word, whole, begun, follow, chain, entities, declarations, version, encoding}
+use Rattle.xml.specs.Bytes.{ampersand, apostrophe, greater-than, less-than, quotation-mark, amp, apos, gt, lt, quot}
+use Rattle.xml.specs.Bytes.{short-declaration, long-declaration}
+use Rattle.xml.specs.Laws.Words.{Words, last, then, fork, no-word, whole, begun, follow, chain, entities, declarations, version}
+use Rattle.xml.specs.Laws.Words.{encoding}
 use Rattle.xml.specs.Laws.Tokens.{Reach, got, lost, one-more, reached, reach}
 
 -- how many bytes of the word stand at the beginning of l
@@ -85,7 +86,8 @@ common (a ∷ w) b x y (c ∷ l) = go (eqb c a) (eqb (getD l (length w) 0) b) (c
   where
     go : (t u : Bool) → reach (chain w (fork b x y)) l ≡ cond u (reach (chain w (then b x)) l) (reach (chain w y) l)
         → reached (cond t (begun (chain w (fork b x y))) no-word) (λ z. reach z l)
-        ≡ cond u (reached (cond t (begun (chain w (then b x))) no-word) (λ z. reach z l)) (reached (cond t (begun (chain w y)) no-word) (λ z. reach z l))
+        ≡ cond u (reached (cond t (begun (chain w (then b x))) no-word) (λ z. reach z l))
+        (reached (cond t (begun (chain w y)) no-word) (λ z. reach z l))
     go true true h = ap one-more h
     go true false h = ap one-more h
     go false true h = refl
@@ -101,7 +103,8 @@ entity-at l =
 
 abbrev more-entities : Words
 more-entities =
-    fork 103 (chain (bytes "t") (last 59 greater-than)) (fork 108 (chain (bytes "t") (last 59 less-than)) (chain (bytes "quot") (last 59 quotation-mark)))
+    fork 103 (chain (bytes "t") (last 59 greater-than)) (fork 108 (chain (bytes "t") (last 59 less-than))
+    (chain (bytes "quot") (last 59 quotation-mark)))
 
 choose : {x x′ y y′ : Reach} (t : Bool) → x ≡ x′ → y ≡ y′ → cond t x y ≡ cond t x′ y′
 choose true p q = p
@@ -112,7 +115,8 @@ unfolding entity-at
 entities-at l =
     let m = chain (bytes "p") (last 59 ampersand) in
     let p = chain (bytes "pos") (last 59 apostrophe) in
-    let a = common (97 ∷ []) 109 m p l ∙ choose (eqb (getD l 1 0) 109) (one-word (bytes "amp") 59 ampersand l) (one-word (bytes "apos") 59 apostrophe l) in
+    let a = common (97 ∷ []) 109 m p l
+    ∙ choose (eqb (getD l 1 0) 109) (one-word (bytes "amp") 59 ampersand l) (one-word (bytes "apos") 59 apostrophe l) in
     let q = common [] 108 (chain (bytes "t") (last 59 less-than)) (chain (bytes "quot") (last 59 quotation-mark)) l
     ∙ choose (eqb (getD l 0 0) 108) (one-word (bytes "lt") 59 less-than l) (one-word (bytes "quot") 59 quotation-mark l) in
     let g = common [] 103 (chain (bytes "t") (last 59 greater-than))
@@ -139,5 +143,8 @@ declarations-at l =
         → one-more (one-more (cond t (reach (chain version (then 63 (last greater-than 0))) l)
         (reach (chain version (chain encoding (last greater-than 0))) l)))
         ≡ cond t (word-at short-declaration 0 (less-than ∷ 63 ∷ l)) (word-at long-declaration 0 (less-than ∷ 63 ∷ l))
-    go true = ap (λ r. one-more (one-more r)) (one-word (version ++ (63 ∷ [])) greater-than 0 l) ∙ whole-of (version ++ (63 ∷ greater-than ∷ []))
-    go false = ap (λ r. one-more (one-more r)) (one-word (version ++ encoding) greater-than 0 l) ∙ whole-of (version ++ (encoding ++ (greater-than ∷ [])))
+    go true =
+        ap (λ r. one-more (one-more r)) (one-word (version ++ (63 ∷ [])) greater-than 0 l) ∙ whole-of (version ++ (63 ∷ greater-than ∷ []))
+    go false =
+        ap (λ r. one-more (one-more r)) (one-word (version ++ encoding) greater-than 0 l)
+        ∙ whole-of (version ++ (encoding ++ (greater-than ∷ [])))

@@ -1,26 +1,27 @@
 -- What a prefix leads to, however it goes on: as many nodes and as long a content as the automaton has told, or is certain to.
-use Prim.Native.Nat.{ℕ, zero, suc, _+_, _≤_, _<_, max}
+use Prim.Native.Nat.{ℕ, suc, _+_, _≤_, _<_, max}
 use mathlib.Core.Path.{_≡_, refl, sym, ap, _∙_, subst}
-use mathlib.Core.Bool.{Bool, true, false}
-use mathlib.Core.List.{List, [], _∷_, _++_}
+use mathlib.Core.Bool.{true, false}
+use mathlib.Core.List.{List, [], _++_}
 use native.Mathlib.Omega.{arith}
 use Rattle.tree.specs.Content.{content-limit}
-use Rattle.xml.specs.Shape.{Shape, size, longest}
+use Rattle.xml.specs.Shape.{Shape}
 use Rattle.xml.specs.Grammar.{Parses}
 use Rattle.xml.specs.Reading.{LongContent, ManyNodes, Forces}
-use Rattle.xml.specs.Laws.Automaton.{Config, at-start, Event, born, byte, Reads, tell}
+use Rattle.xml.specs.Laws.Automaton.{Config, at-start, Event, Reads, tell}
 use Rattle.xml.specs.Laws.Sound.{rest-of, sound}
 use Rattle.xml.specs.Laws.Complete.{Accepts, complete}
 use Rattle.xml.specs.Laws.Unique.{one-run}
 use Rattle.xml.specs.Laws.Counts.{births, tail, peak, births-append, peak-append, size-told, longest-told}
-use Rattle.xml.specs.Laws.Phases.{Phase, early, reading, referring, over, phase, is-early, pending, quiet-run, pending-told, loose}
-use Rattle.xml.specs.Laws.Completions.{Ending, ending-early, ending-reading, ending-referring, ending-over, Completion, completion, join, cut}
+use Rattle.xml.specs.Laws.Phases.{Phase, phase, is-early, pending, quiet-run, pending-told, loose}
+use Rattle.xml.specs.Laws.Completions.{Ending, ending-early, ending-reading, ending-referring, ending-over, completion, join, cut}
 
 -- the longest content so far, with what a reference that is begun will add
 abbrev pub extent : ℕ → List Event → Config → ℕ
 extent k v c = max (peak k v) (tail k v + pending (phase c))
 
-ending-few : {q : Phase} {e : List Event} (limit n : ℕ) → 2 ≤ limit → Ending q e → (is-early q ≡ true → n ≡ 0) → suc n ≤ limit → suc (n + births e) ≤ limit
+ending-few : {q : Phase} {e : List Event} (limit n : ℕ) → 2 ≤ limit → Ending q e → (is-early q ≡ true → n ≡ 0) → suc n ≤ limit
+    → suc (n + births e) ≤ limit
 unfolding births
 ending-few limit n m ending-early h l = let z : n ≡ 0 = h refl in omega arith
 ending-few limit n m ending-reading h l = omega arith

@@ -1,11 +1,10 @@
 -- The scan from place to place, as a reader goes: whatever the verdict is further on, it is the verdict here.
-use Prim.Native.Nat.{ℕ, zero, suc, _+_, _-_, _≤_, _<_}
-use mathlib.Core.Path.{_≡_, refl, sym, ap, ap₂, _∙_, subst}
-use mathlib.Core.Bool.{Bool, true, false, cond, false≢true}
+use Prim.Native.Nat.{ℕ, suc, _+_, _-_, _≤_, _<_}
+use mathlib.Core.Path.{_≡_, ap, ap₂, _∙_}
+use mathlib.Core.Bool.{true, false}
 use mathlib.Core.List.{List, [], _∷_}
 use native.Mathlib.Omega.{arith}
-use native.Mathlib.Numerals.{add-one}
-use lib.ListN.{length, drop, getD}
+use lib.ListN.{length, getD}
 use Rattle.tree.specs.Content.{content-limit}
 use Rattle.xml.specs.Reading.{node-offset}
 use Rattle.xml.specs.Laws.Automaton.{Config, Event, born, byte, stuck, move, to, step}
@@ -44,7 +43,8 @@ module _ (s : List ℕ) (c : Config) (n i : ℕ) where
     pub scan-quiet : (d : Config) → step true c (getD s i 0) ≡ to d → (k : ℕ) → k + pending (phase d) ≤ content-limit
         → scan-at s c n k i ≡ scan-at s d n k (i + 1)
     unfolding births tail peak
-    scan-quiet d e k h = scan-next s c n k i inside d [] e (omega arith) (omega arith) ∙ ap₂ (λ (m j : ℕ). scan-at s d m k j) (omega arith) (omega arith)
+    scan-quiet d e k h =
+        scan-next s c n k i inside d [] e (omega arith) (omega arith) ∙ ap₂ (λ (m j : ℕ). scan-at s d m k j) (omega arith) (omega arith)
 
     pub goes-step : (d : Config) → step true c (getD s i 0) ≡ to d → pending (phase d) ≡ 0 → Goes s c n i d n (i + 1)
     goes-step d e p = record { back = λ v f. record { leads = λ k h. scan-quiet d e k (omega arith) ∙ f .leads k h } }
@@ -67,7 +67,8 @@ module _ (s : List ℕ) (c : Config) (n i : ℕ) where
         → (k : ℕ) → k ≤ content-limit → extent 0 w d ≤ content-limit → scan-at s c n k i ≡ scan-at s d (n - 1) (tail 0 w) (i + 1)
     unfolding births tail peak
     scan-born d x y w e p l k h m =
-        scan-next s c n k i inside d (born x y ∷ w) e (omega arith) (omega arith) ∙ ap₂ (λ (q j : ℕ). scan-at s d q (tail 0 w) j) (omega arith) (omega arith)
+        scan-next s c n k i inside d (born x y ∷ w) e (omega arith) (omega arith)
+        ∙ ap₂ (λ (q j : ℕ). scan-at s d q (tail 0 w) j) (omega arith) (omega arith)
 
     pub stops-many : (d : Config) (x y : ℕ) (w : List Event) → step true c (getD s i 0) ≡ move d (born x y ∷ w) → n ≡ 0
         → extent 0 w d ≤ content-limit → Leads s c n i (bad 6 (node-offset s i))

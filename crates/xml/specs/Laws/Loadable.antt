@@ -1,7 +1,7 @@
 -- The tree of an accepted input is by the rules, within the limit and numbered in document order.
-use Prim.Native.Nat.{ℕ, zero, suc, _+_, _≤_, _<_, max}
-use mathlib.Core.Path.{_≡_, refl, sym, ap, ap₂, _∙_, subst}
-use mathlib.Core.Bool.{Bool, true, false, cond, not, _&&_, _||_, false≢true}
+use Prim.Native.Nat.{ℕ, zero, suc, _+_, _≤_, _<_}
+use mathlib.Core.Path.{_≡_, refl, sym, ap, ap₂, _∙_}
+use mathlib.Core.Bool.{Bool, true, false, cond, not, _&&_, false≢true}
 use mathlib.Core.List.{List, [], _∷_, _++_, map}
 use native.Mathlib.Omega.{arith}
 use native.Mathlib.Numerals.{add-one}
@@ -12,12 +12,12 @@ use Rattle.tree.specs.Lists.{every, has, distinct}
 use Rattle.tree.specs.Forest.{nil, node, rows}
 use Rattle.tree.specs.Content.{content-limit, attribute-kind, element-kind, text-byte, is-name, is-text, spells-name, allowed, takes}
 use Rattle.tree.specs.Content.{attributes-first, children-rule}
-use Rattle.tree.specs.Document.{Node, Document, Line, lines, numbers, top-kinds, ruled, rooted, legal}
+use Rattle.tree.specs.Document.{lines, numbers, top-kinds, ruled, legal}
 use Rattle.protocol.specs.Calls.{node-limit, ascending-from, loadable}
-use Rattle.xml.specs.Shape.{Label, Shape, element, attribute, text, size, longest, numbered, document}
+use Rattle.xml.specs.Shape.{Shape, size, longest, numbered, document}
 use Rattle.xml.specs.Grammar.{Name, text-node, Spells}
-use Rattle.xml.specs.Laws.Structure.{Spot, attributes, children, behind-text, Formed, formed-nil, formed-attribute, formed-text, formed-element}
-use Rattle.xml.specs.Laws.Structure.{no-text, no-attribute, FormedRoot, formed-root, both, left-of, right-of, spelled-formed}
+use Rattle.xml.specs.Laws.Structure.{Spot, attributes, children, behind-text, Formed, formed-nil, formed-attribute, formed-text}
+use Rattle.xml.specs.Laws.Structure.{formed-element, no-text, no-attribute, FormedRoot, formed-root, both, spelled-formed}
 
 -- numbers --------------------------------------------------------------------------------
 
@@ -42,7 +42,8 @@ unfolding rows numbered size from
 numbers-from p i nil = refl
 numbers-from p i (node a ks fs) =
     ap (λ (l : List ℕ). i ∷ l)
-    (map-append (λ r. r .it .number) (rows (λ a. a .number) (i ∷ p) (numbered (suc i) ks)) (rows (λ a. a .number) p (numbered (suc i + size ks) fs))
+    (map-append (λ r. r .it .number) (rows (λ a. a .number) (i ∷ p) (numbered (suc i) ks))
+    (rows (λ a. a .number) p (numbered (suc i + size ks) fs))
     ∙ ap₂ (λ (s t : List ℕ). s ++ t) (numbers-from (i ∷ p) (suc i) ks) (numbers-from p (suc i + size ks) fs)
     ∙ sym (from-append (suc i) (size ks) (size fs)))
 
@@ -86,7 +87,8 @@ first-of-none (k ∷ ks) h = go (eqb k attribute-kind) h
     go true h = absurd (false≢true h)
     go false h = h
 
-kinds-of : {p : Spot} {f : Shape} (i : ℕ) → Formed p f → (every (takes element-kind) (top-kinds (numbered i f)) ≡ true) × Kinds p (top-kinds (numbered i f))
+kinds-of : {p : Spot} {f : Shape} (i : ℕ) → Formed p f
+    → (every (takes element-kind) (top-kinds (numbered i f)) ≡ true) × Kinds p (top-kinds (numbered i f))
 unfolding takes numbered attributes-first
 kinds-of i (formed-nil {p = attributes seen}) = (refl, refl)
 kinds-of i (formed-nil {p = children}) = (refl, refl)
@@ -117,10 +119,12 @@ ruled-of i formed-nil l = refl
 ruled-of i (formed-attribute {a = a} c n h k r) l =
     let x = value-ruled (suc i) c k (omega arith) in
     both (both (both (name-fits a n (omega arith)) (x .1)) (x .0)) (ruled-of (suc i + size (text-node c)) r (omega arith))
-ruled-of i (formed-text {b = b} {c = c} h r) l = both (both (both (text-fits b c h (omega arith)) refl) refl) (ruled-of (suc i + size nil) r (omega arith))
+ruled-of i (formed-text {b = b} {c = c} h r) l =
+    both (both (both (text-fits b c h (omega arith)) refl) refl) (ruled-of (suc i + size nil) r (omega arith))
 ruled-of i (formed-element {m = m} {g = g} n h r) l =
     let x = kinds-of (suc i) h in
-    both (both (both (name-fits m n (omega arith)) (both (x .0) (x .1))) (ruled-of (suc i) h (omega arith))) (ruled-of (suc i + size g) r (omega arith))
+    both (both (both (name-fits m n (omega arith)) (both (x .0) (x .1))) (ruled-of (suc i) h (omega arith)))
+    (ruled-of (suc i + size g) r (omega arith))
 ruled-of i (no-text r) l = ruled-of i r l
 ruled-of i (no-attribute r) l = ruled-of i r l
 
@@ -133,15 +137,18 @@ document-ruled (formed-root {n = n} {f = f} h r) l =
 pub lines-length : (f : Shape) → length (lines (document f)) ≡ suc (size f)
 unfolding lines size
 lines-length f =
-    sym (length-map (lines (document f)) (λ r. r .it .number)) ∙ ap length (numbers-from [] 0 (node (record { kind = 1; content = [] }) f nil))
+    sym (length-map (lines (document f)) (λ r. r .it .number))
+    ∙ ap length (numbers-from [] 0 (node (record { kind = 1; content = [] }) f nil))
     ∙ length-from 0 (suc (size f + 0)) ∙ omega arith
 
 -- THE THEOREM
-pub spelled-loadable : {s : List ℕ} {f : Shape} → Spells s f → suc (size f) ≤ node-limit → longest f ≤ content-limit → loadable node-limit (document f) ≡ true
+pub spelled-loadable : {s : List ℕ} {f : Shape} → Spells s f → suc (size f) ≤ node-limit → longest f ≤ content-limit
+    → loadable node-limit (document f) ≡ true
 unfolding loadable legal lines size numbered
 spelled-loadable {s} {f} x few short =
     let p : numbers (lines (document f)) ≡ from 0 (suc (size f + 0)) = numbers-from [] 0 (node (record { kind = 1; content = [] }) f nil) in
     let d : distinct (numbers (lines (document f))) ≡ true = rw p (distinct-from 0 (suc (size f + 0))) in
     let a : ascending-from 0 (numbers (lines (document f))) ≡ true = rw p (ascending 0 (suc (size f + 0))) in
-    let l : leb (length (lines (document f))) node-limit ≡ true = le-leb (length (lines (document f))) node-limit (omega (arith, lines-length f)) in
+    let l : leb (length (lines (document f))) node-limit
+    ≡ true = le-leb (length (lines (document f))) node-limit (omega (arith, lines-length f)) in
     both (both (both (both refl (document-ruled (spelled-formed x) short)) d) l) a

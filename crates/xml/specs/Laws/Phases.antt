@@ -1,24 +1,24 @@
 -- Phases of the reading: before the root element nothing is told, and a reference that is begun tells one more byte.
-use Prim.Native.Nat.{ℕ, zero, suc, _+_, _≤_}
-use mathlib.Core.Path.{_≡_, refl, sym, ap, _∙_, subst}
-use mathlib.Core.Bool.{Bool, true, false, cond, _&&_, false≢true}
+use Prim.Native.Nat.{ℕ, suc, _+_, _≤_}
+use mathlib.Core.Path.{_≡_, refl}
+use mathlib.Core.Bool.{Bool, true, false, cond, false≢true}
 use mathlib.Core.List.{List, [], _∷_, _++_}
 use native.Mathlib.Omega.{arith}
 use Rattle.tree.specs.Content.{name-byte}
-use Rattle.xml.specs.Bytes.{used, blank, equals-sign}
+use Rattle.xml.specs.Bytes.{used}
 use Rattle.xml.specs.Grammar.{Name}
-use Rattle.xml.specs.Laws.Automaton.{Config, at-start, behind-first, prolog, behind-root, epilog, declaration, tag-name, behind-part, in-tag}
-use Rattle.xml.specs.Laws.Automaton.{before-equals, behind-equals, behind-slash, attribute-name, behind-quote, in-value, value-reference}
-use Rattle.xml.specs.Laws.Automaton.{content, behind-open, in-text, text-reference, end-name, Event, born, byte, closed, Move, stuck, move}
-use Rattle.xml.specs.Laws.Automaton.{step, Reads, stay, on}
+use Rattle.xml.specs.Laws.Automaton.{Config, at-start, behind-first, prolog, behind-root, epilog, declaration, tag-name, behind-part}
+use Rattle.xml.specs.Laws.Automaton.{in-tag, before-equals, behind-equals, behind-slash, attribute-name, behind-quote, in-value}
+use Rattle.xml.specs.Laws.Automaton.{value-reference, content, behind-open, in-text, text-reference, end-name, Event, closed, Move}
+use Rattle.xml.specs.Laws.Automaton.{stuck, move, step, Reads, stay, on}
 use Rattle.xml.specs.Laws.Transitions.{TagStep, tag-blank, tag-slash, tag-close, Step, s-start-blank, s-start-open, s-first-name}
-use Rattle.xml.specs.Laws.Transitions.{s-first-declaration, s-declaration-end, s-declaration-on, s-prolog-blank, s-prolog-open, s-root-name}
-use Rattle.xml.specs.Laws.Transitions.{s-tag-name, s-tag-name-end, s-behind, s-in-tag, s-in-tag-name, s-attribute, s-attribute-blank}
-use Rattle.xml.specs.Laws.Transitions.{s-attribute-equals, s-before-blank, s-before-equals, s-equals-blank, s-equals-quote, s-quote-byte}
-use Rattle.xml.specs.Laws.Transitions.{s-quote-reference, s-quote-end, s-value-byte, s-value-reference, s-value-end, s-value-word-end}
-use Rattle.xml.specs.Laws.Transitions.{s-value-word-on, s-slash, s-content-byte, s-content-reference, s-content-open, s-text-byte}
-use Rattle.xml.specs.Laws.Transitions.{s-text-reference, s-text-open, s-text-word-end, s-text-word-on, s-open-name, s-open-slash, s-end-byte}
-use Rattle.xml.specs.Laws.Transitions.{s-end-blank, s-end-close, s-epilog, step-is}
+use Rattle.xml.specs.Laws.Transitions.{s-first-declaration, s-declaration-end, s-declaration-on, s-prolog-blank, s-prolog-open}
+use Rattle.xml.specs.Laws.Transitions.{s-root-name, s-tag-name, s-tag-name-end, s-behind, s-in-tag, s-in-tag-name, s-attribute}
+use Rattle.xml.specs.Laws.Transitions.{s-attribute-blank, s-attribute-equals, s-before-blank, s-before-equals, s-equals-blank}
+use Rattle.xml.specs.Laws.Transitions.{s-equals-quote, s-quote-byte, s-quote-reference, s-quote-end, s-value-byte, s-value-reference}
+use Rattle.xml.specs.Laws.Transitions.{s-value-end, s-value-word-end, s-value-word-on, s-slash, s-content-byte, s-content-reference}
+use Rattle.xml.specs.Laws.Transitions.{s-content-open, s-text-byte, s-text-reference, s-text-open, s-text-word-end, s-text-word-on}
+use Rattle.xml.specs.Laws.Transitions.{s-open-name, s-open-slash, s-end-byte, s-end-blank, s-end-close, s-epilog, step-is}
 use Rattle.xml.specs.Laws.Counts.{peak, peak-least}
 use Rattle.xml.specs.Laws.Sound.{Rest, r-value-word, r-text-word}
 
@@ -132,7 +132,8 @@ quiet-step (s-end-blank h) = late
 quiet-step (s-end-close {ns = ns}) = late-by _ (closed-late ns)
 quiet-step (s-epilog h) = late
 
-pub quiet-run : {u : Bool} {c d : Config} {s : List ℕ} {v : List Event} → Reads u c s v d → is-early (phase d) ≡ true → (is-early (phase c) ≡ true) × (v ≡ [])
+pub quiet-run : {u : Bool} {c d : Config} {s : List ℕ} {v : List Event} → Reads u c s v d → is-early (phase d) ≡ true
+    → (is-early (phase c) ≡ true) × (v ≡ [])
 quiet-run stay h = (h, refl)
 quiet-run (on {d = a} {v = v} {w = w} k r) h = let x = quiet-run r h in go (is-early (phase a)) (quiet-step (step-is k)) (x .0) (x .1)
   where

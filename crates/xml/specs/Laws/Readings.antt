@@ -1,8 +1,8 @@
 -- Every input reads as one thing, and is accepted exactly if it is spelled within the limits.
-use Prim.Native.Nat.{ℕ, zero, suc, _≤_, _<_}
-use mathlib.Core.Path.{_≡_, refl, sym, ap, ap₂, _∙_, subst, pathJ}
-use mathlib.Core.Bool.{Bool, true, false, Bool-set}
-use mathlib.Core.List.{List, [], _∷_, _++_}
+use Prim.Native.Nat.{ℕ, suc, _≤_}
+use mathlib.Core.Path.{_≡_, refl, sym, ap, ap₂, subst, pathJ}
+use mathlib.Core.Bool.{true, false, Bool-set}
+use mathlib.Core.List.{List, [], _++_}
 use mathlib.Core.Logic.{_↔_}
 use native.Mathlib.Omega.{arith}
 use lib.ListN.{length, take, drop, take-append-drop}
@@ -11,8 +11,8 @@ use Rattle.tree.specs.Document.{Document}
 use Rattle.protocol.specs.Calls.{node-limit, loadable, Input, unreadable, stands-for}
 use Rattle.xml.specs.Shape.{Shape, size, longest, document}
 use Rattle.xml.specs.Grammar.{Parses, Spells}
-use Rattle.xml.specs.Reading.{input-limit, Viable, FaultWithin, wrong-byte, too-soon, too-long, long-content, many-nodes, Earlier}
-use Rattle.xml.specs.Reading.{ReadsWithin, ReadsAs, accepted, refused}
+use Rattle.xml.specs.Reading.{input-limit, FaultWithin, wrong-byte, too-soon, too-long, long-content, many-nodes, ReadsWithin}
+use Rattle.xml.specs.Reading.{ReadsAs, accepted, refused}
 use Rattle.xml.specs.Laws.Sound.{sound}
 use Rattle.xml.specs.Laws.Complete.{complete}
 use Rattle.xml.specs.Laws.Unique.{tell-unique, one-tree}

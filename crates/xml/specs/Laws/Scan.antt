@@ -1,7 +1,7 @@
 -- The judgement without the limit on the input, as a reader makes it, and that the limit can be applied afterwards.
 use Prim.Native.Nat.{ℕ, zero, suc, _+_, _-_, _≤_, _<_}
-use mathlib.Core.Path.{_≡_, refl, sym, ap, ap₂, _∙_, subst}
-use mathlib.Core.Bool.{Bool, true, false, cond, _&&_, false≢true}
+use mathlib.Core.Path.{_≡_, refl, sym, ap, _∙_}
+use mathlib.Core.Bool.{Bool, true, false, cond, _&&_}
 use mathlib.Core.List.{List, [], _∷_}
 use native.Mathlib.Omega.{arith}
 use lib.Dec.{leb, ltb}
@@ -10,9 +10,9 @@ use lib.Seq.{take-nil, drop-cons}
 use borrow.Author.Tests.{leb-true, leb-false, lt-leb, le-leb, lt-ltb, le-ltb, ltb-true, ltb-false}
 use Rattle.tree.specs.Content.{content-limit}
 use Rattle.xml.specs.Reading.{input-limit, opener, node-offset}
-use Rattle.xml.specs.Laws.Automaton.{Config, at-start, Event, Move, stuck, move, to, step}
-use Rattle.xml.specs.Laws.Counts.{births, tail, peak}
-use Rattle.xml.specs.Laws.Phases.{phase, is-over, pending}
+use Rattle.xml.specs.Laws.Automaton.{Config, at-start, Event, Move, stuck, move, step}
+use Rattle.xml.specs.Laws.Counts.{births, tail}
+use Rattle.xml.specs.Laws.Phases.{phase, is-over}
 use Rattle.xml.specs.Laws.Forces.{extent}
 use Rattle.xml.specs.Laws.Judge.{Verdict, fine, bad, weighed, judge-move, judge, byte-before, offset-before, offset-at, judgement}
 
@@ -68,11 +68,14 @@ limited-counted long b i many k u v h f g = go many (opener b) (leb input-limit 
         → cond (o && q) (bad 6 (i - 1)) (cond x (bad 4 i) (cond y (bad 5 i) (cond o (bad 6 i) u)))
         ≡ limited long (cond (o && q) (bad 6 (i - 1)) (cond y (bad 5 i) (cond o (bad 6 i) v)))
     go true true x e y = sym (limited-below long 6 (i - 1) (omega arith))
-    go true false true e true = let p : i ≡ input-limit = omega (arith, leb-true input-limit i e) in ap (bad 4) p ∙ sym (limited-at long 5 i (omega arith))
-    go true false true e false = let p : i ≡ input-limit = omega (arith, leb-true input-limit i e) in ap (bad 4) p ∙ sym (limited-at long 6 i (omega arith))
+    go true false true e true =
+        let p : i ≡ input-limit = omega (arith, leb-true input-limit i e) in ap (bad 4) p ∙ sym (limited-at long 5 i (omega arith))
+    go true false true e false =
+        let p : i ≡ input-limit = omega (arith, leb-true input-limit i e) in ap (bad 4) p ∙ sym (limited-at long 6 i (omega arith))
     go true false false e true = sym (limited-below long 5 i (leb-false input-limit i e))
     go true false false e false = sym (limited-below long 6 i (leb-false input-limit i e))
-    go false q true e true = let p : i ≡ input-limit = omega (arith, leb-true input-limit i e) in ap (bad 4) p ∙ sym (limited-at long 5 i (omega arith))
+    go false q true e true =
+        let p : i ≡ input-limit = omega (arith, leb-true input-limit i e) in ap (bad 4) p ∙ sym (limited-at long 5 i (omega arith))
     go false q true e false = let p : i ≡ input-limit = omega (arith, leb-true input-limit i e) in ap (bad 4) p ∙ sym (g p)
     go false q false e true = sym (limited-below long 5 i (leb-false input-limit i e))
     go false q false e false = f (leb-false input-limit i e)
@@ -86,7 +89,8 @@ judge-scan c n k b i (a ∷ l) (suc m) e h =
     let p : i + suc (length l) ≡ suc i + length l = omega arith in
     rw p (go (step true c a) (λ d n′ k′ s. judge-scan d n′ k′ a (suc i) l m (omega arith) s))
   where
-    past : (d : Config) (n′ k′ : ℕ) → i ≡ input-limit → limited (ltb input-limit (suc i + length l)) (scan d n′ k′ a (suc i) (take m l)) ≡ bad 4 input-limit
+    past : (d : Config) (n′ k′ : ℕ) → i ≡ input-limit
+        → limited (ltb input-limit (suc i + length l)) (scan d n′ k′ a (suc i) (take m l)) ≡ bad 4 input-limit
     past d n′ k′ q =
         let z : m ≡ 0 = omega arith in
         rw (z, lt-ltb input-limit (suc i + length l) (omega arith)) (limited-past (is-over (phase d)) n′ (suc i) (omega arith))
@@ -98,7 +102,8 @@ judge-scan c n k b i (a ∷ l) (suc m) e h =
         ≡ limited (ltb input-limit (suc i + length l)) (scan-move x n k b i (λ d n′ k′. scan d n′ k′ a (suc i) (take m l)))
     go stuck f = sym (limited-four (ltb input-limit (suc i + length l)) i h)
     go (move d v) f =
-        limited-counted (ltb input-limit (suc i + length l)) b i (ltb n (births v)) (extent k v d) (judge d (n - births v) (tail k v) a (suc i) l)
+        limited-counted (ltb input-limit (suc i + length l)) b i (ltb n (births v)) (extent k v d)
+        (judge d (n - births v) (tail k v) a (suc i) l)
         (scan d (n - births v) (tail k v) a (suc i) (take m l)) h (f d (n - births v) (tail k v)) (past d (n - births v) (tail k v))
 
 pub judgement-scan : (limit : ℕ) (s : List ℕ)
@@ -135,7 +140,8 @@ module _ (s : List ℕ) (c : Config) (n k i : ℕ) where
 
       pub scan-many : n < births v → extent k v d ≤ content-limit → scan-at s c n k i ≡ bad 6 (node-offset s i)
       unfolding scan-at scan
-      scan-many l m = rw (drop-cons s i 0 h, e, lt-ltb n (births v) l, le-ltb content-limit (extent k v d) m) (go (opener (byte-before s i)) refl)
+      scan-many l m =
+          rw (drop-cons s i 0 h, e, lt-ltb n (births v) l, le-ltb content-limit (extent k v d) m) (go (opener (byte-before s i)) refl)
         where
           go : (o : Bool) → opener (byte-before s i) ≡ o → cond o (bad 6 (i - 1)) (bad 6 i) ≡ bad 6 (node-offset s i)
           go true o = ap (bad 6) (sym (offset-before s i o .0))

@@ -1,17 +1,18 @@
 -- The children that a document of the grammar can have, and that its trees have them.
 use Prim.Native.Nat.{ℕ}
 use mathlib.Core.Path.{_≡_, refl, sym}
-use mathlib.Core.Bool.{Bool, true, false, not, _&&_, _||_, false≢true}
-use mathlib.Core.List.{List, [], _∷_, _++_}
+use mathlib.Core.Bool.{Bool, true, false, _&&_, _||_, false≢true}
+use mathlib.Core.List.{List, [], _∷_}
 use Rattle.tree.specs.Lists.{every}
 use Rattle.tree.specs.Forest.{nil, node}
-use Rattle.tree.specs.Content.{text-byte, name-start, name-byte, spells-name}
+use Rattle.tree.specs.Content.{text-byte, name-byte, spells-name}
 use Rattle.xml.specs.Bytes.{Quote, used, value-literal, text-literal}
 use Rattle.xml.specs.Shape.{Shape, element, attribute, text}
-use Rattle.xml.specs.Grammar.{Name, NameBytes, no-name-byte, name-byte-then, Named, name, Entity, entity-amp, entity-apos, entity-gt, entity-lt}
-use Rattle.xml.specs.Grammar.{entity-quot, Value, value-close, value-byte, value-entity, Chars, chars-end, chars-byte, chars-entity, text-node}
-use Rattle.xml.specs.Grammar.{Place, behind, spaced, inside, opened, Part, spacing, empty, full, more, attribute-part, text-part, markup}
-use Rattle.xml.specs.Grammar.{element-part, end-tag, Root, root, Parses, bare, declared-short, declared-long, Spells}
+use Rattle.xml.specs.Grammar.{Name, NameBytes, no-name-byte, name-byte-then, Named, name, Entity, entity-amp, entity-apos, entity-gt}
+use Rattle.xml.specs.Grammar.{entity-lt, entity-quot, Value, value-close, value-byte, value-entity, Chars, chars-end, chars-byte}
+use Rattle.xml.specs.Grammar.{chars-entity, text-node, Place, unspaced, spaced, inside, opened, Derives, spacing, empty, full, more}
+use Rattle.xml.specs.Grammar.{derive-attribute, derive-text, markup, derive-element, end-tag, Root, root, bare, declared-short}
+use Rattle.xml.specs.Grammar.{declared-long, Spells}
 
 -- where among the children of an element: among the attributes, those before named; behind them; behind a text
 pub data Spot : Type 0 where
@@ -21,10 +22,13 @@ pub data Spot : Type 0 where
 -- children that may stand from there on
 pub data Formed : Spot → Shape → Type 0 where
   formed-nil : {p : Spot} → Formed p nil
-  formed-attribute : {seen : List Name} {a : Name} (c : List ℕ) {f : Shape} → spells-name a ≡ true → used seen a ≡ false → every text-byte c ≡ true
+  formed-attribute : {seen : List Name} {a : Name} (c : List ℕ) {f : Shape} → spells-name a ≡ true → used seen a ≡ false
+      → every text-byte c ≡ true
       → Formed (attributes (a ∷ seen)) f → Formed (attributes seen) (node (attribute a) (text-node c) f)
-  formed-text : {b : ℕ} {c : List ℕ} {f : Shape} → every text-byte (b ∷ c) ≡ true → Formed behind-text f → Formed children (node (text (b ∷ c)) nil f)
-  formed-element : {m : Name} {g f : Shape} → spells-name m ≡ true → Formed (attributes []) g → Formed children f → Formed behind-text (node (element m) g f)
+  formed-text : {b : ℕ} {c : List ℕ} {f : Shape} → every text-byte (b ∷ c) ≡ true → Formed behind-text f
+      → Formed children (node (text (b ∷ c)) nil f)
+  formed-element : {m : Name} {g f : Shape} → spells-name m ≡ true → Formed (attributes []) g → Formed children f
+      → Formed behind-text (node (element m) g f)
   no-text : {f : Shape} → Formed behind-text f → Formed children f
   no-attribute : {seen : List Name} {f : Shape} → Formed children f → Formed (attributes seen) f
 
@@ -80,20 +84,20 @@ text-bytes (chars-byte {k = k} {b = b} h x) = both (literal-text k b h) (text-by
 text-bytes (chars-entity r x) = both (entity-byte r) (text-bytes x)
 
 abbrev spot : Place → Spot
-spot (behind n seen) = attributes seen
+spot (unspaced n seen) = attributes seen
 spot (spaced n seen) = attributes seen
 spot (inside n) = children
 spot (opened n) = behind-text
 
-parts : {p : Place} {s t : List ℕ} {f : Shape} → Part true p s f t → Formed (spot p) f
+parts : {p : Place} {s t : List ℕ} {f : Shape} → Derives true p s f t → Formed (spot p) f
 parts (spacing h p) = parts p
 parts empty = formed-nil
 parts (full p) = no-attribute (parts p)
 parts (more p) = parts p
-parts (attribute-part q {c = c} m k x y v p) = formed-attribute c (named m) k (value-bytes v) (parts p)
-parts (text-part x p) = formed-text (text-bytes x) (parts p)
+parts (derive-attribute q {c = c} m k x y v p) = formed-attribute c (named m) k (value-bytes v) (parts p)
+parts (derive-text x p) = formed-text (text-bytes x) (parts p)
 parts (markup p) = no-text (parts p)
-parts (element-part m p i) = formed-element (named m) (parts p) (parts i)
+parts (derive-element m p i) = formed-element (named m) (parts p) (parts i)
 parts (end-tag x) = formed-nil
 
 root-formed : {s : List ℕ} {f : Shape} → Root true s f → FormedRoot f

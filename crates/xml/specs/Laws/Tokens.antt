@@ -1,25 +1,23 @@
 -- Runs of blanks, names and words of a fixed set, in one go.
-use Prim.Native.Nat.{ℕ, zero, suc, _+_, _-_, _≤_, _<_, max}
-use mathlib.Core.Path.{_≡_, refl, sym, ap, ap₂, _∙_, subst}
-use mathlib.Core.Bool.{Bool, true, false, cond, false≢true}
+use Prim.Native.Nat.{ℕ, zero, suc, _+_, _≤_, _<_}
+use mathlib.Core.Path.{_≡_, refl, sym, ap, ap₂, _∙_}
+use mathlib.Core.Bool.{Bool, true, false, cond}
 use mathlib.Core.List.{List, [], _∷_, _++_, append-assoc, append-nil}
 use native.Mathlib.Omega.{arith}
 use native.Mathlib.Numerals.{add-one}
-use lib.Dec.{eqb}
 use lib.ListN.{length, take, drop, getD, length-drop, drop-of-length-le}
-use lib.Seq.{drop-cons, drop-drop, getD-drop}
-use borrow.Author.Tests.{eqb-true, eq-eqb}
-use Rattle.tree.specs.Content.{content-limit, name-start, name-byte}
+use lib.Seq.{drop-cons}
+use Rattle.tree.specs.Content.{content-limit, name-byte}
 use Rattle.xml.specs.Bytes.{blank}
 use Rattle.xml.specs.Grammar.{Name}
-use Rattle.xml.specs.Laws.Words.{Words, last, then, fork, Found, no-word, whole, begun, follow, chain}
-use Rattle.xml.specs.Laws.Automaton.{Config, Event, born, byte, Move, stuck, move, to, word-step, step}
+use Rattle.xml.specs.Laws.Words.{Words, Found, no-word, whole, begun, follow}
+use Rattle.xml.specs.Laws.Automaton.{Config, Event, byte, move, to, word-step, step}
 use Rattle.xml.specs.Laws.Counts.{births, tail, peak}
 use Rattle.xml.specs.Laws.Phases.{phase, is-over, pending}
 use Rattle.xml.specs.Laws.Forces.{extent}
-use Rattle.xml.specs.Laws.Judge.{Verdict, fine, bad}
+use Rattle.xml.specs.Laws.Judge.{Verdict, bad}
 use Rattle.xml.specs.Laws.Scan.{scan-at, scan-end, scan-stuck, scan-next}
-use Rattle.xml.specs.Laws.Goes.{Leads, Goes, goes-then, goes-same, goes-step, scan-byte, scan-full, scan-quiet}
+use Rattle.xml.specs.Laws.Goes.{Goes, goes-then, goes-same, goes-step, scan-byte, scan-full, scan-quiet}
 
 -- how many bytes pass a test before the first that does not
 unfoldable pub span : (ℕ → Bool) → List ℕ → ℕ
@@ -94,7 +92,8 @@ module _ (s : List ℕ) (c : Config) (n : ℕ) (f : (b : ℕ) → blank b ≡ tr
   goes-run (suc m) i h =
       let x = span-some blank s i m h in
       goes-then (goes-step s c n i (x .0) c (f (getD s i 0) (x .1)) p)
-      (goes-then (goes-same s c n (i + 1) (suc i) (add-one i)) (goes-then (goes-run m (suc i) (x .2)) (goes-same s c n (suc i + m) (i + suc m) (omega arith))))
+      (goes-then (goes-same s c n (i + 1) (suc i) (add-one i)) (goes-then (goes-run m (suc i) (x .2))
+      (goes-same s c n (suc i + m) (i + suc m) (omega arith))))
 
   pub goes-blanks : (i : ℕ) → Goes s c n i c n (i + span blank (drop i s))
   goes-blanks i = goes-run (span blank (drop i s)) i (omega arith)
@@ -130,14 +129,16 @@ module _ (s : List ℕ) (C : Name → Config) (n : ℕ) (f : Naming C) where
     run-length = span-go name-byte s a inside first
 
     pub name-short : span name-byte (drop a s) ≤ content-limit
-        → scan-at s (C (getD s a 0 ∷ [])) n 1 (a + 1) ≡ scan-at s (C (name-at s a)) n (span name-byte (drop a s)) (a + span name-byte (drop a s))
+        → scan-at s (C (getD s a 0 ∷ [])) n 1 (a + 1)
+        ≡ scan-at s (C (name-at s a)) n (span name-byte (drop a s)) (a + span name-byte (drop a s))
     unfolding name-at
     name-short h =
         let m = span name-byte (drop (suc a) s) in
         let u : suc a + m ≡ a + suc m = omega arith in
         let v : 1 + m ≡ suc m = omega arith in
         let x = name-run m (suc a) 1 (getD s a 0 ∷ []) (omega arith) (omega (arith, run-length)) in
-        rw (run-length, drop-cons s a 0 inside, add-one a) (x ∙ ap₂ (λ (k i : ℕ). scan-at s (C (getD s a 0 ∷ take m (drop (suc a) s))) n k i) v u)
+        rw (run-length, drop-cons s a 0 inside, add-one a) (x ∙ ap₂ (λ (k i : ℕ). scan-at s (C (getD s a 0 ∷ take m (drop (suc a) s))) n k
+        i) v u)
 
     pub name-long : content-limit < span name-byte (drop a s) → scan-at s (C (getD s a 0 ∷ [])) n 1 (a + 1) ≡ bad 5 (a + content-limit)
     unfolding births peak tail
@@ -147,7 +148,8 @@ module _ (s : List ℕ) (C : Name → Config) (n : ℕ) (f : Naming C) where
         let y = span-byte name-byte s content-limit a h in
         let u : suc a + 31 ≡ a + content-limit = omega arith in
         let b = getD s (a + content-limit) 0 in
-        let z = scan-full s (C p) n (a + content-limit) (y .0) (C (p ++ (b ∷ []))) (byte b ∷ []) (f .next p b (y .1)) refl content-limit (omega arith) in
+        let z = scan-full s (C p) n (a + content-limit) (y .0) (C (p ++ (b ∷ []))) (byte b ∷ []) (f .next p b (y .1)) refl content-limit
+        (omega arith) in
         rw (add-one a) (x ∙ ap (λ (i : ℕ). scan-at s (C p) n content-limit i) u ∙ z)
 
 -- words of a set ---------------------------------------------------------------------------

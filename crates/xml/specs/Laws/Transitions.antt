@@ -1,19 +1,19 @@
 -- The automaton's transitions as a relation, a line each, and that they are those of the function `step`.
 use Prim.Native.Nat.{ℕ, suc}
-use mathlib.Core.Path.{_≡_, refl, sym, ap, _∙_, subst}
-use mathlib.Core.Bool.{Bool, true, false, cond, not, _&&_, _||_, false≢true}
+use mathlib.Core.Path.{_≡_, refl, sym, subst}
+use mathlib.Core.Bool.{Bool, true, false, cond, _&&_, _||_, false≢true}
 use mathlib.Core.List.{List, [], _∷_, _++_}
-use lib.Dec.{eqb, leb}
+use lib.Dec.{eqb}
 use borrow.Author.Tests.{eqb-true, eq-eqb}
 use Rattle.tree.specs.Content.{element-kind, attribute-kind, text-kind, name-start, name-byte, text-byte}
-use Rattle.xml.specs.Bytes.{ampersand, slash, less-than, equals-sign, greater-than, quotation-mark, apostrophe, blank, Quote, double, single}
-use Rattle.xml.specs.Bytes.{mark, value-literal, text-literal, brackets, used}
+use Rattle.xml.specs.Bytes.{ampersand, slash, less-than, equals-sign, greater-than, quotation-mark, apostrophe, blank, Quote, double}
+use Rattle.xml.specs.Bytes.{single, mark, value-literal, text-literal, brackets, used}
 use Rattle.xml.specs.Grammar.{Name}
 use Rattle.xml.specs.Laws.Words.{Words, Found, no-word, whole, begun, follow, entities, declarations, fork-on}
-use Rattle.xml.specs.Laws.Automaton.{Config, at-start, behind-first, prolog, behind-root, epilog, declaration, tag-name, behind-part, in-tag}
-use Rattle.xml.specs.Laws.Automaton.{before-equals, behind-equals, behind-slash, attribute-name, behind-quote, in-value, value-reference}
-use Rattle.xml.specs.Laws.Automaton.{content, behind-open, in-text, text-reference, end-name, Event, born, byte, Move, stuck, move, to, depth}
-use Rattle.xml.specs.Laws.Automaton.{closed, tag-step, word-step, step}
+use Rattle.xml.specs.Laws.Automaton.{Config, at-start, behind-first, prolog, behind-root, epilog, declaration, tag-name, behind-part}
+use Rattle.xml.specs.Laws.Automaton.{in-tag, before-equals, behind-equals, behind-slash, attribute-name, behind-quote, in-value}
+use Rattle.xml.specs.Laws.Automaton.{value-reference, content, behind-open, in-text, text-reference, end-name, Event, born, byte}
+use Rattle.xml.specs.Laws.Automaton.{Move, stuck, move, to, depth, closed, tag-step, word-step, step}
 
 -- behind a name or a value in a start tag
 pub data TagStep (n : Name) (ns seen : List Name) : ℕ → Config → Type 0 where
@@ -31,10 +31,13 @@ pub data Step (u : Bool) : Config → ℕ → Config → List Event → Type 0 w
   s-prolog-blank : {b : ℕ} → blank b ≡ true → Step u prolog b prolog []
   s-prolog-open : Step u prolog less-than behind-root []
   s-root-name : {b : ℕ} → name-start b ≡ true → Step u behind-root b (tag-name [] (b ∷ [])) (born 1 element-kind ∷ byte b ∷ [])
-  s-tag-name : {ns : List Name} {p : Name} {b : ℕ} → name-byte b ≡ true → Step u (tag-name ns p) b (tag-name ns (p ++ (b ∷ []))) (byte b ∷ [])
-  s-tag-name-end : {ns : List Name} {p : Name} {b : ℕ} {d : Config} → name-byte b ≡ false → TagStep p ns [] b d → Step u (tag-name ns p) b d []
+  s-tag-name : {ns : List Name} {p : Name} {b : ℕ} → name-byte b ≡ true
+      → Step u (tag-name ns p) b (tag-name ns (p ++ (b ∷ []))) (byte b ∷ [])
+  s-tag-name-end : {ns : List Name} {p : Name} {b : ℕ} {d : Config} → name-byte b ≡ false → TagStep p ns [] b d
+      → Step u (tag-name ns p) b d []
   s-behind : {n : Name} {ns seen : List Name} {b : ℕ} {d : Config} → TagStep n ns seen b d → Step u (behind-part n ns seen) b d []
-  s-in-tag : {n : Name} {ns seen : List Name} {b : ℕ} {d : Config} → name-start b ≡ false → TagStep n ns seen b d → Step u (in-tag n ns seen) b d []
+  s-in-tag : {n : Name} {ns seen : List Name} {b : ℕ} {d : Config} → name-start b ≡ false → TagStep n ns seen b d
+      → Step u (in-tag n ns seen) b d []
   s-in-tag-name : {n : Name} {ns seen : List Name} {b : ℕ} → name-start b ≡ true
       → Step u (in-tag n ns seen) b (attribute-name n ns seen (b ∷ [])) (born (depth (n ∷ ns)) attribute-kind ∷ byte b ∷ [])
   s-attribute : {n p : Name} {ns seen : List Name} {b : ℕ} → name-byte b ≡ true
@@ -43,9 +46,11 @@ pub data Step (u : Bool) : Config → ℕ → Config → List Event → Type 0 w
       → Step u (attribute-name n ns seen p) b (before-equals n ns (p ∷ seen)) []
   s-attribute-equals : {n p : Name} {ns seen : List Name} → (u && used seen p) ≡ false
       → Step u (attribute-name n ns seen p) equals-sign (behind-equals n ns (p ∷ seen)) []
-  s-before-blank : {n : Name} {ns seen : List Name} {b : ℕ} → blank b ≡ true → Step u (before-equals n ns seen) b (before-equals n ns seen) []
+  s-before-blank : {n : Name} {ns seen : List Name} {b : ℕ} → blank b ≡ true
+      → Step u (before-equals n ns seen) b (before-equals n ns seen) []
   s-before-equals : {n : Name} {ns seen : List Name} → Step u (before-equals n ns seen) equals-sign (behind-equals n ns seen) []
-  s-equals-blank : {n : Name} {ns seen : List Name} {b : ℕ} → blank b ≡ true → Step u (behind-equals n ns seen) b (behind-equals n ns seen) []
+  s-equals-blank : {n : Name} {ns seen : List Name} {b : ℕ} → blank b ≡ true
+      → Step u (behind-equals n ns seen) b (behind-equals n ns seen) []
   s-equals-quote : {n : Name} {ns seen : List Name} (q : Quote) → Step u (behind-equals n ns seen) (mark q) (behind-quote n ns seen q) []
   s-quote-byte : {n : Name} {ns seen : List Name} {q : Quote} {b : ℕ} → value-literal q b ≡ true
       → Step u (behind-quote n ns seen q) b (in-value n ns seen q) (born (suc (depth (n ∷ ns))) text-kind ∷ byte b ∷ [])
@@ -54,7 +59,8 @@ pub data Step (u : Bool) : Config → ℕ → Config → List Event → Type 0 w
   s-quote-end : {n : Name} {ns seen : List Name} {q : Quote} → Step u (behind-quote n ns seen q) (mark q) (behind-part n ns seen) []
   s-value-byte : {n : Name} {ns seen : List Name} {q : Quote} {b : ℕ} → value-literal q b ≡ true
       → Step u (in-value n ns seen q) b (in-value n ns seen q) (byte b ∷ [])
-  s-value-reference : {n : Name} {ns seen : List Name} {q : Quote} → Step u (in-value n ns seen q) ampersand (value-reference n ns seen q entities) []
+  s-value-reference : {n : Name} {ns seen : List Name} {q : Quote}
+      → Step u (in-value n ns seen q) ampersand (value-reference n ns seen q entities) []
   s-value-end : {n : Name} {ns seen : List Name} {q : Quote} → Step u (in-value n ns seen q) (mark q) (behind-part n ns seen) []
   s-value-word-end : {n : Name} {ns seen : List Name} {q : Quote} {x : Words} {b k : ℕ} → follow x b ≡ whole k
       → Step u (value-reference n ns seen q x) b (in-value n ns seen q) (byte k ∷ [])
@@ -63,13 +69,17 @@ pub data Step (u : Bool) : Config → ℕ → Config → List Event → Type 0 w
   s-slash : {ns : List Name} → Step u (behind-slash ns) greater-than (closed ns) []
   s-content-byte : {n : Name} {ns : List Name} {b : ℕ} → text-literal 0 b ≡ true
       → Step u (content n ns) b (in-text n ns (brackets 0 b)) (born (depth (n ∷ ns)) text-kind ∷ byte b ∷ [])
-  s-content-reference : {n : Name} {ns : List Name} → Step u (content n ns) ampersand (text-reference n ns entities) (born (depth (n ∷ ns)) text-kind ∷ [])
+  s-content-reference : {n : Name} {ns : List Name}
+      → Step u (content n ns) ampersand (text-reference n ns entities) (born (depth (n ∷ ns)) text-kind ∷ [])
   s-content-open : {n : Name} {ns : List Name} → Step u (content n ns) less-than (behind-open n ns) []
-  s-text-byte : {n : Name} {ns : List Name} {k b : ℕ} → text-literal k b ≡ true → Step u (in-text n ns k) b (in-text n ns (brackets k b)) (byte b ∷ [])
+  s-text-byte : {n : Name} {ns : List Name} {k b : ℕ} → text-literal k b ≡ true
+      → Step u (in-text n ns k) b (in-text n ns (brackets k b)) (byte b ∷ [])
   s-text-reference : {n : Name} {ns : List Name} {k : ℕ} → Step u (in-text n ns k) ampersand (text-reference n ns entities) []
   s-text-open : {n : Name} {ns : List Name} {k : ℕ} → Step u (in-text n ns k) less-than (behind-open n ns) []
-  s-text-word-end : {n : Name} {ns : List Name} {x : Words} {b k : ℕ} → follow x b ≡ whole k → Step u (text-reference n ns x) b (in-text n ns 0) (byte k ∷ [])
-  s-text-word-on : {n : Name} {ns : List Name} {x y : Words} {b : ℕ} → follow x b ≡ begun y → Step u (text-reference n ns x) b (text-reference n ns y) []
+  s-text-word-end : {n : Name} {ns : List Name} {x : Words} {b k : ℕ} → follow x b ≡ whole k
+      → Step u (text-reference n ns x) b (in-text n ns 0) (byte k ∷ [])
+  s-text-word-on : {n : Name} {ns : List Name} {x y : Words} {b : ℕ} → follow x b ≡ begun y
+      → Step u (text-reference n ns x) b (text-reference n ns y) []
   s-open-name : {n : Name} {ns : List Name} {b : ℕ} → name-start b ≡ true
       → Step u (behind-open n ns) b (tag-name (n ∷ ns) (b ∷ [])) (born (depth (n ∷ ns)) element-kind ∷ byte b ∷ [])
   s-open-slash : {n : Name} {ns : List Name} → Step u (behind-open n ns) slash (end-name n ns n) []
@@ -95,7 +105,8 @@ on-tag : {u : Bool} {c : Config} (n : Name) (ns seen : List Name) (b : ℕ) → 
     → View u c b (tag-step n ns seen b)
 unfolding tag-step
 on-tag {u} {c} n ns seen b f = on-test b (blank b) (λ h. f _ (tag-blank h))
-    (λ _. fork-on (View u c b) (eqb b slash) (λ h. moved (f _ (subst (λ (a : ℕ). TagStep n ns seen a (behind-slash ns)) (sym (eqb-true b slash h)) tag-slash)))
+    (λ _. fork-on (View u c b) (eqb b slash) (λ h. moved (f _ (subst (λ (a : ℕ). TagStep n ns seen a (behind-slash ns))
+    (sym (eqb-true b slash h)) tag-slash)))
     (λ _. fork-on (View u c b) (eqb b greater-than)
     (λ h. moved (f _ (subst (λ (a : ℕ). TagStep n ns seen a (content n ns)) (sym (eqb-true b greater-than h)) tag-close)))
     (λ _. nowhere)))
@@ -130,7 +141,8 @@ view u (value-reference n ns seen q x) b = on-word b (follow x b) (λ k h. moved
 view u (behind-slash ns) b = on-byte b greater-than s-slash nowhere
 view u (content n ns) b =
     on-test b (text-literal 0 b) s-content-byte (λ _. on-byte b ampersand s-content-reference (on-byte b less-than s-content-open nowhere))
-view u (in-text n ns k) b = on-test b (text-literal k b) s-text-byte (λ _. on-byte b ampersand s-text-reference (on-byte b less-than s-text-open nowhere))
+view u (in-text n ns k) b =
+    on-test b (text-literal k b) s-text-byte (λ _. on-byte b ampersand s-text-reference (on-byte b less-than s-text-open nowhere))
 view u (text-reference n ns x) b = on-word b (follow x b) (λ k h. moved (s-text-word-end h)) (λ y h. moved (s-text-word-on h))
 view u (behind-open n ns) b = on-test b (name-start b) s-open-name (λ _. on-byte b slash s-open-slash nowhere)
 view u (end-name n ns []) b = on-test b (blank b) s-end-blank (λ _. on-byte b greater-than s-end-close nowhere)
@@ -166,7 +178,8 @@ tag-forth (tag-blank h) = rw h
 tag-forth tag-slash = refl
 tag-forth tag-close = refl
 
-pub tag-no-name : {n : Name} {ns seen : List Name} {b : ℕ} {d : Config} → TagStep n ns seen b d → (name-byte b ≡ false) × (name-start b ≡ false)
+pub tag-no-name : {n : Name} {ns seen : List Name} {b : ℕ} {d : Config} → TagStep n ns seen b d
+    → (name-byte b ≡ false) × (name-start b ≡ false)
 unfolding name-byte name-start
 tag-no-name (tag-blank {b = b} h) = blank-no-name b h
 tag-no-name tag-slash = (refl, refl)

@@ -1,13 +1,13 @@
 -- What the automaton tells determines the tree, so an input spells one tree at most.
-use Prim.Native.Nat.{ℕ, zero, suc, _<_}
-use mathlib.Core.Path.{_≡_, refl, sym, ap, ap₂, _∙_, subst}
+use Prim.Native.Nat.{ℕ, suc, _<_}
+use mathlib.Core.Path.{_≡_, refl, sym, ap₂, _∙_, subst}
 use mathlib.Core.Bool.{Bool}
-use mathlib.Core.List.{List, [], _∷_, _++_}
+use mathlib.Core.List.{List, [], _∷_}
 use native.Mathlib.Omega.{arith}
 use Rattle.tree.specs.Forest.{nil, node}
-use Rattle.xml.specs.Shape.{Label, Shape}
+use Rattle.xml.specs.Shape.{Shape}
 use Rattle.xml.specs.Grammar.{Parses}
-use Rattle.xml.specs.Laws.Automaton.{Config, at-start, epilog, Event, born, byte, step, move, Reads, stay, on, tell-bytes, tell}
+use Rattle.xml.specs.Laws.Automaton.{Config, Event, born, byte, move, Reads, stay, on, tell-bytes, tell}
 use Rattle.xml.specs.Laws.Complete.{complete}
 
 -- nothing, or a node above depth d

@@ -1,9 +1,8 @@
 -- The judgement is what the definitions say: the earliest fault, or none.
 use Prim.Native.Nat.{ℕ, zero, suc, _+_, _-_, _≤_, _<_, max}
-use mathlib.Core.Path.{_≡_, refl, sym, ap, ap₂, _∙_, subst}
+use mathlib.Core.Path.{_≡_, refl, sym, ap, _∙_, subst}
 use mathlib.Core.Bool.{Bool, true, false, cond, _&&_, false≢true}
 use mathlib.Core.List.{List, [], _∷_, _++_, append-nil}
-use mathlib.Core.Logic.{_⊎_, inl, inr}
 use native.Mathlib.Omega.{arith}
 use lib.Dec.{eqb, leb, ltb}
 use lib.ListN.{length, take, drop, getD, length-drop}
@@ -12,14 +11,14 @@ use borrow.Author.Tests.{leb-true, leb-false, ltb-true, ltb-false, eqb-true, eqb
 use Rattle.tree.specs.Content.{content-limit}
 use Rattle.xml.specs.Shape.{Shape, size, longest}
 use Rattle.xml.specs.Grammar.{Spells}
-use Rattle.xml.specs.Reading.{input-limit, Viable, LongContent, ManyNodes, Forces, FirstForced, opener, node-offset, FaultWithin, wrong-byte}
+use Rattle.xml.specs.Reading.{input-limit, Viable, LongContent, ManyNodes, FirstForced, opener, node-offset, FaultWithin, wrong-byte}
 use Rattle.xml.specs.Reading.{too-soon, too-long, long-content, many-nodes, Earlier}
-use Rattle.xml.specs.Laws.Automaton.{Config, at-start, epilog, Event, born, byte, Move, stuck, move, step, Reads, stay, on, tell}
+use Rattle.xml.specs.Laws.Automaton.{Config, at-start, epilog, Event, Move, stuck, move, step, Reads, stay, on, tell}
 use Rattle.xml.specs.Laws.Sound.{sound}
 use Rattle.xml.specs.Laws.Complete.{complete}
 use Rattle.xml.specs.Laws.Unique.{one-run}
 use Rattle.xml.specs.Laws.Counts.{births, tail, peak, births-append, tail-append, peak-append, size-told, longest-told}
-use Rattle.xml.specs.Laws.Phases.{phase, is-over, pending, over-epilog}
+use Rattle.xml.specs.Laws.Phases.{phase, is-over, over-epilog}
 use Rattle.xml.specs.Laws.Completions.{join, cut, read-viable, viable-read}
 use Rattle.xml.specs.Laws.Forces.{extent, many-forced, long-forced, few-free, short-free}
 use Rattle.xml.specs.Laws.Judge.{Verdict, fine, bad, weighed, judge-move, judge, byte-before, offset-before, offset-at, judgement}
@@ -135,7 +134,8 @@ module _ (limit : ℕ) where
       five-first (at-many h) f = record { offsets = f h; causes = λ e. omega arith }
       five-first (not-before h) f = record { offsets = omega arith; causes = λ e. omega arith }
 
-      six-first : {c j : ℕ} → Later s i c j → ¬ (FirstForced LongContent s i) → (FirstForced (ManyNodes limit) s i → i ≤ node-offset s i) → Earlier 6 i c j
+      six-first : {c j : ℕ} → Later s i c j → ¬ (FirstForced LongContent s i) → (FirstForced (ManyNodes limit) s i → i ≤ node-offset s i)
+          → Earlier 6 i c j
       six-first (after h k) g f = record { offsets = omega arith; causes = λ e. omega arith }
       six-first (at-wrong h) g f = absurd (h viable)
       six-first (at-limit h) g f = absurd (h inside below)
@@ -159,8 +159,10 @@ module _ (limit : ℕ) where
     none-before h f x (wrong-byte {i = j} k a b) = b (read-viable (clean (suc j) (omega arith) .2 .reads))
     none-before h f x (too-soon a b) = b f x
     none-before h f x (too-long k) = omega arith
-    none-before h f x (long-content {i = j} k) = let y = clean (suc j) (omega (arith, k .inside)) .2 in short-free (y .reads) (y .short) (k .forced)
-    none-before h f x (many-nodes {i = j} k) = let y = clean (suc j) (omega (arith, k .inside)) .2 in few-free (y .reads) some (y .few) (k .forced)
+    none-before h f x (long-content {i = j} k) =
+        let y = clean (suc j) (omega (arith, k .inside)) .2 in short-free (y .reads) (y .short) (k .forced)
+    none-before h f x (many-nodes {i = j} k) =
+        let y = clean (suc j) (omega (arith, k .inside)) .2 in few-free (y .reads) some (y .few) (k .forced)
 
     module _ (c : Config) (v : List Event) (w : Within s i c v) where
       ended : length s ≤ i → Means s (cond (is-over (phase c)) (fine (limit - suc (births v))) (bad 4 i))
@@ -203,7 +205,11 @@ module _ (limit : ℕ) where
 
         -- no transition
         no-step : step true c here ≡ stuck → Reported s 4 i
-        no-step h = (wrong-byte inside (read-viable (w .reads)) dead, λ c′ i′ x. four-first (later s i l m clean some x) (λ y. absurd (dead (y .viable))))
+        no-step h = (
+          wrong-byte inside (read-viable (w .reads)) dead,
+          λ c′ i′ x. four-first (later s i l m clean some x)
+              (λ y. absurd (dead (y .viable))),
+        )
           where
             moves : {d a : Config} {v′ : List Event} → c ≡ d → Reads true d (here ∷ []) v′ a → ⊥
             moves e (on k r) = let z : _≡_ {A = ℕ} 0 1 = cc in omega arith
@@ -257,8 +263,10 @@ module _ (limit : ℕ) where
           }
 
           -- a node too many is not certain, or begins here
-          many-here : (o q : Bool) → ltb left (births e) ≡ o → opener (byte-before s i) ≡ q → (o && q) ≡ false → FirstForced (ManyNodes limit) s i → i ≤ node-offset s i
-          many-here false q a b x y = absurd (few-free reads-next some (omega (arith, nodes-next, w .few, ltb-false left (births e) a)) (y .forced))
+          many-here : (o q : Bool) → ltb left (births e) ≡ o → opener (byte-before s i) ≡ q → (o && q) ≡ false
+              → FirstForced (ManyNodes limit) s i → i ≤ node-offset s i
+          many-here false q a b x y =
+              absurd (few-free reads-next some (omega (arith, nodes-next, w .few, ltb-false left (births e) a)) (y .forced))
           many-here true false a b x y = omega (arith, offset-at s i b)
           many-here true true a b x y = absurd (false≢true (sym x))
 
@@ -267,7 +275,8 @@ module _ (limit : ℕ) where
               let p : input-limit ≡ i = omega arith in
               (subst (FaultWithin limit s 4) p (too-long (omega arith)), λ c′ i′ z. four-first (later s i l m clean some z) f)
 
-          long-here : ltb content-limit (extent (tail 0 v) e d) ≡ true → i < input-limit → (FirstForced (ManyNodes limit) s i → i ≤ node-offset s i) → Reported s 5 i
+          long-here : ltb content-limit (extent (tail 0 v) e d) ≡ true → i < input-limit
+              → (FirstForced (ManyNodes limit) s i → i ≤ node-offset s i) → Reported s 5 i
           long-here k x f = (
             long-content (first-long (ltb-true content-limit (extent (tail 0 v) e d) k)),
             λ c′ i′ z. five-first (read-viable reads-next) inside x (later s i l m clean some z) f,
@@ -276,26 +285,31 @@ module _ (limit : ℕ) where
           stepped : (further : Verdict) → (Within s (suc i) d (v ++ e) → i < input-limit → Means s further)
               → Means s (weighed (byte-before s i) i (ltb left (births e)) (extent (tail 0 v) e d) further)
           stepped further f =
-              go (ltb left (births e)) refl (opener (byte-before s i)) refl (leb input-limit i) refl (ltb content-limit (extent (tail 0 v) e d)) refl
+              go (ltb left (births e)) refl (opener (byte-before s i)) refl (leb input-limit i) refl
+              (ltb content-limit (extent (tail 0 v) e d)) refl
             where
               go : (o : Bool) → ltb left (births e) ≡ o → (q : Bool) → opener (byte-before s i) ≡ q → (x : Bool) → leb input-limit i ≡ x
                   → (y : Bool) → ltb content-limit (extent (tail 0 v) e d) ≡ y
                   → Means s (cond (o && q) (bad 6 (i - 1)) (cond x (bad 4 i) (cond y (bad 5 i) (cond o (bad 6 i) further))))
               go true a true b x g y k =
-                  let p = offset-before s i b in
-                  (subst (FaultWithin limit s 6) (p .0) (many-nodes (first-many (omega (arith, ltb-true left (births e) a)))), λ c′ i′ z. six-before i (p .1) (later s i l m clean some z))
+                  let p = offset-before s i b in (
+                    subst (FaultWithin limit s 6) (p .0) (many-nodes (first-many (omega (arith, ltb-true left (births e) a)))),
+                    λ c′ i′ z. six-before i (p .1) (later s i l m clean some z),
+                  )
               go true a false b true g y k = long-input (leb-true input-limit i g) (many-here true false a b refl)
               go true a false b false g true k = long-here k (leb-false input-limit i g) (many-here true false a b refl)
               go true a false b false g false k = (
                 subst (FaultWithin limit s 6) (offset-at s i b) (many-nodes (first-many (omega (arith, ltb-true left (births e) a)))),
                 λ c′ i′ z. six-first (read-viable reads-next) inside (leb-false input-limit i g) (later s i l m clean some z)
-                    (λ x. short-free reads-next (omega (arith, extent-next, ltb-false content-limit (extent (tail 0 v) e d) k, w .short)) (x .forced))
+                    (λ x. short-free reads-next (omega (arith, extent-next, ltb-false content-limit (extent (tail 0 v) e d) k, w .short))
+                    (x .forced))
                     (many-here true false a b refl),
               )
               go false a q b true g y k = long-input (leb-true input-limit i g) (many-here false q a b refl)
               go false a q b false g true k = long-here k (leb-false input-limit i g) (many-here false q a b refl)
               go false a q b false g false k =
-                  f (within-next (omega (arith, w .few, ltb-false left (births e) a)) (ltb-false content-limit (extent (tail 0 v) e d) k)) (leb-false input-limit i g)
+                  f (within-next (omega (arith, w .few, ltb-false left (births e) a)) (ltb-false content-limit (extent (tail 0 v) e d) k))
+                  (leb-false input-limit i g)
 
   -- the whole ------------------------------------------------------------------------------
 
@@ -308,7 +322,8 @@ module _ (limit : ℕ) where
       go (greater k) = absurd (omega arith)
 
   module _ (some : 2 ≤ limit) where
-    judged : (s l : List ℕ) (i : ℕ) → drop i s ≡ l → i ≤ length s → i ≤ input-limit → Clean s i → (c : Config) (v : List Event) → Within s i c v
+    judged : (s l : List ℕ) (i : ℕ) → drop i s ≡ l → i ≤ length s → i ≤ input-limit → Clean s i → (c : Config) (v : List Event)
+        → Within s i c v
         → Means s (judge c (limit - suc (births v)) (tail 0 v) (byte-before s i) i l)
     unfolding judge
     judged s [] i p a m clean c v w = ended s i a m clean some c v w (omega (arith, ap length p, length-drop i s))
@@ -317,7 +332,8 @@ module _ (limit : ℕ) where
         let q : b ∷ l ≡ getD s i 0 ∷ drop (suc i) s = sym p ∙ drop-cons s i 0 inside in
         let e : b ≡ getD s i 0 = cc in
         let r : drop (suc i) s ≡ l = cc in
-        rw e (go inside (step true c (getD s i 0)) refl (λ d v′ w′ m′. judged s l (suc i) r (omega arith) m′ (clean-next s i d v′ clean w′) d v′ w′))
+        rw e (go inside (step true c (getD s i 0)) refl (λ d v′ w′ m′. judged s l (suc i) r (omega arith) m′ (clean-next s i d v′ clean w′)
+        d v′ w′))
       where
         go : i < length s → (x : Move) → step true c (getD s i 0) ≡ x
             → ((d : Config) (v′ : List Event) → Within s (suc i) d v′ → suc i ≤ input-limit
@@ -325,7 +341,8 @@ module _ (limit : ℕ) where
             → Means s (judge-move x (limit - suc (births v)) (tail 0 v) (byte-before s i) i (λ d n j. judge d n j (getD s i 0) (suc i) l))
         go inside stuck h f = no-step s i a m clean some c v w inside h
         go inside (move d e) h f =
-            stepped s i a m clean some c v w inside d e h (judge d (limit - suc (births v) - births e) (tail (tail 0 v) e) (getD s i 0) (suc i) l)
+            stepped s i a m clean some c v w inside d e h (judge d (limit - suc (births v) - births e) (tail (tail 0 v) e) (getD s i 0)
+            (suc i) l)
             (λ w′ m′. rw (left-next s i a m clean some c v w inside d e h, tail-append 0 v e) at (f d (v ++ e) w′ m′))
 
     -- THE THEOREM: what is judged is the earliest fault, or that there is none

@@ -1,6 +1,6 @@
 -- Finite sets of words, read a byte at a time: the entities and the declarations.
 use Prim.Native.Nat.{ℕ}
-use mathlib.Core.Path.{_≡_, refl, sym, ap, _∙_, subst}
+use mathlib.Core.Path.{_≡_, refl, _∙_, subst}
 use mathlib.Core.Bool.{Bool, true, false, cond}
 use mathlib.Core.List.{List, [], _∷_, _++_}
 use lib.Dec.{eqb}
@@ -147,7 +147,8 @@ entity-word entity-quot = word-other refl (word-other refl (word-other refl (wor
 
 -- the declarations -----------------------------------------------------------------
 
-chain-back : (w : List ℕ) {x : Words} {s t : List ℕ} {k : ℕ} → Word (chain w x) s t k → (P : List ℕ → Type 0) → ((u : List ℕ) → Word x u t k → P (w ++ u)) → P s
+chain-back : (w : List ℕ) {x : Words} {s t : List ℕ} {k : ℕ} → Word (chain w x) s t k → (P : List ℕ → Type 0)
+    → ((u : List ℕ) → Word x u t k → P (w ++ u)) → P s
 chain-back [] r P f = f _ r
 chain-back (b ∷ w) (word-then r) P f = chain-back w r (λ s. P (b ∷ s)) f
 
@@ -159,11 +160,13 @@ end-of : {a b : ℕ} {u t : List ℕ} {k : ℕ} → Word (last a b) u t k → u 
 end-of word-last = refl
 
 -- what holds of both declarations with t behind them holds of each word's <? and s
-pub word-declaration : {s t : List ℕ} {k : ℕ} (P : List ℕ → Type 0) → Word declarations s t k → P (short-declaration ++ t) → P (long-declaration ++ t)
+pub word-declaration : {s t : List ℕ} {k : ℕ} (P : List ℕ → Type 0) → Word declarations s t k → P (short-declaration ++ t)
+    → P (long-declaration ++ t)
     → P (less-than ∷ 63 ∷ s)
 word-declaration {s} {t} {k} P w short long = chain-back version w (λ s. P (less-than ∷ 63 ∷ s)) go
   where
-    go : (u : List ℕ) → Word (fork 63 (last greater-than 0) (chain encoding (last greater-than 0))) u t k → P (less-than ∷ 63 ∷ (version ++ u))
+    go : (u : List ℕ) → Word (fork 63 (last greater-than 0) (chain encoding (last greater-than 0))) u t k
+        → P (less-than ∷ 63 ∷ (version ++ u))
     go u (word-this x) = rw (end-of x) short
     go u (word-other h x) = chain-back encoding x (λ s. P (less-than ∷ 63 ∷ (version ++ s))) (λ v y. rw (end-of y) long)
 

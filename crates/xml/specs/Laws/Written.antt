@@ -1,25 +1,25 @@
 -- What is written is of the grammar, and spells the tree that was written.
-use Prim.Native.Nat.{ℕ, suc}
-use mathlib.Core.Path.{_≡_, refl, sym, ap, _∙_, subst}
-use mathlib.Core.Bool.{Bool, true, false, cond, not, _&&_, false≢true}
+use Prim.Native.Nat.{ℕ}
+use mathlib.Core.Path.{_≡_, refl}
+use mathlib.Core.Bool.{Bool, true, false, cond, false≢true}
 use mathlib.Core.List.{List, [], _∷_, _++_, append-assoc}
 use lib.Dec.{eqb}
 use borrow.Author.Tests.{eqb-true}
 use Rattle.tree.specs.Text.{bytes}
 use Rattle.tree.specs.Lists.{every}
-use Rattle.tree.specs.Forest.{nil, node}
+use Rattle.tree.specs.Forest.{node}
 use Rattle.tree.specs.Content.{name-start, name-byte, text-byte, spells-name}
-use Rattle.xml.specs.Bytes.{line-feed, less-than, greater-than, ampersand, quotation-mark, equals-sign, blank, used, double, value-literal}
-use Rattle.xml.specs.Bytes.{text-literal, brackets, long-declaration}
-use Rattle.xml.specs.Shape.{Shape, element, attribute, text}
-use Rattle.xml.specs.Grammar.{Name, Blanks, no-blank, blank-then, NameBytes, no-name-byte, name-byte-then, Named, name, entity-amp, entity-gt}
-use Rattle.xml.specs.Grammar.{entity-lt, entity-quot, Value, value-close, value-byte, value-entity, Chars, chars-end, chars-byte, chars-entity}
-use Rattle.xml.specs.Grammar.{text-node, behind, inside, opened, Part, spacing, empty, full, attribute-part, text-part, markup, element-part}
-use Rattle.xml.specs.Grammar.{end-tag, Root, root, declared-long, Spells}
+use Rattle.xml.specs.Bytes.{line-feed, less-than, greater-than, ampersand, quotation-mark, equals-sign, blank, used, double}
+use Rattle.xml.specs.Bytes.{value-literal, text-literal, brackets, long-declaration}
+use Rattle.xml.specs.Shape.{Shape, attribute}
+use Rattle.xml.specs.Grammar.{Name, Blanks, no-blank, blank-then, NameBytes, no-name-byte, name-byte-then, Named, name, entity-amp}
+use Rattle.xml.specs.Grammar.{entity-gt, entity-lt, entity-quot, Value, value-close, value-byte, value-entity, Chars, chars-end}
+use Rattle.xml.specs.Grammar.{chars-byte, chars-entity, text-node, unspaced, inside, opened, Derives, spacing, empty, full}
+use Rattle.xml.specs.Grammar.{derive-attribute, derive-text, markup, derive-element, end-tag, Root, root, declared-long, Spells}
 use Rattle.xml.specs.Writing.{escape, escaped, value, childless, contents}
 use Rattle.xml.specs.Writing as writing
-use Rattle.xml.specs.Laws.Structure.{Spot, attributes, children, behind-text, Formed, formed-nil, formed-attribute, formed-text, formed-element}
-use Rattle.xml.specs.Laws.Structure.{no-text, no-attribute, FormedRoot, formed-root, left-of, right-of}
+use Rattle.xml.specs.Laws.Structure.{Spot, attributes, children, behind-text, Formed, formed-nil, formed-attribute, formed-text}
+use Rattle.xml.specs.Laws.Structure.{formed-element, no-text, no-attribute, FormedRoot, formed-root, left-of, right-of}
 
 name-bytes : (r t : List ℕ) → every name-byte r ≡ true → NameBytes r (r ++ t) t
 name-bytes [] t h = no-name-byte
@@ -32,7 +32,8 @@ named (b ∷ r) t h = name (left-of (name-start b) _ h) (name-bytes r t (right-o
 -- an escaped byte, by the four that are written as entities
 escape-cases : (P : List ℕ → Type 0) (b : ℕ) → (b ≡ ampersand → P (escape ampersand)) → (b ≡ less-than → P (escape less-than))
     → (b ≡ greater-than → P (escape greater-than)) → (b ≡ quotation-mark → P (escape quotation-mark))
-    → (eqb b ampersand ≡ false → eqb b less-than ≡ false → eqb b greater-than ≡ false → eqb b quotation-mark ≡ false → P (b ∷ [])) → P (escape b)
+    → (eqb b ampersand ≡ false → eqb b less-than ≡ false → eqb b greater-than ≡ false → eqb b quotation-mark ≡ false → P (b ∷ []))
+    → P (escape b)
 escape-cases P b f g h k l = go (eqb b ampersand) refl (eqb b less-than) refl (eqb b greater-than) refl (eqb b quotation-mark) refl
   where
     at-byte : (c : ℕ) → b ≡ c → P (escape c) → P (escape b)
@@ -53,7 +54,8 @@ value-written (b ∷ c) t h =
     rw (append-assoc (escape b) (escaped c) (quotation-mark ∷ t))
     (go (left-of (text-byte b) _ h) (value-written c t (right-of (text-byte b) _ h)))
   where
-    go : text-byte b ≡ true → Value double (escaped c ++ (quotation-mark ∷ t)) t c → Value double (escape b ++ (escaped c ++ (quotation-mark ∷ t))) t (b ∷ c)
+    go : text-byte b ≡ true → Value double (escaped c ++ (quotation-mark ∷ t)) t c
+        → Value double (escape b ++ (escaped c ++ (quotation-mark ∷ t))) t (b ∷ c)
     go k v = escape-cases (λ l. Value double (l ++ (escaped c ++ (quotation-mark ∷ t))) t (b ∷ c)) b
         (λ e. rw e (value-entity entity-amp v)) (λ e. rw e (value-entity entity-lt v)) (λ e. rw e (value-entity entity-gt v))
         (λ e. rw e (value-entity entity-quot v))
@@ -66,7 +68,8 @@ text-written k (b ∷ c) t h =
     rw (append-assoc (escape b) (escaped c) (less-than ∷ t))
     (go (left-of (text-byte b) _ h) (λ j. text-written j c t (right-of (text-byte b) _ h)))
   where
-    go : text-byte b ≡ true → ((j : ℕ) → Chars j (escaped c ++ (less-than ∷ t)) t c) → Chars k (escape b ++ (escaped c ++ (less-than ∷ t))) t (b ∷ c)
+    go : text-byte b ≡ true → ((j : ℕ) → Chars j (escaped c ++ (less-than ∷ t)) t c)
+        → Chars k (escape b ++ (escaped c ++ (less-than ∷ t))) t (b ∷ c)
     go i v = escape-cases (λ l. Chars k (l ++ (escaped c ++ (less-than ∷ t))) t (b ∷ c)) b
         (λ e. rw e (chars-entity entity-amp (v 0))) (λ e. rw e (chars-entity entity-lt (v 0))) (λ e. rw e (chars-entity entity-gt (v 0)))
         (λ e. rw e (chars-entity entity-quot (v 0)))
@@ -84,9 +87,9 @@ ending-full n f t h = rw (h, append-assoc (contents f) (bytes "</" ++ (n ++ byte
 
 -- what is written from a spot on
 abbrev Good : Spot → Name → Shape → List ℕ → Type 0
-Good (attributes seen) n f t = Part true (behind n seen) (writing.attributes f ++ (ending n f ++ t)) f t
-Good children n f t = Part true (inside n) (contents f ++ close n t) f t
-Good behind-text n f t = (u : List ℕ) × (contents f ++ close n t ≡ less-than ∷ u) × Part true (opened n) u f t
+Good (attributes seen) n f t = Derives true (unspaced n seen) (writing.attributes f ++ (ending n f ++ t)) f t
+Good children n f t = Derives true (inside n) (contents f ++ close n t) f t
+Good behind-text n f t = (u : List ℕ) × (contents f ++ close n t ≡ less-than ∷ u) × Derives true (opened n) u f t
 
 -- behind the attributes there is none
 abbrev NoAttribute : Spot → Shape → Type 0
@@ -122,14 +125,16 @@ value-of [] = refl
 value-of (b ∷ c) = refl
 
 -- an attribute, then l and x
-attribute-written : (n a : Name) (seen : List Name) (c l x t : List ℕ) (f : Shape) → spells-name a ≡ true → used seen a ≡ false → every text-byte c ≡ true
-    → Part true (behind n (a ∷ seen)) (l ++ x) f t
-    → Part true (behind n seen) ((bytes " " ++ (a ++ (bytes "=\"" ++ (value (text-node c) ++ (bytes "\"" ++ l))))) ++ x) (node (attribute a) (text-node c) f) t
+attribute-written : (n a : Name) (seen : List Name) (c l x t : List ℕ) (f : Shape) → spells-name a ≡ true → used seen a ≡ false
+    → every text-byte c ≡ true
+    → Derives true (unspaced n (a ∷ seen)) (l ++ x) f t
+    → Derives true (unspaced n seen) ((bytes " " ++ (a ++ (bytes "=\"" ++ (value (text-node c) ++ (bytes "\"" ++ l))))) ++ x)
+    (node (attribute a) (text-node c) f) t
 unfolding blank
 attribute-written n a seen c l x t f i h k p =
     let q = append-assoc a (equals-sign ∷ quotation-mark ∷ (escaped c ++ (quotation-mark ∷ l))) x in
     let r = append-assoc (escaped c) (quotation-mark ∷ l) x in
-    rw (value-of c, q, r) (spacing refl (attribute-part double (named a _ i) h no-blank no-blank (value-written c (l ++ x) k) p))
+    rw (value-of c, q, r) (spacing refl (derive-attribute double (named a _ i) h no-blank no-blank (value-written c (l ++ x) k) p))
 
 written : {p : Spot} {f : Shape} (n : Name) (t : List ℕ) → Formed p f → Good p n f t
 unfolding writing.attributes contents
@@ -140,13 +145,13 @@ written n t (formed-attribute {seen = seen} {a = a} c {f = f} i h k r) =
     attribute-written n a seen c (writing.attributes f) (ending n f ++ t) t f i h k (written n t r)
 written n t (formed-text {b = b} {c = c} {f = f} h r) =
     let x = written n t r in
-    rw (append-assoc (escaped (b ∷ c)) (contents f) (close n t), x .1) (text-part (text-written 0 (b ∷ c) (x .0) h) (x .2))
+    rw (append-assoc (escaped (b ∷ c)) (contents f) (close n t), x .1) (derive-text (text-written 0 (b ∷ c) (x .0) h) (x .2))
 written n t (formed-element {m = m} {g = g} {f = f} i h r) =
     let later : List ℕ = contents f ++ close n t in
     let p = append-assoc m (writing.attributes g ++ (ending m g ++ contents f)) (close n t) in
     let q = append-assoc (writing.attributes g) (ending m g ++ contents f) (close n t) in
     let o = append-assoc (ending m g) (contents f) (close n t) in
-    (m ++ (writing.attributes g ++ (ending m g ++ later)), rw (p, q, o), element-part (named m _ i) (written m later h) (written n t r))
+    (m ++ (writing.attributes g ++ (ending m g ++ later)), rw (p, q, o), derive-element (named m _ i) (written m later h) (written n t r))
 written n t (no-text r) = let x = written n t r in rw (x .1) (markup (x .2))
 written n t (no-attribute {seen = seen} r) = written-last n seen t r (written n t r)
 
@@ -154,7 +159,7 @@ written n t (no-attribute {seen = seen} r) = written-last n seen t r (written n 
 pub written-root : {f : Shape} {s : List ℕ} → FormedRoot f → Blanks s (contents f) → Root true s f
 unfolding contents
 written-root (formed-root {n = n} {f = f} i r) b =
-    let x : Part true (behind n []) (writing.attributes f ++ (ending n f ++ [])) f [] = written n [] r in
+    let x : Derives true (unspaced n []) (writing.attributes f ++ (ending n f ++ [])) f [] = written n [] r in
     root b (named n _ i) x no-blank
 
 pub written-spells : {f : Shape} → FormedRoot f → Spells (long-declaration ++ (line-feed ∷ contents f)) f

@@ -4,15 +4,6 @@ use borrow.Author.Needs.{needs}
 use Rattle.measuring.proofs.names.follow.Statement.{statement}
 use Rattle.measuring.proofs.names.follow.Tie as tie
 
-enter-requires : tie.Need-enter-requires
-enter-requires c κs = search needs
-
-returns : tie.Need-returns
-returns c =
-    let c2 = c .before .before in
-    let c4 = c2 .before .before in
-    follow-attribute (sym (c4 .pre .5) ∙ c2 .if1 .taken) (c .enter .ensures)
-
 returns-2 : tie.Need-returns-2
 returns-2 c =
     let c3 = c .before .before .before in
@@ -24,4 +15,10 @@ returns-3 c =
     follow-other (c3 .pre .3) (c3 .pre .4) (λ e. c .before .if1 .left (c3 .pre .5 ∙ e)) (λ e. c .if2 .left (c3 .pre .5 ∙ e))
 
 pub follow-spec : {M : Type 1} → statement M
-follow-spec = tie.close (tie.spec enter-requires returns returns-2 returns-3)
+follow-spec =
+    tie.close
+    (tie.spec
+    (λ c κs. search needs)
+    (λ c. follow-attribute (sym (c .before .before .before .before .pre .5) ∙ c .before .before .if1 .taken) (c .enter .ensures))
+    returns-2
+    returns-3)

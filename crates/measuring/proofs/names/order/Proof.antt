@@ -5,15 +5,6 @@ use borrow.Author.Needs.{needs}
 use Rattle.measuring.proofs.names.order.Statement.{statement}
 use Rattle.measuring.proofs.names.order.Tie as tie
 
-content-requires : tie.Need-content-requires
-content-requires c κs = search needs
-
-content-requires-2 : tie.Need-content-requires-2
-content-requires-2 c κs = search needs
-
-agreement-requires : tie.Need-agreement-requires
-agreement-requires c κs = search needs
-
 returns : tie.Need-returns
 returns c =
     let c2 = c .before .before in
@@ -39,12 +30,6 @@ returns-3 c =
     ordered-by (c4 .content .ensures .0) (c3 .content2 .ensures .0)
     (order-longer _ _ (c2 .agreement .ensures .agrees)
     (omega (arith, c .before .if1 .left, c2 .agreement .ensures .most)) (omega (arith, c .if3 .taken)))
-
-shared-slice-read-if4 : tie.Need-shared-slice-read-if4
-shared-slice-read-if4 c = search needs
-
-shared-slice-read-if4-2 : tie.Need-shared-slice-read-if4-2
-shared-slice-read-if4-2 c = search needs
 
 returns-4 : tie.Need-returns-4
 returns-4 c =
@@ -73,13 +58,13 @@ pub order-spec : {M : Type 1} → statement M
 order-spec =
     tie.close
     (tie.spec
-    content-requires
-    content-requires-2
-    agreement-requires
+    (λ c κs. search needs)
+    (λ c κs. search needs)
+    (λ c κs. search needs)
     returns
     returns-2
     returns-3
-    shared-slice-read-if4
-    shared-slice-read-if4-2
+    (λ c. search needs)
+    (λ c. search needs)
     returns-4
     returns-5)

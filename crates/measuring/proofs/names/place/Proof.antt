@@ -18,25 +18,10 @@ Inv-loop s names count p low₀ high₀ low high =
 abbrev μ-loop : tie.MeasureT-loop
 μ-loop s names count p low₀ high₀ low high = high - low
 
-loop-holds : tie.Need-loop-holds Inv-loop μ-loop
-loop-holds c = (search needs, search needs, between-start _ _ _)
-
-add-middle : tie.Need-add-middle Inv-loop μ-loop
-add-middle c = search needs
-
-mul-other : tie.Need-mul-other Inv-loop μ-loop
-mul-other c = omega (arith, c .before .before .before .pre .2 .room)
-
-element-copy-out-other : tie.Need-element-copy-out-other Inv-loop μ-loop
-element-copy-out-other c = omega (arith, c .before .before .before .pre .2 .room)
-
 order-requires : tie.Need-order-requires Inv-loop μ-loop
 order-requires c κs =
     let c4 = c .before .before .before .before in
     (c4 .pre .0, c4 .pre .1, c4 .pre .2 .inside _ (search needs))
-
-enum-told : tie.Need-enum-told Inv-loop μ-loop
-enum-told c = search needs
 
 returns : tie.Need-returns Inv-loop μ-loop
 returns c =
@@ -44,12 +29,6 @@ returns c =
     let c5 = c2 .before .before .before in
     let c7 = c5 .before .before in
     turn-same (c7 .pre .3) (c5 .loop .inv .2) (search needs) (ordered-at _ _ _ (c2 .order .ensures)) (c .enum-told .given .1)
-
-enum-told-2 : tie.Need-enum-told-2 Inv-loop μ-loop
-enum-told-2 c = search needs
-
-loop-less : tie.Need-loop-less Inv-loop μ-loop
-loop-less c = omega arith
 
 loop-again : tie.Need-loop-again Inv-loop μ-loop
 loop-again c =
@@ -60,15 +39,6 @@ loop-again c =
       search needs,
       turn-before (c7 .pre .3) (c5 .loop .inv .2) (search needs) (ordered-at _ _ _ (c2 .order .ensures)) (c .enum-told2 .given .1),
     )
-
-enum-told-3 : tie.Need-enum-told-3 Inv-loop μ-loop
-enum-told-3 c = search needs
-
-add-low : tie.Need-add-low Inv-loop μ-loop
-add-low c = search needs
-
-loop-less-2 : tie.Need-loop-less-2 Inv-loop μ-loop
-loop-less-2 c = omega arith
 
 loop-again-2 : tie.Need-loop-again-2 Inv-loop μ-loop
 loop-again-2 c =
@@ -91,18 +61,18 @@ place-spec =
     (tie.spec
     Inv-loop
     μ-loop
-    loop-holds
-    add-middle
-    mul-other
-    element-copy-out-other
+    (λ c. (search needs, search needs, between-start _ _ _))
+    (λ c. search needs)
+    (λ c. omega (arith, c .before .before .before .pre .2 .room))
+    (λ c. omega (arith, c .before .before .before .pre .2 .room))
     order-requires
-    enum-told
+    (λ c. search needs)
     returns
-    enum-told-2
-    loop-less
+    (λ c. search needs)
+    (λ c. omega arith)
     loop-again
-    enum-told-3
-    add-low
-    loop-less-2
+    (λ c. search needs)
+    (λ c. search needs)
+    (λ c. omega arith)
     loop-again-2
     returns-2)

@@ -7,39 +7,12 @@ use borrow.Author.Needs.{needs}
 use Rattle.reader.proofs.Cursor.attribute.Statement.{statement}
 use Rattle.reader.proofs.Cursor.attribute.Tie as tie
 
-returns : tie.Need-returns
-returns c = enters-many (c .before .before .pre .0) (c .if1 .taken)
-
-name-requires : tie.Need-name-requires
-name-requires c κs = search needs
-
-sub-if2 : tie.Need-sub-if2
-sub-if2 c = search needs
-
-add-t16 : tie.Need-add-t16
-add-t16 c = search needs
-
-returns-2 : tie.Need-returns-2
-returns-2 c = enters-long (c .before .before .before .before .pre .0) (search needs) (c .before .name .ensures) (c .if2 .taken)
-
-enter-requires : tie.Need-enter-requires
-enter-requires c κs = search needs
-
 returns-3 : tie.Need-returns-3
 returns-3 c =
     let c4 = c .before .before .before .before in
     let enter = c .before .enter in
     enters-repeated (c4 .before .before .before .pre .0) (search needs) (c4 .name .ensures) (c .before .before .before .if2 .left)
     (enter .ensures .0) (enter .ensures .1) (not-true _ (c .if3 .taken))
-
-equals-requires : tie.Need-equals-requires
-equals-requires c κs = search needs
-
-enum-known-j : tie.Need-enum-known-j
-enum-known-j c = search needs
-
-enum-known-q : tie.Need-enum-known-q
-enum-known-q c = search needs
 
 sub-begin : tie.Need-sub-begin
 sub-begin c =
@@ -49,9 +22,6 @@ sub-begin c =
     let read = subst (λ (r : Equals). EqualsRead (args .s .now) (c9 .name .result .at) r) (c .before .before .q .given .1)
     (c4 .equals .ensures) in
     quoted-inside read .0
-
-sub-content : tie.Need-sub-content
-sub-content c = search needs
 
 content-requires : tie.Need-content-requires
 content-requires c κs =
@@ -88,18 +58,18 @@ pub attribute-spec : {M : Type 1} → statement M
 attribute-spec =
     tie.close
     (tie.spec
-    returns
-    name-requires
-    sub-if2
-    add-t16
-    returns-2
-    enter-requires
+    (λ c. enters-many (c .before .before .pre .0) (c .if1 .taken))
+    (λ c κs. search needs)
+    (λ c. search needs)
+    (λ c. search needs)
+    (λ c. enters-long (c .before .before .before .before .pre .0) (search needs) (c .before .name .ensures) (c .if2 .taken))
+    (λ c κs. search needs)
     returns-3
-    equals-requires
-    enum-known-j
-    enum-known-q
+    (λ c κs. search needs)
+    (λ c. search needs)
+    (λ c. search needs)
     sub-begin
-    sub-content
+    (λ c. search needs)
     content-requires
     returns-4
     returns-5)

@@ -1,19 +1,17 @@
-use Rattle.reader.specs.Laws.StartTags.{placed-at}
+use Rattle.reader.specs.Laws.StartTags.{placed-at, AttributesTo, attributes-start, attributes-wrong, attributes-open}
+use Rattle.reader.specs.Laws.StartTags.{attributes-empty, attributes-bad, attributes-turn, attribute-here, attribute-behind}
+use Rattle.reader.specs.Laws.StartTags.{attribute-entered, kept-same, kept-less}
 use Prim.Native.Nat.{_+_, _-_, _≤_}
 use mathlib.Core.Path.{_≡_, _∙_, subst}
 use native.Mathlib.Omega.{arith}
 use borrow.Author.Needs.{needs}
 use lib.ListN.{length}
 use Rattle.xml.specs.Laws.Automaton.{behind-part}
-use Rattle.reader.specs.declared.Part.{Part}
-use Rattle.reader.specs.declared.Read.{Read}
+use Rattle.reader.specs.declared.Item.{Item}
 use Rattle.reader.specs.Steps.{TagRead}
 use Rattle.ordering.specs.Sorted.{Increasing}
 use Rattle.ordering.specs.Laws.Sorted.{increasing-none}
-use Rattle.reader.specs.Elements.{Placed, Kept, attribute-names, AttributeEnters}
-use Rattle.reader.specs.Laws.StartTags.{AttributesTo, attributes-start, attributes-wrong, attributes-open, attributes-empty}
-use Rattle.reader.specs.Laws.StartTags.{attributes-bad, attributes-turn}
-use Rattle.reader.specs.Laws.StartTags.{attribute-here, attribute-behind, attribute-entered, kept-same, kept-less}
+use Rattle.reader.specs.Elements.{Placed, Kept, attribute-names}
 use Rattle.reader.proofs.Cursor.attributes.Statement.{statement}
 use Rattle.reader.proofs.Cursor.attributes.Tie as tie
 
@@ -39,64 +37,46 @@ loop-holds c =
       increasing-none _,
     )
 
-part-requires : tie.Need-part-requires Inv-loop μ-loop
-part-requires c κs = search needs
-
-enum-known-j : tie.Need-enum-known-j Inv-loop μ-loop
-enum-known-j c = search needs
-
 returns : tie.Need-returns Inv-loop μ-loop
 returns c =
     let args = c .before .before .before .before .before .before .args in
     let loop = c .before .before .before .before .loop in
-    let part = c .before .before .before .part in (
+    let item = c .before .before .before .item in (
       attributes-wrong _ _ _ _ _ _ _ _ (loop .inv .6) (loop .inv .0) (loop .inv .2)
-          (subst (λ (r : Part). TagRead (args .s .now) behind-part (loop .i) r) (c .before .j .given .1) (part .ensures)),
+          (subst (λ (r : Item). TagRead (args .s .now) behind-part (loop .i) r) (c .before .j .given .1) (item .ensures)),
       loop .inv .5,
     )
-
-enum-known-c : tie.Need-enum-known-c Inv-loop μ-loop
-enum-known-c c = search needs
 
 returns-2 : tie.Need-returns-2 Inv-loop μ-loop
 returns-2 c =
     let args = c .before .before .before .before .before .before .args in
     let loop = c .before .before .before .before .loop in
-    let part = c .before .before .before .part in (
+    let item = c .before .before .before .item in (
       attributes-open _ _ _ _ _ _ _ _ (loop .inv .6) (loop .inv .0) (loop .inv .2)
-          (subst (λ (r : Part). TagRead (args .s .now) behind-part (loop .i) r) (c .before .c .given .1) (part .ensures)),
+          (subst (λ (r : Item). TagRead (args .s .now) behind-part (loop .i) r) (c .before .c .given .1) (item .ensures)),
       loop .inv .5,
     )
-
-enum-known-c-2 : tie.Need-enum-known-c-2 Inv-loop μ-loop
-enum-known-c-2 c = search needs
 
 returns-3 : tie.Need-returns-3 Inv-loop μ-loop
 returns-3 c =
     let args = c .before .before .before .before .before .before .args in
     let loop = c .before .before .before .before .loop in
-    let part = c .before .before .before .part in (
+    let item = c .before .before .before .item in (
       attributes-empty _ _ _ _ _ _ _ _ (loop .inv .6) (loop .inv .0) (loop .inv .2)
-          (subst (λ (r : Part). TagRead (args .s .now) behind-part (loop .i) r) (c .before .c2 .given .1) (part .ensures)),
+          (subst (λ (r : Item). TagRead (args .s .now) behind-part (loop .i) r) (c .before .c2 .given .1) (item .ensures)),
       loop .inv .5,
     )
-
-enum-known-c-3 : tie.Need-enum-known-c-3 Inv-loop μ-loop
-enum-known-c-3 c = search needs
 
 attribute-requires : tie.Need-attribute-requires Inv-loop μ-loop
 attribute-requires c κs =
     let c5 = c .before .before .before .before .before in
     let loop = c5 .loop in (
-      attribute-here (c .before .before .before .before .part .ensures) (c .before .before .c3 .given .1) .0,
+      attribute-here (c .before .before .before .before .item .ensures) (c .before .before .c3 .given .1) .0,
       search needs,
       loop .inv .4,
       loop .inv .8,
       loop .inv .7,
     )
-
-enum-known-x : tie.Need-enum-known-x Inv-loop μ-loop
-enum-known-x c = search needs
 
 returns-4 : tie.Need-returns-4 Inv-loop μ-loop
 returns-4 c =
@@ -105,16 +85,10 @@ returns-4 c =
     let c8 = c6 .before .before in
     let inv = c8 .before .loop .inv in
     let read = c3 .attribute .ensures in (
-      attributes-bad _ _ _ _ _ _ _ _ (inv .6) (inv .0) (inv .2) (c8 .part .ensures)
+      attributes-bad _ _ _ _ _ _ _ _ (inv .6) (inv .0) (inv .2) (c8 .item .ensures)
           (c6 .c3 .given .1) read (c .before .x .given .1),
       kept-less _ _ _ _ _ (inv .5) (read .kept) (omega arith),
     )
-
-enum-known-next : tie.Need-enum-known-next Inv-loop μ-loop
-enum-known-next c = search needs
-
-add-count : tie.Need-add-count Inv-loop μ-loop
-add-count c = search needs
 
 loop-less : tie.Need-loop-less Inv-loop μ-loop
 loop-less c =
@@ -122,7 +96,7 @@ loop-less c =
     let c6 = c3 .before .before .before in
     let c8 = c6 .before .before in
     let inv = c8 .before .loop .inv in
-    let a = attribute-behind _ _ _ _ _ _ _ _ (inv .6) (inv .0) (inv .2) (c8 .part .ensures) (c6 .c3 .given .1)
+    let a = attribute-behind _ _ _ _ _ _ _ _ (inv .6) (inv .0) (inv .2) (c8 .item .ensures) (c6 .c3 .given .1)
     (c3 .attribute .ensures) (c .before .next .given .1) in
     omega (arith, a .0, a .1, a .2)
 
@@ -132,19 +106,19 @@ loop-again c =
     let c6 = c3 .before .before .before in
     let c8 = c6 .before .before in
     let inv = c8 .before .loop .inv in
-    let part = c8 .part .ensures in
+    let item = c8 .item .ensures in
     let read = c3 .attribute .ensures in
     let here = c6 .c3 .given .1 in
     let next = c .before .next .given .1 in
-    let a = attribute-behind _ _ _ _ _ _ _ _ (inv .6) (inv .0) (inv .2) part here read next in
-    let e = attribute-entered _ _ _ _ _ _ _ _ (inv .6) (inv .0) (inv .2) part here read next in (
+    let a = attribute-behind _ _ _ _ _ _ _ _ (inv .6) (inv .0) (inv .2) item here read next in
+    let e = attribute-entered _ _ _ _ _ _ _ _ (inv .6) (inv .0) (inv .2) item here read next in (
       omega (arith, a .0, a .1),
       a .2,
       omega (arith, a .3),
       omega (arith, a .3),
       placed-at _ _ _ _ (omega arith) (e .placed),
       kept-less _ _ _ _ _ (inv .5) (read .kept) (omega arith),
-      attributes-turn _ _ _ _ _ _ _ _ (inv .6) (inv .0) (inv .2) part here read next,
+      attributes-turn _ _ _ _ _ _ _ _ (inv .6) (inv .0) (inv .2) item here read next,
       read .kept .as-long ∙ inv .7,
       e .added .sorted,
     )
@@ -156,18 +130,18 @@ attributes-spec =
     Inv-loop
     μ-loop
     loop-holds
-    part-requires
-    enum-known-j
+    (λ c κs. search needs)
+    (λ c. search needs)
     returns
-    enum-known-c
+    (λ c. search needs)
     returns-2
-    enum-known-c-2
+    (λ c. search needs)
     returns-3
-    enum-known-c-3
+    (λ c. search needs)
     attribute-requires
-    enum-known-x
+    (λ c. search needs)
     returns-4
-    enum-known-next
-    add-count
+    (λ c. search needs)
+    (λ c. search needs)
     loop-less
     loop-again)

@@ -14,29 +14,11 @@ Inv-loop s i₀ i = (i ≤ length s) × Running blank s i₀ i
 abbrev μ-loop : tie.MeasureT-loop
 μ-loop s i₀ i = length s - i
 
-loop-holds : tie.Need-loop-holds Inv-loop μ-loop
-loop-holds c = (search needs, run-start _ _ _)
-
-shared-slice-read-b : tie.Need-shared-slice-read-b Inv-loop μ-loop
-shared-slice-read-b c = search needs
-
-is-blank-requires : tie.Need-is-blank-requires Inv-loop μ-loop
-is-blank-requires c κs = search needs
-
-add-i : tie.Need-add-i Inv-loop μ-loop
-add-i c = search needs
-
-loop-less : tie.Need-loop-less Inv-loop μ-loop
-loop-less c = search needs
-
 loop-again : tie.Need-loop-again Inv-loop μ-loop
 loop-again c =
     let l = c .before .before .before .before .loop in
     let is-blank = c .before .is-blank in
     (search needs, run-turn _ _ _ _ (l .inv .1) (search needs) (sym (is-blank .ensures) ∙ not-false _ (c .if1 .left)))
-
-returns : tie.Need-returns Inv-loop μ-loop
-returns c = run-end _ _ _ _ (c .before .loop .inv .1) (search needs) (search needs)
 
 returns-2 : tie.Need-returns-2 Inv-loop μ-loop
 returns-2 c =
@@ -50,11 +32,11 @@ blanks-spec =
     (tie.spec
     Inv-loop
     μ-loop
-    loop-holds
-    shared-slice-read-b
-    is-blank-requires
-    add-i
-    loop-less
+    (λ c. (search needs, run-start _ _ _))
+    (λ c. search needs)
+    (λ c κs. search needs)
+    (λ c. search needs)
+    (λ c. search needs)
     loop-again
-    returns
+    (λ c. run-end _ _ _ _ (c .before .loop .inv .1) (search needs) (search needs))
     returns-2)

@@ -7,8 +7,8 @@ use lib.ListN.{length, drop}
 use Rattle.xml.specs.Laws.Fixed.{entity-at}
 use Rattle.reader.specs.declared.Reference.{Reference}
 use Rattle.reader.specs.Steps.{Refers, one-byte, by-reference}
-use Rattle.reader.specs.Laws.Characters.{CharactersTo, characters-start, characters-end, characters-stop, characters-wrong, characters-full}
-use Rattle.reader.specs.Laws.Characters.{characters-lost, characters-turn, characters-reference, character-inside}
+use Rattle.reader.specs.Laws.Characters.{CharactersTo, characters-start, characters-end, characters-stop, characters-wrong}
+use Rattle.reader.specs.Laws.Characters.{characters-full, characters-lost, characters-turn, characters-reference, character-inside}
 use Rattle.reader.proofs.Cursor.characters.Statement.{statement}
 use Rattle.reader.proofs.Cursor.characters.Tie as tie
 
@@ -18,28 +18,17 @@ Inv-loop s stop spare i₀ count₀ k₀ i count k = (i₀ ≤ i) × (i ≤ leng
 abbrev μ-loop : tie.MeasureT-loop
 μ-loop s stop spare i₀ count₀ k₀ i count k = length s - i
 
-loop-holds : tie.Need-loop-holds Inv-loop μ-loop
-loop-holds c = (search needs, search needs, search needs, characters-start _ _ _ _)
-
-shared-slice-read-b : tie.Need-shared-slice-read-b Inv-loop μ-loop
-shared-slice-read-b c = search needs
-
-add-t16 : tie.Need-add-t16 Inv-loop μ-loop
-add-t16 c = search needs
-
 returns : tie.Need-returns Inv-loop μ-loop
 returns c =
     let loop = c .before .before .before .loop in
     characters-stop _ _ _ _ _ _ _ (loop .inv .3) (search needs) _ (loop .inv .0) (c .if1 .taken) (loop .inv .2) refl
 
-may-stand-requires : tie.Need-may-stand-requires Inv-loop μ-loop
-may-stand-requires c κs = search needs
-
 returns-2 : tie.Need-returns-2 Inv-loop μ-loop
 returns-2 c =
     let loop = c .before .before .before .before .before .loop in
     let if1 = c .before .before .if1 in
-    characters-wrong _ _ _ _ _ _ _ (loop .inv .3) (search needs) (if1 .left) (sym (c .before .may-stand .ensures) ∙ not-true _ (c .if2 .taken))
+    characters-wrong _ _ _ _ _ _ _ (loop .inv .3) (search needs) (if1 .left)
+    (sym (c .before .may-stand .ensures) ∙ not-true _ (c .if2 .taken))
 
 returns-3 : tie.Need-returns-3 Inv-loop μ-loop
 returns-3 c =
@@ -49,18 +38,6 @@ returns-3 c =
     let if2 = c .before .if2 in
     characters-full _ _ _ _ _ _ _ (loop .inv .3) (search needs) (if1 .left)
     (sym (may-stand .ensures) ∙ not-false _ (if2 .left)) (c .if3 .taken)
-
-add-i : tie.Need-add-i Inv-loop μ-loop
-add-i c = search needs
-
-add-count : tie.Need-add-count Inv-loop μ-loop
-add-count c = search needs
-
-brackets-after-requires : tie.Need-brackets-after-requires Inv-loop μ-loop
-brackets-after-requires c κs = search needs
-
-loop-less : tie.Need-loop-less Inv-loop μ-loop
-loop-less c = search needs
 
 loop-again : tie.Need-loop-again Inv-loop μ-loop
 loop-again c =
@@ -74,15 +51,6 @@ loop-again c =
           (characters-turn _ _ _ _ _ _ _ (loop .inv .3) (search needs) (c₄ .before .if1 .left) stands (search needs)
           (one-byte {c = record { at = loop .i + 1 }} (c .before .if4 .taken) refl)),
     )
-
-add-t12 : tie.Need-add-t12 Inv-loop μ-loop
-add-t12 c = search needs
-
-reference-requires : tie.Need-reference-requires Inv-loop μ-loop
-reference-requires c κs = search needs
-
-enum-known-j : tie.Need-enum-known-j Inv-loop μ-loop
-enum-known-j c = search needs
 
 returns-4 : tie.Need-returns-4 Inv-loop μ-loop
 returns-4 c =
@@ -98,12 +66,6 @@ returns-4 c =
     let r = subst (λ (r : Reference). Refers (args .s .now) (loop .i + 1) name r) (j .given .1) (reference .ensures) in
     characters-lost _ _ _ _ _ _ _ (loop .inv .3) (search needs) (c₇ .before .if1 .left) stands (search needs)
     (by-reference (if4 .left) r)
-
-enum-known-behind : tie.Need-enum-known-behind Inv-loop μ-loop
-enum-known-behind c = search needs
-
-add-count-2 : tie.Need-add-count-2 Inv-loop μ-loop
-add-count-2 c = search needs
 
 loop-less-2 : tie.Need-loop-less-2 Inv-loop μ-loop
 loop-less-2 c =
@@ -141,33 +103,30 @@ loop-again-2 c =
           (search needs) a r,
     )
 
-returns-5 : tie.Need-returns-5 Inv-loop μ-loop
-returns-5 c = characters-end _ _ _ _ _ _ _ (c .before .loop .inv .3) (search needs)
-
 pub characters-spec : {M : Type 1} → statement M
 characters-spec =
     tie.close
     (tie.spec
     Inv-loop
     μ-loop
-    loop-holds
-    shared-slice-read-b
-    add-t16
+    (λ c. (search needs, search needs, search needs, characters-start _ _ _ _))
+    (λ c. search needs)
+    (λ c. search needs)
     returns
-    may-stand-requires
+    (λ c κs. search needs)
     returns-2
     returns-3
-    add-i
-    add-count
-    brackets-after-requires
-    loop-less
+    (λ c. search needs)
+    (λ c. search needs)
+    (λ c κs. search needs)
+    (λ c. search needs)
     loop-again
-    add-t12
-    reference-requires
-    enum-known-j
+    (λ c. search needs)
+    (λ c κs. search needs)
+    (λ c. search needs)
     returns-4
-    enum-known-behind
-    add-count-2
+    (λ c. search needs)
+    (λ c. search needs)
     loop-less-2
     loop-again-2
-    returns-5)
+    (λ c. characters-end _ _ _ _ _ _ _ (c .before .loop .inv .3) (search needs)))

@@ -7,22 +7,14 @@ use borrow.Author.Needs.{needs}
 use Rattle.reader.proofs.Cursor.child.Statement.{statement}
 use Rattle.reader.proofs.Cursor.child.Tie as tie
 
-content-requires : tie.Need-content-requires
-content-requires c κs = search needs
-
-enum-known-x : tie.Need-enum-known-x
-enum-known-x c = search needs
-
-enum-known-c : tie.Need-enum-known-c
-enum-known-c c = search needs
-
 tag-requires : tie.Need-tag-requires
 tag-requires c κs =
     let a = c .before .before .before .before .before .before .args in
     let pre = c .before .before .before .before .before .before .pre in
     let content = c .before .before .before .before .content in
     let c-here = c .before .before .c in
-    behind-text (pre .1) (subst (λ (r : Read). ContentRead (a .s .now) less-than (a .self .at) (a .spare) r) (c-here .given .1) (content .ensures))
+    behind-text (pre .1) (subst (λ (r : Read). ContentRead (a .s .now) less-than (a .self .at) (a .spare) r) (c-here .given .1)
+    (content .ensures))
 
 returns : tie.Need-returns
 returns c =
@@ -39,8 +31,16 @@ returns-2 c =
     let content = c .before .before .before .before .before .content in
     let c-here = c .before .before .before .c in
     text-past (a .s .now) (a .names .now) (a .depth) (a .spare) (a .self .at) (pre .1) _
-    (subst (λ (r : Read). ContentRead (a .s .now) less-than (a .self .at) (a .spare) r) (c-here .given .1) (content .ensures)) (c .tag .ensures)
+    (subst (λ (r : Read). ContentRead (a .s .now) less-than (a .self .at) (a .spare) r) (c-here .given .1) (content .ensures))
+    (c .tag .ensures)
 
 pub child-spec : {M : Type 1} → statement M
 child-spec =
-    tie.close (tie.spec content-requires enum-known-x enum-known-c tag-requires returns returns-2)
+    tie.close
+    (tie.spec
+    (λ c κs. search needs)
+    (λ c. search needs)
+    (λ c. search needs)
+    tag-requires
+    returns
+    returns-2)

@@ -10,32 +10,11 @@ use borrow.Author.Needs.{needs}
 use Rattle.reader.proofs.Cursor.end.Statement.{statement}
 use Rattle.reader.proofs.Cursor.end.Tie as tie
 
-sub-from : tie.Need-sub-from
-sub-from c = search needs
-
-mul-from : tie.Need-mul-from
-mul-from c = search needs
-
-element-copy-out-from : tie.Need-element-copy-out-from
-element-copy-out-from c = search needs
-
-add-t10 : tie.Need-add-t10
-add-t10 c = search needs
-
 end-tag-requires : tie.Need-end-tag-requires
 end-tag-requires c κs =
     let pre = c .before .before .before .pre in
     let args = c .before .before .before .args in
     (search needs, pre .2 .names .placed (args .depth - 1) (omega (arith, pre .2 .some)))
-
-enum-known-j : tie.Need-enum-known-j
-enum-known-j c = search needs
-
-enum-known-c : tie.Need-enum-known-c
-enum-known-c c = search needs
-
-sub-t17 : tie.Need-sub-t17
-sub-t17 c = search needs
 
 returns : tie.Need-returns
 returns c =
@@ -61,13 +40,13 @@ pub end-spec : {M : Type 1} → statement M
 end-spec =
     tie.close
     (tie.spec
-    sub-from
-    mul-from
-    element-copy-out-from
-    add-t10
+    (λ c. search needs)
+    (λ c. search needs)
+    (λ c. search needs)
+    (λ c. search needs)
     end-tag-requires
-    enum-known-j
-    enum-known-c
-    sub-t17
+    (λ c. search needs)
+    (λ c. search needs)
+    (λ c. search needs)
     returns
     returns-2)

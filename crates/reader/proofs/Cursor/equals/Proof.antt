@@ -5,36 +5,12 @@ use borrow.Author.Needs.{needs}
 use Rattle.reader.proofs.Cursor.equals.Statement.{statement}
 use Rattle.reader.proofs.Cursor.equals.Tie as tie
 
-blanks-requires : tie.Need-blanks-requires
-blanks-requires c κs = search needs
-
-returns : tie.Need-returns
-returns c = sign-end _ _ _ (c .before .blanks .ensures) (c .if1 .taken)
-
-shared-slice-read-if2 : tie.Need-shared-slice-read-if2
-shared-slice-read-if2 c = search needs
-
-returns-2 : tie.Need-returns-2
-returns-2 c = sign-wrong _ _ _ (c .before .before .before .blanks .ensures) (c .before .before .if1 .left) (c .if2 .taken)
-
-add-if3 : tie.Need-add-if3
-add-if3 c = search needs
-
-blanks-requires-2 : tie.Need-blanks-requires-2
-blanks-requires-2 c κs = search needs
-
 returns-3 : tie.Need-returns-3
 returns-3 c =
     let blanks = c .before .before .before .before .before .blanks in
     let if1 = c .before .before .before .before .if1 in
     let if2 = c .before .before .if2 in
     quote-end _ _ _ (blanks .ensures) (if1 .left) (if2 .left) _ (c .before .blanks2 .ensures) (c .if3 .taken)
-
-shared-slice-read-b : tie.Need-shared-slice-read-b
-shared-slice-read-b c = search needs
-
-add-t14 : tie.Need-add-t14
-add-t14 c = search needs
 
 returns-4 : tie.Need-returns-4
 returns-4 c =
@@ -44,9 +20,6 @@ returns-4 c =
     let blanks2 = c .before .before .before .blanks2 in
     let if3 = c .before .before .if3 in
     quote-read _ _ _ (blanks .ensures) (if1 .left) (if2 .left) _ (blanks2 .ensures) (if3 .left) double _ (c .if4 .taken) refl
-
-add-t16 : tie.Need-add-t16
-add-t16 c = search needs
 
 returns-5 : tie.Need-returns-5
 returns-5 c =
@@ -70,16 +43,16 @@ pub equals-spec : {M : Type 1} → statement M
 equals-spec =
     tie.close
     (tie.spec
-    blanks-requires
-    returns
-    shared-slice-read-if2
-    returns-2
-    add-if3
-    blanks-requires-2
+    (λ c κs. search needs)
+    (λ c. sign-end _ _ _ (c .before .blanks .ensures) (c .if1 .taken))
+    (λ c. search needs)
+    (λ c. sign-wrong _ _ _ (c .before .before .before .blanks .ensures) (c .before .before .if1 .left) (c .if2 .taken))
+    (λ c. search needs)
+    (λ c κs. search needs)
     returns-3
-    shared-slice-read-b
-    add-t14
+    (λ c. search needs)
+    (λ c. search needs)
     returns-4
-    add-t16
+    (λ c. search needs)
     returns-5
     returns-6)

@@ -4,29 +4,10 @@ use borrow.Author.Needs.{needs}
 use Rattle.reader.proofs.Cursor.root.Statement.{statement}
 use Rattle.reader.proofs.Cursor.root.Tie as tie
 
-blanks-requires : tie.Need-blanks-requires
-blanks-requires c κs = search needs
-
-returns : tie.Need-returns
-returns c = root-over _ _ _ (c .before .blanks .ensures) (c .if1 .taken)
-
-shared-slice-read-if2 : tie.Need-shared-slice-read-if2
-shared-slice-read-if2 c = search needs
-
-returns-2 : tie.Need-returns-2
-returns-2 c = root-wrong _ _ _ (c .before .before .before .blanks .ensures) (c .before .before .if1 .left) (c .if2 .taken)
-
-add-name : tie.Need-add-name
-add-name c = search needs
-
 returns-3 : tie.Need-returns-3
-returns-3 c = name-over _ _ _ (c .before .before .before .before .blanks .ensures) (c .before .before .before .if1 .left) (c .before .if2 .left) (c .if3 .taken)
-
-shared-slice-read-b : tie.Need-shared-slice-read-b
-shared-slice-read-b c = search needs
-
-name-start-requires : tie.Need-name-start-requires
-name-start-requires c κs = search needs
+returns-3 c =
+    name-over _ _ _ (c .before .before .before .before .blanks .ensures) (c .before .before .before .if1 .left) (c .before .if2 .left)
+    (c .if3 .taken)
 
 returns-4 : tie.Need-returns-4
 returns-4 c =
@@ -48,13 +29,13 @@ pub root-spec : {M : Type 1} → statement M
 root-spec =
     tie.close
     (tie.spec
-    blanks-requires
-    returns
-    shared-slice-read-if2
-    returns-2
-    add-name
+    (λ c κs. search needs)
+    (λ c. root-over _ _ _ (c .before .blanks .ensures) (c .if1 .taken))
+    (λ c. search needs)
+    (λ c. root-wrong _ _ _ (c .before .before .before .blanks .ensures) (c .before .before .if1 .left) (c .if2 .taken))
+    (λ c. search needs)
     returns-3
-    shared-slice-read-b
-    name-start-requires
+    (λ c. search needs)
+    (λ c κs. search needs)
     returns-4
     returns-5)

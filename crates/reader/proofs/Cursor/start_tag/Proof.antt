@@ -6,21 +6,6 @@ use borrow.Author.Needs.{needs}
 use Rattle.reader.proofs.Cursor.start_tag.Statement.{statement}
 use Rattle.reader.proofs.Cursor.start_tag.Tie as tie
 
-mul-names : tie.Need-mul-names
-mul-names c = search needs
-
-element-write-names : tie.Need-element-write-names
-element-write-names c = search needs
-
-name-requires : tie.Need-name-requires
-name-requires c κs = search needs
-
-sub-if1 : tie.Need-sub-if1
-sub-if1 c = search needs
-
-add-t12 : tie.Need-add-t12
-add-t12 c = search needs
-
 returns : tie.Need-returns
 returns c =
     let a = c .before .before .before .before .args in
@@ -30,9 +15,6 @@ returns c =
       kept-set _ _ _ _ _ (kept-same _ _) (search needs),
       getD-set-same (a .names .now) (a .depth) (a .self .at) 0 (omega (arith, pre .3)),
     )
-
-add-attributes : tie.Need-add-attributes
-add-attributes c = search needs
 
 attributes-requires : tie.Need-attributes-requires
 attributes-requires c κs =
@@ -46,20 +28,22 @@ returns-2 c =
     let name = c .before .before .before .before .name in
     let if1 = c .before .before .if1 in (
       element-rest _ _ _ _ (pre .0) (name .ensures) (if1 .left) (c .attributes .ensures .0),
-      kept-less _ _ _ _ _ (kept-set _ _ _ (a .depth) (a .self .at) (kept-same _ _) (search needs)) (c .attributes .ensures .1) (omega arith),
-      c .attributes .ensures .1 .kept (a .depth) (omega arith) ∙ getD-set-same (a .names .now) (a .depth) (a .self .at) 0 (omega (arith, pre .3)),
+      kept-less _ _ _ _ _ (kept-set _ _ _ (a .depth) (a .self .at) (kept-same _ _) (search needs)) (c .attributes .ensures .1)
+          (omega arith),
+      c .attributes .ensures .1 .kept (a .depth) (omega arith)
+          ∙ getD-set-same (a .names .now) (a .depth) (a .self .at) 0 (omega (arith, pre .3)),
     )
 
 pub start-tag-spec : {M : Type 1} → statement M
 start-tag-spec =
     tie.close
     (tie.spec
-    mul-names
-    element-write-names
-    name-requires
-    sub-if1
-    add-t12
+    (λ c. search needs)
+    (λ c. search needs)
+    (λ c κs. search needs)
+    (λ c. search needs)
+    (λ c. search needs)
     returns
-    add-attributes
+    (λ c. search needs)
     attributes-requires
     returns-2)

@@ -15,18 +15,6 @@ returns c =
     let pre = c .before .before .pre in
     tag-end (a .s .now) (a .names .now) (a .depth) (a .spare) (a .self .at) (pre .1) (c .if1 .taken)
 
-shared-slice-read-b : tie.Need-shared-slice-read-b
-shared-slice-read-b c = search needs
-
-end-requires : tie.Need-end-requires
-end-requires c κs = search needs
-
-returns-2 : tie.Need-returns-2
-returns-2 c = search needs
-
-name-start-requires : tie.Need-name-start-requires
-name-start-requires c κs = search needs
-
 returns-3 : tie.Need-returns-3
 returns-3 c =
     let a = c .before .before .before .before .before .before .args in
@@ -37,9 +25,6 @@ returns-3 c =
     tag-wrong (a .s .now) (a .names .now) (a .depth) (a .spare) (a .self .at) (pre .1) (if1 .left) (if2 .left)
     (sym (name-start .ensures) ∙ not-true _ (c .if3 .taken))
 
-sub-t20 : tie.Need-sub-t20
-sub-t20 c = search needs
-
 returns-4 : tie.Need-returns-4
 returns-4 c =
     let a = c .before .before .before .before .before .before .before .args in
@@ -49,9 +34,6 @@ returns-4 c =
     let if3 = c .before .if3 in
     start-many (a .s .now) (a .names .now) (a .depth) (a .spare) (a .self .at) (pre .1) (if1 .left)
     (sym (name-start .ensures) ∙ not-false _ (if3 .left)) (pre .0) (c .if4 .taken)
-
-sub-start-tag : tie.Need-sub-start-tag
-sub-start-tag c = search needs
 
 start-tag-requires : tie.Need-start-tag-requires
 start-tag-requires c κs =
@@ -67,18 +49,6 @@ start-tag-requires c κs =
       d .long,
     )
 
-enum-known-c : tie.Need-enum-known-c
-enum-known-c c = search needs
-
-add-t24 : tie.Need-add-t24
-add-t24 c = search needs
-
-enum-known-c-2 : tie.Need-enum-known-c-2
-enum-known-c-2 c = search needs
-
-enum-known-x : tie.Need-enum-known-x
-enum-known-x c = search needs
-
 returns-5 : tie.Need-returns-5
 returns-5 c =
     let a = c .before .before .before .before .before .before .before .before .before .before .before .before .args in
@@ -88,7 +58,8 @@ returns-5 c =
     let if3 = c .before .before .before .before .before .before .if3 in
     let if4 = c .before .before .before .before .before .if4 in
     let start-tag = c .before .before .before .start-tag in
-    start-opened (a .s .now) (a .names .now) (a .depth) (a .spare) (a .self .at) (pre .1) (if1 .left) (sym (name-start .ensures) ∙ not-false _ (if3 .left))
+    start-opened (a .s .now) (a .names .now) (a .depth) (a .spare) (a .self .at) (pre .1) (if1 .left)
+    (sym (name-start .ensures) ∙ not-false _ (if3 .left))
     (search needs) _ (start-tag .ensures .1) (start-tag .ensures .2)
     (subst (λ (r : Tag). ElementRead (a .s .now) (a .self .at) (a .spare - 1) r) (c .before .c .given .1) (start-tag .ensures .0))
 
@@ -101,7 +72,8 @@ returns-6 c =
     let if3 = c .before .before .before .before .before .before .if3 in
     let if4 = c .before .before .before .before .before .if4 in
     let start-tag = c .before .before .before .start-tag in
-    start-emptied (a .s .now) (a .names .now) (a .depth) (a .spare) (a .self .at) (pre .1) (if1 .left) (sym (name-start .ensures) ∙ not-false _ (if3 .left))
+    start-emptied (a .s .now) (a .names .now) (a .depth) (a .spare) (a .self .at) (pre .1) (if1 .left)
+    (sym (name-start .ensures) ∙ not-false _ (if3 .left))
     (search needs) _ (start-tag .ensures .1)
     (subst (λ (r : Tag). ElementRead (a .s .now) (a .self .at) (a .spare - 1) r) (c .before .c2 .given .1) (start-tag .ensures .0))
 
@@ -114,7 +86,8 @@ returns-7 c =
     let if3 = c .before .before .before .before .before .before .if3 in
     let if4 = c .before .before .before .before .before .if4 in
     let start-tag = c .before .before .before .start-tag in
-    start-broken (a .s .now) (a .names .now) (a .depth) (a .spare) (a .self .at) (pre .1) (if1 .left) (sym (name-start .ensures) ∙ not-false _ (if3 .left))
+    start-broken (a .s .now) (a .names .now) (a .depth) (a .spare) (a .self .at) (pre .1) (if1 .left)
+    (sym (name-start .ensures) ∙ not-false _ (if3 .left))
     (search needs) _ (start-tag .ensures .1)
     (subst (λ (r : Tag). ElementRead (a .s .now) (a .self .at) (a .spare - 1) r) (c .before .x .given .1) (start-tag .ensures .0))
 
@@ -123,19 +96,19 @@ tag-spec =
     tie.close
     (tie.spec
     returns
-    shared-slice-read-b
-    end-requires
-    returns-2
-    name-start-requires
+    (λ c. search needs)
+    (λ c κs. search needs)
+    (λ c. search needs)
+    (λ c κs. search needs)
     returns-3
-    sub-t20
+    (λ c. search needs)
     returns-4
-    sub-start-tag
+    (λ c. search needs)
     start-tag-requires
-    enum-known-c
-    add-t24
-    enum-known-c-2
-    enum-known-x
+    (λ c. search needs)
+    (λ c. search needs)
+    (λ c. search needs)
+    (λ c. search needs)
     returns-5
     returns-6
     returns-7)

@@ -7,30 +7,6 @@ use borrow.Author.Needs.{needs}
 use Rattle.reader.proofs.names.order.Statement.{statement}
 use Rattle.reader.proofs.names.order.Tie as tie
 
-sub-word : tie.Need-sub-word
-sub-word c = search needs
-
-part-word-start : tie.Need-part-word-start
-part-word-start c = search needs
-
-part-word-end : tie.Need-part-word-end
-part-word-end c = search needs
-
-agreement-requires : tie.Need-agreement-requires
-agreement-requires c κs = search needs
-
-add-peek : tie.Need-add-peek
-add-peek c = search needs
-
-peek-requires : tie.Need-peek-requires
-peek-requires c κs = search needs
-
-name-byte-requires : tie.Need-name-byte-requires
-name-byte-requires c κs = search needs
-
-sub-if1 : tie.Need-sub-if1
-sub-if1 c = search needs
-
 returns : tie.Need-returns
 returns c =
     let c2 = c .before .before in
@@ -57,12 +33,6 @@ returns-3 c =
     let c7 = c4 .before .before .before in
     name-shorter (c7 .args .s .now) _ _ _ _ (c7 .pre .2) (c4 .agreement .ensures) (c .before .if1 .left)
     (ap name-byte (sym (c3 .peek .ensures)) ∙ sym (c2 .name-byte .ensures) ∙ not-true _ (c .if3 .taken))
-
-add-if4 : tie.Need-add-if4
-add-if4 c = search needs
-
-shared-slice-read-if4 : tie.Need-shared-slice-read-if4
-shared-slice-read-if4 c = search needs
 
 returns-4 : tie.Need-returns-4
 returns-4 c =
@@ -92,18 +62,18 @@ pub order-spec : {M : Type 1} → statement M
 order-spec =
     tie.close
     (tie.spec
-    sub-word
-    part-word-start
-    part-word-end
-    agreement-requires
-    add-peek
-    peek-requires
-    name-byte-requires
-    sub-if1
+    (λ c. search needs)
+    (λ c. search needs)
+    (λ c. search needs)
+    (λ c κs. search needs)
+    (λ c. search needs)
+    (λ c κs. search needs)
+    (λ c κs. search needs)
+    (λ c. search needs)
     returns
     returns-2
     returns-3
-    add-if4
-    shared-slice-read-if4
+    (λ c. search needs)
+    (λ c. search needs)
     returns-4
     returns-5)

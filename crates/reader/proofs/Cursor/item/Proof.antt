@@ -1,20 +1,8 @@
 use Rattle.reader.specs.Laws.Tags.{part-any, place-end, place-close, part-joined, part-attribute, part-wrong}
 use mathlib.Core.Path.{refl, sym, _∙_}
 use borrow.Author.Needs.{needs}
-use Rattle.reader.proofs.Cursor.part.Statement.{statement}
-use Rattle.reader.proofs.Cursor.part.Tie as tie
-
-blanks-requires : tie.Need-blanks-requires
-blanks-requires c κs = search needs
-
-returns : tie.Need-returns
-returns c = part-any _ _ _ (c .before .blanks .ensures) (record { reads = λ F p. place-end _ _ F p (c .if1 .taken) })
-
-shared-slice-read-b : tie.Need-shared-slice-read-b
-shared-slice-read-b c = search needs
-
-add-t11 : tie.Need-add-t11
-add-t11 c = search needs
+use Rattle.reader.proofs.Cursor.item.Statement.{statement}
+use Rattle.reader.proofs.Cursor.item.Tie as tie
 
 returns-2 : tie.Need-returns-2
 returns-2 c =
@@ -22,21 +10,12 @@ returns-2 c =
     let if1 = c .before .before .if1 in
     part-any _ _ _ (blanks .ensures) (record { reads = λ F p. place-close _ _ F p (if1 .left) _ (c .if2 .taken) refl })
 
-slash-requires : tie.Need-slash-requires
-slash-requires c κs = search needs
-
-returns-3 : tie.Need-returns-3
-returns-3 c = part-any _ _ _ (c .before .before .before .before .before .blanks .ensures) (c .slash .ensures)
-
 returns-4 : tie.Need-returns-4
 returns-4 c =
     let blanks = c .before .before .before .before .before .blanks in
     let if1 = c .before .before .before .before .if1 in
     let if2 = c .before .before .if2 in
     part-joined _ _ _ (blanks .ensures) (if1 .left) (c .if4 .taken) (c .before .if3 .left) (if2 .left)
-
-name-start-requires : tie.Need-name-start-requires
-name-start-requires c κs = search needs
 
 returns-5 : tie.Need-returns-5
 returns-5 c =
@@ -54,18 +33,18 @@ returns-6 c =
     let if4 = c .before .before .if4 in
     part-wrong _ _ _ (blanks .ensures) (if1 .left) (if4 .left) (if3 .left) (if2 .left) (sym (c .before .name-start .ensures) ∙ c .if5 .left)
 
-pub part-spec : {M : Type 1} → statement M
-part-spec =
+pub item-spec : {M : Type 1} → statement M
+item-spec =
     tie.close
     (tie.spec
-    blanks-requires
-    returns
-    shared-slice-read-b
-    add-t11
+    (λ c κs. search needs)
+    (λ c. part-any _ _ _ (c .before .blanks .ensures) (record { reads = λ F p. place-end _ _ F p (c .if1 .taken) }))
+    (λ c. search needs)
+    (λ c. search needs)
     returns-2
-    slash-requires
-    returns-3
+    (λ c κs. search needs)
+    (λ c. part-any _ _ _ (c .before .before .before .before .before .blanks .ensures) (c .slash .ensures))
     returns-4
-    name-start-requires
+    (λ c κs. search needs)
     returns-5
     returns-6)
