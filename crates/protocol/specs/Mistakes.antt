@@ -79,6 +79,44 @@ mistakes =
     (does 1 (C 1 3) (granted (child-is 6 2))
     ∷ does 1 (C 1 4) (granted none)
     ∷ does 2 (I 9 2 (bytes "x") 1 4) (waits 1) ∷ []) ∷
+    -- a node updated and then deleted comes back with the content before both
+    (does 1 (U 5 (bytes "7")) (granted done)
+    ∷ does 1 (D 5) (granted done)
+    ∷ gives write (written tree-E)
+    ∷ gives (abort 1) (granted done)
+    ∷ does 2 (R 5) (granted (content-is (bytes "6"))) ∷ []) ∷
+    -- an end leaves what another transaction did, and its locks
+    (does 2 (U 5 (bytes "7")) (granted done)
+    ∷ does 2 (I 9 2 (bytes "x") 4 2) (granted done)
+    ∷ does 2 (D 3) (granted done)
+    ∷ gives (commit 1) (granted done)
+    ∷ gives write (written tree-E)
+    ∷ gives (begin 1) (granted done)
+    ∷ does 1 (R 5) (waits 2)
+    ∷ gives (abort 1) (granted done)
+    ∷ gives write (written tree-E)
+    ∷ gives (begin 1) (granted done)
+    ∷ does 1 (R 5) (waits 2)
+    ∷ does 2 (TT 1) (granted (numbers-are (1 ∷ 2 ∷ 4 ∷ 5 ∷ 9 ∷ 6 ∷ [])))
+    ∷ does 2 (R 5) (granted (content-is (bytes "7"))) ∷ []) ∷
+    -- k counts from 1, without children that the caller deleted
+    (does 1 (D 2) (granted done)
+    ∷ does 1 (C 1 1) (granted (child-is 4 2))
+    ∷ does 1 (I 9 2 (bytes "x") 1 2) (granted done)
+    ∷ does 1 (TT 1) (granted (numbers-are (1 ∷ 4 ∷ 5 ∷ 9 ∷ 6 ∷ [])))
+    ∷ does 1 (I 8 2 (bytes "x") 1 5) (refused 11) ∷ []) ∷
+    -- sets of modes only grow
+    (does 1 (R 5) (granted (content-is (bytes "6")))
+    ∷ does 1 (TT 5) (granted (numbers-are (5 ∷ [])))
+    ∷ does 2 (U 5 (bytes "7")) (waits 1)
+    ∷ does 1 (I 9 2 (bytes "x") 1 4) (granted done)
+    ∷ does 2 (C 1 1) (waits 1) ∷ []) ∷
+    -- a wait names all who hold a clashing mode, and nobody else
+    (gives (begin 3) (granted done)
+    ∷ gives (begin 16) (granted done)
+    ∷ does 1 (R 5) (granted (content-is (bytes "6")))
+    ∷ does 16 (R 5) (granted (content-is (bytes "6")))
+    ∷ does 3 (U 5 (bytes "7")) (waits 32769) ∷ []) ∷
     []
 
 pub mistakes-hold : map from-E mistakes ≡ mistakes

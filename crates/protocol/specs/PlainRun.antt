@@ -41,15 +41,18 @@ plain-runs =
     (does 1 (D 6) (granted done)
     ∷ is-pending true
     ∷ plain-is tree-E
+    ∷ gives write (written tree-E)
     ∷ gives (commit 1) (granted done)
     ∷ is-pending false
     ∷ plain-is (E-with "6" nil) ∷ []) ∷
     -- so is one that came after the load
     (does 1 (I 9 2 (bytes "x") 1 4) (granted done)
     ∷ plain-is tree-E
+    ∷ gives write (written tree-E)
     ∷ gives (commit 1) (granted done)
     ∷ is-pending false
     ∷ plain-is (E-with "6" (a-node 6 2 "ramp" nil (a-node 9 2 "x" nil nil)))
+    ∷ gives write (written (E-with "6" (a-node 6 2 "ramp" nil (a-node 9 2 "x" nil nil))))
     ∷ does 2 (D 9) (granted done)
     ∷ is-pending true ∷ []) ∷
     -- "in commit order": t1 began first and made the first step, and t2 committed first

@@ -99,6 +99,11 @@ refusals =
     (does 1 (UU 1 (bytes "") (bytes "x")) (refused 9)
     ∷ does 1 (UU 1 (bytes "x") (bytes "6")) (refused 9)
     ∷ does 1 (UU 5 (bytes "x") (bytes "y")) (granted (how-many 0))
+    -- only elements are renamed, and only in the subtree
+    ∷ does 1 (UU 2 (bytes "rope") (bytes "y")) (granted (how-many 0))
+    ∷ does 1 (U 5 (bytes "speed")) (granted done)
+    ∷ does 1 (UU 4 (bytes "ramp") (bytes "y")) (granted (how-many 0))
+    ∷ does 1 (UU 1 (bytes "speed") (bytes "pace")) (granted (how-many 1))
     -- "for C a k of 0 .. gives none"
     ∷ does 1 (C 1 0) (granted none) ∷ []) ∷
     -- a node that another open transaction inserted is not 7: a wait, after 8, 9 and 10
@@ -111,6 +116,26 @@ refusals =
     (does 1 (D 1) (granted done)
     ∷ does 1 (I 8 2 (bytes "x") 0 1) (granted done)
     ∷ does 1 (I 9 2 (bytes "x") 0 2) (refused 11) ∷ []) ∷
+    -- 8 by the kinds alone; 11: a second text of an attribute, an attribute behind another kind
+    (does 1 (I 9 4 (bytes "x") 0 1) (refused 8)
+    ∷ does 1 (I 9 4 (bytes "x") 2 1) (refused 11)
+    ∷ does 1 (I 9 4 (bytes "x") 2 2) (refused 11)
+    ∷ does 1 (I 9 3 (bytes "a") 1 3) (refused 11)
+    ∷ does 1 (I 9 3 (bytes "a") 1 2) (granted done)
+    ∷ does 1 (I 8 4 (bytes "x") 9 1) (granted done)
+    ∷ does 1 (I 7 4 (bytes "x") 1 5) (granted done) ∷ []) ∷
+    -- 9: which bytes a name and a text may have, and how many
+    (does 1 (U 4 (bytes "_A-z.9")) (granted done)
+    ∷ does 1 (U 4 (bytes "Zabcdefghijklmnopqrstuvwxyz01234")) (granted done)
+    ∷ does 1 (U 4 (bytes "Zabcdefghijklmnopqrstuvwxyz012345")) (refused 9)
+    ∷ does 1 (U 4 (bytes "-a")) (refused 9)
+    ∷ does 1 (U 2 (bytes "6")) (refused 9)
+    ∷ does 1 (U 5 (9 ∷ 10 ∷ 32 ∷ 126 ∷ [])) (granted done)
+    ∷ does 1 (U 5 (127 ∷ [])) (refused 9)
+    ∷ does 1 (U 5 (13 ∷ [])) (refused 9)
+    -- a number's low byte first
+    ∷ does 1 (I 258 2 (bytes "x") 1 4) (granted done)
+    ∷ lends 1 (TT 258) (bytes "--") (granted (numbers-are (258 ∷ []))) (2 ∷ 1 ∷ []) ∷ []) ∷
     -- 15 before 4, 5 and 6, which are given when nothing is open
     (gives (load (unreadable 4 0)) (refused 15)
     ∷ gives (commit 1) (granted done)
