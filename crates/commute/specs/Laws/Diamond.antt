@@ -3,7 +3,7 @@ use Prim.Native.Nat.{ℕ}
 use mathlib.Core.Path.{_≡_, refl, sym, ap, _∙_}
 use mathlib.Core.Bool.{Bool, true, false, not, _&&_, true≢false, and-comm}
 use mathlib.Core.List.{List, [], _∷_}
-use mathlib.Core.Logic.{_⊎_, inl, inr}
+use mathlib.Core.Logic.{_⊎_, inl, inr, ⊎-elim}
 use lib.Dec.{eqb}
 use borrow.Author.Tests.{eqb-true, eq-eqb}
 use Rattle.tree.specs.Lists.{leads}
@@ -54,14 +54,10 @@ rewrite-rewrite : (t : Line → Bool) (b : List ℕ) (t' : Line → Bool) (b' : 
     → rewrite t b (rewrite t' b' d) ≡ rewrite t' b' (rewrite t b d)
 rewrite-rewrite t b t' b' d h =
     amend-amend-same number (rewritten t' b') (rewritten-number t' b') (rewritten t b) [] d
-    ∙ amend-agree number _ _ [] d (λ r m. go r (h r m))
+    ∙ amend-agree number _ _ [] d (λ r m. ⊎-elim
+    (λ i. rw (i (rewritten t' b' r) (rewritten-number t' b' r), i (r .it) refl))
+    (λ i. rw (i (rewritten t b r) (rewritten-number t b r), i (r .it) refl)) (h r m))
     ∙ sym (amend-amend-same number (rewritten t b) (rewritten-number t b) (rewritten t' b') [] d)
-  where
-    go : (r : Line) → ((a : Node) → a .number ≡ r .it .number → t (row a (r .above)) ≡ false) ⊎ ((a : Node) → a .number ≡ r .it .number
-        → t' (row a (r .above)) ≡ false)
-        → rewritten t b (row (rewritten t' b' r) (r .above)) ≡ rewritten t' b' (row (rewritten t b r) (r .above))
-    go r (inl i) = rw (i (rewritten t' b' r) (rewritten-number t' b' r), i (r .it) refl)
-    go r (inr i) = rw (i (rewritten t b r) (rewritten-number t b r), i (r .it) refl)
 
 -- if the new line is not touched
 rewrite-insert : (t : Line → Bool) (b : List ℕ) (a : Node) (n k : ℕ) (d : Document)

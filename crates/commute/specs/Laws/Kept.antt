@@ -2,14 +2,14 @@
 use Prim.Native.Nat.{ℕ}
 use mathlib.Core.Path.{_≡_, refl, sym, ap, _∙_}
 use mathlib.Core.Bool.{true, false, false≢true, true≢false, _||_}
-use mathlib.Core.List.{List, [], _∷_}
-use mathlib.Core.Logic.{_⊎_, inl, inr}
+use mathlib.Core.List.{List, _∷_}
+use mathlib.Core.Logic.{⊎-elim}
 use lib.Dec.{eqb}
 use borrow.Author.Tests.{eqb-true, eq-eqb, ne-eqb, not-true, not-false}
 use Rattle.tree.specs.Lists.{has, leads}
 use Rattle.tree.specs.Document.{Document, Line, is, child, under, here, at, Node, some?}
 use Rattle.tree.specs.Laws.Tests.{refuted, and-left, and-right, or-left, or-right}
-use Rattle.tree.specs.Laws.Rows.{line, parent-row, nested, Nested}
+use Rattle.tree.specs.Laws.Rows.{parent-row, nested}
 use Rattle.tree.specs.Forest.{row}
 use Rattle.tree.specs.Steps.{Step, D, I, target, inserts, fits, unknown, wrong-kind, wrong-content, number-there, misplaced, after, remove}
 use Rattle.tree.specs.Steps.{rewrite}
@@ -43,19 +43,15 @@ module _ (d : Document) (u : Unique d) where
   child-not-under : (n x : ℕ) → here n d ≡ true → here x d ≡ true → has x (n ∷ path n d) ≡ false → leads n (path x d) ≡ false
       → (r : Line) → Of r d → child n r ≡ true → under x r ≡ false
   child-not-under n x hn hx f g r m c = by-test (eqb (r .it .number) x)
-      (λ e. absurd (true≢false (sym c ∙ ap (leads n) (path-of x hx r m (eqb-true _ x e)) ∙ g))) (λ e. rw e (below (parent-row number m)))
-    where
-      below : (r .above ≡ []) ⊎ ((s : Line) × Of s d × (r .above ≡ line number s)) → has x (r .above) ≡ false
-      below (inl e) = absurd (false≢true (rw e at c))
-      below (inr s) = rw (s .2) (not-under n x hn f (s .0) (s .1) (rw (s .2) at c))
+      (λ e. absurd (true≢false (sym c ∙ ap (leads n) (path-of x hx r m (eqb-true _ x e)) ∙ g)))
+      (λ e. rw e (⊎-elim (λ i. absurd (false≢true (rw i at c)))
+      (λ s. rw (s .2) (not-under n x hn f (s .0) (s .1) (rw (s .2) at c))) (parent-row number m)))
 
   pub under-not-under : (n x : ℕ) → here n d ≡ true → here x d ≡ true → has x (n ∷ path n d) ≡ false → has n (x ∷ path x d) ≡ false
       → (r : Line) → Of r d → under n r ≡ true → under x r ≡ false
-  under-not-under n x hn hx f g r m v = refuted _ (λ w. no-way (nested number n x refl refl m v w))
-    where
-      no-way : Nested number n x [] d ⊎ Nested number x n [] d → ⊥
-      no-way (inl s) = true≢false (sym (s .3) ∙ not-under n x hn f (s .0) (s .1) (eq-eqb _ n (s .2)))
-      no-way (inr s) = true≢false (sym (s .3) ∙ not-under x n hx g (s .0) (s .1) (eq-eqb _ x (s .2)))
+  under-not-under n x hn hx f g r m v = refuted _ (λ w. ⊎-elim
+      (λ s. true≢false (sym (s .3) ∙ not-under n x hn f (s .0) (s .1) (eq-eqb _ n (s .2))))
+      (λ s. true≢false (sym (s .3) ∙ not-under x n hx g (s .0) (s .1) (eq-eqb _ x (s .2)))) (nested number n x refl refl m v w))
 
   -- what is within reach of n is not in the subtree of x
   abbrev pub Clear-of : Reach → ℕ → ℕ → Type 0

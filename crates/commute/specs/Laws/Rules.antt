@@ -242,7 +242,8 @@ module _ (n : ℕ) where
       let i = node-line p m in
       rw (
         keep-children b js fs p h,
-        no-children (b .number ∷ p) js (refuted (eqb (b .number) n) (λ q. not-beside b js fs p u (row b p) (row a (i .0)) (List·Memᴰ·head refl) (i .1)
+        no-children (b .number ∷ p) js (refuted (eqb (b .number) n) (λ q. not-beside b js fs p u (row b p) (row a (i .0))
+            (List·Memᴰ·head refl) (i .1)
             (eqb-true _ n q ∙ sym e)))
             (λ r o q. not-beside b js fs p u r (row a (i .0)) (List·Memᴰ·tail (to-rows number o)) (i .1) (q ∙ sym e)),
       )

@@ -1,7 +1,7 @@
 -- What a list of checks makes of a call, and with that a claim about every call, from its granted calls and its refusals.
 use Prim.Native.Nat.{ℕ}
 use mathlib.Core.Path.{_≡_, refl, sym, _∙_}
-use mathlib.Core.Bool.{Bool, true, false, cond, not, _&&_, false≢true}
+use mathlib.Core.Bool.{Bool, true, false, not, _&&_, false≢true}
 use mathlib.Core.List.{List, [], _∷_, List·Memᴰ, List·Memᴰ·head, List·Memᴰ·tail}
 use lib.ListN.{length}
 use lib.Dec.{eqb}
@@ -12,6 +12,7 @@ use Rattle.tree.specs.Laws.Lists.{every-at, keep-in}
 use Rattle.tree.specs.Document.{Document, lines}
 use Rattle.tree.specs.Steps.{Step, done, how-many, unknown, wrong-kind, wrong-content, misplaced, answer}
 use Rattle.locks.specs.Needs.{needs}
+use Rattle.commute.specs.Laws.Tests.{by-test}
 use Rattle.protocol.specs.State.{State, is-transaction, transactions, callers-document, committed-document, act, grant, commit-tree}
 use Rattle.protocol.specs.State.{abort-tree, tree-of, start-state, with-tree, opened, closed}
 use Rattle.protocol.specs.Lent.{Room}
@@ -30,11 +31,8 @@ AllPassed (c ∷ cs) = (c .1 ≡ false) × AllPassed cs
 pub checked-cases : (P : Next → Type 0) (cs : List Check) (M : State) (n : Next)
     → ((c : Check) → List·Memᴰ c cs → c .1 ≡ true → P (unchanged (c .0) M)) → (AllPassed cs → P n) → P (checked cs M n)
 checked-cases P [] M n f g = g tt
-checked-cases P (c ∷ cs) M n f g = go (c .1) refl (checked-cases P cs M n (λ x i. f x (List·Memᴰ·tail i)))
-  where
-    go : (b : Bool) → c .1 ≡ b → ((AllPassed cs → P n) → P (checked cs M n)) → P (cond b (unchanged (c .0) M) (checked cs M n))
-    go true e rest = f c (List·Memᴰ·head refl) e
-    go false e rest = rest (λ p. g (e, p))
+checked-cases P (c ∷ cs) M n f g = by-test (c .1) (λ e. rw e (f c (List·Memᴰ·head refl) e))
+    (λ e. rw e (checked-cases P cs M n (λ x i. f x (List·Memᴰ·tail i)) (λ p. g (e, p))))
 
 -- an outcome with a property that n's has not is that of a check with the property, which applies
 pub checked-by : (p : Outcome → Bool) (cs : List Check) (M : State) (n : Next) → p (n .outcome) ≡ false → p (checked cs M n .outcome) ≡ true

@@ -1,9 +1,9 @@
 -- What a set of transactions shows of the tree after a step, a grant of locks, a commit, an abort and a load.
 use Prim.Native.Nat.{ℕ}
 use mathlib.Core.Path.{_≡_, refl, sym, ap, _∙_}
-use mathlib.Core.Bool.{Bool, true, false, cond, not, _&&_, _||_, false≢true, or-true, and-true, and-false}
+use mathlib.Core.Bool.{Bool, true, false, cond, not, _&&_, _||_, or-true, and-true, and-false}
 use mathlib.Core.List.{List, [], _∷_, map}
-use mathlib.Core.Logic.{_⊎_, inl, inr, ⊎-elim}
+use mathlib.Core.Logic.{_⊎_, ⊎-elim}
 use lib.Dec.{eqb}
 use borrow.Author.Tests.{eqb-true, eq-eqb, ne-eqb}
 use Rattle.tree.specs.Lists.{any, every, has}
@@ -55,15 +55,9 @@ view-mark : {B : Type 0} (s s' : Marked → Bool) (g g' : Marked → B) (c : Pla
 unfolding view amend
 view-mark s s' g g' c p nil h k = refl
 view-mark s s' g g' c p (node a ks fs) h k =
-    rw (h (row a p) (self refl)) (go (s a) refl (view-mark s s' g g' c (a ∷ p) ks (λ r i. h r (inner i)) (λ r i. k r (inner i)))
-    (view-mark s s' g g' c p fs (λ r i. h r (later i)) (λ r i. k r (later i))))
-  where
-    go : (b : Bool) → s a ≡ b → view s' g' (amend (λ x. x) c (a ∷ p) ks) ≡ view s g ks → view s' g' (amend (λ x. x) c p fs) ≡ view s g fs
-        → cond b (node (g' (c (row a p))) (view s' g' (amend (λ x. x) c (a ∷ p) ks)) (view s' g' (amend (λ x. x) c p fs)))
-        (view s' g' (amend (λ x. x) c p fs))
-        ≡ cond b (node (g a) (view s g ks) (view s g fs)) (view s g fs)
-    go true e u v = rw (k (row a p) (self refl) e, u, v)
-    go false e u v = v
+    let u = view-mark s s' g g' c (a ∷ p) ks (λ r i. h r (inner i)) (λ r i. k r (inner i)) in
+    let v = view-mark s s' g g' c p fs (λ r i. h r (later i)) (λ r i. k r (later i)) in
+    rw (h (row a p) (self refl)) (by-test (s a) (λ e. rw (e, k (row a p) (self refl) e, u, v)) (λ e. rw (e, v)))
 
 -- tests of who did what ------------------------------------------------------------------
 
@@ -156,30 +150,19 @@ module _ (t : ℕ) (nz : t ≡ nobody → ⊥) (S : ℕ → Bool) where
         → document-of S (mark (λ r. cond (test r) (written-by t b (r .it)) (r .it)) f) ≡ document-of S f
     unfolding document-of
     write-hidden test b f h = view-mark (shown S) (shown S) (as-shown S) (as-shown S) _ [] f
-        (λ r i. cond-same (shown S) (test r) (written-by t b (r .it)) (r .it) refl) (λ r i e. words (r .it) (test r) (h r i))
-      where
-        words : (a : Marked) (x : Bool) → (x ≡ true → local t (writer-of (a .update)) ≡ true)
-            → as-shown S (cond x (written-by t b a) a) ≡ as-shown S a
-        words a true k = before-shown b a (k refl)
-        words a false k = refl
+        (λ r i. cond-same (shown S) (test r) (written-by t b (r .it)) (r .it) refl)
+        (λ r i e. by-test (test r) (λ x. rw x (before-shown b (r .it) (h r i x))) (λ x. rw x))
 
     pub D-hidden : (n : ℕ) (f : Tree) → ((r : Place) → Inside r f → r .it .now .number ≡ n → local t (r .it .deleter) ≡ true)
         → document-of S (mark-node n (deleted-by t) f) ≡ document-of S f
     unfolding document-of
     D-hidden n f h = view-mark (shown S) (shown S) (as-shown S) (as-shown S) _ [] f
-        (λ r i. sight (r .it) (numbered n (r .it)) (λ e. h r i (eqb-true _ n e)))
+        (λ r i. by-test (numbered n (r .it)) (λ e. rw e (was-shown (r .it) (h r i (eqb-true _ n e)))) (λ e. rw e))
         (λ r i e. cond-same (as-shown S) (numbered n (r .it)) (deleted-by t (r .it)) (r .it) refl)
       where
-        was-shown : (a : Marked) (x : Bool) → (x ≡ true) ⊎ (eqb (a .deleter) t ≡ true)
-            → not (not (eqb t 0) && false) ≡ not (not x && S (a .deleter))
-        was-shown a true i = rw (and-false (not (eqb t 0)))
-        was-shown a false (inl i) = absurd (false≢true i)
-        was-shown a false (inr i) = rw (eqb-true (a .deleter) t i, st, and-false (not (eqb t 0)))
-
-        sight : (a : Marked) (x : Bool) → (x ≡ true → local t (a .deleter) ≡ true) → shown S (cond x (deleted-by t a) a) ≡ shown S a
-        sight a true k = rw st (ap (λ z. done-by S (a .inserter) && z)
-            (was-shown a (eqb (a .deleter) 0) (or-cases (eqb (a .deleter) 0) _ (k refl))))
-        sight a false k = refl
+        was-shown : (a : Marked) → local t (a .deleter) ≡ true → shown S (deleted-by t a) ≡ shown S a
+        was-shown a l = let u = a .deleter in rw (st, and-false (not (eqb t 0))) (⊎-elim (λ (i : eqb u 0 ≡ true). rw i)
+            (λ (i : eqb u t ≡ true). rw (eqb-true u t i, st, and-false (not (eqb t 0)))) (or-cases (eqb u 0) (eqb u t) l))
 
     pub I-hidden : (n k : ℕ) (new : Node) (f : Tree)
         → document-of S (put (numbered n) (seen-by t) k (inserted-by t new) f) ≡ document-of S f
