@@ -8,4 +8,3 @@ pub mod Examples
 pub mod Mistakes
 pub mod Refusals
 pub mod PlainRun
-pub mod Beside
