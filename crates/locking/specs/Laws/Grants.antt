@@ -11,10 +11,11 @@ use lib.ListN.{length, getD, take, drop, length-take, drop-of-length-le}
 use lib.Seq.{drop-cons, getD-take}
 use borrow.Author.Tests.{eqb-true}
 use Rattle.locks.specs.Modes.{Mode, ModeSet, union, among, in-word}
-use Rattle.locks.specs.Needs.{Need}
+use Rattle.tree.specs.Steps.{Step}
+use Rattle.locks.specs.Needs.{Need, need}
 use Rattle.locks.specs.Words.{word-of, words}
 use Rattle.locks.specs.declared.NeedWords.{NeedWords}
-use Rattle.locks.specs.Laws.Sets.{in-union, SameSets}
+use Rattle.locks.specs.Laws.Sets.{in-union, SameSets, need-sets}
 use Rattle.protocol.specs.State.{Marked, with-held}
 use Rattle.layout.specs.Lists.{modify}
 use Rattle.layout.specs.Flat.{second}
@@ -24,7 +25,7 @@ use Rattle.layout.specs.Laws.Lists.{modify-same}
 use Rattle.layout.specs.Laws.Kept.{kept-same, kept-then, kept-as}
 use Rattle.lookup.specs.Places.{item}
 use Rattle.edits.specs.Rows.{granted-modes, granted-along}
-use Rattle.locking.specs.declared.Way.{Way}
+use Rattle.layout.specs.declared.Places.{Places}
 use Rattle.locking.specs.Way.{way-places, Inside}
 use Rattle.locking.specs.Waits.{word-at}
 use Rattle.locking.specs.Grants.{with-more, granted-from, granted-on}
@@ -71,14 +72,14 @@ module _ (t : ℕ) (w : Need) (e : SameSets w) where
 -- the loop ---------------------------------------------------------------------------------
 
 -- the first j places of the way have their locks
-pub record Granting (s s′ : List ℕ) (t : ℕ) (m : NeedWords) (w : Way) (j : ℕ) : Type 0 where
+pub record Granting (s s′ : List ℕ) (t : ℕ) (m : NeedWords) (w : Places) (j : ℕ) : Type 0 where
   pub kept : Kept s s′ (nodes s′)
   pub rest : granted-from t m 0 (way-places w) (nodes s) ≡ granted-from t m j (drop j (way-places w)) (nodes s′)
 
-pub granting-start : {s : List ℕ} (t : ℕ) (m : NeedWords) (w : Way) → Layout s → Granting s s t m w 0
+pub granting-start : {s : List ℕ} (t : ℕ) (m : NeedWords) (w : Places) → Layout s → Granting s s t m w 0
 granting-start {s} t m w h = record { kept = kept-same s h; rest = refl }
 
-module _ {s s′ : List ℕ} {t : ℕ} {m : NeedWords} {w : Way} {j : ℕ} (h : Inside (nodes s) w) (c : Granting s s′ t m w j) where
+module _ {s s′ : List ℕ} {t : ℕ} {m : NeedWords} {w : Places} {j : ℕ} (h : Inside (nodes s) w) (c : Granting s s′ t m w j) where
   length-places : length (way-places w) ≡ w .count
   unfolding way-places
   length-places = length-take (w .count) (w .places) ∙ omega (arith, h .long, h .room)
@@ -98,8 +99,8 @@ module _ {s s′ : List ℕ} {t : ℕ} {m : NeedWords} {w : Way} {j : ℕ} (h : 
       let n : Kept s s″ (modify i (second (with-more t v)) (nodes s′)) = kept-then (nodes s′) (modify i (second (with-more t v))) (c .kept) a in
       record { kept = kept-as _ _ (sym (a .nodes)) n; rest = c .rest ∙ rw (places-cons k, add-one j, a .nodes, e) }
 
-  pub granting-done : (v : Need) → SameSets v → m ≡ words v → w .count ≤ j → Kept s s′ (granted-on t v (way-places w) (nodes s))
+  pub granting-done : w .count ≤ j → (st : Step) → m ≡ words (need st) → Kept s s′ (granted-on t (need st) (way-places w) (nodes s))
   unfolding granted-from granted-on
-  granting-done v same e k =
+  granting-done k st e =
       let z : drop j (way-places w) ≡ [] = drop-of-length-le (way-places w) {i = j} (omega (arith, length-places)) in
-      kept-as _ _ (sym (sym (along-words t v same (way-places w) (nodes s)) ∙ rw (← e) (c .rest ∙ rw z))) (c .kept)
+      kept-as _ _ (sym (sym (along-words t (need st) (need-sets st) (way-places w) (nodes s)) ∙ rw (← e) (c .rest ∙ rw z))) (c .kept)

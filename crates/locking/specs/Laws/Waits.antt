@@ -11,19 +11,20 @@ use lib.ListN.{length, getD, take, drop, length-take, List·getD-map, drop-of-le
 use lib.Seq.{drop-cons, getD-take}
 use Rattle.tree.specs.Laws.Lists.{any-same}
 use Rattle.locks.specs.Modes.{modes, in-word}
-use Rattle.locks.specs.Needs.{Need}
+use Rattle.tree.specs.Steps.{Step}
+use Rattle.locks.specs.Needs.{need}
 use Rattle.locks.specs.Words.{word, words, in-common}
 use Rattle.locks.specs.declared.NeedWords.{NeedWords}
 use Rattle.locks.specs.Laws.Words.{word-turn, word-small}
 use lib.Pow.{pow-mono}
 use native.Mathlib.Nat.{lt-of-lt-of-le}
-use Rattle.locks.specs.Laws.Sets.{SameSets}
+use Rattle.locks.specs.Laws.Sets.{need-sets}
 use Rattle.protocol.specs.State.{Marked}
 use Rattle.layout.specs.Layout.{Entry, nodes, slot}
 use Rattle.layout.specs.Transaction.{Loaded}
 use Rattle.lookup.specs.Places.{item}
 use Rattle.lookup.specs.Found.{blocks-at, wait-word}
-use Rattle.locking.specs.declared.Way.{Way}
+use Rattle.layout.specs.declared.Places.{Places}
 use Rattle.locking.specs.Way.{way-places, way-nodes, Inside}
 use Rattle.locking.specs.Waits.{word-at, masks-of, SmallWords, touches, touches-from, blocks-by}
 use Rattle.locking.specs.Laws.Masks.{blocks-mask}
@@ -34,7 +35,7 @@ map-length : {A B : Type 0} (f : A → B) (l : List A) → length (map f l) ≡ 
 map-length f [] = refl
 map-length f (x ∷ l) = ap suc (map-length f l)
 
-module _ {l : List Entry} {w : Way} (h : Inside l w) where
+module _ {l : List Entry} {w : Places} (h : Inside l w) where
   pub length-way : length (way-nodes l w) ≡ w .count
   unfolding way-nodes way-places
   length-way = map-length (item l) (take (w .count) (w .places)) ∙ length-take (w .count) (w .places) ∙ omega (arith, h .long, h .room)
@@ -120,9 +121,10 @@ module _ (t : ℕ) (m : NeedWords) (is-open : ℕ → Bool) (way : List Marked) 
       let z : suc (u - 1) ≡ u = omega arith in
       g ∙ rw (f, e, word-turn (λ i. blocks-by t m is-open way (suc i)) 16 u h k, z)
 
-  pub set-whole : (w : Need) → SameSets w → m ≡ masks-of (words w) → (u set : ℕ) → u ≡ 0 → set ≡ set-of t m is-open way u → set ≡ wait-word t w is-open way
+  pub set-whole : (w : NeedWords) → m ≡ masks-of w → (u set : ℕ) → u ≡ 0 → set ≡ set-of t m is-open way u → (st : Step) → w ≡ words (need st)
+      → set ≡ wait-word t (need st) is-open way
   unfolding wait-word
-  set-whole w same v u set z e =
-      let q : _≡_ {A = ℕ → Bool} (λ i. blocks-by t m is-open way (suc i)) (λ i. blocks-at t w is-open way (suc i)) =
-      fun-ext (λ i. rw v (blocks-mask w same t is-open way (suc i))) in
+  set-whole w v u set z e st f =
+      let q : _≡_ {A = ℕ → Bool} (λ i. blocks-by t m is-open way (suc i)) (λ i. blocks-at t (need st) is-open way (suc i)) =
+      fun-ext (λ i. rw (v, f) (blocks-mask (need st) (need-sets st) t is-open way (suc i))) in
       e ∙ rw z (ap (λ (q : ℕ → Bool). word q 16 0) q)
