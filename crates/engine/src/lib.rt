@@ -4,17 +4,21 @@ use layout::Places;
 use locks::{NeedWords, StepName};
 use protocol::{Answer, causes};
 ghost use mathlib.Core.Path.{_≡_};
+ghost use mathlib.Core.Bool.{cond};
 ghost use Prim.Native.Nat.{_<_, _≤_};
 ghost use lib.ListN.{length};
+ghost use lib.Dec.{eqb};
+ghost use Rattle.tree.specs.Content.{document-kind};
 ghost use Rattle.tree.specs.Steps.{T, parent};
+ghost use Rattle.protocol.specs.Causes.{unfit-kind};
 ghost use Rattle.protocol.specs.Calls.{step};
 ghost use Rattle.layout.specs.Layout.{nodes, Layout};
-ghost use Rattle.lookup.specs.Places.{numbers-above};
+ghost use Rattle.lookup.specs.Places.{item, numbers-above};
 ghost use Rattle.locking.specs.Way.{Climbed, Inside};
 ghost use Rattle.locking.specs.Grants.{Granted};
 ghost use Rattle.engine.specs.Contract.{Performed, no-room};
 ghost use Rattle.engine.specs.Admission.{Caller, Admitted};
-ghost use Rattle.engine.specs.Judgement.{Judged};
+ghost use Rattle.engine.specs.Judgement.{FirstOf, Judged};
 
 // The cause 13, 1 or 3 of a call of transaction t, or 0.
 pub fn caller(s: &[u8], t: u32) -> u8
@@ -80,6 +84,20 @@ pub fn admit(s: &[u8], t: u32, n: u16) -> Admission
         place,
         way,
     }
+}
+
+// A cause found already, or else cause 8 of R, U and D, for the document, or 0.
+pub fn document_cause(s: &[u8], found: u8, place: usize) -> u8
+    requires { ⌜ (found ≡ 0 → ((Layout (now s)) × (place < length (nodes (now s))))) ⌝ }
+    ensures { λ r. ⌜ FirstOf found (cond (eqb (item (nodes (now (s .entry))) place .now .kind) document-kind) unfit-kind 0) r ⌝ }
+{
+    if found != 0 {
+        return found;
+    }
+    if table::kind(s, place) == 1 {
+        return causes::UNFIT_KIND;
+    }
+    0
 }
 
 // Whether nothing keeps a step from being granted, so far; else the refusal or the wait.

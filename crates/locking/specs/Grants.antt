@@ -15,7 +15,7 @@ use Rattle.layout.specs.Flat.{second}
 use Rattle.layout.specs.Layout.{Entry, nodes, Kept}
 use Rattle.layout.specs.declared.Places.{Places}
 use Rattle.edits.specs.Rows.{granted-along}
-use Rattle.locking.specs.Way.{way-places}
+use Rattle.locking.specs.Way.{places-of}
 use Rattle.locking.specs.Waits.{word-at}
 
 -- t is granted the modes of a word on a node
@@ -33,4 +33,4 @@ granted-on t w is l = granted-along t (w .node) (w .parent) (w .above) is l
 
 -- t was granted on the way what a step needs, whichever step needs these sets
 pub record Granted (s s′ : List ℕ) (t : ℕ) (w : NeedWords) (way : Places) : Type 0 where
-  pub kept : (st : Step) → w ≡ words (need st) → Kept s s′ (granted-on t (need st) (way-places way) (nodes s))
+  pub kept : (st : Step) → w ≡ words (need st) → Kept s s′ (granted-on t (need st) (places-of way) (nodes s))

@@ -14,7 +14,7 @@ use Rattle.protocol.specs.State.{Marked}
 use Rattle.layout.specs.Layout.{nodes, is-open}
 use Rattle.layout.specs.declared.Places.{Places}
 use Rattle.lookup.specs.Found.{wait-word}
-use Rattle.locking.specs.Way.{way-nodes}
+use Rattle.locking.specs.Way.{nodes-of}
 
 -- the set for the j-th node of the way
 abbrev pub word-at : NeedWords → ℕ → ℕ
@@ -47,4 +47,4 @@ blocks-by t w is-open way u = is-open u && not (eqb u t) && touches-from w 0 u w
 
 -- what a step of t waits for on the way, whichever step needs these sets
 pub record WaitsFor (s : List ℕ) (t : ℕ) (w : NeedWords) (way : Places) (set : ℕ) : Type 0 where
-  pub is : (st : Step) → w ≡ words (need st) → set ≡ wait-word t (need st) (is-open s) (way-nodes (nodes s) way)
+  pub is : (st : Step) → w ≡ words (need st) → set ≡ wait-word t (need st) (is-open s) (nodes-of (nodes s) way)

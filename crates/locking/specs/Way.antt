@@ -14,11 +14,11 @@ unfoldable pub way-up : List Entry → ℕ → List ℕ
 way-up l p = p ∷ above-places l p
 
 -- the places that a value stands for, and the nodes there
-unfoldable pub way-places : Places → List ℕ
-way-places w = take (w .count) (w .places)
+unfoldable pub places-of : Places → List ℕ
+places-of w = take (w .count) (w .places)
 
-unfoldable pub way-nodes : List Entry → Places → List Marked
-way-nodes l w = map (item l) (way-places w)
+unfoldable pub nodes-of : List Entry → Places → List Marked
+nodes-of l w = map (item l) (places-of w)
 
 -- each is a place of the rows
 pub record Inside (l : List Entry) (w : Places) : Type 0 where
@@ -29,7 +29,7 @@ pub record Inside (l : List Entry) (w : Places) : Type 0 where
 -- the way up from p
 pub record Climbed (l : List Entry) (p : ℕ) (w : Places) : Type 0 where
   pub inside : Inside l w
-  pub places : way-places w ≡ way-up l p
+  pub places : places-of w ≡ way-up l p
 
 -- what is found for t: the way up from p if t sees the node there, and no place if t deleted it or a node above it
 pub record Climb (l : List Entry) (t p : ℕ) (w : Places) : Type 0 where

@@ -8,7 +8,7 @@ ghost use Rattle.locks.specs.Words.{mask-of};
 ghost use Rattle.layout.specs.Lists.{modify};
 ghost use Rattle.layout.specs.Flat.{second};
 ghost use Rattle.layout.specs.Layout.{nodes, is-open, Layout, Kept};
-ghost use Rattle.locking.specs.Way.{way-nodes, Inside, Climb};
+ghost use Rattle.locking.specs.Way.{nodes-of, Inside, Climb};
 ghost use Rattle.locking.specs.Waits.{word-at, masks-of, SmallWords, touches-from, blocks-by, WaitsFor};
 ghost use Rattle.locking.specs.Grants.{with-more, Granted};
 
@@ -86,7 +86,7 @@ fn touches(s: &[u8], u: usize, masks: NeedWords, places: &[u16; 1024], count: us
     requires { ⌜ (Layout (now s)) × (1 ≤ u) × (u ≤ 16) × SmallWords masks
         × Inside (nodes (now s)) (record { places = now places; count = count }) ⌝ }
     ensures { λ r. ⌜ r ≡ touches-from masks 0 u
-        (way-nodes (nodes (now (s .entry))) (record { places = now (places .entry); count = count })) ⌝ }
+        (nodes-of (nodes (now (s .entry))) (record { places = now (places .entry); count = count })) ⌝ }
 {
     let held = transactions::load(s, u);
     let mut j: usize = 0;
@@ -105,7 +105,7 @@ fn blocks(s: &[u8], t: usize, u: usize, masks: NeedWords, places: &[u16; 1024], 
     requires { ⌜ (Layout (now s)) × (1 ≤ u) × (u ≤ 16) × SmallWords masks
         × Inside (nodes (now s)) (record { places = now places; count = count }) ⌝ }
     ensures { λ r. ⌜ r ≡ blocks-by t masks (is-open (now (s .entry)))
-        (way-nodes (nodes (now (s .entry))) (record { places = now (places .entry); count = count })) u ⌝ }
+        (nodes-of (nodes (now (s .entry))) (record { places = now (places .entry); count = count })) u ⌝ }
 {
     if !transactions::is_open(s, u) {
         return false;

@@ -82,6 +82,18 @@ module _ (M : State) (rest : List Check) (n : Next) where
 pub none-first : (found : ℕ) → FirstOf found 0 found
 none-first found = record { first = λ n. refl; second = λ z. z }
 
+-- by what a function of own causes finds
+module _ {found later : ℕ} where
+  pub found-first : (found ≡ 0 → ⊥) → FirstOf found later found
+  found-first n = record { first = λ x. refl; second = λ z. absurd (n z) }
+
+  pub found-later : {cause : ℕ} → found ≡ 0 → cause ≡ later → FirstOf found later cause
+  found-later z e = record { first = λ n. absurd (n z); second = λ x. e }
+
+-- where they look
+pub admitted-place : {s : List ℕ} {t n : ℕ} {a : Admission} → Admitted s t n a → a .cause ≡ 0 → Layout s × (a .place < length (nodes s))
+admitted-place d z = (d .standing z .layout, d .standing z .inside)
+
 -- the whole judgement, by its lists --------------------------------------------------------
 
 abbrev set-at : ℕ → Step → State → List Entry → ℕ → ℕ

@@ -4,7 +4,7 @@ use Prim.Native.Nat.{_-_}
 use mathlib.Core.Path.{_≡_, refl, _∙_}
 use lib.ListN.{drop}
 use Rattle.layout.specs.Layout.{nodes}
-use Rattle.locking.specs.Way.{way-nodes}
+use Rattle.locking.specs.Way.{nodes-of}
 use Rattle.locking.specs.Waits.{touches-from}
 use Rattle.locking.specs.Laws.Waits.{touch-found, touch-passed, touch-none, touches-word, words-small}
 use Rattle.locking.proofs.touches.Statement.{statement}
@@ -12,7 +12,7 @@ use Rattle.locking.proofs.touches.Tie as tie
 
 abbrev Inv-loop : tie.InvT-loop
 Inv-loop s u masks places count held j₀ j = 
-    let way = way-nodes (nodes s) (record { places = places; count = count }) in
+    let way = nodes-of (nodes s) (record { places = places; count = count }) in
     touches-from masks 0 u way ≡ touches-from masks j u (drop j way)
 
 abbrev μ-loop : tie.MeasureT-loop

@@ -3,13 +3,13 @@ use Prim.Native.Nat.{_≤_}
 use mathlib.Core.Path.{_≡_, sym}
 use Rattle.locks.specs.Laws.Words.{word-none}
 use Rattle.layout.specs.Layout.{nodes, is-open}
-use Rattle.locking.specs.Way.{way-nodes}
+use Rattle.locking.specs.Way.{nodes-of}
 use Rattle.locking.specs.Laws.Waits.{set-of, set-below, set-turn, set-whole}
 use Rattle.locking.proofs.waits.Statement.{statement}
 use Rattle.locking.proofs.waits.Tie as tie
 
 abbrev Inv-loop : tie.InvT-loop
-Inv-loop s t way masks count set₀ u₀ set u = (u ≤ 16) × (set ≡ set-of t masks (is-open s) (way-nodes (nodes s) way) u)
+Inv-loop s t way masks count set₀ u₀ set u = (u ≤ 16) × (set ≡ set-of t masks (is-open s) (nodes-of (nodes s) way) u)
 
 abbrev μ-loop : tie.MeasureT-loop
 μ-loop s t way masks count set₀ u₀ set u = u

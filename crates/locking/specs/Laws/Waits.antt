@@ -25,7 +25,7 @@ use Rattle.layout.specs.Transaction.{Loaded}
 use Rattle.lookup.specs.Places.{item}
 use Rattle.lookup.specs.Found.{blocks-at, wait-word}
 use Rattle.layout.specs.declared.Places.{Places}
-use Rattle.locking.specs.Way.{way-places, way-nodes, Inside}
+use Rattle.locking.specs.Way.{places-of, nodes-of, Inside}
 use Rattle.locking.specs.Waits.{word-at, masks-of, SmallWords, touches, touches-from, blocks-by}
 use Rattle.locking.specs.Laws.Masks.{blocks-mask}
 
@@ -36,36 +36,36 @@ map-length f [] = refl
 map-length f (x ∷ l) = ap suc (map-length f l)
 
 module _ {l : List Entry} {w : Places} (h : Inside l w) where
-  pub length-way : length (way-nodes l w) ≡ w .count
-  unfolding way-nodes way-places
+  pub length-way : length (nodes-of l w) ≡ w .count
+  unfolding nodes-of places-of
   length-way = map-length (item l) (take (w .count) (w .places)) ∙ length-take (w .count) (w .places) ∙ omega (arith, h .long, h .room)
 
   -- the nodes from the j-th on
-  pub way-cons : (j : ℕ) → j < w .count → drop j (way-nodes l w) ≡ item l (getD (w .places) j 0) ∷ drop (j + 1) (way-nodes l w)
-  unfolding way-nodes way-places
+  pub way-cons : (j : ℕ) → j < w .count → drop j (nodes-of l w) ≡ item l (getD (w .places) j 0) ∷ drop (j + 1) (nodes-of l w)
+  unfolding nodes-of places-of
   way-cons j k =
       drop-cons (map (item l) (take (w .count) (w .places))) j (item l 0) (omega (arith, length-way))
       ∙ rw (add-one, List·getD-map (item l) (take (w .count) (w .places)) j 0, getD-take (w .count) (w .places) j 0 k)
 
-  pub way-end : (j : ℕ) → w .count ≤ j → drop j (way-nodes l w) ≡ []
-  way-end j k = drop-of-length-le (way-nodes l w) {i = j} (omega (arith, length-way))
+  pub way-end : (j : ℕ) → w .count ≤ j → drop j (nodes-of l w) ≡ []
+  way-end j k = drop-of-length-le (nodes-of l w) {i = j} (omega (arith, length-way))
 
   -- the j-th node is looked at, those before touched nothing
-  module _ (m : NeedWords) (u j : ℕ) (v : touches-from m 0 u (way-nodes l w) ≡ touches-from m j u (drop j (way-nodes l w))) where
+  module _ (m : NeedWords) (u j : ℕ) (v : touches-from m 0 u (nodes-of l w) ≡ touches-from m j u (drop j (nodes-of l w))) where
     turn : j < w .count
-        → touches-from m 0 u (way-nodes l w)
-        ≡ (touches (word-at m j) u (item l (getD (w .places) j 0)) || touches-from m (j + 1) u (drop (j + 1) (way-nodes l w)))
+        → touches-from m 0 u (nodes-of l w)
+        ≡ (touches (word-at m j) u (item l (getD (w .places) j 0)) || touches-from m (j + 1) u (drop (j + 1) (nodes-of l w)))
     unfolding touches-from
     turn k = v ∙ rw (way-cons j k, add-one j)
 
-    pub touch-found : j < w .count → touches (word-at m j) u (item l (getD (w .places) j 0)) ≡ true → true ≡ touches-from m 0 u (way-nodes l w)
+    pub touch-found : j < w .count → touches (word-at m j) u (item l (getD (w .places) j 0)) ≡ true → true ≡ touches-from m 0 u (nodes-of l w)
     touch-found k e = sym (turn k ∙ rw e)
 
     pub touch-passed : j < w .count → touches (word-at m j) u (item l (getD (w .places) j 0)) ≡ false
-        → touches-from m 0 u (way-nodes l w) ≡ touches-from m (j + 1) u (drop (j + 1) (way-nodes l w))
+        → touches-from m 0 u (nodes-of l w) ≡ touches-from m (j + 1) u (drop (j + 1) (nodes-of l w))
     touch-passed k e = turn k ∙ rw e
 
-    pub touch-none : w .count ≤ j → false ≡ touches-from m 0 u (way-nodes l w)
+    pub touch-none : w .count ≤ j → false ≡ touches-from m 0 u (nodes-of l w)
     unfolding touches-from
     touch-none k = sym (v ∙ rw (way-end j k))
 

@@ -18,8 +18,17 @@ use Rattle.edits.specs.Rows.{granted-along, granted-up}
 use Rattle.lookup.specs.Laws.Up.{climb-found, climb-passed, climb-start}
 use Rattle.lookup.specs.Laws.Up.{seen-up, seen-up-deleted, seen-up-found, seen-up-passed, seen-up-start, seen-at-up}
 use Rattle.layout.specs.declared.Places.{Places}
-use Rattle.locking.specs.Way.{way-up, way-places, way-nodes, Inside, Climbed, Climb}
+use Rattle.locking.specs.Way.{way-up, places-of, nodes-of, Inside, Climbed, Climb}
 use Rattle.locking.specs.Grants.{granted-on}
+
+-- a place stored behind the others
+pub inside-set : (n count v : ℕ) (places : List ℕ) → count < length places → v < n → ((j : ℕ) → j < count → getD places j 0 < n)
+    → (j : ℕ) → j < count + 1 → getD (set places count v) j 0 < n
+inside-set n count v places m q h j g = go (eqb j count) refl
+  where
+    go : (b : Bool) → eqb j count ≡ b → getD (set places count v) j 0 < n
+    go true i = rw (eqb-true j count i, getD-set-same places count v 0 m) q
+    go false i = let z = eqb-false j count i in rw (getD-set-other places count j v 0 z) (h j (omega (arith, z)))
 
 -- by the deleter that was read
 deleted-it : (t x : ℕ) (a : Marked) → x ≡ a .deleter → x ≡ t → seen-by t a ≡ false
@@ -54,7 +63,7 @@ module _ {l : List Entry} {t p : ℕ} (h : p < length l) where
       some = omega arith;
       room = omega arith;
       low = omega arith;
-      inside = λ j k. let z : j ≡ 0 = omega arith in rw (z, getD-set-same places 0 p 0 (omega arith)) h;
+      inside = inside-set (length l) 0 p places (omega arith) h (λ j z. absurd (omega arith));
       found = rw (v, take-suc-set places 0 p (omega arith));
       seen = seen-at-up t l p ∙ rw (left-it t x (item l p) d f, v);
     }
@@ -86,18 +95,14 @@ module _ {l : List Entry} {t p : ℕ} (h : p < length l) where
             some = omega arith;
             room = omega (arith, c .room);
             low = omega (arith, c .low);
-            inside = λ j g. at j g n (eqb j count) refl;
+            inside = inside-set (length l) count (k - 1) places n (omega (arith, c .low)) (c .inside);
             found = c .found ∙ rw (add-one, take-suc-set places count (k - 1) n, v) (here ∙ sym joined);
             seen = c .seen ∙ seen-up-found t l e k some (omega (arith, v)) (left-it t x (item l (k - 1)) y f) ∙ rw v;
           }
-        where
-          at : (j : ℕ) → j < count + 1 → count < length places → (b : Bool) → eqb j count ≡ b → getD (set places count (k - 1)) j 0 < length l
-          at j g n true i = rw (eqb-true j count i, getD-set-same places count (k - 1) 0 n) (omega (arith, c .low))
-          at j g n false i = let z = eqb-false j count i in rw (getD-set-other places count j (k - 1) 0 z) (c .inside j (omega arith))
 
   pub climbing-done : {e k count : ℕ} {places : List ℕ} → Climbing l t p e k count places → length l ≤ 1024 → k ≡ 0
       → Climb l t p (record { places = places; count = count })
-  unfolding way-places
+  unfolding places-of
   climbing-done {e} {k} {count} {places} c m z = record {
     hidden = λ n. absurd (omega (arith, c .some));
     seen = λ n. c .seen ∙ rw z (seen-up-start t l e);
@@ -109,17 +114,17 @@ module _ {l : List Entry} {t p : ℕ} (h : p < length l) where
 
 -- what the way stands for
 module _ {l : List Entry} {p : ℕ} {w : Places} (c : Climbed l p w) where
-  pub climbed-nodes : way-nodes l w ≡ item l p ∷ ups l p
-  unfolding way-nodes way-up ups
+  pub climbed-nodes : nodes-of l w ≡ item l p ∷ ups l p
+  unfolding nodes-of way-up ups
   climbed-nodes = ap (map (item l)) (c .places)
 
-  pub climbed-grants : (t : ℕ) (n : Need) → granted-on t n (way-places w) l ≡ granted-up t n p l
+  pub climbed-grants : (t : ℕ) (n : Need) → granted-on t n (places-of w) l ≡ granted-up t n p l
   unfolding granted-on way-up
   climbed-grants t n = ap (λ is. granted-along t (n .node) (n .parent) (n .above) is l) (c .places)
 
   -- the parent is the second
   climbed-count : w .count ≡ suc (length (above-places l p))
-  unfolding way-places way-up
+  unfolding places-of way-up
   climbed-count = sym (length-take (w .count) (w .places) ∙ omega (arith, c .inside .long, c .inside .room)) ∙ ap length (c .places)
 
   pub climbed-top : w .count < 2 → parent (numbers-above l p) ≡ 0
@@ -131,7 +136,7 @@ module _ {l : List Entry} {p : ℕ} {w : Places} (c : Climbed l p w) where
       go (i ∷ is) e = absurd (omega arith)
 
   pub climbed-parent : 2 ≤ w .count → parent (numbers-above l p) ≡ number-of (item l (getD (w .places) 1 0))
-  unfolding ups way-places way-up
+  unfolding ups places-of way-up
   climbed-parent k = go (above-places l p) climbed-count (c .places)
     where
       go : (is : List ℕ) → w .count ≡ suc (length is) → take (w .count) (w .places) ≡ p ∷ is
