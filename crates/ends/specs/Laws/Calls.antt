@@ -8,7 +8,7 @@ use lib.ListN.{length, getD, drop}
 use lib.Dec.{eqb, leb}
 use borrow.Author.Tests.{le-leb, lt-leb, leb-true, leb-false, ne-eqb}
 use Rattle.tree.specs.Steps.{done}
-use Rattle.protocol.specs.State.{nobody, State, Tree, commit-tree, abort-tree, opened, closed, with-open}
+use Rattle.protocol.specs.State.{nobody, Header, State, Tree, commit-tree, abort-tree, opened, closed, with-open}
 use Rattle.protocol.specs.Calls.{Call, begin, commit, abort, refused, Next, unchanged, becomes, if-open, next}
 use Rattle.protocol.specs.Answers.{answer-of, granted-answer}
 use Rattle.protocol.specs.declared.Answer.the-variants.{Done, Refused}
@@ -118,7 +118,7 @@ module _ {s : List ℕ} {t : ℕ} (f : form s ≡ true) where
           outcome = λ M h. ap (λ (n : Next). n .outcome) (begins e M h);
           state = λ M h. rw (begins e M h) (record {
             layout = k .layout;
-            header = k .header ∙ ap {B = ℕ → Bool} (λ (g : ℕ → Bool) (u : ℕ). eqb u t || g u) (h .header);
+            header = k .header ∙ ap (λ (q : Header). with-open (λ u. eqb u t || q .is-open u) q) (h .header);
             rows = k .nodes ∙ h .rows;
             unique = rw (k .nodes) (h .unique);
             valid = h .valid;
@@ -169,7 +169,7 @@ end-done {s} {s′} {t} commits o k =
             layout = k .layout;
             long = k .long;
             behind = k .behind;
-            header = k .header ∙ ap {B = ℕ → Bool} (λ (p : ℕ → Bool) (u : ℕ). not (eqb u t) && p u) (h .header);
+            header = k .header ∙ ap (λ (q : Header). with-open (λ u. not (eqb u t) && q .is-open u) q) (h .header);
             nodes = k .nodes ∙ ap (λ (l : List Entry). map (second (at-end commits t)) (prune (stays commits t) 0 l)) (h .rows)
                 ∙ sym (end-rows commits t (M .tree));
           })

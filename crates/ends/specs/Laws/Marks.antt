@@ -8,7 +8,7 @@ use lib.ListN.{length, getD}
 use lib.Dec.{eqb}
 use borrow.Author.Tests.{eq-eqb, ne-eqb}
 use Rattle.tree.specs.Laws.Lists.{map-map}
-use Rattle.protocol.specs.State.{nobody, writer-of, Marked, released}
+use Rattle.protocol.specs.State.{nobody, writer-of, Marked, Header, released, with-open}
 use Rattle.layout.specs.Lists.{modify}
 use Rattle.layout.specs.Flat.{second, prune}
 use Rattle.layout.specs.Layout.{is-open, Entry, nodes, no-entry, Layout, Left, Kept, header}
@@ -107,7 +107,7 @@ module _ (g : Entry → Entry) where
 
 -- t is open until it is closed
 pub left-open : {s s′ : List ℕ} {l : List Entry} (t : ℕ) → Left s s′ (header s) l → is-open s t ≡ true → is-open s′ t ≡ true
-left-open t a e = ap (λ (f : ℕ → Bool). f t) (a .header) ∙ e
+left-open t a e = ap (λ (q : Header). q .is-open t) (a .header) ∙ e
 
 pub kept-open : {s s′ : List ℕ} {l : List Entry} (t : ℕ) → Kept s s′ l → is-open s t ≡ true → is-open s′ t ≡ true
 kept-open t a e = left-open t (left-kept a) e
@@ -119,7 +119,7 @@ module _ {s s₁ s₂ : List ℕ} (t : ℕ) where
     layout = b .layout;
     long = b .long ∙ a .long;
     behind = b .behind ∙ a .behind;
-    header = b .header ∙ ap {B = ℕ → Bool} (λ (p : ℕ → Bool) (u : ℕ). not (eqb u t) && p u) (a .header);
+    header = b .header ∙ ap (λ (q : Header). with-open (λ u. not (eqb u t) && q .is-open u) q) (a .header);
     nodes = b .nodes ∙ ap f (a .nodes);
   }
 
