@@ -1,19 +1,19 @@
 // Start, begin, commit and abort.
-use protocol::Answer;
+use protocol::{Answer, causes};
 ghost use mathlib.Core.Path.{_≡_};
-ghost use mathlib.Core.Bool.{true};
+ghost use mathlib.Core.Bool.{true, cond};
 ghost use mathlib.Core.List.{map};
 ghost use Prim.Native.Nat.{_<_, _≤_};
 ghost use lib.ListN.{length};
-ghost use Rattle.protocol.specs.State.{seen-by, lasting, undone, released};
+ghost use Rattle.protocol.specs.State.{released};
 ghost use Rattle.protocol.specs.Calls.{begin, commit, abort};
 ghost use Rattle.layout.specs.Lists.{modify};
 ghost use Rattle.layout.specs.Flat.{second};
 ghost use Rattle.layout.specs.Layout.{is-open, nodes, Layout, Kept};
-ghost use Rattle.edits.specs.Rows.{not-inserted-by};
 ghost use Rattle.engine.specs.Contract.{Performed};
 ghost use Rattle.engine.specs.Admission.{Opened};
-ghost use Rattle.ends.specs.Ends.{Restarted, without-mark, rewritten, lasting-marks, undone-marks, Closed, Ended};
+ghost use Rattle.ends.specs.Ends.{Restarted};
+ghost use Rattle.ends.specs.Marks.{end-call, without-mark, rewritten, ended-marks, Closed, Ended};
 
 const WRITER: usize = 1;
 
@@ -28,7 +28,7 @@ pub fn start(s: &mut [u8]) -> Answer
     if form::start(s) {
         return Answer::Done;
     }
-    Answer::Refused(13)
+    Answer::Refused(causes::SHORT_BUFFER)
 }
 
 // Begin of t.
@@ -36,16 +36,16 @@ pub fn begin(s: &mut [u8], t: u32) -> Answer
     ensures { λ r. ⌜ Performed (now (s .entry)) (now (s .exit)) r (begin t) ⌝ }
 {
     if !form::formed(s) {
-        return Answer::Refused(13);
+        return Answer::Refused(causes::SHORT_BUFFER);
     }
     if t == 0 {
-        return Answer::Refused(1);
+        return Answer::Refused(causes::NOT_A_TRANSACTION);
     }
     if 16 < t {
-        return Answer::Refused(1);
+        return Answer::Refused(causes::NOT_A_TRANSACTION);
     }
     if transactions::is_open(s, t as usize) {
-        return Answer::Refused(2);
+        return Answer::Refused(causes::ALREADY_OPEN);
     }
     transactions::open(s, t as usize);
     Answer::Done
@@ -61,24 +61,40 @@ fn clear_mark(s: &mut [u8], i: usize, o: usize, t: u8)
     }
 }
 
-// What t wrote and inserted of the node at i is everybody's.
-fn settle_node(s: &mut [u8], i: usize, t: u8)
-    requires { ⌜ (Layout (now s)) × (i < length (nodes (now s))) ⌝ }
-    ensures { λ r. ⌜ Kept (now (s .entry)) (now (s .exit)) (modify i (second (lasting-marks t)) (nodes (now (s .entry)))) ⌝ }
+// The node at i has its saved content again, where t wrote it.
+fn rewrite(s: &mut [u8], i: usize, t: u8)
+    requires { ⌜ (Layout (now s)) × (i < length (nodes (now s))) × (1 ≤ t) ⌝ }
+    ensures { λ r. ⌜ Kept (now (s .entry)) (now (s .exit)) (modify i (second (rewritten t)) (nodes (now (s .entry)))) ⌝ }
 {
+    if table::writer(s, i) == t {
+        table::restore_content(s, i);
+    }
+}
+
+// A commit makes lasting what t wrote and inserted of the node at i, an abort undoes what t wrote and deleted of it.
+fn end_node(s: &mut [u8], i: usize, t: u8, commits: bool)
+    requires { ⌜ (Layout (now s)) × (i < length (nodes (now s))) × (1 ≤ t) ⌝ }
+    ensures { λ r. ⌜ Kept (now (s .entry)) (now (s .exit)) (modify i (second (ended-marks commits t)) (nodes (now (s .entry)))) ⌝ }
+{
+    if commits {
+        clear_mark(s, i, WRITER, t);
+        clear_mark(s, i, INSERTER, t);
+        return;
+    }
+    rewrite(s, i, t);
     clear_mark(s, i, WRITER, t);
-    clear_mark(s, i, INSERTER, t);
+    clear_mark(s, i, DELETER, t);
 }
 
 // The same of all nodes.
-fn settle(s: &mut [u8], t: u8)
-    requires { ⌜ Layout (now s) ⌝ }
-    ensures { λ r. ⌜ Kept (now (s .entry)) (now (s .exit)) (map (second (lasting-marks t)) (nodes (now (s .entry)))) ⌝ }
+fn end_nodes(s: &mut [u8], t: u8, commits: bool)
+    requires { ⌜ (Layout (now s)) × (1 ≤ t) ⌝ }
+    ensures { λ r. ⌜ Kept (now (s .entry)) (now (s .exit)) (map (second (ended-marks commits t)) (nodes (now (s .entry)))) ⌝ }
 {
     let m = table::count(s);
     let mut i: usize = 0;
     while i < m {
-        settle_node(s, i, t);
+        end_node(s, i, t, commits);
         i += 1;
     }
 }
@@ -92,79 +108,48 @@ fn close(s: &mut [u8], t: u8)
     transactions::close(s, t as usize);
 }
 
-// What t deleted goes, with all below it; what else it did stays; its locks go.
-fn commit_open(s: &mut [u8], t: u8)
-    requires { ⌜ Opened (now s) t ⌝ }
-    ensures { λ r. ⌜ Ended (seen-by t) (lasting t) t (now (s .entry)) (now (s .exit)) ⌝ }
+// The mark of the nodes that go: a commit takes out what was deleted, an abort what was inserted.
+fn going(commits: bool) -> usize
+    ensures { λ r. ⌜ r ≡ cond commits 3 2 ⌝ }
 {
-    outline::prune(s, DELETER, t);
-    settle(s, t);
+    if commits {
+        return DELETER;
+    }
+    INSERTER
+}
+
+// An end of t, which is open: what goes is taken out with all below it, the other nodes are lasting or as before, and the locks go.
+fn end_open(s: &mut [u8], t: u8, commits: bool)
+    requires { ⌜ Opened (now s) t ⌝ }
+    ensures { λ r. ⌜ Ended commits t (now (s .entry)) (now (s .exit)) ⌝ }
+{
+    outline::prune(s, going(commits), t);
+    end_nodes(s, t, commits);
     close(s, t);
+}
+
+// An end of t: a commit or an abort.
+fn end(s: &mut [u8], t: u32, commits: bool) -> Answer
+    ensures { λ r. ⌜ Performed (now (s .entry)) (now (s .exit)) r (end-call commits t) ⌝ }
+{
+    let cause = engine::caller(s, t);
+    if cause != 0 {
+        return Answer::Refused(cause);
+    }
+    end_open(s, t as u8, commits);
+    Answer::Done
 }
 
 // Commit of t: "commit makes changes lasting".
 pub fn commit(s: &mut [u8], t: u32) -> Answer
     ensures { λ r. ⌜ Performed (now (s .entry)) (now (s .exit)) r (commit t) ⌝ }
 {
-    let cause = engine::caller(s, t);
-    if cause != 0 {
-        return Answer::Refused(cause);
-    }
-    commit_open(s, t as u8);
-    Answer::Done
-}
-
-// The node at i has its saved content again, where t wrote it.
-fn rewrite(s: &mut [u8], i: usize, t: u8)
-    requires { ⌜ (Layout (now s)) × (i < length (nodes (now s))) × (1 ≤ t) ⌝ }
-    ensures { λ r. ⌜ Kept (now (s .entry)) (now (s .exit)) (modify i (second (rewritten t)) (nodes (now (s .entry)))) ⌝ }
-{
-    if table::writer(s, i) == t {
-        table::restore_content(s, i);
-    }
-}
-
-// What t wrote and deleted of the node at i is as before.
-fn undo_node(s: &mut [u8], i: usize, t: u8)
-    requires { ⌜ (Layout (now s)) × (i < length (nodes (now s))) × (1 ≤ t) ⌝ }
-    ensures { λ r. ⌜ Kept (now (s .entry)) (now (s .exit)) (modify i (second (undone-marks t)) (nodes (now (s .entry)))) ⌝ }
-{
-    rewrite(s, i, t);
-    clear_mark(s, i, WRITER, t);
-    clear_mark(s, i, DELETER, t);
-}
-
-// The same of all nodes.
-fn undo(s: &mut [u8], t: u8)
-    requires { ⌜ (Layout (now s)) × (1 ≤ t) ⌝ }
-    ensures { λ r. ⌜ Kept (now (s .entry)) (now (s .exit)) (map (second (undone-marks t)) (nodes (now (s .entry)))) ⌝ }
-{
-    let rows = table::count(s);
-    let mut i: usize = 0;
-    while i < rows {
-        undo_node(s, i, t);
-        i += 1;
-    }
-}
-
-// What t inserted goes, with all below it; what else it did is undone; its locks go.
-fn abort_open(s: &mut [u8], t: u8)
-    requires { ⌜ Opened (now s) t ⌝ }
-    ensures { λ r. ⌜ Ended (not-inserted-by t) (undone t) t (now (s .entry)) (now (s .exit)) ⌝ }
-{
-    outline::prune(s, INSERTER, t);
-    undo(s, t);
-    close(s, t);
+    end(s, t, true)
 }
 
 // Abort of t: "abort removes them".
 pub fn abort(s: &mut [u8], t: u32) -> Answer
     ensures { λ r. ⌜ Performed (now (s .entry)) (now (s .exit)) r (abort t) ⌝ }
 {
-    let cause = engine::caller(s, t);
-    if cause != 0 {
-        return Answer::Refused(cause);
-    }
-    abort_open(s, t as u8);
-    Answer::Done
+    end(s, t, false)
 }

@@ -1,4 +1,4 @@
--- What is judged before a step looks at its node: 13 for the state, 1, 3 and 7.
+-- What is judged before a step's own causes: 13 for the state, 1, 3 and 7.
 use mathlib.Core.Path.{_≡_}
 use Prim.Native.Nat.{ℕ, _≤_, _<_}
 use mathlib.Core.Bool.{true, false}
@@ -10,9 +10,10 @@ use Rattle.protocol.specs.Lent.{Room}
 use Rattle.protocol.specs.Calls.{step, Next, unchanged, refused, if-open, next}
 use Rattle.layout.specs.Layout.{nodes, is-open, Layout}
 use Rattle.lookup.specs.Places.{item, number-of, seen-at}
+use Rattle.lookup.specs.Found.{judged-at}
+use Rattle.locking.specs.Way.{Climbed}
 use Rattle.form.specs.Form.{form, Holds}
-use Rattle.engine.specs.declared.Place.{Place}
-use Rattle.engine.specs.declared.Place.the-variants as place
+use Rattle.engine.specs.declared.Admission.{Admission}
 
 -- the caller ---------------------------------------------------------------------------
 
@@ -36,21 +37,26 @@ pub record Caller (s : List ℕ) (t cause : ℕ) : Type 0 where
 
 -- the node -----------------------------------------------------------------------------
 
--- t is open, and sees the node at p
-pub record Admitted (s : List ℕ) (t p : ℕ) : Type 0 where
-  pub formed : form s ≡ true
-  pub layout : Layout s
-  pub low : 1 ≤ t
-  pub high : t ≤ 16
-  pub is-open : is-open s t ≡ true
-  pub inside : p < length (nodes s)
-  pub seen : seen-at t (nodes s) p ≡ true
-
 -- every step of t on n is refused by this cause: 13, 1, 3 or 7
 pub record Rejected (s : List ℕ) (t n cause : ℕ) : Type 0 where
   pub unformed : form s ≡ false → cause ≡ 13
   pub formed : (M : State) → Holds s M → (st : Step) → target st ≡ n → (room : Room) → next (step t st room) M ≡ unchanged (refused cause) M
 
-unfoldable pub Admission : List ℕ → ℕ → ℕ → Place → Type 0
-Admission s t n (place.At p) = Admitted s t p × (number-of (item (nodes s) p) ≡ n)
-Admission s t n (place.Refused cause) = Rejected s t n cause
+-- t is open, and sees node n at the place; every step of t on n is judged there, by what comes behind 7
+pub record Standing (s : List ℕ) (t n : ℕ) (a : Admission) : Type 0 where
+  pub formed : form s ≡ true
+  pub layout : Layout s
+  pub same : a .t ≡ t
+  pub low : 1 ≤ a .t
+  pub high : a .t ≤ 16
+  pub inside : a .place < length (nodes s)
+  pub number : number-of (item (nodes s) (a .place)) ≡ n
+  pub seen : seen-at (a .t) (nodes s) (a .place) ≡ true
+  pub climbed : Climbed (nodes s) (a .place) (a .way)
+  pub next : (M : State) → Holds s M → (st : Step) → target st ≡ n → (room : Room)
+      → next (step t st room) M ≡ judged-at (a .t) st room M (nodes s) (a .place)
+
+-- which of the two, by the cause, 0 for none
+pub record Admitted (s : List ℕ) (t n : ℕ) (a : Admission) : Type 0 where
+  pub rejected : (a .cause ≡ 0 → ⊥) → Rejected s t n (a .cause)
+  pub standing : a .cause ≡ 0 → Standing s t n a

@@ -1,9 +1,9 @@
 -- The contract of a call on lent bytes: begin, the nine steps, commit and abort, and load for what its input says.
 use mathlib.Core.Path.{_≡_}
-use Prim.Native.Nat.{ℕ}
+use Prim.Native.Nat.{ℕ, _+_}
 use mathlib.Core.Bool.{false}
-use mathlib.Core.List.{List}
-use lib.ListN.{length, drop}
+use mathlib.Core.List.{List, [], _∷_, _++_}
+use lib.ListN.{length, take, drop}
 use Rattle.tree.specs.Document.{Document}
 use Rattle.tree.specs.Steps.{Value}
 use Rattle.protocol.specs.State.{State}
@@ -16,17 +16,28 @@ use Rattle.protocol.specs.declared.Answer.the-variants.{Refused}
 use Rattle.layout.specs.Layout.{state-size}
 use Rattle.form.specs.Form.{form, Holds}
 
+-- the places of the state, offset and length, that a call which is not granted may change: none
+abbrev pub changed-by : Call → Outcome → List (ℕ × ℕ)
+changed-by call o = []
+
+-- the bytes without those places
+abbrev pub outside : List (ℕ × ℕ) → List ℕ → List ℕ
+outside [] s = s
+outside (p ∷ ps) s = outside ps (take (p .0) s ++ drop (p .0 + p .1) s)
+
 -- a call that was lent the state bytes s, left s′ there and answered r
 pub record Performed (s s′ : List ℕ) (r : Answer) (call : Call) : Type 0 where
   -- "state bytes that are too short, or not of the form .. give 13 before all else"
   pub unformed : form s ≡ false → (r ≡ Refused 13) × (s′ ≡ s)
-  -- otherwise the answer is the definition's, and what is left holds the definition's next state; `writing` plays no part, since no such call writes
+  -- otherwise the answer is the definition's, and what is left holds the definition's next state; `writing` plays no part, since no such
+  -- call writes
   pub answer : (M : State) → Holds s M → (writing : Document → Answer) → r ≡ answer-of writing (next call M .outcome)
   -- which slot each node has, the order of the free slots, and the bytes that docs/STATE.md calls free are the program's choice at every
   -- granted call; what all choices have in common is `one-answer` (traces), and the bytes hold this one state (`holds-one` in form)
   pub state : (M : State) → Holds s M → Holds s′ (next call M .state)
-  -- a wait or a refusal: "left as it was: everything"
-  pub still : (M : State) → Holds s M → is-granted (next call M .outcome) ≡ false → s′ ≡ s
+  -- a wait or a refusal: "left as it was: everything", but for what the definition changes
+  pub still : (M : State) → Holds s M → is-granted (next call M .outcome) ≡ false
+      → outside (changed-by call (next call M .outcome)) s′ ≡ outside (changed-by call (next call M .outcome)) s
   -- bytes behind the state are never touched
   pub long : length s′ ≡ length s
   pub behind : drop state-size s′ ≡ drop state-size s

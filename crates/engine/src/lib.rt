@@ -1,119 +1,163 @@
-// What all steps share: the caller and the node are judged, and T, the first step, shows how a step goes on from there.
-use locking::Way;
-use locks::StepName;
-use protocol::Answer;
+// What all steps share: the caller and the node are judged, then the step's own causes and the wait, then the locks are granted; and T, the
+// first step.
+use layout::Places;
+use locks::{NeedWords, StepName};
+use protocol::{Answer, causes};
 ghost use mathlib.Core.Path.{_≡_};
+ghost use mathlib.Core.Bool.{cond};
 ghost use Prim.Native.Nat.{_<_, _≤_};
 ghost use lib.ListN.{length};
+ghost use lib.Dec.{eqb};
+ghost use Rattle.tree.specs.Content.{document-kind};
 ghost use Rattle.tree.specs.Steps.{T, parent};
+ghost use Rattle.protocol.specs.Causes.{unfit-kind};
 ghost use Rattle.protocol.specs.Calls.{step};
 ghost use Rattle.layout.specs.Layout.{nodes, Layout};
-ghost use Rattle.lookup.specs.Places.{item, number-of, numbers-above, seen-at};
-ghost use Rattle.locking.specs.Way.{Climbed};
+ghost use Rattle.lookup.specs.Places.{item, numbers-above};
+ghost use Rattle.locking.specs.Way.{Climbed, Inside};
+ghost use Rattle.locking.specs.Grants.{Granted};
 ghost use Rattle.engine.specs.Contract.{Performed, no-room};
-ghost use Rattle.engine.specs.Admission.{Caller, Admitted, Admission};
+ghost use Rattle.engine.specs.Admission.{Caller, Admitted};
+ghost use Rattle.engine.specs.Judgement.{FirstOf, Judged};
 
 // The cause 13, 1 or 3 of a call of transaction t, or 0.
 pub fn caller(s: &[u8], t: u32) -> u8
     ensures { λ r. ⌜ Caller (now (s .entry)) t r ⌝ }
 {
     if !form::formed(s) {
-        return 13;
+        return causes::SHORT_BUFFER;
     }
     if t == 0 {
-        return 1;
+        return causes::NOT_A_TRANSACTION;
     }
     if 16 < t {
-        return 1;
+        return causes::NOT_A_TRANSACTION;
     }
     if !transactions::is_open(s, t as usize) {
-        return 3;
+        return causes::NOT_OPEN;
     }
     0
 }
 
-// Whether t deleted neither the node at p nor one above it.
-pub fn seen(s: &[u8], t: u8, p: usize) -> bool
-    requires { ⌜ (Layout (now s)) × (p < length (nodes (now s))) ⌝ }
-    ensures { λ r. ⌜ r ≡ seen-at t (nodes (now (s .entry))) p ⌝ }
+// A step before its own causes: why it is refused, or 0; then its transaction, the place of its node and the way up from there.
+pub struct Admission {
+    pub cause: u8,
+    pub t: u8,
+    pub place: usize,
+    pub way: Places,
+}
+
+// Refused by this cause.
+fn rejected(cause: u8) -> Admission
+    ensures { λ r. ⌜ r .cause ≡ cause ⌝ }
 {
-    if table::deleter(s, p) == t {
-        return false;
+    let places = [0u16; 1024];
+    let way = Places { places, count: 0 };
+    Admission {
+        cause,
+        t: 0,
+        place: 0,
+        way,
     }
-    let mut e = table::depth(s, p);
-    let mut i = p;
-    while 0 < i {
-        i -= 1;
-        let d = table::depth(s, i);
-        if e <= d {
-            continue;
-        }
-        if table::deleter(s, i) == t {
-            return false;
-        }
-        e = d;
-    }
-    true
 }
 
-// Where a step finds its node, or why it does not.
-pub enum Place {
-    At(usize),
-    Refused(u8),
-}
-
-// The place of node n for a step of transaction t, or the cause 13, 1, 3 or 7.
-pub fn admit(s: &[u8], t: u32, n: u16) -> Place
-    ensures { λ r. ⌜ Admission (now (s .entry)) t n r ⌝ }
+// A step of transaction t on node n: the cause 13, 1, 3 or 7, or where it stands.
+pub fn admit(s: &[u8], t: u32, n: u16) -> Admission
+    ensures { λ r. ⌜ Admitted (now (s .entry)) t n r ⌝ }
 {
     let cause = caller(s, t);
     if cause != 0 {
-        return Place::Refused(cause);
+        return rejected(cause);
     }
-    let p = table::find(s, n);
-    if table::count(s) <= p {
-        return Place::Refused(7);
+    let place = table::find(s, n);
+    if table::count(s) <= place {
+        return rejected(causes::NO_SUCH_NODE);
     }
-    if !seen(s, t as u8, p) {
-        return Place::Refused(7);
+    let u = t as u8;
+    let way = locking::way_up(s, u, place);
+    if way.count == 0 {
+        return rejected(causes::NO_SUCH_NODE);
     }
-    Place::At(p)
+    Admission {
+        cause: 0,
+        t: u,
+        place,
+        way,
+    }
+}
+
+// A cause found already, or else cause 8 of R, U and D, for the document, or 0.
+pub fn document_cause(s: &[u8], found: u8, place: usize) -> u8
+    requires { ⌜ (found ≡ 0 → ((Layout (now s)) × (place < length (nodes (now s))))) ⌝ }
+    ensures { λ r. ⌜ FirstOf found (cond (eqb (item (nodes (now (s .entry))) place .now .kind) document-kind) unfit-kind 0) r ⌝ }
+{
+    if found != 0 {
+        return found;
+    }
+    if table::kind(s, place) == 1 {
+        return causes::UNFIT_KIND;
+    }
+    0
+}
+
+// Whether nothing keeps a step from being granted, so far; else the refusal or the wait.
+pub struct Verdict {
+    pub free: bool,
+    pub answer: Answer,
+}
+
+// A step that was admitted, with the first cause before the wait, or 0, and what it needs: refused, or waiting, or free.
+pub fn judge(s: &[u8], at: Admission, cause: u8, w: NeedWords) -> Verdict
+    requires { ⌜ (cause ≡ 0 → ((Layout (now s)) × Inside (nodes (now s)) (at .way))) ⌝ }
+    ensures { λ r. ⌜ Judged (now (s .entry)) at cause w r ⌝ }
+{
+    if cause != 0 {
+        let answer = Answer::Refused(cause);
+        return Verdict { free: false, answer };
+    }
+    let way = at.way;
+    let set = locking::waits(s, at.t as usize, w, way);
+    if set != 0 {
+        let answer = Answer::Waits(set);
+        return Verdict { free: false, answer };
+    }
+    let answer = Answer::Done;
+    Verdict { free: true, answer }
+}
+
+// The locks of a step that is granted.
+pub fn grant(s: &mut [u8], at: Admission, w: NeedWords)
+    requires { ⌜ (Layout (now s)) × (1 ≤ at .t) × (at .t ≤ 16) × Inside (nodes (now s)) (at .way) ⌝ }
+    ensures { λ r. ⌜ Granted (now (s .entry)) (now (s .exit)) (at .t) w (at .way) ⌝ }
+{
+    let way = at.way;
+    locking::grant(s, at.t as usize, w, way);
 }
 
 // The number of the node's parent, the second on the way up, or 0 for the document.
-pub fn parent(s: &[u8], p: usize, way: Way) -> u16
-    requires { ⌜ (Layout (now s)) × Climbed (nodes (now s)) p way ⌝ }
-    ensures { λ r. ⌜ r ≡ parent (numbers-above (nodes (now (s .entry))) p) ⌝ }
+fn parent(s: &[u8], at: Admission) -> u16
+    requires { ⌜ (Layout (now s)) × Climbed (nodes (now s)) (at .place) (at .way) ⌝ }
+    ensures { λ r. ⌜ r ≡ parent (numbers-above (nodes (now (s .entry))) (at .place)) ⌝ }
 {
+    let way = at.way;
     if way.count < 2 {
         return 0;
     }
     table::number(s, way.places[1] as usize)
 }
 
-// T on the node at p.
-pub fn test_at(s: &mut [u8], t: usize, p: usize) -> Answer
-    requires { ⌜ Admitted (now s) t p ⌝ }
-    ensures { λ r. ⌜ Performed (now (s .entry)) (now (s .exit)) r (step t (T (number-of (item (nodes (now (s .entry))) p))) no-room) ⌝ }
-{
-    let way = locking::way_up(s, p);
-    let set = locking::waits(s, t, StepName::T, way);
-    if set != 0 {
-        return Answer::Waits(set);
-    }
-    let kind = table::kind(s, p);
-    let parent = parent(s, p, way);
-    locking::grant(s, t, StepName::T, way);
-    Answer::Node { kind, parent }
-}
-
 // T(n): the kind and the parent of node n.
 pub fn test(s: &mut [u8], t: u32, n: u16) -> Answer
     ensures { λ r. ⌜ Performed (now (s .entry)) (now (s .exit)) r (step t (T n) no-room) ⌝ }
 {
-    let place = admit(s, t, n);
-    match place {
-        Place::Refused(cause) => Answer::Refused(cause),
-        Place::At(p) => test_at(s, t as usize, p),
+    let at = admit(s, t, n);
+    let need = locks::needed(StepName::T);
+    let verdict = judge(s, at, at.cause, need);
+    if !verdict.free {
+        return verdict.answer;
     }
+    let kind = table::kind(s, at.place);
+    let parent = parent(s, at);
+    grant(s, at, need);
+    Answer::Node { kind, parent }
 }

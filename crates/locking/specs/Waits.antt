@@ -1,13 +1,20 @@
 -- Waiting by words: the modes that clash with those needed are looked up once, and met along the way.
 use Prim.Native.Nat.{ℕ, zero, suc, _<_}
+use mathlib.Core.Path.{_≡_}
 use mathlib.Core.Bool.{Bool, false, not, _&&_, _||_}
 use mathlib.Core.List.{List, [], _∷_}
 use lib.Dec.{eqb}
 use Rattle.tree.specs.Lists.{any}
+use Rattle.tree.specs.Steps.{Step}
 use Rattle.locks.specs.Modes.{modes, in-word}
-use Rattle.locks.specs.Words.{mask-of}
+use Rattle.locks.specs.Needs.{need}
+use Rattle.locks.specs.Words.{mask-of, words}
 use Rattle.locks.specs.declared.NeedWords.{NeedWords}
 use Rattle.protocol.specs.State.{Marked}
+use Rattle.layout.specs.Layout.{nodes, is-open}
+use Rattle.layout.specs.declared.Places.{Places}
+use Rattle.lookup.specs.Found.{wait-word}
+use Rattle.locking.specs.Way.{nodes-of}
 
 -- the set for the j-th node of the way
 abbrev pub word-at : NeedWords → ℕ → ℕ
@@ -37,3 +44,7 @@ touches-from w j u (a ∷ way) = touches (word-at w j) u a || touches-from w (su
 -- another open transaction, which holds such a mode on the way
 unfoldable pub blocks-by : ℕ → NeedWords → (ℕ → Bool) → List Marked → ℕ → Bool
 blocks-by t w is-open way u = is-open u && not (eqb u t) && touches-from w 0 u way
+
+-- what a step of t waits for on the way, whichever step needs these sets
+pub record WaitsFor (s : List ℕ) (t : ℕ) (w : NeedWords) (way : Places) (set : ℕ) : Type 0 where
+  pub is : (st : Step) → w ≡ words (need st) → set ≡ wait-word t (need st) (is-open s) (nodes-of (nodes s) way)

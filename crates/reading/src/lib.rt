@@ -1,4 +1,5 @@
 // What reading steps find in the lent bytes: a child, a content, a subtree as the caller sees it; and what they put into lent buffers.
+use layout::Places;
 use protocol::Answer;
 ghost use mathlib.Core.Path.{_≡_};
 ghost use mathlib.Core.Bool.{_&&_};
@@ -12,7 +13,8 @@ ghost use Rattle.layout.specs.Layout.{nodes, Layout};
 ghost use Rattle.lookup.specs.Places.{item, number-of, children};
 ghost use Rattle.lookup.specs.Found.{kth-child};
 ghost use Rattle.reading.specs.Stored.{Stored};
-ghost use Rattle.reading.specs.Subtree.{nodes-of, Inside, Selected};
+ghost use Rattle.locking.specs.Way.{nodes-of, Inside};
+ghost use Rattle.reading.specs.Subtree.{Selected};
 
 // The k-th child of the node at p that t sees, k from 1.
 pub fn kth_child(s: &[u8], t: u8, p: usize, k: u32) -> Answer
@@ -49,12 +51,6 @@ pub fn kth_child(s: &[u8], t: u8, p: usize, k: u32) -> Answer
     Answer::NoChild
 }
 
-// A node and all below it that a transaction sees, in document order, each by its place.
-pub struct Subtree {
-    pub places: [u16; 1024],
-    pub count: usize,
-}
-
 // Whether a node at depth d is left out; hidden is the least depth that is, 0 for none.
 fn is_hidden(hidden: u32, d: u16) -> bool
     ensures { λ r. ⌜ r ≡ (ltb 0 hidden && leb hidden d) ⌝ }
@@ -65,8 +61,8 @@ fn is_hidden(hidden: u32, d: u16) -> bool
     hidden <= d as u32
 }
 
-// The node at p and all below it that t sees; t did not delete the node.
-pub fn select(s: &[u8], t: u8, p: usize) -> Subtree
+// The places of the node at p and of all below it that t sees, in document order; t did not delete the node.
+pub fn select(s: &[u8], t: u8, p: usize) -> Places
     requires { ⌜ (Layout (now s)) × (p < length (nodes (now s))) ⌝ }
     ensures { λ r. ⌜ Selected (nodes (now (s .entry))) t p r ⌝ }
 {
@@ -82,7 +78,7 @@ pub fn select(s: &[u8], t: u8, p: usize) -> Subtree
         i += 1;
         let d = table::depth(s, j);
         if d <= e {
-            return Subtree { places, count };
+            return Places { places, count };
         }
         if is_hidden(hidden, d) {
             continue;
@@ -95,7 +91,7 @@ pub fn select(s: &[u8], t: u8, p: usize) -> Subtree
         places[count] = j as u16;
         count += 1;
     }
-    Subtree { places, count }
+    Places { places, count }
 }
 
 // The content of the node at i, n bytes, to the bytes from k on.
@@ -130,7 +126,7 @@ fn put_cell(s: &[u8], i: usize, out: &mut [u8], k: usize)
 }
 
 // The numbers of a subtree to a lent buffer, low byte first.
-pub fn numbers(s: &[u8], tree: Subtree, out: &mut [u8])
+pub fn numbers(s: &[u8], tree: Places, out: &mut [u8])
     requires { ⌜ (Layout (now s)) × Inside (nodes (now s)) tree × (2 * (tree .count) ≤ length (now out)) ⌝ }
     ensures { λ r. ⌜ now (out .exit) ≡ filled (list-bytes (map number-of (nodes-of (nodes (now (s .entry))) tree))) (now (out .entry)) ⌝ }
 {
@@ -144,7 +140,7 @@ pub fn numbers(s: &[u8], tree: Subtree, out: &mut [u8])
 }
 
 // The cells of a subtree to a lent buffer, 33 bytes each.
-pub fn cells(s: &[u8], tree: Subtree, out: &mut [u8])
+pub fn cells(s: &[u8], tree: Places, out: &mut [u8])
     requires { ⌜ (Layout (now s)) × Inside (nodes (now s)) tree × (33 * (tree .count) ≤ length (now out)) ⌝ }
     ensures { λ r. ⌜ now (out .exit) ≡ filled (cells (map (λ a. (number-of a, a .now .content)) (nodes-of (nodes (now (s .entry))) tree))) (now (out .entry)) ⌝ }
 {

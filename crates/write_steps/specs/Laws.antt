@@ -1,4 +1,3 @@
-pub mod Ends
 pub mod Contents
 pub mod Renames
 pub mod Inserts

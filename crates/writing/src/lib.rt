@@ -1,5 +1,4 @@
 // What U, UU and I do to the nodes in the lent bytes, and the place of a new child.
-use locks::StepName;
 ghost use mathlib.Core.Path.{_≡_};
 ghost use mathlib.Core.Bool.{_&&_};
 ghost use mathlib.Core.List.{map};
@@ -8,7 +7,7 @@ ghost use lib.ListN.{length};
 ghost use Rattle.tree.specs.Lists.{same};
 ghost use Rattle.tree.specs.Steps.{is-named, placed};
 ghost use Rattle.locks.specs.Needs.{need};
-ghost use Rattle.locks.specs.Words.{step-named};
+ghost use Rattle.locks.specs.Words.{step-named, need-words};
 ghost use Rattle.locks.specs.declared.StepName.the-variants as name;
 ghost use Rattle.protocol.specs.State.{written-by, inserted-by};
 ghost use Rattle.layout.specs.Lists.{modify, insert};
@@ -265,13 +264,13 @@ pub fn new_place(s: &[u8], p: usize, t: u8, k: u32) -> usize
 }
 
 // A node put in by t at place q and depth d, with the locks of t on it.
-pub fn put(s: &mut [u8], q: usize, d: u16, m: u16, kind: u8, t: u8, b: &[u8])
-    requires { ⌜ (Layout (now s)) × (length (nodes (now s)) < 1024) × (q ≤ length (nodes (now s))) × (length (now b) ≤ 32) × (1 ≤ t) × (t ≤ 16) ⌝ }
+pub fn put(s: &mut [u8], q: usize, d: u16, m: u16, kind: u8, t: u8, b: &[u8], fresh: u16)
+    requires { ⌜ (Layout (now s)) × (length (nodes (now s)) < 1024) × (q ≤ length (nodes (now s))) × (length (now b) ≤ 32) × (1 ≤ t) × (t ≤ 16)
+        × (fresh ≡ need-words name.I .fresh) ⌝ }
     ensures { λ r. ⌜ Left (now (s .entry)) (now (s .exit)) (header (now (s .entry)))
         (insert q (d, granted-modes t (need (step-named name.I) .new) (inserted-by t (record { number = m; kind = kind; content = now (b .entry) })))
         (nodes (now (s .entry)))) ⌝ }
 {
     outline::insert(s, q, d, m, kind, t, b);
-    let need = locks::needed(StepName::I);
-    transactions::set_lock(s, t as usize, q, need.fresh);
+    transactions::set_lock(s, t as usize, q, fresh);
 }

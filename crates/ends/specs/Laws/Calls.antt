@@ -8,7 +8,7 @@ use lib.ListN.{length, getD, drop}
 use lib.Dec.{eqb, leb}
 use borrow.Author.Tests.{le-leb, lt-leb, leb-true, leb-false, ne-eqb}
 use Rattle.tree.specs.Steps.{done}
-use Rattle.protocol.specs.State.{nobody, is-transaction, Marked, Tree, State, seen-by, lasting, undone, commit-tree, abort-tree, opened, closed}
+use Rattle.protocol.specs.State.{nobody, Header, State, Tree, commit-tree, abort-tree, opened, closed, with-open}
 use Rattle.protocol.specs.Calls.{Call, begin, commit, abort, refused, Next, unchanged, becomes, if-open, next}
 use Rattle.protocol.specs.Answers.{answer-of, granted-answer}
 use Rattle.protocol.specs.declared.Answer.the-variants.{Done, Refused}
@@ -21,15 +21,14 @@ use Rattle.form.specs.Laws.Holds.{form-holds}
 use Rattle.form.specs.Laws.Valid.{FineDocument, Root, root-of}
 use Rattle.form.specs.Laws.Steps.{holds-left, holds-unique, valid-commit, valid-abort}
 use Rattle.outline.specs.Outline.{not-marked}
-use Rattle.edits.specs.Rows.{not-inserted-by}
 use Rattle.edits.specs.Laws.Ends.{commit-rows, abort-rows}
 use Rattle.edits.specs.Laws.Kept.{unique-commit, unique-abort}
 use Rattle.engine.specs.Contract.{Performed}
 use Rattle.engine.specs.Admission.{Opened, Barred}
-use Rattle.ends.specs.Ends.{Restarted, Ended}
-use Rattle.engine.specs.Laws.Outcomes.{Stays, Grants, performed-stays, performed-grants}
+use Rattle.ends.specs.Ends.{Restarted}
+use Rattle.ends.specs.Marks.{end-call, stays, at-end, end-tree, Ended}
+use Rattle.engine.specs.Laws.Outcomes.{Grants, performed-stays, performed-grants, stopped-stays}
 use Rattle.engine.specs.Laws.Admission.{open-next}
-use Rattle.protocol.specs.State.{with-open}
 
 -- the document is nobody's insertion or deletion, so that no end takes it out -------------------
 
@@ -42,12 +41,14 @@ first-document s f =
     rw e (r .document)
 
 -- mark 2 is the inserter's, mark 3 the deleter's
-pub unmarked-document : (s : List ℕ) (t : ℕ) → Opened s t
-    → (not-marked 2 t (getD (nodes s) 0 no-entry .1) ≡ true) × (not-marked 3 t (getD (nodes s) 0 no-entry .1) ≡ true)
-unmarked-document s t o =
-    let d = first-document s (o .formed) in
-    let n = ne-eqb nobody t (λ e. omega (arith, o .low)) in
-    (rw (d .inserter, n), rw (d .deleter, n))
+pub unmarked-document : {s : List ℕ} {t : ℕ} → Opened s t → (commits : Bool) (o : ℕ) → o ≡ cond commits 3 2
+    → (o < 4) × (not-marked o t (getD (nodes s) 0 no-entry .1) ≡ true)
+unmarked-document {s} {t} w commits o e = go commits e (first-document s (w .formed)) (ne-eqb nobody t (λ z. omega (arith, w .low)))
+  where
+    go : (b : Bool) → o ≡ cond b 3 2 → FineDocument (getD (nodes s) 0 no-entry .1) → eqb nobody t ≡ false
+        → (o < 4) × (not-marked o t (getD (nodes s) 0 no-entry .1) ≡ true)
+    go true e d n = (omega arith, rw (e, d .deleter, n))
+    go false e d n = (omega arith, rw (e, d .inserter, n))
 
 -- start ---------------------------------------------------------------------------------------------
 
@@ -117,7 +118,7 @@ module _ {s : List ℕ} {t : ℕ} (f : form s ≡ true) where
           outcome = λ M h. ap (λ (n : Next). n .outcome) (begins e M h);
           state = λ M h. rw (begins e M h) (record {
             layout = k .layout;
-            header = k .header ∙ ap {B = ℕ → Bool} (λ (g : ℕ → Bool) (u : ℕ). eqb u t || g u) (h .header);
+            header = k .header ∙ ap (λ (q : Header). with-open (λ u. eqb u t || q .is-open u) q) (h .header);
             rows = k .nodes ∙ h .rows;
             unique = rw (k .nodes) (h .unique);
             valid = h .valid;
@@ -129,64 +130,51 @@ module _ {s : List ℕ} {t : ℕ} (f : form s ≡ true) where
 
 -- commit and abort ------------------------------------------------------------------------------------
 
--- a call of t that is 1 or 3 for the same reasons as any
-module _ {s : List ℕ} {t : ℕ} {call : Call} (x : State → Next) (e : (M : State) → next call M ≡ if-open t M (x M)) where
-  pub performed-barred : (cause : ℕ) → Barred s t cause → Performed s s (Refused cause) call
-  unfolding answer-of
-  performed-barred cause b = record {
-    unformed = λ u. (ap Refused (b .unformed u), refl);
-    answer = λ M h writing. rw (e M ∙ b .formed M h (x M));
-    state = λ M h. rw (e M ∙ b .formed M h (x M)) h;
-    still = λ M h q. refl;
-    long = refl;
-    behind = refl;
-  }
-
-module _ {s s′ : List ℕ} {t : ℕ} {call : Call} (edit : Tree → Tree) (shown : Marked → Bool) (g : Marked → Marked)
-    (e : (M : State) → next call M ≡ if-open t M (becomes done (closed t (edit (M .tree)) M)))
-    (rows : (f : Tree) → flat 0 (edit f) ≡ map (second g) (prune shown 0 (flat 0 f)))
-    (distinct : (f : Tree) → unique (flat 0 f) ≡ true → unique (flat 0 (edit f)) ≡ true)
-    (kept : (f : Tree) → valid-tree f ≡ true → valid-tree (edit f) ≡ true) where
-  performed-end : Opened s t → Ended shown g t s s′ → Performed s s′ Done call
-  unfolding granted-answer
-  performed-end o k =
-      let n : (M : State) → Holds s M → next call M ≡ becomes done (closed t (edit (M .tree)) M) = λ M h. e M ∙ open-next o M h _ in
-      performed-grants
-      (record {
-        formed = o .formed;
-        outcome = λ M h. ap (λ (n : Next). n .outcome) (n M h);
-        state = λ M h. rw (n M h) (holds-left {s = s} (closed t (edit (M .tree)) M)
-            (record {
-              layout = k .layout;
-              long = k .long;
-              behind = k .behind;
-              header = k .header ∙ ap {B = ℕ → Bool} (λ (p : ℕ → Bool) (u : ℕ). not (eqb u t) && p u) (h .header);
-              nodes = k .nodes ∙ ap (λ (l : List Entry). map (second g) (prune shown 0 l)) (h .rows) ∙ sym (rows (M .tree));
-            })
-            (distinct (M .tree) (holds-unique h)) (kept (M .tree) (h .valid)));
-        long = k .long;
-        behind = k .behind;
-      })
-      Done refl
-
-next-commit : (t : ℕ) (M : State) → next (commit t) M ≡ if-open t M (becomes done (closed t (commit-tree t (M .tree)) M))
+next-end : (commits : Bool) (t : ℕ) (M : State)
+    → next (end-call commits t) M ≡ if-open t M (becomes done (closed t (end-tree commits t (M .tree)) M))
 unfolding next
-next-commit t M = refl
+next-end true t M = refl
+next-end false t M = refl
 
-next-abort : (t : ℕ) (M : State) → next (abort t) M ≡ if-open t M (becomes done (closed t (abort-tree t (M .tree)) M))
-unfolding next
-next-abort t M = refl
+end-rows : (commits : Bool) (t : ℕ) (f : Tree) → flat 0 (end-tree commits t f) ≡ map (second (at-end commits t)) (prune (stays commits t) 0 (flat 0 f))
+end-rows true t f = commit-rows t f
+end-rows false t f = abort-rows t f
 
-pub commit-barred : {s : List ℕ} {t : ℕ} (cause : ℕ) → Barred s t cause → Performed s s (Refused cause) (commit t)
-commit-barred {s} {t} cause b = performed-barred (λ M. becomes done (closed t (commit-tree t (M .tree)) M)) (next-commit t) cause b
+end-unique : (commits : Bool) (t : ℕ) (f : Tree) → unique (flat 0 f) ≡ true → unique (flat 0 (end-tree commits t f)) ≡ true
+end-unique true t f = unique-commit t f
+end-unique false t f = unique-abort t f
 
-pub abort-barred : {s : List ℕ} {t : ℕ} (cause : ℕ) → Barred s t cause → Performed s s (Refused cause) (abort t)
-abort-barred {s} {t} cause b = performed-barred (λ M. becomes done (closed t (abort-tree t (M .tree)) M)) (next-abort t) cause b
+end-valid : (commits : Bool) (t : ℕ) (f : Tree) → 1 ≤ t → valid-tree f ≡ true → valid-tree (end-tree commits t f) ≡ true
+end-valid true t f = valid-commit t f
+end-valid false t f = valid-abort t f
 
-pub commit-done : {s s′ : List ℕ} {t : ℕ} → Opened s t → Ended (seen-by t) (lasting t) t s s′ → Performed s s′ Done (commit t)
-commit-done {s} {s′} {t} o k =
-    performed-end (commit-tree t) (seen-by t) (lasting t) (next-commit t) (commit-rows t) (unique-commit t) (λ f. valid-commit t f (o .low)) o k
+-- 13, 1 or 3
+pub end-barred : {s : List ℕ} {t : ℕ} (commits : Bool) (cause : ℕ) → Barred s t cause → Performed s s (Refused cause) (end-call commits t)
+unfolding answer-of
+end-barred {s} {t} commits cause b =
+    stopped-stays {o = refused cause} (λ u. ap Refused (b .unformed u)) (λ M h. next-end commits t M ∙ b .formed M h _) refl (λ writing. refl)
+    .performed
 
-pub abort-done : {s s′ : List ℕ} {t : ℕ} → Opened s t → Ended (not-inserted-by t) (undone t) t s s′ → Performed s s′ Done (abort t)
-abort-done {s} {s′} {t} o k =
-    performed-end (abort-tree t) (not-inserted-by t) (undone t) (next-abort t) (abort-rows t) (unique-abort t) (λ f. valid-abort t f (o .low)) o k
+pub end-done : {s s′ : List ℕ} {t : ℕ} (commits : Bool) → Opened s t → Ended commits t s s′ → Performed s s′ Done (end-call commits t)
+unfolding granted-answer
+end-done {s} {s′} {t} commits o k =
+    let n : (M : State) → Holds s M → next (end-call commits t) M ≡ becomes done (closed t (end-tree commits t (M .tree)) M) =
+    λ M h. next-end commits t M ∙ open-next o M h _ in
+    performed-grants
+    (record {
+      formed = o .formed;
+      outcome = λ M h. ap (λ (n : Next). n .outcome) (n M h);
+      state = λ M h. rw (n M h) (holds-left {s = s} (closed t (end-tree commits t (M .tree)) M)
+          (record {
+            layout = k .layout;
+            long = k .long;
+            behind = k .behind;
+            header = k .header ∙ ap (λ (q : Header). with-open (λ u. not (eqb u t) && q .is-open u) q) (h .header);
+            nodes = k .nodes ∙ ap (λ (l : List Entry). map (second (at-end commits t)) (prune (stays commits t) 0 l)) (h .rows)
+                ∙ sym (end-rows commits t (M .tree));
+          })
+          (end-unique commits t (M .tree) (holds-unique h)) (end-valid commits t (M .tree) (o .low) (h .valid)));
+      long = k .long;
+      behind = k .behind;
+    })
+    Done refl

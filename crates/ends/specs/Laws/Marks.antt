@@ -8,14 +8,15 @@ use lib.ListN.{length, getD}
 use lib.Dec.{eqb}
 use borrow.Author.Tests.{eq-eqb, ne-eqb}
 use Rattle.tree.specs.Laws.Lists.{map-map}
-use Rattle.protocol.specs.State.{nobody, writer-of, Marked, seen-by, lasting, undone, released}
+use Rattle.protocol.specs.State.{nobody, writer-of, Marked, Header, released, with-open}
 use Rattle.layout.specs.Lists.{modify}
 use Rattle.layout.specs.Flat.{second, prune}
 use Rattle.layout.specs.Layout.{is-open, Entry, nodes, no-entry, Layout, Left, Kept, header}
 use Rattle.layout.specs.Fields.{field, storable, with-field, has-text, restored}
 use Rattle.layout.specs.Laws.Lists.{modify-modify, modify-same, modify-none}
 use Rattle.layout.specs.Laws.Kept.{kept-same, kept-then, kept-as, left-kept, left-then, left-as}
-use Rattle.ends.specs.Ends.{without-mark, rewritten, lasting-marks, undone-marks, map-first, Closed, Ended}
+use Rattle.outline.specs.Outline.{not-marked}
+use Rattle.ends.specs.Marks.{stays, at-end, without-mark, rewritten, ended-marks, map-first, Closed, Ended}
 
 -- one node -------------------------------------------------------------------------------------
 
@@ -106,7 +107,7 @@ module _ (g : Entry → Entry) where
 
 -- t is open until it is closed
 pub left-open : {s s′ : List ℕ} {l : List Entry} (t : ℕ) → Left s s′ (header s) l → is-open s t ≡ true → is-open s′ t ≡ true
-left-open t a e = ap (λ (f : ℕ → Bool). f t) (a .header) ∙ e
+left-open t a e = ap (λ (q : Header). q .is-open t) (a .header) ∙ e
 
 pub kept-open : {s s′ : List ℕ} {l : List Entry} (t : ℕ) → Kept s s′ l → is-open s t ≡ true → is-open s′ t ≡ true
 kept-open t a e = left-open t (left-kept a) e
@@ -118,33 +119,39 @@ module _ {s s₁ s₂ : List ℕ} (t : ℕ) where
     layout = b .layout;
     long = b .long ∙ a .long;
     behind = b .behind ∙ a .behind;
-    header = b .header ∙ ap {B = ℕ → Bool} (λ (p : ℕ → Bool) (u : ℕ). not (eqb u t) && p u) (a .header);
+    header = b .header ∙ ap (λ (q : Header). with-open (λ u. not (eqb u t) && q .is-open u) q) (a .header);
     nodes = b .nodes ∙ ap f (a .nodes);
   }
 
+marks-whole : (commits : Bool) (t : ℕ) (a : Marked) → released t (ended-marks commits t a) ≡ at-end commits t a
+marks-whole commits t a = go commits (eqb (writer-of (a .update)) t) refl (eqb (a .inserter) t) refl (eqb (a .deleter) t) refl
+  where
+    go : (b x : Bool) → eqb (writer-of (a .update)) t ≡ x → (y : Bool) → eqb (a .inserter) t ≡ y → (z : Bool) → eqb (a .deleter) t ≡ z
+        → released t (ended-marks b t a) ≡ at-end b t a
+    go true true p true q z r = rw (p, q)
+    go true true p false q z r = rw (p, q)
+    go true false p true q z r = rw (p, q)
+    go true false p false q z r = rw (p, q)
+    go false true p y q true r = rw (p, r)
+    go false true p y q false r = rw (p, r)
+    go false false p y q true r = rw (p, r)
+    go false false p y q false r = rw (p, r)
+
+-- what has the mark of those that go does not stay
+pub going-stays : (commits : Bool) (t o : ℕ) → o ≡ cond commits 3 2 → not-marked o t ≡ stays commits t
+going-stays true t o e = rw e
+going-stays false t o e = rw e
+
 -- pruned, each mark cleared, the locks released and t closed
-module _ (shown : Marked → Bool) (marks g : Marked → Marked) (t : ℕ) (whole : (a : Marked) → released t (marks a) ≡ g a) where
-  pub ended : {s s₁ s₂ s₃ : List ℕ} → Left s s₁ (header s) (prune shown 0 (nodes s)) → Kept s₁ s₂ (map (second marks) (nodes s₁))
-      → Closed t s₂ s₃ (map (second (released t)) (nodes s₂)) → Ended shown g t s s₃
-  ended {s} a b c =
-      left-as _ (map (second g) (prune shown 0 (nodes s)))
-      (map-map (second (released t)) (second marks) (second g) (prune shown 0 (nodes s)) (λ x i. ap (λ (y : Marked). (x .0, y)) (whole (x .1))))
-      (closed-after t _ (map (second (released t))) (left-then (prune shown 0 (nodes s)) (map (second marks)) a b) c)
-
-pub lasting-whole : (t : ℕ) (a : Marked) → released t (lasting-marks t a) ≡ lasting t a
-lasting-whole t a = go (eqb (writer-of (a .update)) t) refl (eqb (a .inserter) t) refl
-  where
-    go : (x : Bool) → eqb (writer-of (a .update)) t ≡ x → (y : Bool) → eqb (a .inserter) t ≡ y → released t (lasting-marks t a) ≡ lasting t a
-    go true p true q = rw (p, q)
-    go true p false q = rw (p, q)
-    go false p true q = rw (p, q)
-    go false p false q = rw (p, q)
-
-pub undone-whole : (t : ℕ) (a : Marked) → released t (undone-marks t a) ≡ undone t a
-undone-whole t a = go (eqb (writer-of (a .update)) t) refl (eqb (a .deleter) t) refl
-  where
-    go : (x : Bool) → eqb (writer-of (a .update)) t ≡ x → (y : Bool) → eqb (a .deleter) t ≡ y → released t (undone-marks t a) ≡ undone t a
-    go true p true q = rw (p, q)
-    go true p false q = rw (p, q)
-    go false p true q = rw (p, q)
-    go false p false q = rw (p, q)
+pub ended : {s s₁ s₂ s₃ : List ℕ} (commits : Bool) (t o : ℕ) → o ≡ cond commits 3 2 → Left s s₁ (header s) (prune (not-marked o t) 0 (nodes s))
+    → Kept s₁ s₂ (map (second (ended-marks commits t)) (nodes s₁))
+    → Closed t s₂ s₃ (map (second (released t)) (nodes s₂))
+    → Ended commits t s s₃
+ended {s} commits t o e a b c =
+    let kept = prune (stays commits t) 0 (nodes s) in
+    let f = ended-marks commits t in
+    let g = at-end commits t in
+    left-as _ (map (second g) kept)
+    (map-map (second (released t)) (second f) (second g) kept (λ x i. ap (λ (y : Marked). (x .0, y)) (marks-whole commits t (x .1))))
+    (closed-after t _ (map (second (released t)))
+        (left-then kept (map (second f)) (left-as _ _ (ap (λ (q : Marked → Bool). prune q 0 (nodes s)) (going-stays commits t o e)) a) b) c)

@@ -1,62 +1,54 @@
-use native.Mathlib.Omega.{arith}
-use mathlib.Core.Path.{_≡_, refl, sym, ap, _∙_}
-use Rattle.tree.specs.Steps.{T}
-use Rattle.engine.specs.Contract.{no-room}
-use Rattle.engine.specs.Laws.Admission.{admission-at, admission-refused, performed-rejected, performed-as}
 use borrow.Author.Needs.{needs}
+use mathlib.Core.Path.{_≡_, refl}
+use Rattle.tree.specs.Steps.{T}
+use Rattle.locks.specs.declared.StepName.the-variants as name
+use Rattle.protocol.specs.Lent.{first-lent, second-lent}
+use Rattle.protocol.specs.Answers.{granted-answer}
+use Rattle.layout.specs.Laws.Kept.{left-kept}
+use Rattle.edits.specs.Rows.{stepped}
+use Rattle.engine.specs.Contract.{no-room}
+use Rattle.engine.specs.Laws.Outcomes.{performed-grants}
+use Rattle.engine.specs.Laws.Judgement.{none-first, ready, step-stopped, step-free, free-granted, free-locked}
 use Rattle.engine.proofs.test.Statement.{statement}
 use Rattle.engine.proofs.test.Tie as tie
-use Rattle.engine.proofs.test.Reads as reads
-use Rattle.engine.proofs.test.Lts as lts
-use Rattle.engine.proofs.admit.Reads as admit-reads
-use Rattle.engine.proofs.test_at.Reads as test-at-reads
 
--- src/lib.rt:122:9
-admit-requires : tie.Need-admit-requires
-admit-requires c κs = search needs
-
--- src/lib.rt:124:24
-enum-known-place : tie.Need-enum-known-place
-enum-known-place c = search needs
-
--- src/lib.rt:125:19
-enum-known-place-2 : tie.Need-enum-known-place-2
-enum-known-place-2 c = search needs
-
--- src/lib.rt:125:25
-test-at-requires : tie.Need-test-at-requires
-test-at-requires c κs = admission-at _ _ _ _ _ (c .before .before .place2 .given .1) (c .before .before .before .before .admit .ensures) .0
-
--- src/lib.rt:119:1
-same-length : tie.Need-same-length
-same-length c = search needs
-
--- src/lib.rt:119:1
 returns : tie.Need-returns
-returns c = performed-rejected (admission-refused _ _ _ _ _ (c .before .place .given .1) (c .before .before .before .admit .ensures)) (T _) refl no-room
+returns c = 
+    step-stopped name.T (T _) refl (c .before .before .before .before .before .admit .ensures) (none-first _) (c .before .before .before .before .needed .ensures) (c .before .before .judge .ensures) (c .if1 .taken) no-room
+    .performed
 
--- src/lib.rt:119:1
-same-length-2 : tie.Need-same-length-2
-same-length-2 c = search needs
+kind-requires : tie.Need-kind-requires
+kind-requires c κs = 
+    let f = step-free name.T (T _) refl (c .before .before .before .before .before .before .admit .ensures) (none-first _) (c .before .before .before .before .before .needed .ensures) (c .before .before .before .judge .ensures) (c .before .if1 .left) in
+    (f .standing .layout, f .standing .inside)
 
--- src/lib.rt:119:1
+parent-requires : tie.Need-parent-requires
+parent-requires c κs = 
+    let f = step-free name.T (T _) refl (c .before .before .before .before .before .before .before .before .admit .ensures) (none-first _) (c .before .before .before .before .before .before .before .needed .ensures) (c .before .before .before .before .before .judge .ensures) (c .before .before .before .if1 .left) in
+    (f .standing .layout, f .standing .climbed)
+
+grant-requires : tie.Need-grant-requires
+grant-requires c κs = 
+    let f = step-free name.T (T _) refl (c .before .before .before .before .before .before .before .before .before .before .admit .ensures) (none-first _) (c .before .before .before .before .before .before .before .before .before .needed .ensures) (c .before .before .before .before .before .before .before .judge .ensures) (c .before .before .before .before .before .if1 .left) in
+    (f .standing .layout, f .standing .low, f .standing .high, f .standing .climbed .inside)
+
 returns-2 : tie.Need-returns-2
-returns-2 c =
-    let admit = c .before .before .before .before .before .before .before .admit in
-    let place2 = c .before .before .before .before .before .place2 in
-    let test-at = c .before .before .test-at in
-    let admitted = admission-at _ _ _ _ _ (place2 .given .1) (admit .ensures) in
-    performed-as T no-room (admitted .1) (test-at .ensures)
+unfolding granted-answer first-lent second-lent stepped
+returns-2 c = 
+    let f = step-free name.T (T _) refl (c .before .before .before .before .before .before .before .before .before .before .before .before .before .admit .ensures) (none-first _) (c .before .before .before .before .before .before .before .before .before .before .before .before .needed .ensures) (c .before .before .before .before .before .before .before .before .before .before .judge .ensures) (c .before .before .before .before .before .before .before .before .if1 .left) in
+    performed-grants (free-granted f no-room refl (left-kept (free-locked f (c .before .before .grant .ensures)))) _ (rw (c .before .before .before .before .before .before .kind .ensures, c .before .before .before .before .parent .ensures))
 
 pub test-spec : {M : Type 1} → statement M
 test-spec =
     tie.close
     (tie.spec
-    admit-requires
-    enum-known-place
-    enum-known-place-2
-    test-at-requires
-    same-length
+    (λ c κs. search needs)
+    (λ c κs. search needs)
+    (λ c κs. ready (c .before .before .admit .ensures) (none-first _))
+    (λ c. search needs)
     returns
-    same-length-2
+    kind-requires
+    parent-requires
+    grant-requires
+    (λ c. search needs)
     returns-2)

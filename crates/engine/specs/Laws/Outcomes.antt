@@ -17,6 +17,7 @@ use Rattle.layout.specs.Layout.{state-size}
 use Rattle.form.specs.Form.{form, Holds}
 use Rattle.form.specs.Laws.Holds.{holds-form}
 use Rattle.engine.specs.Contract.{Performed, Lent}
+use Rattle.engine.specs.Judgement.{Stopped}
 
 pub not-both : {X : Type 0} {b : Bool} → b ≡ true → b ≡ false → X
 not-both p q = absurd (false≢true (sym q ∙ p))
@@ -63,6 +64,24 @@ module _ {s : List ℕ} {o : Outcome} {call : Call} (c : Stays s o call) where
 
   pub lent-stays : (lent : Value → List ℕ) (b : List ℕ) → Lent lent s b b call
   lent-stays lent b = record { unformed = λ x. refl; filled = λ M h. rw (c .next M h) (lent-quiet lent o b (c .quiet)) }
+
+-- both contracts at once; where the bytes are not of the form the answer is 13
+pub stopped-stays : {s : List ℕ} {o : Outcome} {call : Call} {r : Answer} → (form s ≡ false → r ≡ Refused 13)
+    → ((M : State) → Holds s M → next call M ≡ unchanged o M)
+    → is-granted o ≡ false
+    → ((writing : Document → Answer) → r ≡ answer-of writing o)
+    → Stopped s r call
+stopped-stays {o = o} u n q e = record {
+  performed = record {
+    unformed = λ x. (u x, refl);
+    answer = λ M h writing. rw (n M h) (e writing);
+    state = λ M h. rw (n M h) h;
+    still = λ M h x. refl;
+    long = refl;
+    behind = refl;
+  };
+  lent = λ lent b. record { unformed = λ x. refl; filled = λ M h. rw (n M h) (lent-quiet lent o b q) };
+}
 
 -- granted: the bytes left hold the definition's next state
 pub record Grants (s s′ : List ℕ) (v : Value) (call : Call) : Type 0 where

@@ -11,10 +11,11 @@ use lib.ListN.{length, getD, take, drop, length-take, drop-of-length-le}
 use lib.Seq.{drop-cons, getD-take}
 use borrow.Author.Tests.{eqb-true}
 use Rattle.locks.specs.Modes.{Mode, ModeSet, union, among, in-word}
-use Rattle.locks.specs.Needs.{Need}
+use Rattle.tree.specs.Steps.{Step}
+use Rattle.locks.specs.Needs.{Need, need}
 use Rattle.locks.specs.Words.{word-of, words}
 use Rattle.locks.specs.declared.NeedWords.{NeedWords}
-use Rattle.locks.specs.Laws.Sets.{in-union, SameSets}
+use Rattle.locks.specs.Laws.Sets.{in-union, SameSets, need-sets}
 use Rattle.protocol.specs.State.{Marked, with-held}
 use Rattle.layout.specs.Lists.{modify}
 use Rattle.layout.specs.Flat.{second}
@@ -24,8 +25,8 @@ use Rattle.layout.specs.Laws.Lists.{modify-same}
 use Rattle.layout.specs.Laws.Kept.{kept-same, kept-then, kept-as}
 use Rattle.lookup.specs.Places.{item}
 use Rattle.edits.specs.Rows.{granted-modes, granted-along}
-use Rattle.locking.specs.declared.Way.{Way}
-use Rattle.locking.specs.Way.{way-places, Inside}
+use Rattle.layout.specs.declared.Places.{Places}
+use Rattle.locking.specs.Way.{places-of, Inside}
 use Rattle.locking.specs.Waits.{word-at}
 use Rattle.locking.specs.Grants.{with-more, granted-from, granted-on}
 
@@ -71,20 +72,20 @@ module _ (t : ℕ) (w : Need) (e : SameSets w) where
 -- the loop ---------------------------------------------------------------------------------
 
 -- the first j places of the way have their locks
-pub record Granting (s s′ : List ℕ) (t : ℕ) (m : NeedWords) (w : Way) (j : ℕ) : Type 0 where
+pub record Granting (s s′ : List ℕ) (t : ℕ) (m : NeedWords) (w : Places) (j : ℕ) : Type 0 where
   pub kept : Kept s s′ (nodes s′)
-  pub rest : granted-from t m 0 (way-places w) (nodes s) ≡ granted-from t m j (drop j (way-places w)) (nodes s′)
+  pub rest : granted-from t m 0 (places-of w) (nodes s) ≡ granted-from t m j (drop j (places-of w)) (nodes s′)
 
-pub granting-start : {s : List ℕ} (t : ℕ) (m : NeedWords) (w : Way) → Layout s → Granting s s t m w 0
+pub granting-start : {s : List ℕ} (t : ℕ) (m : NeedWords) (w : Places) → Layout s → Granting s s t m w 0
 granting-start {s} t m w h = record { kept = kept-same s h; rest = refl }
 
-module _ {s s′ : List ℕ} {t : ℕ} {m : NeedWords} {w : Way} {j : ℕ} (h : Inside (nodes s) w) (c : Granting s s′ t m w j) where
-  length-places : length (way-places w) ≡ w .count
-  unfolding way-places
+module _ {s s′ : List ℕ} {t : ℕ} {m : NeedWords} {w : Places} {j : ℕ} (h : Inside (nodes s) w) (c : Granting s s′ t m w j) where
+  length-places : length (places-of w) ≡ w .count
+  unfolding places-of
   length-places = length-take (w .count) (w .places) ∙ omega (arith, h .long, h .room)
 
-  places-cons : j < w .count → drop j (way-places w) ≡ getD (w .places) j 0 ∷ drop (j + 1) (way-places w)
-  unfolding way-places
+  places-cons : j < w .count → drop j (places-of w) ≡ getD (w .places) j 0 ∷ drop (j + 1) (places-of w)
+  unfolding places-of
   places-cons k = drop-cons (take (w .count) (w .places)) j 0 (omega (arith, length-places)) ∙ rw (add-one, getD-take (w .count) (w .places) j 0 k)
 
   pub granting-inside : j < w .count → getD (w .places) j 0 < length (nodes s′)
@@ -98,8 +99,8 @@ module _ {s s′ : List ℕ} {t : ℕ} {m : NeedWords} {w : Way} {j : ℕ} (h : 
       let n : Kept s s″ (modify i (second (with-more t v)) (nodes s′)) = kept-then (nodes s′) (modify i (second (with-more t v))) (c .kept) a in
       record { kept = kept-as _ _ (sym (a .nodes)) n; rest = c .rest ∙ rw (places-cons k, add-one j, a .nodes, e) }
 
-  pub granting-done : (v : Need) → SameSets v → m ≡ words v → w .count ≤ j → Kept s s′ (granted-on t v (way-places w) (nodes s))
+  pub granting-done : w .count ≤ j → (st : Step) → m ≡ words (need st) → Kept s s′ (granted-on t (need st) (places-of w) (nodes s))
   unfolding granted-from granted-on
-  granting-done v same e k =
-      let z : drop j (way-places w) ≡ [] = drop-of-length-le (way-places w) {i = j} (omega (arith, length-places)) in
-      kept-as _ _ (sym (sym (along-words t v same (way-places w) (nodes s)) ∙ rw (← e) (c .rest ∙ rw z))) (c .kept)
+  granting-done k st e =
+      let z : drop j (places-of w) ≡ [] = drop-of-length-le (places-of w) {i = j} (omega (arith, length-places)) in
+      kept-as _ _ (sym (sym (along-words t (need st) (need-sets st) (places-of w) (nodes s)) ∙ rw (← e) (c .rest ∙ rw z))) (c .kept)

@@ -11,20 +11,21 @@ use lib.ListN.{length, getD, take, drop, length-take, List·getD-map, drop-of-le
 use lib.Seq.{drop-cons, getD-take}
 use Rattle.tree.specs.Laws.Lists.{any-same}
 use Rattle.locks.specs.Modes.{modes, in-word}
-use Rattle.locks.specs.Needs.{Need}
+use Rattle.tree.specs.Steps.{Step}
+use Rattle.locks.specs.Needs.{need}
 use Rattle.locks.specs.Words.{word, words, in-common}
 use Rattle.locks.specs.declared.NeedWords.{NeedWords}
 use Rattle.locks.specs.Laws.Words.{word-turn, word-small}
 use lib.Pow.{pow-mono}
 use native.Mathlib.Nat.{lt-of-lt-of-le}
-use Rattle.locks.specs.Laws.Sets.{SameSets}
+use Rattle.locks.specs.Laws.Sets.{need-sets}
 use Rattle.protocol.specs.State.{Marked}
 use Rattle.layout.specs.Layout.{Entry, nodes, slot}
 use Rattle.layout.specs.Transaction.{Loaded}
 use Rattle.lookup.specs.Places.{item}
 use Rattle.lookup.specs.Found.{blocks-at, wait-word}
-use Rattle.locking.specs.declared.Way.{Way}
-use Rattle.locking.specs.Way.{way-places, way-nodes, Inside}
+use Rattle.layout.specs.declared.Places.{Places}
+use Rattle.locking.specs.Way.{places-of, nodes-of, Inside}
 use Rattle.locking.specs.Waits.{word-at, masks-of, SmallWords, touches, touches-from, blocks-by}
 use Rattle.locking.specs.Laws.Masks.{blocks-mask}
 
@@ -34,37 +35,37 @@ map-length : {A B : Type 0} (f : A → B) (l : List A) → length (map f l) ≡ 
 map-length f [] = refl
 map-length f (x ∷ l) = ap suc (map-length f l)
 
-module _ {l : List Entry} {w : Way} (h : Inside l w) where
-  pub length-way : length (way-nodes l w) ≡ w .count
-  unfolding way-nodes way-places
+module _ {l : List Entry} {w : Places} (h : Inside l w) where
+  pub length-way : length (nodes-of l w) ≡ w .count
+  unfolding nodes-of places-of
   length-way = map-length (item l) (take (w .count) (w .places)) ∙ length-take (w .count) (w .places) ∙ omega (arith, h .long, h .room)
 
   -- the nodes from the j-th on
-  pub way-cons : (j : ℕ) → j < w .count → drop j (way-nodes l w) ≡ item l (getD (w .places) j 0) ∷ drop (j + 1) (way-nodes l w)
-  unfolding way-nodes way-places
+  pub way-cons : (j : ℕ) → j < w .count → drop j (nodes-of l w) ≡ item l (getD (w .places) j 0) ∷ drop (j + 1) (nodes-of l w)
+  unfolding nodes-of places-of
   way-cons j k =
       drop-cons (map (item l) (take (w .count) (w .places))) j (item l 0) (omega (arith, length-way))
       ∙ rw (add-one, List·getD-map (item l) (take (w .count) (w .places)) j 0, getD-take (w .count) (w .places) j 0 k)
 
-  pub way-end : (j : ℕ) → w .count ≤ j → drop j (way-nodes l w) ≡ []
-  way-end j k = drop-of-length-le (way-nodes l w) {i = j} (omega (arith, length-way))
+  pub way-end : (j : ℕ) → w .count ≤ j → drop j (nodes-of l w) ≡ []
+  way-end j k = drop-of-length-le (nodes-of l w) {i = j} (omega (arith, length-way))
 
   -- the j-th node is looked at, those before touched nothing
-  module _ (m : NeedWords) (u j : ℕ) (v : touches-from m 0 u (way-nodes l w) ≡ touches-from m j u (drop j (way-nodes l w))) where
+  module _ (m : NeedWords) (u j : ℕ) (v : touches-from m 0 u (nodes-of l w) ≡ touches-from m j u (drop j (nodes-of l w))) where
     turn : j < w .count
-        → touches-from m 0 u (way-nodes l w)
-        ≡ (touches (word-at m j) u (item l (getD (w .places) j 0)) || touches-from m (j + 1) u (drop (j + 1) (way-nodes l w)))
+        → touches-from m 0 u (nodes-of l w)
+        ≡ (touches (word-at m j) u (item l (getD (w .places) j 0)) || touches-from m (j + 1) u (drop (j + 1) (nodes-of l w)))
     unfolding touches-from
     turn k = v ∙ rw (way-cons j k, add-one j)
 
-    pub touch-found : j < w .count → touches (word-at m j) u (item l (getD (w .places) j 0)) ≡ true → true ≡ touches-from m 0 u (way-nodes l w)
+    pub touch-found : j < w .count → touches (word-at m j) u (item l (getD (w .places) j 0)) ≡ true → true ≡ touches-from m 0 u (nodes-of l w)
     touch-found k e = sym (turn k ∙ rw e)
 
     pub touch-passed : j < w .count → touches (word-at m j) u (item l (getD (w .places) j 0)) ≡ false
-        → touches-from m 0 u (way-nodes l w) ≡ touches-from m (j + 1) u (drop (j + 1) (way-nodes l w))
+        → touches-from m 0 u (nodes-of l w) ≡ touches-from m (j + 1) u (drop (j + 1) (nodes-of l w))
     touch-passed k e = turn k ∙ rw e
 
-    pub touch-none : w .count ≤ j → false ≡ touches-from m 0 u (way-nodes l w)
+    pub touch-none : w .count ≤ j → false ≡ touches-from m 0 u (nodes-of l w)
     unfolding touches-from
     touch-none k = sym (v ∙ rw (way-end j k))
 
@@ -120,9 +121,10 @@ module _ (t : ℕ) (m : NeedWords) (is-open : ℕ → Bool) (way : List Marked) 
       let z : suc (u - 1) ≡ u = omega arith in
       g ∙ rw (f, e, word-turn (λ i. blocks-by t m is-open way (suc i)) 16 u h k, z)
 
-  pub set-whole : (w : Need) → SameSets w → m ≡ masks-of (words w) → (u set : ℕ) → u ≡ 0 → set ≡ set-of t m is-open way u → set ≡ wait-word t w is-open way
+  pub set-whole : (w : NeedWords) → m ≡ masks-of w → (u set : ℕ) → u ≡ 0 → set ≡ set-of t m is-open way u → (st : Step) → w ≡ words (need st)
+      → set ≡ wait-word t (need st) is-open way
   unfolding wait-word
-  set-whole w same v u set z e =
-      let q : _≡_ {A = ℕ → Bool} (λ i. blocks-by t m is-open way (suc i)) (λ i. blocks-at t w is-open way (suc i)) =
-      fun-ext (λ i. rw v (blocks-mask w same t is-open way (suc i))) in
+  set-whole w v u set z e st f =
+      let q : _≡_ {A = ℕ → Bool} (λ i. blocks-by t m is-open way (suc i)) (λ i. blocks-at t (need st) is-open way (suc i)) =
+      fun-ext (λ i. rw (v, f) (blocks-mask (need st) (need-sets st) t is-open way (suc i))) in
       e ∙ rw z (ap (λ (q : ℕ → Bool). word q 16 0) q)

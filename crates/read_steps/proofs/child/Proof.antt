@@ -1,50 +1,47 @@
-use mathlib.Core.Path.{refl}
+use borrow.Author.Needs.{needs}
+use mathlib.Core.Path.{_≡_, refl}
+use Rattle.locks.specs.declared.StepName.the-variants as name
+use Rattle.protocol.specs.Lent.{first-lent, second-lent}
+use Rattle.layout.specs.Laws.Kept.{left-kept}
+use Rattle.edits.specs.Rows.{stepped}
 use Rattle.tree.specs.Steps.{C}
 use Rattle.engine.specs.Contract.{no-room}
-use Rattle.engine.specs.Laws.Admission.{admission-at, admission-refused, performed-rejected, performed-as}
-use borrow.Author.Needs.{needs}
+use Rattle.engine.specs.Laws.Outcomes.{performed-grants}
+use Rattle.engine.specs.Laws.Judgement.{none-first, ready, step-stopped, step-free, free-granted, free-locked}
+use Rattle.read_steps.specs.Laws.Steps.{room-left, child-fits}
 use Rattle.read_steps.proofs.child.Statement.{statement}
 use Rattle.read_steps.proofs.child.Tie as tie
 
-admit-requires : tie.Need-admit-requires
-admit-requires c κs = search needs
-
-enum-known-place : tie.Need-enum-known-place
-enum-known-place c = search needs
-
-enum-known-place-2 : tie.Need-enum-known-place-2
-enum-known-place-2 c = search needs
-
-child-at-requires : tie.Need-child-at-requires
-child-at-requires c κs = admission-at _ _ _ _ _ (c .before .before .place2 .given .1) (c .before .before .before .before .admit .ensures) .0
-
-same-length : tie.Need-same-length
-same-length c = search needs
-
 returns : tie.Need-returns
-returns c = performed-rejected (admission-refused _ _ _ _ _ (c .before .place .given .1) (c .before .before .before .admit .ensures)) (C _ _) refl no-room
+returns c = step-stopped name.C (C _ _) refl (c .before .before .before .before .before .admit .ensures) (none-first _) (c .before .before .before .before .needed .ensures) (c .before .before .judge .ensures) (c .if1 .taken) no-room .performed
 
-same-length-2 : tie.Need-same-length-2
-same-length-2 c = search needs
+kth-child-requires : tie.Need-kth-child-requires
+kth-child-requires c κs = 
+    let f = step-free name.C (C _ 0) refl (c .before .before .before .before .before .before .admit .ensures) (none-first _) (c .before .before .before .before .before .needed .ensures) (c .before .before .before .judge .ensures) (c .before .if1 .left) in
+    (f .standing .layout, f .standing .inside)
+
+grant-requires : tie.Need-grant-requires
+grant-requires c κs = 
+    let f = step-free name.C (C _ 0) refl (c .before .before .before .before .before .before .before .before .admit .ensures) (none-first _) (c .before .before .before .before .before .before .before .needed .ensures) (c .before .before .before .before .before .judge .ensures) (c .before .before .before .if1 .left) in
+    (f .standing .layout, f .standing .low, f .standing .high, f .standing .climbed .inside)
 
 returns-2 : tie.Need-returns-2
-returns-2 c =
-    let at-child-at = c .before .before in
-    let at-place2 = at-child-at .before .before .before in
-    let at-admit = at-place2 .before .before in
-    let start = at-admit .before .before .before in
-    performed-as (λ n. C n (start .args .k)) no-room
-    (admission-at _ _ _ _ _ (at-place2 .place2 .given .1) (at-admit .admit .ensures) .1) (at-child-at .child-at .ensures)
+unfolding stepped
+returns-2 c = 
+    let f = step-free name.C (C _ _) refl (c .before .before .before .before .before .before .before .before .before .before .before .admit .ensures) (none-first _) (c .before .before .before .before .before .before .before .before .before .before .needed .ensures) (c .before .before .before .before .before .before .before .before .judge .ensures) (c .before .before .before .before .before .before .if1 .left) in
+    let left = left-kept (free-locked f (c .before .before .grant .ensures)) in
+    performed-grants (free-granted f no-room (room-left _ no-room (child-fits _ _)) left) _ (c .before .before .before .before .kth-child .ensures)
 
 pub child-spec : {M : Type 1} → statement M
 child-spec =
     tie.close
     (tie.spec
-    admit-requires
-    enum-known-place
-    enum-known-place-2
-    child-at-requires
-    same-length
+    (λ c κs. search needs)
+    (λ c κs. search needs)
+    (λ c κs. ready (c .before .before .admit .ensures) (none-first _))
+    (λ c. search needs)
     returns
-    same-length-2
+    kth-child-requires
+    grant-requires
+    (λ c. search needs)
     returns-2)

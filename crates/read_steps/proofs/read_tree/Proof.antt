@@ -1,76 +1,87 @@
-use mathlib.Core.Path.{refl}
-use Rattle.tree.specs.Steps.{RR}
-use Rattle.protocol.specs.Lent.{first-lent, second-lent}
-use Rattle.engine.specs.Contract.{rooms-of}
-use Rattle.engine.specs.Laws.Admission.{admission-at, admission-refused, performed-rejected, lent-rejected, performed-as, lent-as}
 use borrow.Author.Needs.{needs}
+use mathlib.Core.Path.{_≡_, refl}
+use Rattle.locks.specs.declared.StepName.the-variants as name
+use Rattle.protocol.specs.Lent.{first-lent, second-lent}
+use Rattle.layout.specs.Laws.Kept.{left-kept}
+use Rattle.edits.specs.Rows.{stepped}
+use Rattle.tree.specs.Steps.{RR}
+use Rattle.engine.specs.Contract.{rooms-of}
+use Rattle.engine.specs.Laws.Judgement.{none-first, ready, step-stopped, step-free, free-refused, free-granted, free-locked}
+use Rattle.read_steps.specs.Laws.Steps.{room-left, room-short, not-none, stopped-two, cells-fit, cells-short-first, cells-short-second, cells-granted}
 use Rattle.read_steps.proofs.read_tree.Statement.{statement}
 use Rattle.read_steps.proofs.read_tree.Tie as tie
 
-admit-requires : tie.Need-admit-requires
-admit-requires c κs = search needs
-
-enum-known-place : tie.Need-enum-known-place
-enum-known-place c = search needs
-
-enum-known-place-2 : tie.Need-enum-known-place-2
-enum-known-place-2 c = search needs
-
-read-tree-at-requires : tie.Need-read-tree-at-requires
-read-tree-at-requires c κs =
-    let admit = c .before .before .before .before .before .before .admit in
-    let place2 = c .before .before .before .before .place2 in
-    admission-at _ _ _ _ _ (place2 .given .1) (admit .ensures) .0
-
-same-length : tie.Need-same-length
-same-length c = search needs
-
 returns : tie.Need-returns
-returns c =
-    let args = c .before .before .before .before .before .before .before .before .args in
-    let admit = c .before .before .before .admit in
-    let place = c .before .place in
-    let j = admission-refused _ _ _ _ _ (place .given .1) (admit .ensures) in
-    let room = rooms-of (args .out .now) (args .cells .now) in (
-      performed-rejected j (RR _) refl room,
-      lent-rejected j (RR _) refl room first-lent _,
-      lent-rejected j (RR _) refl room second-lent _,
-    )
+returns c = stopped-two (step-stopped name.RR (RR _) refl (c .before .before .before .before .before .admit .ensures) (none-first _) (c .before .before .before .before .needed .ensures) (c .before .before .judge .ensures) (c .if1 .taken) (rooms-of (c .before .before .before .before .before .before .before .before .before .before .args .out .now) (c .before .before .before .before .before .before .before .before .before .before .args .cells .now))) _ _
 
-same-length-2 : tie.Need-same-length-2
-same-length-2 c = search needs
-
-same-length-3 : tie.Need-same-length-3
-same-length-3 c = search needs
-
-same-length-4 : tie.Need-same-length-4
-same-length-4 c = search needs
+select-requires : tie.Need-select-requires
+select-requires c κs = 
+    let f = step-free name.RR (RR _) refl (c .before .before .before .before .before .before .admit .ensures) (none-first _) (c .before .before .before .before .before .needed .ensures) (c .before .before .before .judge .ensures) (c .before .if1 .left) in
+    (f .standing .layout, f .standing .inside)
 
 returns-2 : tie.Need-returns-2
-returns-2 c =
-    let at-read-tree-at = c .before .before .before .before .before .before in
-    let at-place2 = at-read-tree-at .before .before .before .before .before in
-    let at-admit = at-place2 .before .before in
-    let start = at-admit .before .before .before .before .before in
-    let e = admission-at _ _ _ _ _ (at-place2 .place2 .given .1) (at-admit .admit .ensures) .1 in
-    let room = rooms-of (start .args .out .now) (start .args .cells .now) in (
-      performed-as RR room e (at-read-tree-at .read-tree-at .ensures .0),
-      lent-as RR room first-lent e
-          (at-read-tree-at .read-tree-at .ensures .1),
-      lent-as RR room second-lent e (at-read-tree-at .read-tree-at .ensures .2),
-    )
+returns-2 c = 
+    let out = c .before .before .before .before .before .before .before .before .before .before .before .before .before .before .args .out .now in
+    let cells = c .before .before .before .before .before .before .before .before .before .before .before .before .before .before .args .cells .now in
+    let f = step-free name.RR (RR _) refl (c .before .before .before .before .before .before .before .before .before .admit .ensures) (none-first _) (c .before .before .before .before .before .before .before .before .needed .ensures) (c .before .before .before .before .before .before .judge .ensures) (c .before .before .before .before .if1 .left) in
+    let short = cells-short-first _ (c .before .before .select .ensures) (f .standing .layout) out cells (c .if2 .taken) in
+    stopped-two (free-refused f (rooms-of out cells) 13 (room-short _ (rooms-of out cells) short) not-none) _ _
+
+returns-3 : tie.Need-returns-3
+returns-3 c = 
+    let out = c .before .before .before .before .before .before .before .before .before .before .before .before .before .before .before .before .args .out .now in
+    let cells = c .before .before .before .before .before .before .before .before .before .before .before .before .before .before .before .before .args .cells .now in
+    let f = step-free name.RR (RR _) refl (c .before .before .before .before .before .before .before .before .before .before .before .admit .ensures) (none-first _) (c .before .before .before .before .before .before .before .before .before .before .needed .ensures) (c .before .before .before .before .before .before .before .before .judge .ensures) (c .before .before .before .before .before .before .if1 .left) in
+    let short = cells-short-second _ (c .before .before .before .before .select .ensures) (f .standing .layout) out cells (c .if3 .taken) in
+    stopped-two (free-refused f (rooms-of out cells) 13 (room-short _ (rooms-of out cells) short) not-none) _ _
+
+numbers-requires : tie.Need-numbers-requires
+numbers-requires c κs = 
+    let f = step-free name.RR (RR _) refl (c .before .before .before .before .before .before .before .before .before .before .before .before .before .admit .ensures) (none-first _) (c .before .before .before .before .before .before .before .before .before .before .before .before .needed .ensures) (c .before .before .before .before .before .before .before .before .before .before .judge .ensures) (c .before .before .before .before .before .before .before .before .if1 .left) in
+    (f .standing .layout, c .before .before .before .before .before .before .select .ensures .inside, search needs)
+
+cells-requires : tie.Need-cells-requires
+cells-requires c κs = 
+    let f = step-free name.RR (RR _) refl (c .before .before .before .before .before .before .before .before .before .before .before .before .before .before .before .before .before .before .admit .ensures) (none-first _) (c .before .before .before .before .before .before .before .before .before .before .before .before .before .before .before .before .before .needed .ensures) (c .before .before .before .before .before .before .before .before .before .before .before .before .before .before .before .judge .ensures) (c .before .before .before .before .before .before .before .before .before .before .before .before .before .if1 .left) in
+    (f .standing .layout, c .before .before .before .before .before .before .before .before .before .before .before .select .ensures .inside, search needs)
+
+grant-requires : tie.Need-grant-requires
+grant-requires c κs = 
+    let f = step-free name.RR (RR _) refl (c .before .before .before .before .before .before .before .before .before .before .before .before .before .before .before .before .before .before .before .before .before .before .admit .ensures) (none-first _) (c .before .before .before .before .before .before .before .before .before .before .before .before .before .before .before .before .before .before .before .before .before .needed .ensures) (c .before .before .before .before .before .before .before .before .before .before .before .before .before .before .before .before .before .before .before .judge .ensures) (c .before .before .before .before .before .before .before .before .before .before .before .before .before .before .before .before .before .if1 .left) in
+    (f .standing .layout, f .standing .low, f .standing .high, f .standing .climbed .inside)
+
+returns-4 : tie.Need-returns-4
+unfolding stepped
+returns-4 c = 
+    let out = c .before .before .before .before .before .before .before .before .before .before .before .before .before .before .before .before .before .before .before .before .before .before .before .before .before .before .before .before .before .before .before .args .out .now in
+    let cells = c .before .before .before .before .before .before .before .before .before .before .before .before .before .before .before .before .before .before .before .before .before .before .before .before .before .before .before .before .before .before .before .args .cells .now in
+    let f = step-free name.RR (RR _) refl (c .before .before .before .before .before .before .before .before .before .before .before .before .before .before .before .before .before .before .before .before .before .before .before .before .before .before .admit .ensures) (none-first _) (c .before .before .before .before .before .before .before .before .before .before .before .before .before .before .before .before .before .before .before .before .before .before .before .before .before .needed .ensures) (c .before .before .before .before .before .before .before .before .before .before .before .before .before .before .before .before .before .before .before .before .before .before .before .judge .ensures) (c .before .before .before .before .before .before .before .before .before .before .before .before .before .before .before .before .before .before .before .before .before .if1 .left) in
+    let fits = cells-fit _ (c .before .before .before .before .before .before .before .before .before .before .before .before .before .before .before .before .before .before .before .select .ensures) (f .standing .layout) out cells (c .before .before .before .before .before .before .before .before .before .before .before .before .before .before .before .before .before .if2 .left) (c .before .before .before .before .before .before .before .before .before .before .before .before .before .before .before .if3 .left) in
+    let left = left-kept (free-locked f (c .before .before .before .grant .ensures)) in
+    let granted = free-granted f (rooms-of out cells) (room-left _ (rooms-of out cells) fits) left in
+    cells-granted _ (c .before .before .before .before .before .before .before .before .before .before .before .before .before .before .before .before .before .before .before .select .ensures) (c .before .before .before .before .before .before .before .before .before .before .before .before .numbers .ensures) (c .before .before .before .before .before .before .before .cells .ensures) granted
 
 pub read-tree-spec : {M : Type 1} → statement M
 read-tree-spec =
     tie.close
     (tie.spec
-    admit-requires
-    enum-known-place
-    enum-known-place-2
-    read-tree-at-requires
-    same-length
+    (λ c κs. search needs)
+    (λ c κs. search needs)
+    (λ c κs. ready (c .before .before .admit .ensures) (none-first _))
+    (λ c. search needs)
     returns
-    same-length-2
-    same-length-3
-    same-length-4
-    returns-2)
+    select-requires
+    (λ c. search needs)
+    (λ c. search needs)
+    returns-2
+    (λ c. search needs)
+    (λ c. search needs)
+    returns-3
+    numbers-requires
+    cells-requires
+    grant-requires
+    (λ c. search needs)
+    (λ c. search needs)
+    (λ c. search needs)
+    (λ c. search needs)
+    returns-4)

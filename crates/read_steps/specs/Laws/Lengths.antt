@@ -9,8 +9,8 @@ use Rattle.protocol.specs.Lent.{list-bytes, cell, cells}
 use Rattle.layout.specs.Layout.{slot, Entry, nodes, Layout}
 use Rattle.layout.specs.Laws.Texts.{size-small}
 use Rattle.lookup.specs.Places.{item, number-of}
-use Rattle.reading.specs.declared.Subtree.{Subtree}
-use Rattle.reading.specs.Subtree.{nodes-of, Inside}
+use Rattle.layout.specs.declared.Places.{Places}
+use Rattle.locking.specs.Way.{places-of, nodes-of, Inside}
 
 -- two bytes for a number
 pub length-numbers : (l : List Marked) → length (list-bytes (map number-of l)) ≡ 2 * length l
@@ -33,8 +33,8 @@ cells-of l (i ∷ places) (suc n) h f =
 content-small : {s : List ℕ} → Layout s → (i : ℕ) → i < length (nodes s) → length (item (nodes s) i .now .content) ≤ 32
 content-small {s} h i l = size-small s i 0 (slot s i) refl h l refl
 
-pub length-cells : {s : List ℕ} (w : Subtree) → Layout s → Inside (nodes s) w
+pub length-cells : {s : List ℕ} (w : Places) → Layout s → Inside (nodes s) w
     → length (cells (map (λ a. (number-of a, a .now .content)) (nodes-of (nodes s) w))) ≡ 33 * (w .count)
-unfolding nodes-of
+unfolding nodes-of places-of
 length-cells {s} w h c =
     cells-of (nodes s) (w .places) (w .count) (omega (arith, c .long, c .room)) (λ j g. content-small h (getD (w .places) j 0) (c .inside j g))

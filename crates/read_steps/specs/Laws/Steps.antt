@@ -1,61 +1,30 @@
--- C, R, TT and RR on the node at p.
+-- C, R, TT and RR on the node at p: room for their answers, what they put into lent buffers, and their ends.
 use mathlib.Core.Path.{_≡_, refl, sym, ap, _∙_}
 use Prim.Native.Nat.{ℕ, zero, suc, _*_, _≤_, _<_}
-use mathlib.Core.Bool.{true, false, _&&_, and-false}
+use mathlib.Core.Bool.{true, false, cond, not, _&&_, and-false}
 use mathlib.Core.List.{List, [], _∷_, map}
 use native.Mathlib.Omega.{arith}
 use lib.ListN.{length, length-map}
 use lib.Dec.{leb}
-use borrow.Author.Tests.{eq-eqb, ne-eqb, le-leb, lt-leb}
-use Rattle.tree.specs.Content.{document-kind}
-use Rattle.tree.specs.Steps.{C, R, TT, RR, content-is, numbers-are, cells-are}
+use borrow.Author.Tests.{le-leb, lt-leb}
+use Rattle.tree.specs.Steps.{Value, content-is, numbers-are, cells-are}
 use Rattle.tree.specs.Laws.Lists.{map-map}
 use Rattle.protocol.specs.Lent.{Room, list-bytes, cells, first-lent, second-lent, has-room, filled}
 use Rattle.protocol.specs.State.{Marked}
-use Rattle.protocol.specs.Calls.{Call, step, refused}
+use Rattle.protocol.specs.Calls.{Call}
 use Rattle.protocol.specs.Answers.{granted-answer}
+use Rattle.protocol.specs.declared.Answer.{Answer}
 use Rattle.protocol.specs.declared.Answer.the-variants.{Count}
 use Rattle.layout.specs.Layout.{nodes, Layout}
 use Rattle.lookup.specs.Places.{item, number-of, subtree}
 use Rattle.lookup.specs.Found.{kth-child}
-use Rattle.edits.specs.Rows.{stepped}
-use Rattle.reading.specs.declared.Subtree.{Subtree}
-use Rattle.reading.specs.Subtree.{nodes-of, Selected}
-use Rattle.read_steps.specs.Numbers.{number-at}
+use Rattle.layout.specs.declared.Places.{Places}
+use Rattle.locking.specs.Way.{nodes-of}
+use Rattle.reading.specs.Subtree.{Selected}
 use Rattle.read_steps.specs.Laws.Lengths.{length-numbers, length-cells}
 use Rattle.engine.specs.Contract.{Performed, Lent, no-room, room-of, rooms-of}
-use Rattle.engine.specs.Admission.{Admitted}
-use Rattle.engine.specs.Laws.Outcomes.{Stays, Grants, performed-grants, lent-grants}
-use Rattle.engine.specs.Laws.Judgement.{stays-misfit}
-use Rattle.read_steps.specs.Laws.Reads.{Reads}
-
-module _ {s : List ℕ} {t p : ℕ} (a : Admitted s t p) where
-  pub reads-child : (k : ℕ) → Reads s t p (C (number-at s p) k)
-  unfolding stepped
-  reads-child k = record { fits = record { admitted = a; on = refl; fits = refl; new = refl }; placed = refl; spare = refl; rows = refl }
-
-  pub reads-numbers : Reads s t p (TT (number-at s p))
-  unfolding stepped
-  reads-numbers = record { fits = record { admitted = a; on = refl; fits = refl; new = refl }; placed = refl; spare = refl; rows = refl }
-
-  pub reads-cells : Reads s t p (RR (number-at s p))
-  unfolding stepped
-  reads-cells = record { fits = record { admitted = a; on = refl; fits = refl; new = refl }; placed = refl; spare = refl; rows = refl }
-
-  -- R, by the kind that was read
-  module _ (x : ℕ) (v : x ≡ item (nodes s) p .now .kind) where
-    pub reads-content : (x ≡ document-kind → ⊥) → Reads s t p (R (number-at s p))
-    unfolding stepped
-    reads-content n = record {
-      fits = record { admitted = a; on = refl; fits = rw (← v, ne-eqb x document-kind n); new = refl };
-      placed = refl;
-      spare = refl;
-      rows = refl;
-    }
-
-    -- 8
-    pub reads-document : (room : Room) → x ≡ document-kind → Stays s (refused 8) (step t (R (number-at s p)) room)
-    reads-document room e = stays-misfit a (R (number-at s p)) refl room 8 (rw (← v, eq-eqb x document-kind e)) (λ z. omega arith)
+use Rattle.engine.specs.Laws.Outcomes.{Grants, performed-grants, lent-grants}
+use Rattle.engine.specs.Judgement.{Stopped}
 
 -- room for the answer ----------------------------------------------------------------------
 
@@ -67,6 +36,25 @@ short-first a b c d h = rw (lt-leb a b h)
 
 short-second : (a b c d : ℕ) → d < c → (leb a b && leb c d) ≡ false
 short-second a b c d h = rw (lt-leb c d h) (and-false (leb a b))
+
+-- 13 or none, as the last of the causes
+module _ (v : Value) (room : Room) where
+  pub room-left : has-room v room ≡ true → _≡_ {A = ℕ} (cond (not (has-room v room)) 13 0) 0
+  room-left e = rw e
+
+  pub room-short : has-room v room ≡ false → _≡_ {A = ℕ} 13 (cond (not (has-room v room)) 13 0)
+  room-short e = rw e
+
+pub not-none : _≡_ {A = ℕ} 13 0 → ⊥
+not-none z = omega arith
+
+-- both contracts, or all three, of a step that is not granted
+module _ {s : List ℕ} {r : Answer} {call : Call} (x : Stopped s r call) where
+  pub stopped-one : (b : List ℕ) → Performed s s r call × Lent first-lent s b b call
+  stopped-one b = (x .performed, x .lent first-lent b)
+
+  pub stopped-two : (b q : List ℕ) → Performed s s r call × Lent first-lent s b b call × Lent second-lent s q q call
+  stopped-two b q = (x .performed, x .lent first-lent b, x .lent second-lent q)
 
 -- C has no lent buffer
 pub child-fits : (k : ℕ) (cs : List Marked) → has-room (kth-child k cs) no-room ≡ true
@@ -94,7 +82,7 @@ abbrev numbered : Marked → ℕ × List ℕ
 numbered a = (number-of a, a .now .content)
 
 -- by the subtree that was selected
-module _ (s : List ℕ) {t p : ℕ} {w : Subtree} (c : Selected (nodes s) t p w) where
+module _ (s : List ℕ) {t p : ℕ} {w : Places} (c : Selected (nodes s) t p w) where
   numbers-long : length (list-bytes (map number-of (seen s t p))) ≡ 2 * (w .count)
   numbers-long = length-numbers (seen s t p) ∙ rw (← c .many)
 

@@ -13,8 +13,8 @@ use Rattle.protocol.specs.Lent.{number-bytes, list-bytes, cell, cells, filled}
 use Rattle.layout.specs.Layout.{Entry}
 use Rattle.layout.specs.Laws.Bytes.{put-word}
 use Rattle.lookup.specs.Places.{item, number-of}
-use Rattle.reading.specs.declared.Subtree.{Subtree}
-use Rattle.reading.specs.Subtree.{nodes-of, Inside}
+use Rattle.layout.specs.declared.Places.{Places}
+use Rattle.locking.specs.Way.{places-of, nodes-of}
 use Rattle.reading.specs.Laws.Stores.{sets-append, sets-front, word-sets}
 
 -- the pieces of the nodes, one behind the other
@@ -76,8 +76,8 @@ module _ {f : Marked → List ℕ} {w : ℕ} {l : List Entry} {places : List ℕ
       }
 
   -- all pieces
-  pub written-done : (t : Subtree) → t .places ≡ places → j ≡ t .count → w * (t .count) ≤ length o → out ≡ filled (pieces f (nodes-of l t)) o
-  unfolding nodes-of
+  pub written-done : (t : Places) → t .places ≡ places → j ≡ t .count → w * (t .count) ≤ length o → out ≡ filled (pieces f (nodes-of l t)) o
+  unfolding nodes-of places-of
   written-done t p e m =
       let b : length (pieces f (map (item l) (take j places))) ≤ length o = rw (c .size, e) m in
       c .bytes ∙ sets-front o (pieces f (map (item l) (take j places))) b ∙ rw (e, p)
@@ -88,13 +88,13 @@ pub written-number : {l : List Entry} {places : List ℕ} {j : ℕ} {o out out�
     → v ≡ number-of (item l i) → out′ ≡ put-word out (2 * j) v → Written number-piece 2 l places (j + 1) o out′
 written-number {l} {places} {j} {o} {out} c i v e h n q = written-more c i e h refl (q ∙ word-sets out (2 * j) v ∙ rw n)
 
-pub numbers-done : {l : List Entry} {j : ℕ} {o out : List ℕ} (t : Subtree) → Written number-piece 2 l (t .places) j o out → j ≡ t .count
+pub numbers-done : {l : List Entry} {j : ℕ} {o out : List ℕ} (t : Places) → Written number-piece 2 l (t .places) j o out → j ≡ t .count
     → 2 * (t .count) ≤ length o
     → out ≡ filled (list-bytes (map number-of (nodes-of l t))) o
 numbers-done {l} {j} {o} t c e m = written-done c t refl e m ∙ ap (λ b. filled b o) (pieces-numbers (nodes-of l t))
 
 -- cells take 33
-pub cells-done : {l : List Entry} {j : ℕ} {o out : List ℕ} (t : Subtree) → Written cell-piece 33 l (t .places) j o out → j ≡ t .count
+pub cells-done : {l : List Entry} {j : ℕ} {o out : List ℕ} (t : Places) → Written cell-piece 33 l (t .places) j o out → j ≡ t .count
     → 33 * (t .count) ≤ length o
     → out ≡ filled (cells (map (λ a. (number-of a, a .now .content)) (nodes-of l t))) o
 cells-done {l} {j} {o} t c e m = written-done c t refl e m ∙ ap (λ b. filled b o) (pieces-cells (nodes-of l t))

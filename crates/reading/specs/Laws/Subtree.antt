@@ -14,8 +14,10 @@ use Rattle.protocol.specs.State.{Marked, seen-by}
 use Rattle.layout.specs.Layout.{Entry}
 use Rattle.lookup.specs.Places.{depth, item, seen-from, subtree}
 use Rattle.lookup.specs.Laws.Subtree.{seen-hidden, seen-deleted, seen-found, seen-left, seen-end}
-use Rattle.reading.specs.declared.Subtree.{Subtree}
-use Rattle.reading.specs.Subtree.{nodes-of, Inside, Selected}
+use Rattle.layout.specs.declared.Places.{Places}
+use Rattle.locking.specs.Way.{places-of, nodes-of}
+use Rattle.locking.specs.Laws.Way.{inside-set}
+use Rattle.reading.specs.Subtree.{Selected}
 
 -- count places were selected, the rows from i on are still to be looked at, and those from depth hidden on are left out now
 pub record Selecting (l : List Entry) (t p e hidden i count : ℕ) (places : List ℕ) : Type 0 where
@@ -24,15 +26,6 @@ pub record Selecting (l : List Entry) (t p e hidden i count : ℕ) (places : Lis
   pub room : count + p ≤ i
   pub inside : (j : ℕ) → j < count → getD places j 0 < length l
   pub found : subtree t l p ≡ map (item l) (take count places) ++ seen-from t hidden e (drop i l)
-
--- a place stored behind the others
-pub inside-set : (n count v : ℕ) (places : List ℕ) → count < length places → v < n → ((j : ℕ) → j < count → getD places j 0 < n)
-    → (j : ℕ) → j < count + 1 → getD (set places count v) j 0 < n
-inside-set n count v places m q h j g = go (eqb j count) refl
-  where
-    go : (b : Bool) → eqb j count ≡ b → getD (set places count v) j 0 < n
-    go true i = rw (eqb-true j count i, getD-set-same places count v 0 m) q
-    go false i = let z = eqb-false j count i in rw (getD-set-other places count j v 0 z) (h j (omega (arith, z)))
 
 pub selecting-start : {l : List Entry} {p e : ℕ} (t : ℕ) (places : List ℕ) → p < length l → e ≡ depth l p → length places ≡ 1024
     → Selecting l t p e 0 (p + 1) 1 (set places 0 p)
@@ -56,7 +49,7 @@ module _ {l : List Entry} {t p e hidden i count : ℕ} {places : List ℕ} (c : 
   }
 
   selecting-over : length l ≤ 1024 → seen-from t hidden e (drop i l) ≡ [] → Selected l t p (record { places = places; count = count })
-  unfolding nodes-of
+  unfolding nodes-of places-of
   selecting-over m z =
       let f : subtree t l p ≡ map (item l) (take count places) = c .found ∙ rw z (append-nil (map (item l) (take count places))) in
       let r : count ≤ 1024 = omega (arith, c .room, c .behind) in

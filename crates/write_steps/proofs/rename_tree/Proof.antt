@@ -1,46 +1,63 @@
-use mathlib.Core.Path.{refl}
-use Rattle.tree.specs.Steps.{UU}
-use Rattle.engine.specs.Contract.{no-room}
-use Rattle.engine.specs.Laws.Admission.{admission-at, admission-refused, performed-rejected}
-use Rattle.write_steps.specs.Laws.Renames.{rename-on}
 use borrow.Author.Needs.{needs}
+use mathlib.Core.Path.{_≡_, refl}
+use Rattle.locks.specs.declared.StepName.the-variants as name
+use Rattle.engine.specs.Contract.{no-room}
+use Rattle.engine.specs.Laws.Outcomes.{performed-grants}
+use native.Mathlib.Omega.{arith}
+use borrow.Author.Tests.{not-false}
+use Rattle.tree.specs.Laws.Tests.{and-right}
+use Rattle.tree.specs.Content.{is-name}
+use Rattle.tree.specs.Steps.{UU}
+use Rattle.protocol.specs.Lent.{first-lent, second-lent}
+use Rattle.protocol.specs.Answers.{granted-answer}
+use Rattle.layout.specs.Laws.Kept.{kept-then, left-kept}
+use Rattle.edits.specs.Rows.{renamed-rows, stepped}
+use Rattle.engine.specs.Laws.Judgement.{ready, step-stopped, step-free, free-fits, free-granted, free-locked}
+use Rattle.write_steps.specs.Laws.Contents.{name-short}
+use Rattle.write_steps.specs.Laws.Renames.{named-locked}
 use Rattle.write_steps.proofs.rename_tree.Statement.{statement}
 use Rattle.write_steps.proofs.rename_tree.Tie as tie
 
-admit-requires : tie.Need-admit-requires
-admit-requires c κs = search needs
-
-enum-known-place : tie.Need-enum-known-place
-enum-known-place c = search needs
-
-enum-known-place-2 : tie.Need-enum-known-place-2
-enum-known-place-2 c = search needs
-
-rename-at-requires : tie.Need-rename-at-requires
-rename-at-requires c κs = admission-at _ _ _ _ _ (c .before .before .place2 .given .1) (c .before .before .before .before .admit .ensures) .0
-
-same-length : tie.Need-same-length
-same-length c = search needs
+judge-requires : tie.Need-judge-requires
+judge-requires c κs = ready (c .before .before .before .admit .ensures) (c .before .before .rename-cause .ensures)
 
 returns : tie.Need-returns
-returns c = performed-rejected (admission-refused _ _ _ _ _ (c .before .place .given .1) (c .before .before .before .admit .ensures)) (UU _ _ _) refl no-room
+returns c = step-stopped name.UU (UU _ _ _) refl (c .before .before .before .before .before .before .admit .ensures) (c .before .before .before .before .before .rename-cause .ensures) (c .before .before .before .before .needed .ensures) (c .before .before .judge .ensures) (c .if1 .taken) no-room .performed
 
-same-length-2 : tie.Need-same-length-2
-same-length-2 c = search needs
+grant-requires : tie.Need-grant-requires
+grant-requires c κs = 
+    let args = c .before .before .before .before .before .before .before .before .before .before .before .before .args in
+    let f = step-free name.UU (UU _ (args .a .now) (args .b .now)) refl (c .before .before .before .before .before .before .before .admit .ensures) (c .before .before .before .before .before .before .rename-cause .ensures) (c .before .before .before .before .before .needed .ensures) (c .before .before .before .judge .ensures) (c .before .if1 .left) in
+    (f .standing .layout, f .standing .low, f .standing .high, f .standing .climbed .inside)
+
+rename-below-requires : tie.Need-rename-below-requires
+rename-below-requires c κs = 
+    let args = c .before .before .before .before .before .before .before .before .before .before .before .before .before .before .before .before .args in
+    let f = step-free name.UU (UU _ (args .a .now) (args .b .now)) refl (c .before .before .before .before .before .before .before .before .before .before .before .admit .ensures) (c .before .before .before .before .before .before .before .before .before .before .rename-cause .ensures) (c .before .before .before .before .before .before .before .before .before .needed .ensures) (c .before .before .before .before .before .before .before .judge .ensures) (c .before .before .before .before .before .if1 .left) in
+    let g = free-locked f (c .before .before .before .grant .ensures) in
+    (g .layout, omega (arith, g .many, f .standing .inside), name-short (args .b .now) (and-right (is-name (args .a .now)) (is-name (args .b .now)) (not-false _ (free-fits f .1))), f .standing .low)
 
 returns-2 : tie.Need-returns-2
-returns-2 c = rename-on (admission-at _ _ _ _ _ (c .before .before .before .before .before .place2 .given .1)
-    (c .before .before .before .before .before .before .before .admit .ensures) .1) (c .before .before .rename-at .ensures)
+unfolding granted-answer first-lent second-lent stepped
+returns-2 c = 
+    let args = c .before .before .before .before .before .before .before .before .before .before .before .before .before .before .before .before .before .before .before .args in
+    let f = step-free name.UU (UU _ (args .a .now) (args .b .now)) refl (c .before .before .before .before .before .before .before .before .before .before .before .before .before .before .admit .ensures) (c .before .before .before .before .before .before .before .before .before .before .before .before .before .rename-cause .ensures) (c .before .before .before .before .before .before .before .before .before .before .before .before .needed .ensures) (c .before .before .before .before .before .before .before .before .before .before .judge .ensures) (c .before .before .before .before .before .before .before .before .if1 .left) in
+    let below = c .before .before .rename-below .ensures in
+    let renamed = kept-then _ (renamed-rows _ _ _ _) (free-locked f (c .before .before .before .before .before .before .grant .ensures)) (below .kept) in
+    performed-grants (free-granted f no-room refl (left-kept renamed)) _ (rw (named-locked f (c .before .before .before .before .before .before .grant .ensures) (below .hits)))
 
 pub rename-tree-spec : {M : Type 1} → statement M
 rename-tree-spec =
     tie.close
     (tie.spec
-    admit-requires
-    enum-known-place
-    enum-known-place-2
-    rename-at-requires
-    same-length
+    (λ c κs. search needs)
+    (λ c κs. search needs)
+    (λ c κs. search needs)
+    judge-requires
+    (λ c. search needs)
     returns
-    same-length-2
+    grant-requires
+    rename-below-requires
+    (λ c. search needs)
+    (λ c. search needs)
     returns-2)

@@ -1,46 +1,58 @@
-use mathlib.Core.Path.{refl}
-use Rattle.tree.specs.Steps.{U}
-use Rattle.engine.specs.Contract.{no-room}
-use Rattle.engine.specs.Laws.Admission.{admission-at, admission-refused, performed-rejected}
-use Rattle.write_steps.specs.Laws.Contents.{update-on}
 use borrow.Author.Needs.{needs}
+use mathlib.Core.Path.{_≡_, refl}
+use Rattle.locks.specs.declared.StepName.the-variants as name
+use Rattle.engine.specs.Contract.{no-room}
+use Rattle.engine.specs.Laws.Outcomes.{performed-grants}
+use native.Mathlib.Omega.{arith}
+use borrow.Author.Tests.{not-false}
+use Rattle.tree.specs.Steps.{U}
+use Rattle.protocol.specs.State.{written-by}
+use Rattle.protocol.specs.Lent.{first-lent, second-lent}
+use Rattle.protocol.specs.Answers.{granted-answer}
+use Rattle.layout.specs.Lists.{modify}
+use Rattle.layout.specs.Flat.{second}
+use Rattle.layout.specs.Laws.Kept.{kept-then, left-kept}
+use Rattle.edits.specs.Rows.{stepped}
+use Rattle.engine.specs.Laws.Judgement.{ready, admitted-place, step-stopped, step-free, free-fits, free-granted, free-locked}
+use Rattle.write_steps.specs.Laws.Contents.{allowed-short}
 use Rattle.write_steps.proofs.update.Statement.{statement}
 use Rattle.write_steps.proofs.update.Tie as tie
 
-admit-requires : tie.Need-admit-requires
-admit-requires c κs = search needs
-
-enum-known-place : tie.Need-enum-known-place
-enum-known-place c = search needs
-
-enum-known-place-2 : tie.Need-enum-known-place-2
-enum-known-place-2 c = search needs
-
-update-at-requires : tie.Need-update-at-requires
-update-at-requires c κs = admission-at _ _ _ _ _ (c .before .before .place2 .given .1) (c .before .before .before .before .admit .ensures) .0
-
-same-length : tie.Need-same-length
-same-length c = search needs
+judge-requires : tie.Need-judge-requires
+judge-requires c κs = ready (c .before .before .before .before .admit .ensures) (c .before .before .update-cause .ensures)
 
 returns : tie.Need-returns
-returns c = performed-rejected (admission-refused _ _ _ _ _ (c .before .place .given .1) (c .before .before .before .admit .ensures)) (U _ _) refl no-room
+returns c = step-stopped name.U (U _ _) refl (c .before .before .before .before .before .before .before .admit .ensures) (c .before .before .before .before .before .update-cause .ensures) (c .before .before .before .before .needed .ensures) (c .before .before .judge .ensures) (c .if1 .taken) no-room .performed
 
-same-length-2 : tie.Need-same-length-2
-same-length-2 c = search needs
+grant-requires : tie.Need-grant-requires
+grant-requires c κs = 
+    let f = step-free name.U (U _ (c .before .before .before .before .before .before .before .before .before .before .before .before .args .b .now)) refl (c .before .before .before .before .before .before .before .before .admit .ensures) (c .before .before .before .before .before .before .update-cause .ensures) (c .before .before .before .before .before .needed .ensures) (c .before .before .before .judge .ensures) (c .before .if1 .left) in
+    (f .standing .layout, f .standing .low, f .standing .high, f .standing .climbed .inside)
+
+write-requires : tie.Need-write-requires
+write-requires c κs = 
+    let f = step-free name.U (U _ (c .before .before .before .before .before .before .before .before .before .before .before .before .before .before .before .before .args .b .now)) refl (c .before .before .before .before .before .before .before .before .before .before .before .before .admit .ensures) (c .before .before .before .before .before .before .before .before .before .before .update-cause .ensures) (c .before .before .before .before .before .before .before .before .before .needed .ensures) (c .before .before .before .before .before .before .before .judge .ensures) (c .before .before .before .before .before .if1 .left) in
+    let g = free-locked f (c .before .before .before .grant .ensures) in
+    (g .layout, omega (arith, g .many, f .standing .inside), allowed-short _ _ (not-false _ (free-fits f .1)), f .standing .low)
 
 returns-2 : tie.Need-returns-2
-returns-2 c = update-on (admission-at _ _ _ _ _ (c .before .before .before .before .before .place2 .given .1)
-    (c .before .before .before .before .before .before .before .admit .ensures) .1) (c .before .before .update-at .ensures)
+unfolding granted-answer first-lent second-lent stepped
+returns-2 c = 
+    let f = step-free name.U (U _ (c .before .before .before .before .before .before .before .before .before .before .before .before .before .before .before .before .before .before .before .args .b .now)) refl (c .before .before .before .before .before .before .before .before .before .before .before .before .before .before .before .admit .ensures) (c .before .before .before .before .before .before .before .before .before .before .before .before .before .update-cause .ensures) (c .before .before .before .before .before .before .before .before .before .before .before .before .needed .ensures) (c .before .before .before .before .before .before .before .before .before .before .judge .ensures) (c .before .before .before .before .before .before .before .before .if1 .left) in
+    let written = kept-then _ (modify _ (second (written-by _ _))) (free-locked f (c .before .before .before .before .before .before .grant .ensures)) (c .before .before .write .ensures) in
+    performed-grants (free-granted f no-room refl (left-kept written)) _ refl
 
 pub update-spec : {M : Type 1} → statement M
 update-spec =
     tie.close
     (tie.spec
-    admit-requires
-    enum-known-place
-    enum-known-place-2
-    update-at-requires
-    same-length
+    (λ c κs. search needs)
+    (λ c κs. admitted-place (c .before .admit .ensures))
+    (λ c κs. search needs)
+    judge-requires
+    (λ c. search needs)
     returns
-    same-length-2
+    grant-requires
+    write-requires
+    (λ c. search needs)
     returns-2)

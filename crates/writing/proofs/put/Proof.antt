@@ -1,7 +1,6 @@
 use native.Mathlib.Omega.{arith}
-use mathlib.Core.Path.{ap}
-use Rattle.tree.specs.Steps.{I}
 use mathlib.Core.List.{[]}
+use Rattle.tree.specs.Steps.{I}
 use Rattle.locks.specs.Words.{need-words}
 use Rattle.locks.specs.Laws.Sets.{need-sets}
 use Rattle.writing.specs.Laws.Putting.{put-left, put-long}
@@ -9,38 +8,22 @@ use borrow.Author.Needs.{needs}
 use Rattle.writing.proofs.put.Statement.{statement}
 use Rattle.writing.proofs.put.Tie as tie
 
-insert-requires : tie.Need-insert-requires
-insert-requires c κs = search needs
-
-needed-requires : tie.Need-needed-requires
-needed-requires c κs = search needs
-
 set-lock-requires : tie.Need-set-lock-requires
 set-lock-requires c κs = (
-  c .before .before .before .before .insert .ensures .layout,
+  c .before .before .before .insert .ensures .layout,
   search needs,
   search needs,
-  omega (
-    arith,
-    put-long _ _ (c .before .before .before .before .insert .ensures),
-    c .before .before .before .before .before .before .before .before .pre .2,
-  ),
+  omega (arith, put-long _ _ (c .before .before .before .insert .ensures), c .before .before .before .before .before .before .before .pre .2),
 )
-
-same-length : tie.Need-same-length
-same-length c = search needs
 
 returns : tie.Need-returns
 unfolding need-words
 returns c =
     let c8 = c .before .before .before .before .before .before .before .before in
-    let pre = c8 .before .before .before .pre in
-    let insert = c .before .before .before .before .before .before .before .insert in
-    let needed = c .before .before .before .before .needed in
+    let pre = c8 .before .before .pre in
+    let insert = c .before .before .before .before .before .before .insert in
     let set-lock = c .before .before .set-lock in
-    put-left _ _ _ _ _ (need-sets (I 0 0 [] 0 0) .new) _ (ap (λ z. z .fresh) (needed .ensures)) (pre .2) (insert .ensures)
-    (set-lock .ensures)
+    put-left _ _ _ _ _ (need-sets (I 0 0 [] 0 0) .new) _ (pre .6) (pre .2) (insert .ensures) (set-lock .ensures)
 
 pub put-spec : {M : Type 1} → statement M
-put-spec =
-    tie.close (tie.spec insert-requires needed-requires set-lock-requires same-length returns)
+put-spec = tie.close (tie.spec (λ c κs. search needs) set-lock-requires (λ c. search needs) returns)

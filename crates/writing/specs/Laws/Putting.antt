@@ -7,7 +7,7 @@ use native.Mathlib.Numerals.{add-one}
 use lib.ListN.{length}
 use lib.Dec.{eqb}
 use Rattle.tree.specs.Document.{Node}
-use Rattle.locks.specs.Modes.{Mode, no-mode, union, among, in-word}
+use Rattle.locks.specs.Modes.{Mode, ModeSet, no-mode, union, among, in-word}
 use Rattle.locks.specs.Words.{word-of}
 use Rattle.protocol.specs.State.{inserted-by, Header, with-held}
 use Rattle.layout.specs.Lists.{modify, insert}

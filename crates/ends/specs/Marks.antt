@@ -1,0 +1,55 @@
+-- What a commit (true) or an abort (false) of a transaction does to the marks of a node; its locks are released on their own.
+use Prim.Native.Nat.{ℕ, zero, suc}
+use mathlib.Core.Bool.{Bool, true, false, cond, not, _&&_}
+use mathlib.Core.List.{List, [], _∷_, map}
+use lib.Dec.{eqb}
+use Rattle.protocol.specs.State.{nobody, writer-of, saved-of, Marked, Tree, seen-by, lasting, undone, commit-tree, abort-tree, with-open}
+use Rattle.protocol.specs.Calls.{Call, commit, abort}
+use Rattle.layout.specs.Fields.{field, with-field, with-bytes}
+use Rattle.layout.specs.Flat.{second, prune}
+use Rattle.layout.specs.Layout.{is-open, Entry, nodes, Left, header}
+use Rattle.edits.specs.Rows.{not-inserted-by}
+
+-- the call, what it keeps, what it leaves of that, and the tree
+abbrev pub end-call : Bool → ℕ → Call
+end-call true t = commit t
+end-call false t = abort t
+
+abbrev pub stays : Bool → ℕ → Marked → Bool
+stays true t = seen-by t
+stays false t = not-inserted-by t
+
+abbrev pub at-end : Bool → ℕ → Marked → Marked
+at-end true t = lasting t
+at-end false t = undone t
+
+abbrev pub end-tree : Bool → ℕ → Tree → Tree
+end-tree true t f = commit-tree t f
+end-tree false t f = abort-tree t f
+
+-- mark o (1 writer, 2 inserter, 3 deleter) of t is nobody's
+abbrev pub without-mark : ℕ → ℕ → Marked → Marked
+without-mark o t a = cond (eqb (field o a) t) (with-field o nobody a) a
+
+-- the saved content again where t wrote the node
+abbrev pub rewritten : ℕ → Marked → Marked
+rewritten t a = with-bytes (cond (eqb (writer-of (a .update)) t) (saved-of (a .update)) (a .now .content)) a
+
+-- what t wrote and inserted is everybody's; what t wrote and deleted is as before
+abbrev pub ended-marks : Bool → ℕ → Marked → Marked
+ended-marks true t a = without-mark 2 t (without-mark 1 t a)
+ended-marks false t a = without-mark 3 t (without-mark 1 t (rewritten t a))
+
+-- the first i of a list by g
+unfoldable pub map-first : {A : Type 0} → ℕ → (A → A) → List A → List A
+map-first zero g l = l
+map-first (suc i) g [] = []
+map-first (suc i) g (x ∷ l) = g x ∷ map-first i g l
+
+-- what closing t leaves: these nodes, and the others open as they were
+abbrev pub Closed : ℕ → List ℕ → List ℕ → List Entry → Type 0
+Closed t s s′ ns = Left s s′ (with-open (λ u. not (eqb u t) && is-open s u) (header s)) ns
+
+-- what an end of t leaves: the nodes that stay, each as at its end, and t closed
+abbrev pub Ended : Bool → ℕ → List ℕ → List ℕ → Type 0
+Ended commits t s s′ = Closed t s s′ (map (second (at-end commits t)) (prune (stays commits t) 0 (nodes s)))
