@@ -1,13 +1,12 @@
 -- Where the lent bytes hold what: docs/STATE.md.
 use Prim.Native.Nat.{ℕ, _+_, _*_, _-_, _≤_, _<_}
 use mathlib.Core.Path.{_≡_}
-use mathlib.Core.Bool.{Bool, true, false, cond}
-use mathlib.Core.List.{List, [], _∷_}
+use mathlib.Core.Bool.{Bool, false, cond}
+use mathlib.Core.List.{List, []}
 use lib.Dec.{eqb}
 use lib.ListN.{length, getD, take, drop}
 use Rattle.tree.specs.Text.{bytes}
-use Rattle.locks.specs.Modes.{ModeSet, no-mode, in-word}
-use Rattle.locks.specs.Modes.{bit}
+use Rattle.locks.specs.Modes.{ModeSet, no-mode, in-word, bit}
 use Rattle.protocol.specs.State.{nobody, is-transaction, Update, unwritten, wrote, Marked, unmarked, Header}
 use Rattle.layout.specs.Lists.{tabulate}
 
