@@ -1,7 +1,7 @@
 -- A step that finds its node at a place of the rows: all that it is judged by and answers, in terms of rows.
 use mathlib.Core.Path.{_≡_}
 use Prim.Native.Nat.{ℕ, zero, suc}
-use mathlib.Core.Bool.{Bool, true, false, cond, not, _&&_, _||_}
+use mathlib.Core.Bool.{Bool, true, false, not, _&&_, _||_}
 use mathlib.Core.List.{List, [], _∷_, map}
 use lib.ListN.{length}
 use lib.Dec.{eqb, ltb, leb}
@@ -14,7 +14,7 @@ use Rattle.tree.specs.Steps.{Value, done, kind-parent, child-is, none, content-
 use Rattle.locks.specs.Modes.{Mode, against}
 use Rattle.locks.specs.Needs.{Need, need, locks, needs}
 use Rattle.locks.specs.Words.{word}
-use Rattle.protocol.specs.State.{Marked, State, number-held, callers-document, with-tree, act, grant}
+use Rattle.protocol.specs.State.{Marked, State, callers-document, with-tree, act, grant}
 use Rattle.protocol.specs.Lent.{Room, has-room}
 use Rattle.protocol.specs.Causes.{unfit-kind, unfit-content, held-number, unfit-place, full-table, short-buffer}
 use Rattle.protocol.specs.Calls.{node-limit, wait-set, number-taken, table-full, Next, checked, takes-step, refused, waits}

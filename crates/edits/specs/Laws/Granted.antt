@@ -12,15 +12,16 @@ use Rattle.tree.specs.Steps.{Step, T, C, R, U, D, I, TT, RR, UU, target, insert
 use Rattle.tree.specs.Laws.Tests.{or-left}
 use Rattle.tree.specs.Laws.Lists.{map-map, map-append}
 use Rattle.locks.specs.Needs.{Lock, need, locks}
-use Rattle.protocol.specs.State.{Marked, Tree, numbered, number-held, mark-node, seen-by, inserted-by, written-by, deleted-by, granted-to, grant, act}
+use Rattle.protocol.specs.State.{Marked, Tree, numbered, number-held, mark-node, seen-by, inserted-by, written-by, deleted-by, granted-to}
+use Rattle.protocol.specs.State.{grant, act}
 use Rattle.layout.specs.Lists.{modify, insert}
 use Rattle.layout.specs.Flat.{flat, second}
 use Rattle.layout.specs.Layout.{Entry, no-entry}
 use Rattle.lookup.specs.Places.{depth, item, items, number-of, unique, above-places, ups, numbers-above, seen-at}
 use Rattle.lookup.specs.Laws.Up.{climb-before}
-use Rattle.lookup.specs.Laws.Find.{nodes-held}
-use Rattle.edits.specs.Rows.{Lacks, number-at, Inside, left-out, all-granted, granted-up, changed-below, renamed-by, renamed-rows, new-place, stepped}
-use Rattle.edits.specs.Laws.Unique.{lacks-at}
+use Rattle.lookup.specs.Laws.Find.{nodes-held, lacks-at}
+use Rattle.edits.specs.Rows.{Lacks, number-at, Inside, left-out, all-granted, granted-up, changed-below, renamed-by, renamed-rows}
+use Rattle.edits.specs.Rows.{new-place, stepped}
 use Rattle.edits.specs.Laws.Lists.{map-modify, map-insert, map-take, map-drop}
 use Rattle.edits.specs.Laws.Updates.{mark-node-rows}
 use Rattle.edits.specs.Laws.Grants.{grant-rows, rows-locks, granted-new}

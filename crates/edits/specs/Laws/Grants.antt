@@ -4,21 +4,17 @@ use Prim.Native.Nat.{ℕ, _<_}
 use mathlib.Core.Bool.{Bool, true, false, cond, _||_, or-false}
 use mathlib.Core.List.{List, [], _∷_, _++_, map, append-assoc, List·Memᴰ·head, List·Memᴰ·tail}
 use lib.ListN.{length}
-use lib.Bits.{bitOr}
 use lib.Dec.{eqb}
 use borrow.Author.Tests.{eqb-true, eqb-false, eq-eqb, ne-eqb}
 use Rattle.tree.specs.Lists.{any, has, distinct}
 use Rattle.tree.specs.Laws.Lists.{map-map, map-same, map-self, eqb-flip}
 use Rattle.tree.specs.Laws.Tests.{or-left, or-right}
 use Rattle.tree.specs.Steps.{Step, target, inserts}
-use Rattle.locks.specs.Modes.{Mode, ModeSet, no-mode, same-mode, among, union, in-word}
+use Rattle.locks.specs.Modes.{Mode, ModeSet, no-mode, same-mode, among, union}
 use Rattle.locks.specs.Needs.{Need, need, Lock, each, every-one, up, locks}
-use Rattle.locks.specs.Words.{word-of}
-use Rattle.locks.specs.Laws.Sets.{in-union}
 use Rattle.protocol.specs.State.{Marked, Tree, numbered, modes-on, granted-to, grant, with-held}
 use Rattle.layout.specs.Lists.{modify}
 use Rattle.layout.specs.Flat.{flat, second}
-use Rattle.layout.specs.Fields.{with-modes}
 use Rattle.layout.specs.Layout.{Entry}
 use Rattle.layout.specs.Laws.Lists.{length-modify}
 use Rattle.lookup.specs.Places.{items, unique}
@@ -201,15 +197,3 @@ module _ (t : ℕ) where
       ∙ granted-none (granted-to t (each (w .new) m) a)
       ∙ granted-each (w .new) m a
       ∙ rw (eq-eqb m m refl)
-
--- a lock word with a list of modes more
-pub granted-word : (t v : ℕ) (ms : List Mode) (a : Marked) → in-word v ≡ a .held t → ((m : Mode) → in-word (word-of ms) m ≡ among ms m)
-    → with-modes t (bitOr v (word-of ms)) a ≡ granted-modes t ms a
-granted-word t v ms a e w = same-held a _ _ (λ u m. go u m (eqb u t) refl)
-  where
-    go : (u : ℕ) (m : Mode) (b : Bool) → eqb u t ≡ b
-        → cond b (in-word (bitOr v (word-of ms))) (a .held u) m ≡ cond b (union (a .held u) (among ms)) (a .held u) m
-    go u m true q =
-        let h : in-word v m ≡ a .held u m = ap (λ (p : ModeSet). p m) (e ∙ ap (a .held) (sym (eqb-true u t q))) in
-        in-union v (word-of ms) m ∙ (λ j. h j || w m j)
-    go u m false q = refl

@@ -13,11 +13,12 @@ use Rattle.protocol.specs.State.{Marked, Tree, numbered, seen-by}
 use Rattle.layout.specs.Lists.{insert}
 use Rattle.layout.specs.Flat.{flat}
 use Rattle.layout.specs.Layout.{Entry}
-use Rattle.lookup.specs.Places.{depth, item, unique, below}
+use Rattle.lookup.specs.Places.{depth, unique, below}
+use Rattle.lookup.specs.Laws.NodeAt.{not-below}
+use Rattle.lookup.specs.Laws.Up.{depth-at, rows-behind}
+use Rattle.lookup.specs.Laws.Find.{holder}
 use Rattle.edits.specs.Rows.{number-at, before-new, new-place}
 use Rattle.edits.specs.Laws.Lists.{insert-append}
-use Rattle.edits.specs.Laws.Subtree.{children, depth-of, before, behind, split, stops, not-below, put-within}
-use Rattle.edits.specs.Laws.RowAt.{row-at}
 
 module _ {A : Type 0} (counts : A → Bool) (top : ℕ) where
   -- rows deeper than children are passed by
@@ -111,17 +112,17 @@ pub insert-rows : (t n k : ℕ) (new : Marked) (f : Tree) (p : ℕ) → unique (
     → flat 0 (put (numbered n) (seen-by t) k new f) ≡ insert (new-place t k p (flat 0 f)) (suc (depth (flat 0 f) p), new) (flat 0 f)
 unfolding new-place
 insert-rows t n k new f p u h e =
-    let c = row-at f p u h in
-    let m = c .standing in
-    let b = before 0 m in
-    let x : Entry = (depth-of 0 m, item (flat 0 f) p) in
-    let r = flat (suc (depth-of 0 m)) (children m) ++ behind 0 m in
-    let i : ℕ = before-new (seen-by t) (depth-of 0 m) (k - 1) r in
-    let y : Entry = (suc (depth-of 0 m), new) in
-    let z : length (b ++ (x ∷ [])) ≡ suc p = length-append b (x ∷ []) ∙ omega (arith, c .place) in
-    let q : numbered n (item (flat 0 f) p) ≡ true = eq-eqb (number-at (flat 0 f) p) n e in
-    put-within (numbered n) (seen-by t) k new 0 m q (rw e at (c .none-below)) (rw e at (c .none-before)) (rw e at (c .none-behind))
-    ∙ ap (λ l. b ++ (x ∷ l)) (place-rows (seen-by t) (depth-of 0 m) k new (children m) (behind 0 m) (stops 0 m))
+    let o = holder f n p u h e in
+    let c = o .place in
+    let b = c .before in
+    let x : Entry = (c .depth, c .it) in
+    let r = flat (suc (c .depth)) (c .children) ++ c .behind in
+    let i : ℕ = before-new (seen-by t) (c .depth) (k - 1) r in
+    let y : Entry = (suc (c .depth), new) in
+    let z : length (b ++ (x ∷ [])) ≡ suc p = length-append b (x ∷ []) ∙ omega (arith, c .count) in
+    c .puts (numbered n) (seen-by t) k new (o .number) (o .children) (o .before) (o .behind)
+    ∙ ap (λ l. b ++ (x ∷ l)) (place-rows (seen-by t) (c .depth) k new (c .children) (c .behind) (c .stops))
     ∙ sym (append-snoc b x (insert i y r))
     ∙ sym (insert-append (b ++ (x ∷ [])) r i y)
-    ∙ (λ j. insert (z j + before-new (seen-by t) (c .deep j) (k - 1) (sym (c .rows-behind) j)) (suc (c .deep j), new) ((append-snoc b x r ∙ sym (split 0 m)) j))
+    ∙ (λ j. insert (z j + before-new (seen-by t) (sym (depth-at c) j) (k - 1) (sym (rows-behind c) j)) (suc (sym (depth-at c) j), new)
+    ((append-snoc b x r ∙ sym (c .split)) j))

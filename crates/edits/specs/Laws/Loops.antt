@@ -18,7 +18,7 @@ use Rattle.layout.specs.Flat.{second}
 use Rattle.layout.specs.Layout.{Entry, no-entry}
 use Rattle.lookup.specs.Places.{depth, item, seen-from, subtree}
 use Rattle.lookup.specs.Laws.Subtree.{seen-hidden, seen-deleted, seen-found, seen-left, seen-end}
-use Rattle.edits.specs.Laws.Ends.{left-out-parts, open-left-out}
+use Rattle.lookup.specs.Laws.Passes.{left-out-parts, open-left-out}
 use Rattle.edits.specs.Laws.Lists.{take-modify, drop-modify}
 use Rattle.edits.specs.Rows.{left-out, changed-below, renamed-by, renamed-rows, before-new, new-place}
 
@@ -58,11 +58,6 @@ module _ {A : Type 0} (shown : A → Bool) (g : A → A) (top : ℕ) (w : List (
           pub changed-unseen : shown (getD l i x .1) ≡ false → Changing l (i + 1) (getD l i x .0 + 1)
           unfolding changed-below
           changed-unseen s = stays (getD l i x .0 + 1) (rw (lt-ltb top (getD l i x .0) k, e, s, add-one (getD l i x .0)))
-
-          -- a row that is shown: changed, or g leaves it as it is
-          pub changed-same : shown (getD l i x .1) ≡ true → g (getD l i x .1) ≡ getD l i x .1 → Changing l (i + 1) 0
-          unfolding changed-below
-          changed-same s q = stays 0 (rw (lt-ltb top (getD l i x .0) k, e, s, q))
 
           pub changed-row : shown (getD l i x .1) ≡ true → Changing (modify i (second g) l) (i + 1) 0
           unfolding changed-below

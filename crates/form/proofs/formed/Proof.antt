@@ -1,23 +1,14 @@
 use borrow.Author.Needs.{needs}
 use native.Mathlib.Omega.{arith}
-use mathlib.Core.Path.{_≡_, sym, _∙_}
+use mathlib.Core.Path.{sym, _∙_}
 use borrow.Author.Tests.{not-true, not-false}
 use Rattle.layout.specs.Layout.{count}
 use Rattle.form.specs.Laws.Check.{header-size, header-room, outlined, formed-header, formed-slots, formed-nodes, formed-numbers}
 use Rattle.form.proofs.formed.Statement.{statement}
 use Rattle.form.proofs.formed.Tie as tie
 
-header-requires : tie.Need-header-requires
-header-requires c κs = search needs
-
 returns : tie.Need-returns
 returns c = formed-header _ (sym (c .before .header .ensures) ∙ not-true _ (c .if1 .taken))
-
-word-requires : tie.Need-word-requires
-word-requires c κs = omega (arith, header-size _ (sym (c .before .header .ensures) ∙ not-false _ (c .if1 .left)))
-
-cast-n : tie.Need-cast-n
-cast-n c = search needs
 
 apart-requires : tie.Need-apart-requires
 apart-requires c κs = (header-size _ (sym (c .before .before .header .ensures) ∙ not-false _ (c .before .if1 .left)), omega arith, omega arith)
@@ -74,16 +65,6 @@ returns-4 c =
     (λ j. omega (arith, shared-slice-known .given j)) _ (word .ensures)
 
 pub formed-spec : {M : Type 1} → statement M
-formed-spec =
-    tie.close
-    (tie.spec
-    header-requires
-    returns
-    word-requires
-    cast-n
-    apart-requires
-    returns-2
-    nodes-requires
-    returns-3
-    apart-requires-2
-    returns-4)
+formed-spec = tie.close (tie.spec (λ c κs. search needs) returns
+    (λ c κs. omega (arith, header-size _ (sym (c .before .header .ensures) ∙ not-false _ (c .if1 .left)))) (λ c. search needs)
+    apart-requires returns-2 nodes-requires returns-3 apart-requires-2 returns-4)

@@ -1,26 +1,17 @@
 -- The check of a cell, test by test.
-use mathlib.Core.Path.{_≡_, refl, sym, ap, _∙_}
-use Prim.Native.Nat.{ℕ, zero, suc, _+_, _*_, _≤_, _<_}
-use mathlib.Core.Bool.{Bool, true, false, _&&_, _||_, and-false}
-use mathlib.Core.List.{List, [], _∷_}
+use mathlib.Core.Path.{_≡_, sym, ap, _∙_}
+use Prim.Native.Nat.{ℕ, _+_, _≤_, _<_}
+use mathlib.Core.Bool.{Bool, true, false, _&&_, _||_}
+use mathlib.Core.List.{List}
 use native.Mathlib.Omega.{arith}
 use native.Mathlib.Nat.{add-zero}
-use lib.ListN.{length, getD}
+use lib.ListN.{getD}
 use lib.Dec.{eqb, leb}
 use borrow.Author.Tests.{le-leb, lt-leb, eq-eqb, ne-eqb}
-use Rattle.tree.specs.Content.{between, content-limit}
-use Rattle.locks.specs.Modes.{no-mode}
 use Rattle.layout.specs.Layout.{cell-at, cell, stored, decode}
 use Rattle.layout.specs.Laws.Fields.{cell-byte, writer-update}
 use Rattle.form.specs.Form.{in-range, sizes-in-range}
 use Rattle.form.specs.Check.{cell-in-range}
-
--- a test that fails among others
-pub and-no : (a : Bool) {b : Bool} → b ≡ false → (a && b) ≡ false
-and-no a h = rw h (and-false a)
-
-pub and-first : {a : Bool} (b : Bool) → a ≡ false → (a && b) ≡ false
-and-first b h = rw h
 
 module _ (s : List ℕ) (k : ℕ) where
   sizes-of : sizes-in-range (cell s k)

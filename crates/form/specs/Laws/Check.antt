@@ -1,7 +1,7 @@
 -- The check of the rows, turn by turn, and the check as a whole.
 use mathlib.Core.Path.{_≡_, refl, sym, ap, ap₂, _∙_}
-use Prim.Native.Nat.{ℕ, zero, suc, _+_, _*_, _≤_, _<_}
-use mathlib.Core.Bool.{Bool, true, false, cond, _&&_, and-false}
+use Prim.Native.Nat.{ℕ, suc, _+_, _≤_, _<_}
+use mathlib.Core.Bool.{Bool, true, false, _&&_, and-false}
 use mathlib.Core.List.{List, [], _∷_, map}
 use native.Mathlib.Omega.{arith}
 use native.Mathlib.Nat.{add-zero}
@@ -10,14 +10,14 @@ use lib.ListN.{length, getD, drop, drop-of-length-le}
 use lib.Seq.{drop-cons}
 use lib.Dec.{eqb, leb, ltb}
 use borrow.Author.Tests.{le-leb, lt-leb, leb-true, lt-ltb, ltb-true, eq-eqb, ne-eqb}
-use Rattle.tree.specs.Lists.{every, same, distinct}
+use Rattle.tree.specs.Lists.{every, same}
 use Rattle.tree.specs.Content.{document-kind, element-kind, text-kind, between}
 use Rattle.tree.specs.Laws.Tests.{and-left, and-right}
 use Rattle.locks.specs.Modes.{no-mode}
-use Rattle.protocol.specs.State.{nobody, Marked}
+use Rattle.protocol.specs.State.{nobody}
 use Rattle.protocol.specs.Calls.{node-limit}
-use Rattle.layout.specs.Lists.{tabulate}
-use Rattle.layout.specs.Layout.{state-size, format-mark, entry-at, word, part, count, slot, depth, number, cell, held, decode, Entry, entry, nodes, no-entry}
+use Rattle.layout.specs.Layout.{state-size, format-mark, entry-at, word, part, count, slot, depth, number, cell, held, decode, Entry, entry}
+use Rattle.layout.specs.Layout.{nodes, no-entry}
 use Rattle.layout.specs.Laws.Lists.{length-tabulate, getD-tabulate, tabulate-same, map-tabulate}
 use Rattle.layout.specs.Laws.Nodes.{length-nodes, node-at}
 use Rattle.lookup.specs.Places.{number-of, unique}

@@ -1,25 +1,23 @@
 -- Bytes of the form hold a state, and what holds a state is of the form.
 use mathlib.Core.Path.{_≡_, refl, sym, ap, _∙_}
-use Prim.Native.Nat.{ℕ, zero, suc, _+_, _≤_, _<_}
+use Prim.Native.Nat.{ℕ, zero, suc, _<_}
 use mathlib.Core.Bool.{Bool, true, false, cond, _&&_, _||_, false≢true}
-use mathlib.Core.List.{List, [], _∷_}
+use mathlib.Core.List.{List, _∷_}
 use native.Mathlib.Omega.{arith}
 use lib.ListN.{length, getD}
 use lib.Dec.{eqb, leb, ltb}
-use borrow.Author.Tests.{le-leb, leb-true, lt-ltb, ltb-true, eqb-true, eqb-false, eq-eqb, ne-eqb}
+use borrow.Author.Tests.{le-leb, leb-true, lt-ltb, ltb-true, eqb-false, ne-eqb}
 use Rattle.tree.specs.Lists.{every, has, distinct, same}
 use Rattle.tree.specs.Content.{between, content-limit}
 use Rattle.tree.specs.Laws.Tests.{and-left, and-right, or-left, or-right}
 use Rattle.tree.specs.Laws.Compare.{same-equal, same-self}
-use Rattle.protocol.specs.State.{nobody, Marked, Tree, State}
+use Rattle.protocol.specs.State.{nobody, State}
 use Rattle.protocol.specs.Calls.{node-limit}
-use Rattle.layout.specs.Lists.{tabulate}
-use Rattle.layout.specs.Flat.{flat}
-use Rattle.layout.specs.Layout.{state-size, format-mark, part, count, slot, cell, header, Entry, nodes, Sized, Layout}
+use Rattle.layout.specs.Layout.{tabulate, state-size, format-mark, part, count, slot, cell, header, nodes, Sized, Layout}
 use Rattle.layout.specs.Laws.Nodes.{length-nodes}
 use Rattle.lookup.specs.Places.{unique}
 use Rattle.form.specs.Form.{valid-rows, valid-tree, slots, cells, sizes-in-range, apart, form, Holds}
-use Rattle.form.specs.Laws.Rows.{and-of, between-of, between-low, between-high, rows-valid, valid-forest}
+use Rattle.form.specs.Laws.Rows.{and-of, between-of, between-low, between-high, valid-forest}
 
 -- tests of lists that are given by a rule ---------------------------------------------------------
 
@@ -148,13 +146,14 @@ form-layout {s} h = let p = form-parts h in record {
 }
 
 pub form-holds : (s : List ℕ) → form s ≡ true → (M : State) × Holds s M
+unfolding valid-tree
 form-holds s h =
     let p = form-parts h in
     let t = valid-forest (nodes s) (p .rows) in
-    (record { header = header s; tree = t .0 }, record { layout = form-layout h; header = refl; rows = t .1; unique = p .unique; valid = t .2 })
+    (record { header = header s; tree = t .0 }, record { layout = form-layout h; header = refl; rows = t .1; unique = p .unique; valid = sym (ap valid-rows (t .1)) ∙ p .rows })
 
 pub holds-form : {s : List ℕ} {M : State} → Holds s M → form s ≡ true
-unfolding slots cells apart
+unfolding slots cells apart valid-tree
 holds-form {s} {M} h = let l = h .layout in
     let small = tabulate-every (λ k. ltb k node-limit) node-limit (slot s) (λ i a. lt-ltb (slot s i) node-limit (l .slots i a)) in
     parts-form (record {
@@ -163,6 +162,6 @@ holds-form {s} {M} h = let l = h .layout in
       count = between-of 1 node-limit (count s) (l .some) (l .room);
       slots = and-of small (tabulate-distinct node-limit (slot s) (l .apart));
       sizes = tabulate-every sizes-in-range (count s) (λ i. cell s (slot s i)) (λ i a. of-sized (cell s (slot s i)) (l .sizes i a));
-      rows = rw (h .rows) (rows-valid (M .tree) (h .valid));
+      rows = rw (h .rows) (h .valid);
       unique = h .unique;
     })

@@ -1,24 +1,22 @@
 -- The bytes of the beginning hold the state of the beginning.
-use mathlib.Core.Path.{_≡_, refl, sym, ap, ap₂, _∙_, fun-ext, subst}
-use Prim.Native.Nat.{ℕ, zero, suc, _+_, _-_, _*_, _/_, _%_, _^_, _≤_, _<_}
+use mathlib.Core.Path.{_≡_, refl, sym, ap, _∙_, fun-ext, subst}
+use Prim.Native.Nat.{ℕ, _+_, _-_, _*_, _/_, _%_, _^_, _≤_, _<_}
 use mathlib.Core.Bool.{Bool, true, false, cond}
 use mathlib.Core.List.{List, [], _∷_}
 use native.Mathlib.Omega.{arith}
 use native.Mathlib.Nat.{zero-add, zero-div}
-use lib.ListN.{length, getD, take, drop, set}
+use lib.ListN.{length, getD, set}
 use lib.Seq.{ext-getD}
-use lib.Dec.{eqb, ltb, leb}
+use lib.Dec.{eqb, ltb}
 use borrow.Author.Tests.{eq-eqb, ne-eqb, lt-ltb, le-ltb, ltb-true, ltb-false, le-leb, lt-leb}
-use Rattle.tree.specs.Forest.{nil, node, view}
+use Rattle.tree.specs.Forest.{view}
 use Rattle.tree.specs.Document.{Node, node-0-alone}
-use Rattle.locks.specs.Modes.{ModeSet, no-mode, in-word}
-use Rattle.locks.specs.Modes.{bit}
-use Rattle.protocol.specs.State.{is-transaction, Marked, unmarked, tree-of, with-open, start-header, start-state}
-use Rattle.layout.specs.Lists.{tabulate}
+use Rattle.locks.specs.Modes.{no-mode, in-word}
+use Rattle.protocol.specs.State.{is-transaction, unmarked, tree-of, with-open, start-header, start-state}
+use Rattle.layout.specs.Layout.{tabulate, state-size, format-mark, entry-at, lock-at, word, part, count, slot, depth, number, cell, is-open}
+use Rattle.layout.specs.Layout.{held, decode, entry, nodes, Layout}
 use Rattle.layout.specs.Flat.{flat}
-use Rattle.layout.specs.Layout.{state-size, format-mark, entry-at, cell-at, lock-at, word, part, count, slot, depth, number, cell, is-open, held}
-use Rattle.layout.specs.Layout.{decode, Entry, entry, nodes, Sized, Layout}
-use Rattle.layout.specs.Laws.Bytes.{Only, Filled, filled-more, length-part, part-at, drop-high}
+use Rattle.layout.specs.Laws.Bytes.{Filled, filled-more, length-part, part-at, drop-high}
 use Rattle.layout.specs.Laws.Nodes.{length-nodes}
 use Rattle.layout.specs.Laws.Fields.{cell-byte}
 use Rattle.layout.specs.Laws.Locks.{no-modes, transaction-low, transaction-high}

@@ -8,7 +8,8 @@ use lib.ListN.{length, getD, set}
 use lib.Seq.{getD-set-same, getD-set-other}
 use lib.Dec.{eqb}
 use borrow.Author.Tests.{eqb-true, eqb-false}
-use Rattle.layout.specs.Lists.{tabulate, modify}
+use Rattle.layout.specs.Lists.{modify}
+use Rattle.layout.specs.Layout.{tabulate}
 
 module _ {A : Type 0} where
   pub length-tabulate : (n : ℕ) (f : ℕ → A) → length (tabulate n f) ≡ n
@@ -27,16 +28,6 @@ module _ {A : Type 0} where
   tabulate-same zero f g h = refl
   tabulate-same (suc n) f g h = rw (h 0 (omega arith), tabulate-same n (λ i. f (suc i)) (λ i. g (suc i)) (λ i k. h (suc i) (omega arith)))
 
-  -- a list with the elements of a rule
-  pub list-of : (n : ℕ) (f : ℕ → A) (l : List A) (d : A) → length l ≡ n → ((i : ℕ) → i < n → getD l i d ≡ f i) → l ≡ tabulate n f
-  unfolding tabulate
-  list-of zero f [] d e h = refl
-  list-of zero f (x ∷ l) d e h = absurd (omega arith)
-  list-of (suc n) f [] d e h = absurd (omega arith)
-  list-of (suc n) f (x ∷ l) d e h =
-      let p : x ≡ f 0 = h 0 (omega arith) in
-      rw (p, list-of n (λ i. f (suc i)) l d (omega arith) (λ i k. h (suc i) (omega arith)))
-
   pub length-modify : (i : ℕ) (f : A → A) (l : List A) → length (modify i f l) ≡ length l
   unfolding modify
   length-modify i f [] = refl
@@ -48,14 +39,6 @@ module _ {A : Type 0} where
   getD-modify i f [] d h = absurd (omega arith)
   getD-modify zero f (x ∷ xs) d h = refl
   getD-modify (suc i) f (x ∷ xs) d h = getD-modify i f xs d (omega arith)
-
-  pub getD-modify-other : (i j : ℕ) (f : A → A) (l : List A) (d : A) → (j ≡ i → ⊥) → getD (modify i f l) j d ≡ getD l j d
-  unfolding modify
-  getD-modify-other i j f [] d h = refl
-  getD-modify-other zero zero f (x ∷ xs) d h = absurd (h refl)
-  getD-modify-other zero (suc j) f (x ∷ xs) d h = refl
-  getD-modify-other (suc i) zero f (x ∷ xs) d h = refl
-  getD-modify-other (suc i) (suc j) f (x ∷ xs) d h = getD-modify-other i j f xs d (λ e. h (ap suc e))
 
   pub modify-modify : (i : ℕ) (f g : A → A) (l : List A) → modify i f (modify i g l) ≡ modify i (λ x. f (g x)) l
   unfolding modify

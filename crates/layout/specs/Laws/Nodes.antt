@@ -9,10 +9,10 @@ use lib.Dec.{eqb}
 use borrow.Author.Tests.{eqb-true, eqb-false}
 use Rattle.locks.specs.Modes.{ModeSet, bit}
 use Rattle.protocol.specs.State.{is-transaction, Marked, Header, with-open}
-use Rattle.layout.specs.Lists.{tabulate, modify}
+use Rattle.layout.specs.Lists.{modify}
+use Rattle.layout.specs.Layout.{tabulate, state-size, open-at, count-at, entry-at, cell-at, lock-at, count, slot, depth, number, cell}
+use Rattle.layout.specs.Layout.{is-open, held, decode, Entry, entry, nodes, no-entry, Sized, Layout, Left, Kept, header}
 use Rattle.layout.specs.Flat.{second}
-use Rattle.layout.specs.Layout.{state-size, open-at, count-at, entry-at, cell-at, lock-at, count, slot, depth, number, cell, is-open}
-use Rattle.layout.specs.Layout.{held, decode, Entry, entry, nodes, no-entry, Sized, Layout, Left, Kept, header}
 use Rattle.layout.specs.Laws.Lists.{length-tabulate, getD-tabulate, tabulate-same, modify-tabulate, map-tabulate}
 use Rattle.layout.specs.Laws.Bytes.{Only, word-off, part-off, drop-high, length-part}
 use Rattle.layout.specs.Laws.Kept.{kept-left}

@@ -1,7 +1,7 @@
 -- The children of a place: their turns as a loop makes them, and that they give the lines of the children that the caller sees.
 use mathlib.Core.Path.{_≡_, refl, ap, _∙_}
 use Prim.Native.Nat.{ℕ, suc, _+_, _-_, _≤_, _<_}
-use mathlib.Core.Bool.{Bool, true, false, cond, not, _&&_, and-false, or-true}
+use mathlib.Core.Bool.{Bool, true, false, cond, _&&_, and-false, or-true}
 use mathlib.Core.List.{List, [], _∷_, _++_, map, append-nil}
 use native.Mathlib.Omega.{arith}
 use lib.ListN.{length, drop}
@@ -16,7 +16,7 @@ use Rattle.tree.specs.Laws.Lists.{keep-append}
 use Rattle.protocol.specs.State.{Marked, Tree, numbered, seen-by, callers-document}
 use Rattle.layout.specs.Flat.{flat}
 use Rattle.layout.specs.Layout.{Entry}
-use Rattle.lookup.specs.Places.{depth, item, items, number-of, below, child-seen, children-from, children, seen-at}
+use Rattle.lookup.specs.Places.{depth, item, items, number-of, child-seen, children-from, children, seen-at}
 use Rattle.lookup.specs.Found.{kth-child}
 use Rattle.lookup.specs.Laws.NodeAt.{nodes-of, lines-of, none-first, none-second}
 use Rattle.lookup.specs.Laws.Up.{depth-at, item-at, ups-at}

@@ -10,8 +10,7 @@ use borrow.Author.Tests.{le-ltb}
 use Rattle.tree.specs.Lists.{any, keep}
 use Rattle.tree.specs.Forest.{row}
 use Rattle.tree.specs.Document.{Node, Document, Line, here, at, child, under, select}
-use Rattle.tree.specs.Steps.{Step, T, C, R, U, D, I, TT, RR, UU, target, inserts, kind-at, answer, kth, is-named}
-use Rattle.tree.specs.Steps.{none, numbers-are, cells-are, how-many}
+use Rattle.tree.specs.Steps.{Step, T, C, R, U, D, I, TT, RR, UU, target, inserts, answer, kth, is-named, numbers-are, cells-are, how-many}
 use Rattle.tree.specs.Laws.Lists.{map-map, any-same, keep-map}
 use Rattle.protocol.specs.State.{Marked, State, number-held, callers-document}
 use Rattle.protocol.specs.Lent.{Room}
@@ -19,7 +18,7 @@ use Rattle.protocol.specs.Calls.{node-limit, number-taken, unchanged, refused, 
 use Rattle.layout.specs.Flat.{flat}
 use Rattle.layout.specs.Layout.{Entry}
 use Rattle.lookup.specs.Places.{item, number-of, unique, place-of, numbers-above, seen-at, children, subtree}
-use Rattle.lookup.specs.Found.{taken-in, full-in, kind-of, kth-child, answer-at, Found, judged-at}
+use Rattle.lookup.specs.Found.{kth-child, answer-at, Found, judged-at}
 use Rattle.lookup.specs.Laws.Find.{Holder, holder, held-place, count-held, here-nowhere, here-at, line-at}
 use Rattle.lookup.specs.Laws.Children.{child-lines}
 use Rattle.lookup.specs.Laws.Subtree.{subtree-lines}

@@ -4,7 +4,6 @@ use Prim.Native.Nat.{ℕ, zero, suc, _+_, _-_, _≤_, _<_}
 use mathlib.Core.Bool.{Bool, true, false, cond, not, _&&_, and-false, false≢true}
 use mathlib.Core.List.{List, [], _∷_, _++_}
 use native.Mathlib.Omega.{arith}
-use native.Mathlib.Numerals.{add-one}
 use lib.ListN.{length, take, drop, length-append, take-append-drop}
 use lib.Dec.{eqb, leb, ltb, leb·zero, leb·suc-suc, eqb·suc-zero}
 use borrow.Author.Tests.{eqb-true, eqb-false, leb-true, le-leb, lt-leb, eq-eqb, ne-eqb}
@@ -38,24 +37,7 @@ ordered-start n (x ∷ l) = rw (eq-eqb n n refl) (go (eqb x attribute-kind) (ord
     go true e f = e
     go false e f = sym f
 
--- its turns: x comes next, n were passed, a of them attributes
-module _ (a n x : ℕ) (l : List ℕ) where
-  pub ordered-attribute : x ≡ attribute-kind → a ≡ n → ordered-behind a n (x ∷ l) ≡ ordered-behind (a + 1) (n + 1) l
-  unfolding ordered-behind
-  ordered-attribute h e = rw (eq-eqb x attribute-kind h, eq-eqb a n e, add-one a, add-one n)
-
-  pub ordered-late : x ≡ attribute-kind → (a ≡ n → ⊥) → ordered-behind a n (x ∷ l) ≡ false
-  unfolding ordered-behind
-  ordered-late h e = rw (eq-eqb x attribute-kind h, ne-eqb a n e)
-
-  pub ordered-kind : (x ≡ attribute-kind → ⊥) → ordered-behind a n (x ∷ l) ≡ ordered-behind a (n + 1) l
-  unfolding ordered-behind
-  ordered-kind h = rw (ne-eqb x attribute-kind h, add-one)
-
-pub ordered-end : (a n : ℕ) → ordered-behind a n [] ≡ true
-unfolding ordered-behind
-ordered-end a n = refl
-
+-- its turns
 module _ (x : ℕ) (l : List ℕ) where
   pub attributes-one : x ≡ attribute-kind → attributes (x ∷ l) ≡ 1 + attributes l
   unfolding attributes keep
@@ -64,10 +46,6 @@ module _ (x : ℕ) (l : List ℕ) where
   pub attributes-other : (x ≡ attribute-kind → ⊥) → attributes (x ∷ l) ≡ attributes l
   unfolding attributes keep
   attributes-other h = rw (ne-eqb x attribute-kind h)
-
-pub attributes-none : attributes [] ≡ 0
-unfolding attributes keep
-attributes-none = refl
 
 -- the insertion --------------------------------------------------------------------------------
 

@@ -4,7 +4,7 @@ use Prim.Native.Nat.{ℕ, _+_, _≤_, _<_}
 use mathlib.Core.List.{List}
 use native.Mathlib.Omega.{arith}
 use lib.ListN.{length}
-use Rattle.layout.specs.Lists.{tabulate}
+use Rattle.layout.specs.Layout.{tabulate}
 use Rattle.layout.specs.Layout.{entry-at, word, count, slot, depth, number, cell, held, decode, Entry, entry, Sized, Layout, Left, header}
 use Rattle.layout.specs.Laws.Bytes.{Only, only-both, only-word, put-word, word-put, word-off}
 use Rattle.layout.specs.Laws.Nodes.{Placed, Copy, placed-as, same-place, same-cell, same-held, same-header, left-of}

@@ -10,11 +10,11 @@ use lib.ListN.{length, getD}
 use lib.Dec.{eqb, ltb}
 use borrow.Author.Tests.{ltb-true, ltb-false, lt-ltb, le-ltb, eqb-true, eqb-false, eq-eqb, ne-eqb}
 use Rattle.protocol.specs.State.{Marked, inserted-by, deleted-by, unwritten, with-inserter, with-update}
-use Rattle.layout.specs.Lists.{tabulate, modify, insert}
+use Rattle.layout.specs.Lists.{modify, insert}
+use Rattle.layout.specs.Layout.{tabulate, count-at, entry-at, cell-at, count, slot, depth, number, cell, held, decode, Entry, entry, nodes}
+use Rattle.layout.specs.Layout.{Sized, Layout, Left, Kept, header}
 use Rattle.layout.specs.Flat.{second}
 use Rattle.layout.specs.Fields.{with-kind, with-bytes, unlocked}
-use Rattle.layout.specs.Layout.{count-at, entry-at, cell-at, count, slot, depth, number, cell, held, decode, Entry, entry, nodes, Sized}
-use Rattle.layout.specs.Layout.{Layout, Left, Kept, header}
 use Rattle.layout.specs.Laws.Bytes.{Only, only-none, only-wider, only-both, only-word, put-word, word-put, Filled}
 use Rattle.layout.specs.Laws.Nodes.{Placed, Copy, placed-then, length-nodes, same-header, same-place, same-count, same-held, other-cell}
 use Rattle.layout.specs.Laws.Nodes.{left-none}

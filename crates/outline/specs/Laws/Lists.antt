@@ -5,7 +5,8 @@ use mathlib.Core.List.{List, [], _∷_}
 use native.Mathlib.Omega.{arith}
 use native.Mathlib.Numerals.{add-one}
 use lib.ListN.{length, take, drop}
-use Rattle.layout.specs.Lists.{tabulate, modify, insert}
+use Rattle.layout.specs.Lists.{modify, insert}
+use Rattle.layout.specs.Layout.{tabulate}
 use Rattle.layout.specs.Laws.Lists.{tabulate-same}
 
 module _ {A : Type 0} where

@@ -10,10 +10,10 @@ use lib.Seq.{take-suc, drop-cons, append-snoc}
 use lib.Dec.{eqb, ltb, leb}
 use borrow.Author.Tests.{ltb-true, lt-ltb, eqb-true, eqb-false, eq-eqb, ne-eqb, le-leb, lt-leb}
 use Rattle.protocol.specs.State.{Marked}
-use Rattle.layout.specs.Lists.{tabulate, modify}
+use Rattle.layout.specs.Lists.{modify}
+use Rattle.layout.specs.Layout.{tabulate, count-at, count, slot, depth, number, cell, Entry, entry, nodes, no-entry, Sized, Layout, Left}
+use Rattle.layout.specs.Layout.{Kept, header}
 use Rattle.layout.specs.Flat.{prune}
-use Rattle.layout.specs.Layout.{count-at, count, slot, depth, number, cell, Entry, entry, nodes, no-entry, Sized, Layout, Left, Kept}
-use Rattle.layout.specs.Layout.{header}
 use Rattle.layout.specs.Laws.Lists.{modify-none, length-modify, getD-modify, tabulate-same, modify-tabulate}
 use Rattle.layout.specs.Laws.Bytes.{Only, only-wider, only-both, only-word, put-word, word-put}
 use Rattle.layout.specs.Laws.Nodes.{Copy, placed-then, length-nodes, node-at, same-place, same-count}
