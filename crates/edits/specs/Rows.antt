@@ -83,11 +83,13 @@ renamed-by t a b x = cond (is-named a (x .now)) (written-by t b x) x
 -- UU of t on the node at p
 unfoldable pub renamed-rows : ℕ → List ℕ → List ℕ → ℕ → List Entry → List Entry
 renamed-rows t a b p l =
-    take p l ++ (second (renamed-by t a b) (getD l p no-entry) ∷ changed-below (seen-by t) (renamed-by t a b) (depth l p) 0 (drop (suc p) l))
+    take p l ++ (second (renamed-by t a b) (getD l p no-entry) ∷ changed-below (seen-by t) (renamed-by t a b) (depth l p) 0
+    (drop (suc p) l))
 
 -- a new child -------------------------------------------------------------------------------------
 
--- of the rows behind a node at depth top: how many stand before a new child that is put right behind the j-th of its children that count, or
+-- of the rows behind a node at depth top: how many stand before a new child that is put right behind the j-th of its children that count,
+-- or
 -- before all for j = 0, or behind all where there are fewer
 unfoldable pub before-new : {A : Type 0} → (A → Bool) → ℕ → ℕ → List (ℕ × A) → ℕ
 before-new counts top j [] = 0

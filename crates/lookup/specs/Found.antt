@@ -98,7 +98,10 @@ judged-at t s room M l p =
     (refused unfit-kind, wrong-kind-on s (item l p .now .kind))
     ∷ (refused unfit-content, wrong-content-on s (item l p .now .kind))
     ∷ (refused held-number, taken-in s l)
-    ∷ (waits (wait-word t (need s) (M .header .is-open) (item l p ∷ ups l p)), not (eqb (wait-word t (need s) (M .header .is-open) (item l p ∷ ups l p)) 0))
+    ∷ (
+      waits (wait-word t (need s) (M .header .is-open) (item l p ∷ ups l p)),
+      not (eqb (wait-word t (need s) (M .header .is-open) (item l p ∷ ups l p)) 0),
+    )
     ∷ (refused unfit-place, misplaced-on s (item l p .now .kind) (map kind-of (children t l p)))
     ∷ (refused full-table, full-in s l)
     ∷ (refused short-buffer, not (has-room (answer-at s t l p) room)) ∷ [])

@@ -23,7 +23,8 @@ fn set_entry(s: &mut [u8], i: usize, k: u16, d: u16, n: u16)
 // The entry at place i copied to the next place.
 fn copy_up(s: &mut [u8], i: usize)
     requires { ⌜ (state-size ≤ length (now s)) × (i < 1023) ⌝ }
-    ensures { λ r. ⌜ Entered (now (s .entry)) (now (s .exit)) (i + 1) (slot (now (s .entry)) i) (depth (now (s .entry)) i) (number (now (s .entry)) i) ⌝ }
+    ensures { λ r. ⌜ Entered (now (s .entry)) (now (s .exit)) (i + 1) (slot (now (s .entry)) i) (depth (now (s .entry)) i)
+        (number (now (s .entry)) i) ⌝ }
 {
     let at = layout::OUTLINE + layout::ENTRY * i;
     let k = layout::word(s, at);

@@ -44,7 +44,8 @@ prune-map {A} shown h same below (x ∷ l) =
     rw (same (x .1)) (go (left-out below (x .0)) (shown (x .1)) (prune shown below l) (prune shown 0 l) (prune shown (suc (x .0)) l)
     (prune-map shown h same below l) (prune-map shown h same 0 l) (prune-map shown h same (suc (x .0)) l))
   where
-    go : (b c : Bool) (u v w : List (ℕ × A)) {u′ v′ w′ : List (ℕ × A)} → u′ ≡ map (second h) u → v′ ≡ map (second h) v → w′ ≡ map (second h) w
+    go : (b c : Bool) (u v w : List (ℕ × A)) {u′ v′ w′ : List (ℕ × A)} → u′ ≡ map (second h) u → v′ ≡ map (second h) v
+        → w′ ≡ map (second h) w
         → cond b u′ (cond c (second h x ∷ v′) w′) ≡ map (second h) (cond b u (cond c (x ∷ v) w))
     go true c u v w p q r = p
     go false true u v w p q r = rw q

@@ -22,7 +22,8 @@ use Rattle.edits.specs.Laws.Lists.{insert-append}
 
 module _ {A : Type 0} (counts : A → Bool) (top : ℕ) where
   -- rows deeper than children are passed by
-  new-skip : (j d : ℕ) (f : Forest A) (t : List (ℕ × A)) → suc top < d → before-new counts top j (flat d f ++ t) ≡ length (flat d f) + before-new counts top j t
+  new-skip : (j d : ℕ) (f : Forest A) (t : List (ℕ × A)) → suc top < d
+      → before-new counts top j (flat d f ++ t) ≡ length (flat d f) + before-new counts top j t
   unfolding flat before-new
   new-skip j d nil t h = omega arith
   new-skip j d (node a ks fs) t h =
@@ -72,7 +73,8 @@ module _ {A : Type 0} (counts : A → Bool) (top : ℕ) where
 
   -- the children of the node with the new one, and rows behind its subtree
   place-from : (j : ℕ) (new : A) (ks : Forest A) (t : List (ℕ × A)) → below top t ≡ []
-      → flat (suc top) (place counts (suc j) new ks) ++ t ≡ insert (before-new counts top j (flat (suc top) ks ++ t)) (suc top, new) (flat (suc top) ks ++ t)
+      → flat (suc top) (place counts (suc j) new ks) ++ t ≡ insert (before-new counts top j (flat (suc top) ks ++ t)) (suc top, new)
+      (flat (suc top) ks ++ t)
   unfolding flat place insert
   place-from zero new ks t h = rw (new-first ks t h)
   place-from (suc i) new nil t h = rw (new-stop (suc i) t h)
@@ -85,7 +87,8 @@ module _ {A : Type 0} (counts : A → Bool) (top : ℕ) where
 
       behind-child : (j : ℕ) → flat (suc top) (place counts (suc j) new fs) ++ t ≡ insert (before-new counts top j r) (suc top, new) r
           → (suc top, a) ∷ ((flat (suc (suc top)) ks ++ flat (suc top) (place counts (suc j) new fs)) ++ t)
-          ≡ insert (suc (length (flat (suc (suc top)) ks) + before-new counts top j r)) (suc top, new) ((suc top, a) ∷ (flat (suc (suc top)) ks ++ r))
+          ≡ insert (suc (length (flat (suc (suc top)) ks) + before-new counts top j r)) (suc top, new)
+          ((suc top, a) ∷ (flat (suc (suc top)) ks ++ r))
       behind-child j e =
           ap (λ l. (suc top, a) ∷ l)
           (append-assoc (flat (suc (suc top)) ks) (flat (suc top) (place counts (suc j) new fs)) t
@@ -94,21 +97,24 @@ module _ {A : Type 0} (counts : A → Bool) (top : ℕ) where
 
       go : (b : Bool) → flat (suc top) (place counts (suc i) new fs) ++ t ≡ insert (before-new counts top i r) (suc top, new) r
           → flat (suc top) (place counts (suc (suc i)) new fs) ++ t ≡ insert (before-new counts top (suc i) r) (suc top, new) r
-          → (suc top, a) ∷ ((flat (suc (suc top)) ks ++ flat (suc top) (cond b (place counts (suc i) new fs) (place counts (suc (suc i)) new fs))) ++ t)
+          → (suc top, a) ∷ ((flat (suc (suc top)) ks ++ flat (suc top) (cond b (place counts (suc i) new fs)
+          (place counts (suc (suc i)) new fs))) ++ t)
           ≡ insert (suc (length (flat (suc (suc top)) ks) + before-new counts top (cond b i (suc i)) r)) (suc top, new)
           ((suc top, a) ∷ (flat (suc (suc top)) ks ++ r))
       go true u v = behind-child i u
       go false u v = behind-child (suc i) v
 
   pub place-rows : (k : ℕ) (new : A) (ks : Forest A) (t : List (ℕ × A)) → below top t ≡ []
-      → flat (suc top) (place counts k new ks) ++ t ≡ insert (before-new counts top (k - 1) (flat (suc top) ks ++ t)) (suc top, new) (flat (suc top) ks ++ t)
+      → flat (suc top) (place counts k new ks) ++ t ≡ insert (before-new counts top (k - 1) (flat (suc top) ks ++ t)) (suc top, new)
+      (flat (suc top) ks ++ t)
   unfolding place
   place-rows zero new ks t h = place-from zero new ks t h
   place-rows (suc j) new ks t h = let o : suc j - 1 ≡ j = omega arith in rw o (place-from j new ks t h)
 
 -- the law --------------------------------------------------------------------------------------
 
-pub insert-rows : (t n k : ℕ) (new : Marked) (f : Tree) (p : ℕ) → unique (flat 0 f) ≡ true → p < length (flat 0 f) → number-at (flat 0 f) p ≡ n
+pub insert-rows : (t n k : ℕ) (new : Marked) (f : Tree) (p : ℕ) → unique (flat 0 f) ≡ true → p < length (flat 0 f)
+    → number-at (flat 0 f) p ≡ n
     → flat 0 (put (numbered n) (seen-by t) k new f) ≡ insert (new-place t k p (flat 0 f)) (suc (depth (flat 0 f) p), new) (flat 0 f)
 unfolding new-place
 insert-rows t n k new f p u h e =

@@ -27,7 +27,8 @@ use Rattle.edits.specs.Laws.Ends.{flat-view, load-rows}
 use Rattle.edits.specs.Laws.Insertion.{insert-rows}
 
 -- changes that keep every number
-numbers-amend : (g : Row Marked Marked → Marked) → ((r : Row Marked Marked) → number-of (g r) ≡ number-of (r .it)) → (d : ℕ) (up : List Marked) (f : Tree)
+numbers-amend : (g : Row Marked Marked → Marked) → ((r : Row Marked Marked) → number-of (g r) ≡ number-of (r .it))
+    → (d : ℕ) (up : List Marked) (f : Tree)
     → row-numbers (flat d (amend (λ a. a) g up f)) ≡ row-numbers (flat d f)
 unfolding flat amend
 numbers-amend g same d up nil = refl
@@ -77,7 +78,8 @@ unique-insert i x l h k =
 
 -- a step ----------------------------------------------------------------------------------------
 
-pub unique-act : (t : ℕ) (s : Step) (f : Tree) (p : ℕ) → unique (flat 0 f) ≡ true → p < length (flat 0 f) → number-at (flat 0 f) p ≡ target s
+pub unique-act : (t : ℕ) (s : Step) (f : Tree) (p : ℕ) → unique (flat 0 f) ≡ true → p < length (flat 0 f)
+    → number-at (flat 0 f) p ≡ target s
     → any (λ m. number-held m f) (inserts s) ≡ false → unique (flat 0 (act t s f)) ≡ true
 unique-act t (T n) f p u h e new = u
 unique-act t (C n k) f p u h e new = u
@@ -94,17 +96,20 @@ unique-act t (UU n a b) f p u h e new = unique-mark (renamed t n a) (written-by 
 
 -- ends ------------------------------------------------------------------------------------------
 
-unique-view : (shown : Marked → Bool) (g : Marked → Marked) → ((a : Marked) → number-of (g a) ≡ number-of a) → (f : Tree) → unique (flat 0 f) ≡ true
+unique-view : (shown : Marked → Bool) (g : Marked → Marked) → ((a : Marked) → number-of (g a) ≡ number-of a) → (f : Tree)
+    → unique (flat 0 f) ≡ true
     → unique (flat 0 (view shown g f)) ≡ true
 unique-view shown g same f u =
     let visible : Row Marked Marked → Bool = λ r. every shown (r .it ∷ r .above) in
     let held : map (λ r. number-of (r .it)) (lines-of [] f) ≡ row-numbers (flat 0 f) =
     by-node (lines-of [] f) (flat 0 f) (rows-nodes (λ a. a) 0 [] f) in
-    ap distinct (ap row-numbers (flat-view shown g 0 f) ∙ map-map row-number (second g) row-number (prune shown 0 (flat 0 f)) (λ x m. same (x .1))
+    ap distinct (ap row-numbers (flat-view shown g 0 f) ∙ map-map row-number (second g) row-number (prune shown 0 (flat 0 f))
+    (λ x m. same (x .1))
     ∙ sym (by-node (keep visible (lines-of [] f)) (prune shown 0 (flat 0 f)) (shown-forest shown [] 0 f refl)))
     ∙ distinct-keep (λ r. number-of (r .it)) visible (lines-of [] f) (ap distinct held ∙ u)
   where
-    by-node : (l : List (Row Marked Marked)) (k : List Entry) → map (λ r. r .it) l ≡ items k → map (λ r. number-of (r .it)) l ≡ row-numbers k
+    by-node : (l : List (Row Marked Marked)) (k : List Entry) → map (λ r. r .it) l ≡ items k
+        → map (λ r. number-of (r .it)) l ≡ row-numbers k
     by-node l k e =
         sym (map-map number-of (λ (r : Row Marked Marked). r .it) (λ r. number-of (r .it)) l (λ r m. refl)) ∙ ap (map number-of) e
         ∙ map-map number-of (λ (x : Entry). x .1) row-number k (λ x m. refl)

@@ -47,7 +47,8 @@ module _ {A : Type 0} (shown : A → Bool) (g : A → A) where
           append-assoc (flat (suc d) ks) (flat d fs) (changed-below shown g top hidden t),
         )
 
-    changed-then : (hidden d : ℕ) (up : List A) (f : Forest A) (t : List (ℕ × A)) → top < d → every shown up ≡ true → left-out hidden d ≡ false
+    changed-then : (hidden d : ℕ) (up : List A) (f : Forest A) (t : List (ℕ × A)) → top < d → every shown up ≡ true
+        → left-out hidden d ≡ false
         → (m : ℕ) × (left-out m d ≡ false)
         × (changed-below shown g top hidden (flat d f ++ t) ≡ flat d (amend (λ a. a) if-shown up f) ++ changed-below shown g top m t)
     unfolding flat changed-below amend
@@ -67,7 +68,8 @@ module _ {A : Type 0} (shown : A → Bool) (g : A → A) where
             → (m : ℕ) × (left-out m d ≡ false)
             × (cond b ((d, g a) ∷ changed-below shown g top 0 (flat (suc d) ks ++ (flat d fs ++ t)))
             ((d, a) ∷ changed-below shown g top (suc d) (flat (suc d) ks ++ (flat d fs ++ t)))
-            ≡ (d, cond (b && every shown up) (g a) a) ∷ (flat (suc d) (amend (λ a. a) if-shown (a ∷ up) ks) ++ flat d (amend (λ a. a) if-shown up fs))
+            ≡ (d, cond (b && every shown up) (g a) a) ∷ (flat (suc d) (amend (λ a. a) if-shown (a ∷ up) ks) ++ flat d
+            (amend (λ a. a) if-shown up fs))
             ++ changed-below shown g top m t)
         go true e u v =
             let x = u e in
@@ -125,11 +127,13 @@ module _ (t n : ℕ) (a b : List ℕ) where
   inside : (s : Row Marked Marked) → any (numbered n) (s .it ∷ s .above) ≡ true → by-line s ≡ if-shown (seen-by t) (renamed-by t a b) s
   inside s h = rw h (go (every (seen-by t) (s .it ∷ s .above)))
     where
-      go : (x : Bool) → cond (x && true && is-named a (s .it .now)) (written-by t b (s .it)) (s .it) ≡ cond x (renamed-by t a b (s .it)) (s .it)
+      go : (x : Bool) → cond (x && true && is-named a (s .it .now)) (written-by t b (s .it)) (s .it)
+          ≡ cond x (renamed-by t a b (s .it)) (s .it)
       go true = refl
       go false = refl
 
-  pub rename-rows : (f : Tree) (p : ℕ) → unique (flat 0 f) ≡ true → p < length (flat 0 f) → number-at (flat 0 f) p ≡ n → seen-at t (flat 0 f) p ≡ true
+  pub rename-rows : (f : Tree) (p : ℕ) → unique (flat 0 f) ≡ true → p < length (flat 0 f) → number-at (flat 0 f) p ≡ n
+      → seen-at t (flat 0 f) p ≡ true
       → flat 0 (act t (UU n a b) f) ≡ renamed-rows t a b p (flat 0 f)
   unfolding renamed-rows
   rename-rows f p u h e s =

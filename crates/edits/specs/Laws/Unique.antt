@@ -28,7 +28,8 @@ module _ (g : Entry → Entry) where
   by-number-none n [] h = refl
   by-number-none n (x ∷ l) h = rw (or-left (numbered n (x .1)) _ h, by-number-none n l (or-right (numbered n (x .1)) _ h))
 
-  pub by-number-one : (n : ℕ) (l : List Entry) (i : ℕ) → unique l ≡ true → i < length l → number-at l i ≡ n → map (by-number n) l ≡ modify i g l
+  pub by-number-one : (n : ℕ) (l : List Entry) (i : ℕ) → unique l ≡ true → i < length l → number-at l i ≡ n
+      → map (by-number n) l ≡ modify i g l
   unfolding modify
   by-number-one n [] i u h e = absurd (omega arith)
   by-number-one n (x ∷ l) zero u h e = rw (eq-eqb (number-of (x .1)) n e, by-number-none n l (rw e at (unique-head x l u .0)))

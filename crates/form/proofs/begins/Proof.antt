@@ -21,7 +21,8 @@ returns : tie.Need-returns Inv-loop μ-loop
 returns c = begins-differs _ _ _ (search needs) (c .before .before .before .before .loop .inv .1) (search needs) (c .if1 .taken)
 
 loop-again : tie.Need-loop-again Inv-loop μ-loop
-loop-again c = (search needs, begins-next _ _ _ (search needs) (c .before .before .before .before .loop .inv .1) (search needs) (c .if1 .left))
+loop-again c =
+    (search needs, begins-next _ _ _ (search needs) (c .before .before .before .before .loop .inv .1) (search needs) (c .if1 .left))
 
 returns-2 : tie.Need-returns-2 Inv-loop μ-loop
 returns-2 c = begins-end _ _ _ (search needs) (c .before .loop .inv .1) (search needs)

@@ -11,7 +11,8 @@ returns : tie.Need-returns
 returns c = formed-header _ (sym (c .before .header .ensures) ∙ not-true _ (c .if1 .taken))
 
 apart-requires : tie.Need-apart-requires
-apart-requires c κs = (header-size _ (sym (c .before .before .header .ensures) ∙ not-false _ (c .before .if1 .left)), omega arith, omega arith)
+apart-requires c κs =
+    (header-size _ (sym (c .before .before .header .ensures) ∙ not-false _ (c .before .if1 .left)), omega arith, omega arith)
 
 returns-2 : tie.Need-returns-2
 returns-2 c =
@@ -45,7 +46,8 @@ returns-3 c =
 apart-requires-2 : tie.Need-apart-requires-2
 unfolding count
 apart-requires-2 c κs =
-    let h = sym (c .before .before .before .before .before .before .header .ensures) ∙ not-false _ (c .before .before .before .before .before .if1 .left) in
+    let h = sym (c .before .before .before .before .before .before .header .ensures)
+    ∙ not-false _ (c .before .before .before .before .before .if1 .left) in
     (header-size _ h, omega arith, omega (arith, header-room _ h, c .before .before .before .before .word .ensures))
 
 returns-4 : tie.Need-returns-4

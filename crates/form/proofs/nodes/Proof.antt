@@ -11,7 +11,8 @@ use Rattle.form.proofs.nodes.Statement.{statement}
 use Rattle.form.proofs.nodes.Tie as tie
 
 abbrev Inv-loop : tie.InvT-loop
-Inv-loop s n before₀ i₀ before i = (1 ≤ i) × (i ≤ n) × (before ≤ 65535) × (valid-nodes s ≡ valid-from before (drop i (cells s)) (drop i (layout.nodes s)))
+Inv-loop s n before₀ i₀ before i =
+    (1 ≤ i) × (i ≤ n) × (before ≤ 65535) × (valid-nodes s ≡ valid-from before (drop i (cells s)) (drop i (layout.nodes s)))
 
 abbrev μ-loop : tie.MeasureT-loop
 μ-loop s n before₀ i₀ before i = n - i
@@ -20,7 +21,12 @@ returns : tie.Need-returns Inv-loop μ-loop
 returns c = first-bad _ (search needs) (sym (c .before .document .ensures) ∙ not-true _ (c .if1 .taken))
 
 loop-holds : tie.Need-loop-holds Inv-loop μ-loop
-loop-holds c = (search needs, search needs, search needs, first-good _ (search needs) (sym (c .before .document .ensures) ∙ not-false _ (c .if1 .left)))
+loop-holds c = (
+  search needs,
+  search needs,
+  search needs,
+  first-good _ (search needs) (sym (c .before .document .ensures) ∙ not-false _ (c .if1 .left)),
+)
 
 returns-2 : tie.Need-returns-2 Inv-loop μ-loop
 returns-2 c = rows-low _ _ _ _ (c .before .before .before .loop .inv .3) (search needs) (c .before .word .ensures) (search needs)
@@ -32,7 +38,8 @@ returns-3 c =
     rows-high _ _ _ _ (l .inv .3) (search needs) (word .ensures) (search needs) (search needs)
 
 cell-requires : tie.Need-cell-requires Inv-loop μ-loop
-cell-requires c κs = (search needs, slot-small _ (c .before .before .before .before .before .loop .i) _ (search needs) (search needs) (c .word2 .ensures))
+cell-requires c κs =
+    (search needs, slot-small _ (c .before .before .before .before .before .loop .i) _ (search needs) (search needs) (c .word2 .ensures))
 
 returns-4 : tie.Need-returns-4 Inv-loop μ-loop
 returns-4 c =

@@ -7,7 +7,8 @@ returns : tie.Need-returns
 returns c = started-short _ (search needs)
 
 returns-2 : tie.Need-returns-2
-returns-2 c = started _ _ _ (search needs) (c .before .before .before .before .before .before .begin .ensures) (c .before .before .clear .ensures)
+returns-2 c =
+    started _ _ _ (search needs) (c .before .before .before .before .before .before .begin .ensures) (c .before .before .clear .ensures)
 
 pub start-spec : {M : Type 1} → statement M
 start-spec = tie.close (tie.spec returns (λ c κs. search needs) (λ c. search needs) (λ c. search needs) (λ c. search needs)

@@ -22,7 +22,8 @@ use Rattle.form.specs.Check.{column, met, fresh}
 
 -- the meaning of `fresh` -------------------------------------------------------------------------
 
-not-met-again : (w : ℕ) (old : ℕ → Bool) (ws : List ℕ) → every (λ k. not (eqb k w || old k)) ws ≡ (not (has w ws) && every (λ k. not (old k)) ws)
+not-met-again : (w : ℕ) (old : ℕ → Bool) (ws : List ℕ) → every (λ k. not (eqb k w || old k)) ws
+    ≡ (not (has w ws) && every (λ k. not (old k)) ws)
 not-met-again w old [] = refl
 not-met-again w old (k ∷ ws) = rw (not-met-again w old ws) (go (eqb k w) (old k) (has w ws) (every (λ k. not (old k)) ws))
   where
@@ -32,7 +33,8 @@ not-met-again w old (k ∷ ws) = rw (not-met-again w old ws) (go (eqb k w) (old 
     go false true false d = refl
     go false false c d = refl
 
-fresh-is : (limit : ℕ) (old : ℕ → Bool) (ws : List ℕ) → fresh limit old ws ≡ (every (λ k. ltb k limit) ws && (every (λ k. not (old k)) ws && distinct ws))
+fresh-is : (limit : ℕ) (old : ℕ → Bool) (ws : List ℕ) → fresh limit old ws
+    ≡ (every (λ k. ltb k limit) ws && (every (λ k. not (old k)) ws && distinct ws))
 unfolding fresh
 fresh-is limit old [] = refl
 fresh-is limit old (w ∷ ws) =
@@ -74,7 +76,8 @@ met-more seen w l h = fun-ext (λ k. go k (eqb (k % 1024) (w % 1024)) refl (eqb 
     old = getD seen (w % 1024) 0
 
     go : (k : ℕ) (x : Bool) → eqb (k % 1024) (w % 1024) ≡ x → (y : Bool) → eqb (w / 1024) (k / 1024) ≡ y
-        → bit (getD (set seen (w % 1024) (bitXor old (2 ^ (w / 1024)))) (k % 1024) 0) (k / 1024) ≡ (eqb k w || bit (getD seen (k % 1024) 0) (k / 1024))
+        → bit (getD (set seen (w % 1024) (bitXor old (2 ^ (w / 1024)))) (k % 1024) 0) (k / 1024)
+        ≡ (eqb k w || bit (getD seen (k % 1024) 0) (k / 1024))
     go k true p true q =
         let a : k % 1024 ≡ w % 1024 = eqb-true (k % 1024) (w % 1024) p in
         let b : w / 1024 ≡ k / 1024 = eqb-true (w / 1024) (k / 1024) q in

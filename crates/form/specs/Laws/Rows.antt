@@ -96,7 +96,8 @@ unfoldable pub all-valid : Tree → Bool
 all-valid nil = true
 all-valid (node a ks fs) = valid a && all-valid ks && all-valid fs
 
-below-valid : (before d : ℕ) (f : Tree) (t : List Entry) → 1 ≤ d → d ≤ suc before → all-valid f ≡ true → ((n : ℕ) → d ≤ suc n → valid-below n t ≡ true)
+below-valid : (before d : ℕ) (f : Tree) (t : List Entry) → 1 ≤ d → d ≤ suc before → all-valid f ≡ true
+    → ((n : ℕ) → d ≤ suc n → valid-below n t ≡ true)
     → valid-below before (flat d f ++ t) ≡ true
 unfolding valid-below all-valid flat
 below-valid before d nil t a b h k = k before b
@@ -114,15 +115,19 @@ valid-under before d (node x ks fs) t h =
     let r : valid-below d (flat (suc d) ks ++ (flat d fs ++ t)) ≡ true =
     ap (valid-below d) (sym (append-assoc (flat (suc d) ks) (flat d fs) t)) ∙ and-right (between 1 (suc before) d && valid x) _ h in
     let k = valid-under d (suc d) ks (flat d fs ++ t) r in
-    let s = valid-under (k .1) d fs t (k .2) in
-    (and-of (and-of (and-right (between 1 (suc before) d) _ (and-left (between 1 (suc before) d && valid x) _ h)) (k .0)) (s .0), s .1, s .2)
+    let s = valid-under (k .1) d fs t (k .2) in (
+      and-of (and-of (and-right (between 1 (suc before) d) _ (and-left (between 1 (suc before) d && valid x) _ h)) (k .0)) (s .0),
+      s .1,
+      s .2,
+    )
 
 -- a valid tree is a document with valid nodes below it
 pub tree-valid : (a : Marked) (ks : Tree) → valid-document a ≡ true → all-valid ks ≡ true → valid-tree (node a ks nil) ≡ true
 unfolding valid-rows valid-tree flat valid-below
 tree-valid a ks d h = rw d (below-valid 0 1 ks [] (omega arith) (omega arith) h (λ n m. refl))
 
-pub valid-root : (f : Tree) → valid-tree f ≡ true → (a : Marked) × (ks : Tree) × (f ≡ node a ks nil) × (valid-document a ≡ true) × (all-valid ks ≡ true)
+pub valid-root : (f : Tree) → valid-tree f ≡ true → (a : Marked) × (ks : Tree) × (f ≡ node a ks nil) × (valid-document a ≡ true)
+    × (all-valid ks ≡ true)
 unfolding valid-rows valid-tree flat valid-below
 valid-root nil h = absurd (false≢true h)
 valid-root (node a ks fs) h =

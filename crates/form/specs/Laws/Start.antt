@@ -124,7 +124,8 @@ module _ (s : List ℕ) (l : state-size ≤ length s) (b : (j : ℕ) → j < sta
       go t true e =
           let a : 1 ≤ t = transaction-low t e in
           let z : t ≤ 16 = transaction-high t e in
-          rw (word-is (lock-at t 0) (omega arith), byte-behind (lock-at t 0) (omega arith), byte-behind (lock-at t 0 + 1) (omega arith)) no-modes
+          rw (word-is (lock-at t 0) (omega arith), byte-behind (lock-at t 0) (omega arith), byte-behind (lock-at t 0 + 1) (omega arith))
+          no-modes
       go t false e = refl
 
   abbrev document : Node
@@ -159,18 +160,31 @@ module _ (s : List ℕ) (l : state-size ≤ length s) (b : (j : ℕ) → j < sta
     slots = λ i h. rw (slot-is i h) h;
     apart = λ i j h k e. sym (slot-is i h) ∙ e ∙ slot-is j k;
     sizes = λ i h. let z : i ≡ 0 = omega (arith, count-is) in
-        rw (z, slot-is 0 (omega arith)) (record { now = rw (cell-is 4 (omega arith)) (omega arith); saved = λ n. rw (cell-is 5 (omega arith)) (omega arith) });
+        rw (z, slot-is 0 (omega arith)) (record {
+          now = rw (cell-is 4 (omega arith)) (omega arith);
+          saved = λ n. rw
+              (cell-is 5 (omega arith)) (omega arith);
+        });
   }
 
   pub start-holds : Holds s start-state
   unfolding tree-of node-0-alone view flat
-  start-holds = record { layout = start-layout; header = ap (λ (f : ℕ → Bool). with-open f start-header) open-is; rows = nodes-is; unique = rw nodes-is; valid = valid-start }
+  start-holds = record {
+    layout = start-layout;
+    header = ap (λ (f : ℕ → Bool). with-open f start-header) open-is;
+    rows = nodes-is;
+    unique =
+        rw nodes-is;
+    valid = valid-start;
+  }
 
 -- the calls ------------------------------------------------------------------------------------------
 
 -- one byte more, from the first on
-pub filled-next : (n : ℕ) (v : ℕ → ℕ) (s s′ : List ℕ) (x : ℕ) → Filled 0 n v s s′ → n < length s → x ≡ v n → Filled 0 (n + 1) v s (set s′ n x)
-filled-next n v s s′ x f h e = subst (λ (m : ℕ). Filled 0 (n + 1) v s (set s′ m x)) (zero-add n) (filled-more 0 n v s s′ x f (omega arith) e)
+pub filled-next : (n : ℕ) (v : ℕ → ℕ) (s s′ : List ℕ) (x : ℕ) → Filled 0 n v s s′ → n < length s → x ≡ v n
+    → Filled 0 (n + 1) v s (set s′ n x)
+filled-next n v s s′ x f h e =
+    subst (λ (m : ℕ). Filled 0 (n + 1) v s (set s′ m x)) (zero-add n) (filled-more 0 n v s s′ x f (omega arith) e)
 
 pub started-short : (s : List ℕ) → length s < state-size → Started s s false
 started-short s h = record {
@@ -182,7 +196,8 @@ started-short s h = record {
   behind = refl;
 }
 
-pub started : (s s′ s″ : List ℕ) → state-size ≤ length s → Filled 0 6161 start-byte s s′ → Filled 6161 104447 (λ j. 0) s′ s″ → Started s s″ true
+pub started : (s s′ s″ : List ℕ) → state-size ≤ length s → Filled 0 6161 start-byte s s′ → Filled 6161 104447 (λ j. 0) s′ s″
+    → Started s s″ true
 started s s′ s″ h f g = record {
   answer = sym (le-leb state-size (length s) h);
   short = λ k. absurd (omega arith);

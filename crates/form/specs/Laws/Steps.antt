@@ -41,13 +41,15 @@ holds-unique h = ap unique (sym (h .rows)) ∙ h .unique
 
 pub valid-grant : (t : ℕ) (ls : List Lock) (f : Tree) → valid-tree f ≡ true → valid-tree (grant t ls f) ≡ true
 unfolding grant
-valid-grant t ls f h = valid-mark (λ r. granted-to t ls (r .it)) (λ r k. keeps-node (keeps-granted t ls) (r .it) k) (keeps-document (keeps-granted t ls)) f h
+valid-grant t ls f h =
+    valid-mark (λ r. granted-to t ls (r .it)) (λ r k. keeps-node (keeps-granted t ls) (r .it) k) (keeps-document (keeps-granted t ls)) f h
 
 -- a change of the nodes that pass
 valid-some : (test : Row Marked Marked → Bool) (g : Marked → Marked) → ((a : Marked) → Valid a → Valid (g a))
     → ((a : Marked) → FineDocument a → test (row a []) ≡ true → FineDocument (g a))
     → (f : Tree) → valid-tree f ≡ true → valid-tree (mark (λ r. cond (test r) (g (r .it)) (r .it)) f) ≡ true
-valid-some test g k d f h = valid-mark (λ r. cond (test r) (g (r .it)) (r .it)) (λ r m. inner (test r) (r .it) m) (λ a m. top (test (row a [])) a m (d a m)) f h
+valid-some test g k d f h =
+    valid-mark (λ r. cond (test r) (g (r .it)) (r .it)) (λ r m. inner (test r) (r .it) m) (λ a m. top (test (row a [])) a m (d a m)) f h
   where
     inner : (b : Bool) (a : Marked) → Valid a → Valid (cond b (g a) a)
     inner true a m = k a m
@@ -58,12 +60,14 @@ valid-some test g k d f h = valid-mark (λ r. cond (test r) (g (r .it)) (r .it))
     top false a m e = m
 
 -- the node that a step is on is the document exactly if it is numbered 0
-first-at : (p : ℕ) (a : Marked) (l : List Entry) → FineDocument a → unique ((0, a) ∷ l) ≡ true → p < suc (length l) → number-of (item ((0, a) ∷ l) p) ≡ 0
+first-at : (p : ℕ) (a : Marked) (l : List Entry) → FineDocument a → unique ((0, a) ∷ l) ≡ true → p < suc (length l)
+    → number-of (item ((0, a) ∷ l) p) ≡ 0
     → item ((0, a) ∷ l) p .now .kind ≡ document-kind
 first-at zero a l d u k e = d .kind
 first-at (suc p) a l d u k e = absurd (lacks-at (number-of a) l p (unique-head (0, a) l u .0) (omega arith) (e ∙ sym (d .number)))
 
-pub is-root : (f : Tree) (p : ℕ) → valid-tree f ≡ true → unique (flat 0 f) ≡ true → p < length (flat 0 f) → number-of (item (flat 0 f) p) ≡ 0
+pub is-root : (f : Tree) (p : ℕ) → valid-tree f ≡ true → unique (flat 0 f) ≡ true → p < length (flat 0 f)
+    → number-of (item (flat 0 f) p) ≡ 0
     → item (flat 0 f) p .now .kind ≡ document-kind
 unfolding flat
 is-root f p h u l e =
@@ -90,7 +94,8 @@ valid-act t (T n) f p l h u k e m = h
 valid-act t (C n i) f p l h u k e m = h
 valid-act t (R n) f p l h u k e m = h
 valid-act t (U n b) f p l h u k e m =
-    valid-some (λ r. numbered n (r .it)) (written-by t b) (keeps-node (keeps-written t b l)) (λ a d v. keeps-document (keeps-written t b l) a d) f h
+    valid-some (λ r. numbered n (r .it)) (written-by t b) (keeps-node (keeps-written t b l))
+    (λ a d v. keeps-document (keeps-written t b l) a d) f h
 valid-act t (D n) f p l h u k e m = valid-some (λ r. numbered n (r .it)) (deleted-by t) (valid-deleted t l)
     (λ a d v. absurd (eqb-false _ document-kind m (is-root f p h u k (e ∙ sym (eqb-true (a .now .number) n v) ∙ d .number)))) f h
 valid-act t (I x kind b n i) f p l h u k e m =
@@ -100,7 +105,8 @@ valid-act t (I x kind b n i) f p l h u k e m =
     (valid-inserted t a l (between-low element-kind text-kind kind q) (between-high element-kind text-kind kind q)) f h
 valid-act t (TT n) f p l h u k e m = h
 valid-act t (RR n) f p l h u k e m = h
-valid-act t (UU n a b) f p l h u k e m = valid-some (renamed t n a) (written-by t b) (keeps-node (keeps-written t b l)) (λ a d v. keeps-document (keeps-written t b l) a d) f h
+valid-act t (UU n a b) f p l h u k e m =
+    valid-some (renamed t n a) (written-by t b) (keeps-node (keeps-written t b l)) (λ a d v. keeps-document (keeps-written t b l) a d) f h
 
 -- ends ------------------------------------------------------------------------------------------------
 
@@ -110,7 +116,8 @@ valid-commit t f l h = valid-view (seen-by t) (lasting t) (keeps-lasting t) (λ 
 
 pub valid-abort : (t : ℕ) (f : Tree) → 1 ≤ t → valid-tree f ≡ true → valid-tree (abort-tree t f) ≡ true
 unfolding abort-tree
-valid-abort t f l h = valid-view (λ a. not (eqb (a .inserter) t)) (undone t) (keeps-undone t) (λ a d. rw (d .inserter, ne-eqb nobody t (λ e. omega arith))) f h
+valid-abort t f l h = valid-view (λ a. not (eqb (a .inserter) t)) (undone t) (keeps-undone t)
+    (λ a d. rw (d .inserter, ne-eqb nobody t (λ e. omega arith))) f h
 
 -- what is loaded ----------------------------------------------------------------------------------------
 
@@ -123,7 +130,8 @@ unfolding children-rule
 children-taken kind kinds h = and-left (every (takes kind) kinds) _ h
 
 -- of siblings that their parent's kind takes
-all-loaded : (kind : ℕ) (f : Document) → every (takes kind) (top-kinds f) ≡ true → ruled f ≡ true → all-valid (view (λ a. true) unmarked f) ≡ true
+all-loaded : (kind : ℕ) (f : Document) → every (takes kind) (top-kinds f) ≡ true → ruled f ≡ true
+    → all-valid (view (λ a. true) unmarked f) ≡ true
 unfolding view all-valid ruled
 all-loaded kind nil k h = refl
 all-loaded kind (node a ks fs) k h =
@@ -137,7 +145,8 @@ all-loaded kind (node a ks fs) k h =
     (all-loaded (a .kind) ks taken (and-right rule _ p)))
     (all-loaded kind fs (and-right (takes kind (a .kind)) _ k) (and-right (rule && ruled ks) _ h))
 
-loaded-root : (a : Node) (ks : Document) → rooted (node a ks nil) ≡ true → ruled (node a ks nil) ≡ true → valid-tree (tree-of (node a ks nil)) ≡ true
+loaded-root : (a : Node) (ks : Document) → rooted (node a ks nil) ≡ true → ruled (node a ks nil) ≡ true
+    → valid-tree (tree-of (node a ks nil)) ≡ true
 unfolding tree-of view ruled
 loaded-root a ks r h =
     let p : (allowed (a .kind) (a .content) && children-rule (a .kind) (top-kinds ks) && ruled ks) ≡ true =

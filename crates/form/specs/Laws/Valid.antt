@@ -27,7 +27,8 @@ in-range-is : (low high most : ℕ) (a : Marked) → in-range low high most a �
 unfolding in-range
 in-range-is low high most a h =
     let k : between low high (a .now .kind) ≡ true = and-left (between low high (a .now .kind)) _ h in
-    let m : (leb (writer-of (a .update)) 16 && (leb (a .inserter) most && leb (a .deleter) most)) ≡ true = and-right (between low high (a .now .kind)) _ h in
+    let m : (leb (writer-of (a .update)) 16 && (leb (a .inserter) most && leb (a .deleter) most)) ≡ true =
+    and-right (between low high (a .now .kind)) _ h in
     let n : (leb (a .inserter) most && leb (a .deleter) most) ≡ true = and-right (leb (writer-of (a .update)) 16) _ m in (
       between-low low high (a .now .kind) k,
       between-high low high (a .now .kind) k,
@@ -164,7 +165,8 @@ unfolding amend
 all-amend g k up nil h = h
 all-amend g k up (node a ks fs) h =
     let p = all-parts a ks fs h in
-    parts-all (g (row a up)) (amend (λ a. a) g (a ∷ up) ks) (amend (λ a. a) g up fs) (k (row a up) (p .0)) (all-amend g k (a ∷ up) ks (p .1))
+    parts-all (g (row a up)) (amend (λ a. a) g (a ∷ up) ks) (amend (λ a. a) g up fs) (k (row a up) (p .0))
+    (all-amend g k (a ∷ up) ks (p .1))
     (all-amend g k up fs (p .2))
 
 pub valid-mark : (g : Row Marked Marked → Marked) → ((r : Row Marked Marked) → Valid (r .it) → Valid (g r))
@@ -196,10 +198,12 @@ unfolding view
 valid-view shown g k s f h =
     let r = root-of f h in
     rw (r .whole, s (r .it) (r .document))
-    (tree-of-root (g (r .it)) (view shown g (r .below)) (keeps-document k (r .it) (r .document)) (all-view shown g (keeps-node k) (r .below) (r .valid)))
+    (tree-of-root (g (r .it)) (view shown g (r .below)) (keeps-document k (r .it) (r .document))
+    (all-view shown g (keeps-node k) (r .below) (r .valid)))
 
 -- a new node
-all-place : (counts : Marked → Bool) (k : ℕ) (new : Marked) (f : Tree) → Valid new → all-valid f ≡ true → all-valid (place counts k new f) ≡ true
+all-place : (counts : Marked → Bool) (k : ℕ) (new : Marked) (f : Tree) → Valid new → all-valid f ≡ true
+    → all-valid (place counts k new f) ≡ true
 unfolding place all-valid
 all-place counts zero new f n h = parts-all new nil f n refl h
 all-place counts (suc zero) new f n h = parts-all new nil f n refl h
@@ -224,7 +228,8 @@ module _ (parent counts : Marked → Bool) (k : ℕ) (new : Marked) (n : Valid n
   all-put nil h = h
   all-put (node a ks fs) h =
       let p = all-parts a ks fs h in
-      parts-all a (cond (parent a) (place counts k new (put parent counts k new ks)) (put parent counts k new ks)) (put parent counts k new fs) (p .0)
+      parts-all a (cond (parent a) (place counts k new (put parent counts k new ks)) (put parent counts k new ks))
+      (put parent counts k new fs) (p .0)
       (all-children (parent a) (put parent counts k new ks) (all-put ks (p .1))) (all-put fs (p .2))
 
   pub valid-put : (f : Tree) → valid-tree f ≡ true → valid-tree (put parent counts k new f) ≡ true

@@ -20,8 +20,7 @@ loop-again c =
     let pre = c .before .before .before .pre in
     let l = c .before .before .loop in (
       search needs,
-      filled-more _ _ _ _ _ _ (l .inv .1) (search needs)
-          (filled-far _ (l .inv .1) (λ i h. pre .2 _ (search needs) i (omega arith))),
+      filled-more _ _ _ _ _ _ (l .inv .1) (search needs) (filled-far _ (l .inv .1) (λ i h. pre .2 _ (search needs) i (omega arith))),
     )
 
 returns : tie.Need-returns Inv-loop μ-loop

@@ -34,7 +34,8 @@ pub only-wider : {k n : ℕ} {s s′ : List ℕ} (i m : ℕ) → Only k n s s′
 only-wider i m a h l = record { long = a .long; low = λ j x. a .low j (omega arith); high = λ j x. a .high j (omega arith) }
 
 -- two changes inside a range
-pub only-both : {k n k′ n′ : ℕ} {s s′ s″ : List ℕ} (i m : ℕ) → Only k n s s′ → Only k′ n′ s′ s″ → i ≤ k → k + n ≤ i + m → i ≤ k′ → k′ + n′ ≤ i + m
+pub only-both : {k n k′ n′ : ℕ} {s s′ s″ : List ℕ} (i m : ℕ) → Only k n s s′ → Only k′ n′ s′ s″ → i ≤ k → k + n ≤ i + m → i ≤ k′
+    → k′ + n′ ≤ i + m
     → Only i m s s″
 only-both i m a b h l h′ l′ =
     let x = only-wider i m a h l in
@@ -51,7 +52,8 @@ put-word s k v = set (set s k (v % 256)) (k + 1) (v / 256)
 pub only-word : (s : List ℕ) (k v : ℕ) → Only k 2 s (put-word s k v)
 unfolding put-word
 only-word s k v =
-    only-both k 2 (only-set s k (v % 256)) (only-set (set s k (v % 256)) (k + 1) (v / 256)) (omega arith) (omega arith) (omega arith) (omega arith)
+    only-both k 2 (only-set s k (v % 256)) (only-set (set s k (v % 256)) (k + 1) (v / 256)) (omega arith) (omega arith) (omega arith)
+    (omega arith)
 
 pub word-put : (s : List ℕ) (k v : ℕ) → k + 1 < length s → word (put-word s k v) k ≡ v
 unfolding put-word word
@@ -66,12 +68,14 @@ word-put s k v h =
     (omega arith)
 
 -- lists that agree in some bytes have the same part there
-pub part-same : (s s′ : List ℕ) (k n : ℕ) → length s′ ≡ length s → ((j : ℕ) → k ≤ j → j < k + n → getD s′ j 0 ≡ getD s j 0) → part s′ k n ≡ part s k n
+pub part-same : (s s′ : List ℕ) (k n : ℕ) → length s′ ≡ length s → ((j : ℕ) → k ≤ j → j < k + n → getD s′ j 0 ≡ getD s j 0)
+    → part s′ k n ≡ part s k n
 unfolding part
 part-same s s′ k n l h =
     ext-getD 0 (take n (drop k s′)) (take n (drop k s)) (simp (length-take, length-drop) (rw l))
     (λ i m. let b : i < n = omega (arith, length-take n (drop k s′)) in
-    getD-take n (drop k s′) i 0 b ∙ getD-drop k s′ i 0 ∙ h (k + i) (omega arith) (omega arith) ∙ sym (getD-drop k s i 0) ∙ sym (getD-take n (drop k s) i 0 b))
+    getD-take n (drop k s′) i 0 b ∙ getD-drop k s′ i 0 ∙ h (k + i) (omega arith) (omega arith) ∙ sym (getD-drop k s i 0)
+    ∙ sym (getD-take n (drop k s) i 0 b))
 
 -- words, parts and the rest outside of what may differ: if the change begins before their end, it ends before them
 module _ {k n : ℕ} {s s′ : List ℕ} (o : Only k n s s′) where
@@ -108,7 +112,8 @@ pub record Filled (k n : ℕ) (v : ℕ → ℕ) (s s′ : List ℕ) : Type 0 whe
 pub filled-none : (k : ℕ) (v : ℕ → ℕ) (s : List ℕ) → Filled k 0 v s s
 filled-none k v s = record { only = only-none k 0 s; bytes = λ j h. absurd (omega arith) }
 
-pub filled-more : (k n : ℕ) (v : ℕ → ℕ) (s s′ : List ℕ) (x : ℕ) → Filled k n v s s′ → k + n < length s → x ≡ v n → Filled k (n + 1) v s (set s′ (k + n) x)
+pub filled-more : (k n : ℕ) (v : ℕ → ℕ) (s s′ : List ℕ) (x : ℕ) → Filled k n v s s′ → k + n < length s → x ≡ v n
+    → Filled k (n + 1) v s (set s′ (k + n) x)
 filled-more k n v s s′ x f h e =
     record {
       only = only-both k (n + 1) (f .only) (only-set s′ (k + n) x) (omega arith) (omega arith) (omega arith) (omega arith);
@@ -125,7 +130,8 @@ pub filled-done : {k : ℕ} {v : ℕ → ℕ} {s s′ : List ℕ} (j n : ℕ) �
 filled-done {k} {v} {s} {s′} j n f a b = let e : j ≡ n = omega arith in rw e at f
 
 -- a byte that a loop over other bytes has left
-pub filled-far : {k n : ℕ} {v : ℕ → ℕ} {s s′ : List ℕ} (j : ℕ) → Filled k n v s s′ → ((i : ℕ) → i < n → j ≡ k + i → ⊥) → getD s′ j 0 ≡ getD s j 0
+pub filled-far : {k n : ℕ} {v : ℕ → ℕ} {s s′ : List ℕ} (j : ℕ) → Filled k n v s s′ → ((i : ℕ) → i < n → j ≡ k + i → ⊥)
+    → getD s′ j 0 ≡ getD s j 0
 filled-far {k} {n} {v} {s} {s′} j f h = off (f .only) j (λ l. go (leb (k + n) j) refl l)
   where
     go : (t : Bool) → leb (k + n) j ≡ t → k ≤ j → k + n ≤ j

@@ -42,7 +42,8 @@ writer-update u b = go (eqb u 0) refl
     go false e = refl
 
 -- k is the slot of the node at place i
-pub field-at : (s : List ℕ) (i o k : ℕ) → k ≡ slot s i → i < length (nodes s) → o < 4 → getD s (cell-at k + o) 0 ≡ field o (getD (nodes s) i no-entry .1)
+pub field-at : (s : List ℕ) (i o k : ℕ) → k ≡ slot s i → i < length (nodes s) → o < 4
+    → getD s (cell-at k + o) 0 ≡ field o (getD (nodes s) i no-entry .1)
 unfolding entry decode
 field-at s i o k e h l = rw (e, node-at s i (omega (arith, length-nodes s)), cell-byte s (slot s i) o (omega arith)) (go o l)
   where

@@ -37,5 +37,6 @@ pub left-then : {s s′ s″ : List ℕ} {q : Header} (ns : List Entry) (f : Lis
     → Left s s″ q (f ns)
 left-then ns f a b = then-left ns f a (left-kept b)
 
-pub kept-then : {s s′ s″ : List ℕ} (ns : List Entry) (f : List Entry → List Entry) → Kept s s′ ns → Kept s′ s″ (f (nodes s′)) → Kept s s″ (f ns)
+pub kept-then : {s s′ s″ : List ℕ} (ns : List Entry) (f : List Entry → List Entry) → Kept s s′ ns → Kept s′ s″ (f (nodes s′))
+    → Kept s s″ (f ns)
 kept-then ns f a b = kept-left (left-then ns f (left-kept a) b) (b .many ∙ a .many)

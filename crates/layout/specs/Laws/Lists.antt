@@ -63,7 +63,8 @@ module _ {A : Type 0} where
       → tabulate n f′ ≡ modify i g (tabulate n f)
   unfolding tabulate modify
   modify-tabulate zero i f f′ g h e k = absurd (omega arith)
-  modify-tabulate (suc n) zero f f′ g h e k = rw (e, tabulate-same n (λ j. f′ (suc j)) (λ j. f (suc j)) (λ j l. k (suc j) (omega arith) (λ m. omega arith)))
+  modify-tabulate (suc n) zero f f′ g h e k =
+      rw (e, tabulate-same n (λ j. f′ (suc j)) (λ j. f (suc j)) (λ j l. k (suc j) (omega arith) (λ m. omega arith)))
   modify-tabulate (suc n) (suc i) f f′ g h e k =
       rw (
         k 0 (omega arith) (λ m. omega arith),
@@ -71,7 +72,8 @@ module _ {A : Type 0} where
       )
 
 -- every element of a rule changed
-pub map-tabulate : {A B : Type 0} (n : ℕ) (f : ℕ → A) (f′ : ℕ → B) (g : A → B) → ((j : ℕ) → j < n → f′ j ≡ g (f j)) → tabulate n f′ ≡ map g (tabulate n f)
+pub map-tabulate : {A B : Type 0} (n : ℕ) (f : ℕ → A) (f′ : ℕ → B) (g : A → B) → ((j : ℕ) → j < n → f′ j ≡ g (f j))
+    → tabulate n f′ ≡ map g (tabulate n f)
 unfolding tabulate
 map-tabulate zero f f′ g h = refl
 map-tabulate (suc n) f f′ g h = rw (h 0 (omega arith), map-tabulate n (λ j. f (suc j)) (λ j. f′ (suc j)) g (λ j l. h (suc j) (omega arith)))

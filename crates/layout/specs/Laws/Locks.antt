@@ -75,7 +75,8 @@ module _ {s s′ : List ℕ} (t : ℕ) (o : Only (lock-at t 0) 2048 s s′) (a :
   lock-cell j c = same-cell o j (λ z. omega arith)
 
 -- one stored: k is the slot of the node at i
-pub lock-kept : (s s′ : List ℕ) (t i k w : ℕ) → s′ ≡ put-word s (lock-at t k) w → k ≡ slot s i → Layout s → 1 ≤ t → t ≤ 16 → i < length (nodes s)
+pub lock-kept : (s s′ : List ℕ) (t i k w : ℕ) → s′ ≡ put-word s (lock-at t k) w → k ≡ slot s i → Layout s → 1 ≤ t → t ≤ 16
+    → i < length (nodes s)
     → Kept s s′ (modify i (second (with-modes t w)) (nodes s))
 unfolding decode
 lock-kept s s′ t i k w q e h a b l =
@@ -105,11 +106,17 @@ released-kept s s′ t p₀ f e a b h =
     rw (p, q, f .bytes (2 * k) (omega arith), f .bytes (2 * k + 1) (omega arith)) in
     let in-range : (j : ℕ) → j < count s → slot s j < 1024 = λ j x. h .slots j (omega (arith, h .room)) in
     kept-map all (omega arith) h (omega arith) (released t)
-    (λ j x. rw (lock-cell t all a b (slot s j) (in-range j x), held-after t all a b (slot s j) (in-range j x), empty (slot s j) (in-range j x), no-modes))
+    (λ j x. rw (
+      lock-cell t all a b (slot s j) (in-range j x),
+      held-after t all a b (slot s j) (in-range j x),
+      empty (slot s j) (in-range j x),
+      no-modes,
+    ))
     (λ j x. lock-cell t all a b (slot s j) (in-range j x))
 
 -- the words of t by slots
-pub loaded-of : (s : List ℕ) (t : ℕ) (modes : List ℕ) → Layout s → 1 ≤ t → t ≤ 16 → ((k : ℕ) → k < 1024 → getD modes k 0 ≡ word s (lock-at t k))
+pub loaded-of : (s : List ℕ) (t : ℕ) (modes : List ℕ) → Layout s → 1 ≤ t → t ≤ 16
+    → ((k : ℕ) → k < 1024 → getD modes k 0 ≡ word s (lock-at t k))
     → Loaded s t modes
 loaded-of s t modes h a b f = record {
   held = λ i l. rw (f (slot s i) (h .slots i (omega (arith, length-nodes s, h .room)))) (held-at s t i (slot s i) refl a b l);
@@ -118,7 +125,8 @@ loaded-of s t modes h a b f = record {
 pub loaded-more : (f : ℕ → ℕ) (l : List ℕ) (i v : ℕ) → i < length l → ((k : ℕ) → k < i → getD l k 0 ≡ f k) → v ≡ f i → (k : ℕ) → k < i + 1
     → getD (set l i v) k 0 ≡ f k
 loaded-more f l i v h all here =
-    below-more (λ (k : ℕ). getD (set l i v) k 0 ≡ f k) i (λ k lt. getD-set-other l i k v 0 (λ e. omega arith) ∙ all k lt) (getD-set-same l i v 0 h ∙ here)
+    below-more (λ (k : ℕ). getD (set l i v) k 0 ≡ f k) i (λ k lt. getD-set-other l i k v 0 (λ e. omega arith) ∙ all k lt)
+    (getD-set-same l i v 0 h ∙ here)
 
 -- the words of one node cleared, transaction by transaction ------------------------------------
 
@@ -164,7 +172,8 @@ cleared-all a h = same-sets a _ _ (λ u. go u (ltb u 17) refl)
 pub clear-start : (s : List ℕ) (i : ℕ) → Layout s → i < length (nodes s) → Kept s s (modify i (second (cleared 1)) (nodes s))
 clear-start s i h l =
     kept-as _ _
-    (sym (modify-none i (second (cleared 1)) (nodes s) no-entry (rw (cleared-none (getD (nodes s) i no-entry .1) (held-none s i 0 l refl)))))
+    (sym (modify-none i (second (cleared 1)) (nodes s) no-entry (rw (cleared-none (getD (nodes s) i no-entry .1)
+    (held-none s i 0 l refl)))))
     (kept-same s h)
 
 pub clear-turn : {s s′ s″ : List ℕ} (i t : ℕ) → Kept s s′ (modify i (second (cleared t)) (nodes s))

@@ -127,7 +127,8 @@ module _ {k n : ℕ} {s s′ : List ℕ} (o : Only k n s s′) (h : Layout s) (m
 
   -- the same nodes
   pub left-none : {q : Header} → header s′ ≡ q
-      → ((j : ℕ) → j < count s → (cell s′ (slot s j) ≡ cell s (slot s j)) × (held s′ (slot s j) ≡ held s (slot s j))) → Left s s′ q (nodes s)
+      → ((j : ℕ) → j < count s → (cell s′ (slot s j) ≡ cell s (slot s j)) × (held s′ (slot s j) ≡ held s (slot s j)))
+      → Left s s′ q (nodes s)
   unfolding nodes entry
   left-none e same =
       let m : count s ≤ 1024 = h .room in
@@ -154,7 +155,8 @@ module _ {k n : ℕ} {s s′ : List ℕ} (o : Only k n s s′) (low : cell-at 0 
   unfolding nodes entry
   kept-of i l g here there z =
       kept-all (modify i (second g) (nodes s))
-      (modify-tabulate (count s) i (entry s) (entry s′) (second g) l (nodes-as i l ∙ rw here) (λ j x y. nodes-as j x ∙ rw (there j x y .0, there j x y .1)))
+      (modify-tabulate (count s) i (entry s) (entry s′) (second g) l (nodes-as i l ∙ rw here)
+      (λ j x y. nodes-as j x ∙ rw (there j x y .0, there j x y .1)))
       (λ j x. size-at j x (eqb j i) refl)
     where
       size-at : (j : ℕ) → j < count s → (t : Bool) → eqb j i ≡ t → Sized (cell s′ (slot s j))
@@ -188,5 +190,8 @@ module _ {k : ℕ} {s s′ : List ℕ} (o : Only (cell-at k) 70 s s′) where
       let held-same = same-held o (omega arith) in
       kept-of o (omega arith) h (omega arith) i l g
       (rw (e, held-same k) (d (number s i) (held s k) (length-cell s k (h .size) a) y))
-      (λ j x ne. (other-cell (slot s j) (λ q. ne (h .apart j i (omega (arith, h .room)) (omega (arith, h .room)) (q ∙ sym e))), held-same (slot s j)))
+      (λ j x ne. (
+        other-cell (slot s j) (λ q. ne (h .apart j i (omega (arith, h .room)) (omega (arith, h .room)) (q ∙ sym e))),
+        held-same (slot s j),
+      ))
       (rw e (z y))

@@ -16,7 +16,8 @@ use Rattle.layout.specs.Laws.Nodes.{same-cell, same-held, left-none}
 use Rattle.layout.specs.Laws.Locks.{transaction-low, is-transaction-of}
 
 -- t opened, if it was not open, or closed; w is the word that was read, p the transaction's bit
-pub turned-left : (s s′ : List ℕ) (t w p : ℕ) → s′ ≡ put-word s open-at (bitXor w p) → w ≡ word s open-at → p ≡ 2 ^ (t - 1) → Layout s → 1 ≤ t → t ≤ 16
+pub turned-left : (s s′ : List ℕ) (t w p : ℕ) → s′ ≡ put-word s open-at (bitXor w p) → w ≡ word s open-at → p ≡ 2 ^ (t - 1) → Layout s
+    → 1 ≤ t → t ≤ 16
     → Left s s′ (with-open (λ u. cond (eqb u t) (not (is-open s t)) (is-open s u)) (header s)) (nodes s)
 unfolding is-open
 turned-left s s′ t w p e x y h a b =
@@ -31,13 +32,16 @@ turned-left s s′ t w p e x y h a b =
   where
     go : (u : ℕ) (x : Bool) → eqb u t ≡ x → (y : Bool) → is-transaction u ≡ y →
         cond (is-transaction u) (cond (eqb (t - 1) (u - 1)) (not (bit (word s open-at) (t - 1))) (bit (word s open-at) (u - 1))) false ≡
-        cond x (not (cond (is-transaction t) (bit (word s open-at) (t - 1)) false)) (cond (is-transaction u) (bit (word s open-at) (u - 1)) false)
+        cond x (not (cond (is-transaction t) (bit (word s open-at) (t - 1)) false))
+        (cond (is-transaction u) (bit (word s open-at) (u - 1)) false)
     go u true p y q = rw (eqb-true u t p, is-transaction-of t a b, eq-eqb (t - 1) (t - 1) refl)
-    go u false p true q = let ne : u ≡ t → ⊥ = eqb-false u t p in rw (q, ne-eqb (t - 1) (u - 1) (λ z. ne (omega (arith, transaction-low u q))))
+    go u false p true q =
+        let ne : u ≡ t → ⊥ = eqb-false u t p in rw (q, ne-eqb (t - 1) (u - 1) (λ z. ne (omega (arith, transaction-low u q))))
     go u false p false q = rw q
 
 -- the two cases
-module _ {s s′ : List ℕ} (t : ℕ) (l : Left s s′ (with-open (λ u. cond (eqb u t) (not (is-open s t)) (is-open s u)) (header s)) (nodes s)) where
+module _ {s s′ : List ℕ} (t : ℕ)
+    (l : Left s s′ (with-open (λ u. cond (eqb u t) (not (is-open s t)) (is-open s u)) (header s)) (nodes s)) where
   flags : (f : ℕ → Bool) → ((u : ℕ) → cond (eqb u t) (not (is-open s t)) (is-open s u) ≡ f u) → Left s s′ (with-open f (header s)) (nodes s)
   flags f e = subst (λ (g : ℕ → Bool). Left s s′ (with-open g (header s)) (nodes s)) (fun-ext e) l
 

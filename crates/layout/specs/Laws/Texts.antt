@@ -53,7 +53,8 @@ length-stored o c l e z =
     let w : length (take 32 (drop (6 + 32 * o) c)) ≡ 32 = length-take-le 32 (drop (6 + 32 * o) c) (omega arith) in
     length-take-le (getD c (4 + o) 0) (take 32 (drop (6 + 32 * o) c)) (omega arith)
 
-byte-stored : (o j : ℕ) (c : List ℕ) → o < 2 → getD c (4 + o) 0 ≤ 32 → j < getD c (4 + o) 0 → getD (stored o c) j 0 ≡ getD c (6 + 32 * o + j) 0
+byte-stored : (o j : ℕ) (c : List ℕ) → o < 2 → getD c (4 + o) 0 ≤ 32 → j < getD c (4 + o) 0
+    → getD (stored o c) j 0 ≡ getD c (6 + 32 * o + j) 0
 byte-stored o j c l z k =
     getD-take (getD c (4 + o) 0) (take 32 (drop (6 + 32 * o) c)) j 0 k ∙ getD-take 32 (drop (6 + 32 * o) c) j 0 (omega arith)
     ∙ getD-drop (6 + 32 * o) c j 0
@@ -133,7 +134,8 @@ stored-kept s s″ i o k x p q n v b e f y w h l two a m n32 g =
     let long″ : length (cell s″ k) ≡ 70 = length-cell s″ k (rw (only .long) (h .size)) r in
     let at-size : cell-at k + (4 + o) ≡ p = omega arith in
     let size : getD (cell s″ k) (4 + o) 0 ≡ length b =
-    sym (cell-byte s″ k (4 + o) (omega arith)) ∙ rw at-size (f .only .low p (omega arith) ∙ getD-set-same s p x 0 (omega (arith, h .size)) ∙ a) in
+    sym (cell-byte s″ k (4 + o) (omega arith)) ∙ rw at-size (f .only .low p (omega arith) ∙ getD-set-same s p x 0
+    (omega (arith, h .size)) ∙ a) in
     let is : stored o (cell s″ k) ≡ b =
     ext-getD 0 (stored o (cell s″ k)) b (length-stored o (cell s″ k) two long″ (omega arith) ∙ size)
     (λ j z. let c : j < length b = omega (arith, length-stored o (cell s″ k) two long″ (omega arith), size) in
@@ -141,12 +143,14 @@ stored-kept s s″ i o k x p q n v b e f y w h l two a m n32 g =
     byte-stored o j (cell s″ k) two (omega arith) (omega arith) ∙ sym (cell-byte s″ k (6 + 32 * o + j) (omega arith))
     ∙ rw at (f .bytes j (omega arith) ∙ g j c)) in
     let there : slot s″ i ≡ k = same-place only i (λ z. omega (arith, here s i o k e h l, h .room)) .slot ∙ sym e in
-    let first : (j : ℕ) → j < 4 → getD (cell s″ k) j 0 ≡ getD (cell s k) j 0 = λ j c. same j (omega arith) (λ u. omega arith) (λ u. omega arith) in
+    let first : (j : ℕ) → j < 4 → getD (cell s″ k) j 0 ≡ getD (cell s k) j 0 =
+    λ j c. same j (omega arith) (λ u. omega arith) (λ u. omega arith) in
     let other : getD (cell s″ k) (5 - o) 0 ≡ getD (cell s k) (5 - o) 0 = same (5 - o) (omega arith) (λ u. omega arith) (λ u. omega arith) in
     record {
       kept = cell-kept only h i (sym e) (here s i o k e h l) (with-text o b)
           (λ m held t z. decode-text o m (cell s k) (cell s″ k) b held two first other
-          (part-same (cell s k) (cell s″ k) (38 - 32 * o) 32 (long″ ∙ sym long) (λ j c d. same j (omega arith) (λ u. omega arith) (λ u. omega arith))) is)
+          (part-same (cell s k) (cell s″ k) (38 - 32 * o) 32 (long″ ∙ sym long)
+          (λ j c d. same j (omega arith) (λ u. omega arith) (λ u. omega arith))) is)
           (λ z. sized-text o (cell s k) (cell s″ k) two (first 1 (omega arith)) other (omega arith) z);
       bytes = rw there is;
       size = rw there (omega arith);
@@ -166,7 +170,8 @@ copied-kept s s″ i o o′ k p q p′ q′ e f y z y′ z′ h l a c =
     ∙ ap (λ (m : ℕ). getD s (m + j) 0) z ∙ byte-at s i o k e h l a j w)
 
 -- the saved content copied back
-pub restored-kept : (s s′ : List ℕ) (i : ℕ) → Stored s s′ i 0 (text 1 (getD (nodes s) i no-entry .1)) → Kept s s′ (modify i (second restored) (nodes s))
+pub restored-kept : (s s′ : List ℕ) (i : ℕ) → Stored s s′ i 0 (text 1 (getD (nodes s) i no-entry .1))
+    → Kept s s′ (modify i (second restored) (nodes s))
 restored-kept s s′ i t = kept-as _ _ (modify-same i _ (second restored) (nodes s) no-entry refl) (t .kept)
 
 -- the writer stored ------------------------------------------------------------------------

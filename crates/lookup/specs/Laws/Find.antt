@@ -59,7 +59,8 @@ any-first t (x ∷ l) = go (t x) (any-first t l)
     go false e = e ∙ sym (leb·suc-suc (suc (first t l)) (length l))
 
 pub held-place : (m : ℕ) (f : Tree) → number-held m f ≡ ltb (place-of m (flat 0 f)) (length (flat 0 f))
-held-place m f = ap (any (numbered m)) (nodes-held f) ∙ any-map (numbered m) (λ x. x .1) (flat 0 f) ∙ any-first (λ (x : Entry). numbered m (x .1)) (flat 0 f)
+held-place m f = ap (any (numbered m)) (nodes-held f) ∙ any-map (numbered m) (λ x. x .1) (flat 0 f)
+    ∙ any-first (λ (x : Entry). numbered m (x .1)) (flat 0 f)
 
 -- what a search by number finds
 pub found-number : (n : ℕ) (l : List Entry) → place-of n l < length l → number-of (item l (place-of n l)) ≡ n
@@ -70,7 +71,8 @@ found-number n l h = eqb-true (number-of (item l (place-of n l))) n (first-passe
 pub has-items : (n : ℕ) (l : List Entry) → has n (map (λ x. number-of (x .1)) l) ≡ any (numbered n) (items l)
 has-items n l = any-map (λ q. eqb q n) (λ (x : Entry). number-of (x .1)) l ∙ sym (any-map (numbered n) (λ (x : Entry). x .1) l)
 
-pub unique-head : (x : Entry) (l : List Entry) → unique (x ∷ l) ≡ true → (any (numbered (number-of (x .1))) (items l) ≡ false) × (unique l ≡ true)
+pub unique-head : (x : Entry) (l : List Entry) → unique (x ∷ l) ≡ true
+    → (any (numbered (number-of (x .1))) (items l) ≡ false) × (unique l ≡ true)
 unique-head x l h = go (has (number-of (x .1)) (map (λ x. number-of (x .1)) l)) (has-items (number-of (x .1)) l) h
   where
     go : (b : Bool) → b ≡ any (numbered (number-of (x .1))) (items l) → cond b false (unique l) ≡ true
@@ -120,7 +122,8 @@ holder f n p u h e =
     }
 
 -- no node in the forest has the number
-none-numbered : (n d : ℕ) (up : List Marked) (f : Tree) → any (numbered n) (nodes-of (flat d f)) ≡ false → keep (λ r. numbered n (r .it)) (lines-of up f) ≡ []
+none-numbered : (n d : ℕ) (up : List Marked) (f : Tree) → any (numbered n) (nodes-of (flat d f)) ≡ false
+    → keep (λ r. numbered n (r .it)) (lines-of up f) ≡ []
 none-numbered n d up f h =
     keep-none-any (λ r. numbered n (r .it)) (lines-of up f)
     (sym (any-map (numbered n) (λ (r : Row Marked Marked). r .it) (lines-of up f)) ∙ ap (any (numbered n)) (rows-nodes (λ a. a) d up f) ∙ h)
@@ -128,7 +131,8 @@ none-numbered n d up f h =
 pub here-nowhere : (t n : ℕ) (f : Tree) → number-held n f ≡ false → here n (callers-document t f) ≡ false
 unfolding keep
 here-nowhere t n f h =
-    ap some? (select-seen (is n) t f ∙ ap (λ l. map plain (keep (seen-line t) l)) (none-numbered n 0 [] f (ap (any (numbered n)) (sym (nodes-held f)) ∙ h)))
+    ap some? (select-seen (is n) t f ∙ ap (λ l. map plain (keep (seen-line t) l))
+    (none-numbered n 0 [] f (ap (any (numbered n)) (sym (nodes-held f)) ∙ h)))
 
 module _ {f : Tree} {n p : ℕ} (o : Holder f n p) where
   rows-numbered : keep (λ r. numbered n (r .it)) (lines-of [] f) ≡ row (o .place .it) (o .place .above) ∷ []
@@ -139,13 +143,16 @@ module _ {f : Tree} {n p : ℕ} (o : Holder f n p) where
       ∙ rw (o .number, none-numbered n (suc (c .depth)) (c .it ∷ (c .above ++ [])) (c .children) (o .children), append-nil (c .above))
 
   module _ (t : ℕ) where
-    lines-numbered : select (is n) (callers-document t f) ≡ cond (seen-at t (flat 0 f) p) (row (item (flat 0 f) p .now) (numbers-above (flat 0 f) p) ∷ []) []
+    lines-numbered : select (is n) (callers-document t f) ≡ cond (seen-at t (flat 0 f) p)
+        (row (item (flat 0 f) p .now) (numbers-above (flat 0 f) p) ∷ []) []
     unfolding keep
     lines-numbered =
         rw (item-at (o .place), ups-at (o .place))
-        (select-seen (is n) t f ∙ ap (λ l. map plain (keep (seen-line t) l)) rows-numbered ∙ go (every (seen-by t) (o .place .it ∷ o .place .above)))
+        (select-seen (is n) t f ∙ ap (λ l. map plain (keep (seen-line t) l)) rows-numbered ∙ go
+        (every (seen-by t) (o .place .it ∷ o .place .above)))
       where
-        go : (b : Bool) → map plain (cond b (row (o .place .it) (o .place .above) ∷ []) []) ≡ cond b (plain (row (o .place .it) (o .place .above)) ∷ []) []
+        go : (b : Bool) → map plain (cond b (row (o .place .it) (o .place .above) ∷ []) [])
+            ≡ cond b (plain (row (o .place .it) (o .place .above)) ∷ []) []
         go true = refl
         go false = refl
 

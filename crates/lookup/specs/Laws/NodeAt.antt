@@ -95,10 +95,12 @@ module _ {A : Type 0} where
 
   -- no such node in two lists of rows: none in either
   pub none-first : (q : A → Bool) (l k : List (ℕ × A)) → any q (nodes-of (l ++ k)) ≡ false → any q (nodes-of l) ≡ false
-  none-first q l k h = or-left _ (any q (nodes-of k)) (sym (ap (any q) (map-append (λ x. x .1) l k) ∙ any-append q (nodes-of l) (nodes-of k)) ∙ h)
+  none-first q l k h =
+      or-left _ (any q (nodes-of k)) (sym (ap (any q) (map-append (λ x. x .1) l k) ∙ any-append q (nodes-of l) (nodes-of k)) ∙ h)
 
   pub none-second : (q : A → Bool) (l k : List (ℕ × A)) → any q (nodes-of (l ++ k)) ≡ false → any q (nodes-of k) ≡ false
-  none-second q l k h = or-right (any q (nodes-of l)) _ (sym (ap (any q) (map-append (λ x. x .1) l k) ∙ any-append q (nodes-of l) (nodes-of k)) ∙ h)
+  none-second q l k h =
+      or-right (any q (nodes-of l)) _ (sym (ap (any q) (map-append (λ x. x .1) l k) ∙ any-append q (nodes-of l) (nodes-of k)) ∙ h)
 
   -- no such node in the forest nor above it: none is kept
   pub keep-nowhere : (q : A → Bool) (k : Row A A → Bool) → Only q k → (d : ℕ) (up : List A) (f : Forest A) → any q up ≡ false
@@ -151,7 +153,8 @@ module _ {A : Type 0} where
       )
 
   -- a new node below those that pass q
-  put-nowhere : (q counts : A → Bool) (k : ℕ) (new : A) (d : ℕ) (f : Forest A) → any q (nodes-of (flat d f)) ≡ false → put q counts k new f ≡ f
+  put-nowhere : (q counts : A → Bool) (k : ℕ) (new : A) (d : ℕ) (f : Forest A) → any q (nodes-of (flat d f)) ≡ false
+      → put q counts k new f ≡ f
   unfolding put flat
   put-nowhere q counts k new d nil h = refl
   put-nowhere q counts k new d (node a ks fs) h =
@@ -240,11 +243,17 @@ module _ {A : Type 0} where
         ∙ ap (λ z. keep k (row (c .it) z ∷ lines-of (c .it ∷ z) (c .children))) (sym (append-assoc (c .above) (a ∷ []) up)));
     amends = λ q g o up u b e.
         let i : q a ≡ false = or-left (q a) _ b in
-        rw (o (row a up) (rw (i, u)), amend-nowhere q g o d up fs u (none-second q (c .behind) (flat d fs) e), append-assoc (c .above) (a ∷ []) up)
-        (around _ (flat (suc (c .depth)) (amend (λ a. a) g (c .it ∷ (c .above ++ (a ∷ up))) (c .children))) (c .amends q g o (a ∷ up) (rw (i, u)) (or-right (q a) _ b) (none-first q (c .behind) (flat d fs) e)));
+        rw (
+          o (row a up) (rw (i, u)),
+          amend-nowhere q g o d up fs u (none-second q (c .behind) (flat d fs) e),
+          append-assoc (c .above) (a ∷ []) up,
+        )
+        (around _ (flat (suc (c .depth)) (amend (λ a. a) g (c .it ∷ (c .above ++ (a ∷ up))) (c .children)))
+        (c .amends q g o (a ∷ up) (rw (i, u)) (or-right (q a) _ b) (none-first q (c .behind) (flat d fs) e)));
     puts = λ q counts k new t h b e.
         rw (or-left (q a) _ b, put-nowhere q counts k new d fs (none-second q (c .behind) (flat d fs) e))
-        (around _ (flat (suc (c .depth)) (place counts k new (c .children))) (c .puts q counts k new t h (or-right (q a) _ b) (none-first q (c .behind) (flat d fs) e)));
+        (around _ (flat (suc (c .depth)) (place counts k new (c .children)))
+        (c .puts q counts k new t h (or-right (q a) _ b) (none-first q (c .behind) (flat d fs) e)));
   }
     where
       around : (y : ℕ × A) (l : List (ℕ × A)) {m : List (ℕ × A)} → m ≡ c .before ++ (y ∷ (l ++ c .behind))
@@ -283,25 +292,30 @@ module _ {A : Type 0} where
         let i : q a ≡ false = or-left (q a) _ b in
         let j : any q (nodes-of (flat (suc d) ks ++ c .before)) ≡ false = or-right (q a) _ b in
         rw (o (row a up) (rw (i, u)), amend-nowhere q g o (suc d) (a ∷ up) ks (rw (i, u)) (none-first q (flat (suc d) ks) (c .before) j))
-        (around _ (flat (suc (c .depth)) (amend (λ a. a) g (c .it ∷ (c .above ++ up)) (c .children))) (c .amends q g o up u (none-second q (flat (suc d) ks) (c .before) j) e));
+        (around _ (flat (suc (c .depth)) (amend (λ a. a) g (c .it ∷ (c .above ++ up)) (c .children)))
+        (c .amends q g o up u (none-second q (flat (suc d) ks) (c .before) j) e));
     puts = λ q counts k new t h b e.
         let j : any q (nodes-of (flat (suc d) ks ++ c .before)) ≡ false = or-right (q a) _ b in
         rw (or-left (q a) _ b, put-nowhere q counts k new (suc d) ks (none-first q (flat (suc d) ks) (c .before) j))
-        (around _ (flat (suc (c .depth)) (place counts k new (c .children))) (c .puts q counts k new t h (none-second q (flat (suc d) ks) (c .before) j) e));
+        (around _ (flat (suc (c .depth)) (place counts k new (c .children)))
+        (c .puts q counts k new t h (none-second q (flat (suc d) ks) (c .before) j) e));
   }
     where
       around : (y : ℕ × A) (l : List (ℕ × A)) {m : List (ℕ × A)} → m ≡ c .before ++ (y ∷ (l ++ c .behind))
           → (d, a) ∷ (flat (suc d) ks ++ m) ≡ (d, a) ∷ ((flat (suc d) ks ++ c .before) ++ (y ∷ (l ++ c .behind)))
-      around y l e = ap (λ k. (d, a) ∷ k) (ap (λ k. flat (suc d) ks ++ k) e ∙ sym (append-assoc (flat (suc d) ks) (c .before) (y ∷ (l ++ c .behind))))
+      around y l e =
+          ap (λ k. (d, a) ∷ k) (ap (λ k. flat (suc d) ks ++ k) e ∙ sym (append-assoc (flat (suc d) ks) (c .before) (y ∷ (l ++ c .behind))))
 
   pub node-at : (d : ℕ) (f : Forest A) (i : ℕ) → i < length (flat d f) → NodeAt d f i
   unfolding flat
   node-at d nil i h = absurd (omega arith)
   node-at d (node a ks fs) zero h = at-self d a ks fs
-  node-at d (node a ks fs) (suc i) h = go (ltb i (length (flat (suc d) ks))) refl (node-at (suc d) ks i) (node-at d fs (i - length (flat (suc d) ks)))
+  node-at d (node a ks fs) (suc i) h =
+      go (ltb i (length (flat (suc d) ks))) refl (node-at (suc d) ks i) (node-at d fs (i - length (flat (suc d) ks)))
     where
       go : (b : Bool) → ltb i (length (flat (suc d) ks)) ≡ b → (i < length (flat (suc d) ks) → NodeAt (suc d) ks i)
-          → (i - length (flat (suc d) ks) < length (flat d fs) → NodeAt d fs (i - length (flat (suc d) ks))) → NodeAt d (node a ks fs) (suc i)
+          → (i - length (flat (suc d) ks) < length (flat d fs) → NodeAt d fs (i - length (flat (suc d) ks)))
+          → NodeAt d (node a ks fs) (suc i)
       go true e down next = at-inner d a ks fs i (down (ltb-true i _ e))
       go false e down next =
           let m = length (flat (suc d) ks) in

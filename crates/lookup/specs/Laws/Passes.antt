@@ -37,7 +37,8 @@ left-out-parts below d h = (ltb-true 0 below (and-left _ _ h), leb-true below d 
 
 module _ {A : Type 0} (shown : A → Bool) where
   -- what is left out goes whole
-  pub prune-skip : (below d : ℕ) (f : Forest A) (t : List (ℕ × A)) → 0 < below → below ≤ d → prune shown below (flat d f ++ t) ≡ prune shown below t
+  pub prune-skip : (below d : ℕ) (f : Forest A) (t : List (ℕ × A)) → 0 < below → below ≤ d
+      → prune shown below (flat d f ++ t) ≡ prune shown below t
   unfolding flat prune
   prune-skip below d nil t h k = refl
   prune-skip below d (node a ks fs) t h k =
@@ -51,25 +52,36 @@ module _ {A : Type 0} (shown : A → Bool) where
   module _ {B : Type 0} (g : A → B) where
     -- a pass over the rows of a forest and those behind it
     view-then : (below d : ℕ) (f : Forest A) (t : List (ℕ × A)) → left-out below d ≡ false
-        → (m : ℕ) × (left-out m d ≡ false) × (map (second g) (prune shown below (flat d f ++ t)) ≡ flat d (view shown g f) ++ map (second g) (prune shown m t))
+        → (m : ℕ) × (left-out m d ≡ false) × (map (second g) (prune shown below (flat d f ++ t)) ≡ flat d (view shown g f) ++ map (second g)
+        (prune shown m t))
     unfolding flat prune view
     view-then below d nil t h = (below, h, refl)
     view-then below d (node a ks fs) t h =
-        rw (h, append-assoc (flat (suc d) ks) (flat d fs) t) (go (shown a) (view-then 0 (suc d) ks (flat d fs ++ t) refl) (λ m q. view-then m d fs t q))
+        rw (h, append-assoc (flat (suc d) ks) (flat d fs) t) (go (shown a) (view-then 0 (suc d) ks (flat d fs ++ t) refl)
+        (λ m q. view-then m d fs t q))
       where
         Then : ℕ → ℕ → Forest A → List (ℕ × A) → List (ℕ × A) → Type 0
         Then below d f u t =
-            (m : ℕ) × (left-out m d ≡ false) × (map (second g) (prune shown below u) ≡ flat d (view shown g f) ++ map (second g) (prune shown m t))
+            (m : ℕ) × (left-out m d ≡ false) × (map (second g) (prune shown below u) ≡ flat d (view shown g f) ++ map (second g)
+            (prune shown m t))
 
         go : (b : Bool) → Then 0 (suc d) ks (flat (suc d) ks ++ (flat d fs ++ t)) (flat d fs ++ t)
             → ((m : ℕ) → left-out m d ≡ false → Then m d fs (flat d fs ++ t) t)
             → (m : ℕ) × (left-out m d ≡ false)
             × (map (second g)
-            (cond b ((d, a) ∷ prune shown 0 (flat (suc d) ks ++ (flat d fs ++ t))) (prune shown (suc d) (flat (suc d) ks ++ (flat d fs ++ t))))
+            (cond b ((d, a) ∷ prune shown 0 (flat (suc d) ks ++ (flat d fs ++ t)))
+            (prune shown (suc d) (flat (suc d) ks ++ (flat d fs ++ t))))
             ≡ flat d (cond b (node (g a) (view shown g ks) (view shown g fs)) (view shown g fs)) ++ map (second g) (prune shown m t))
         go true u v =
-            let w = v (u .0) (left-out-up (u .0) d (u .1)) in
-            (w .0, w .1, rw (u .2, w .2, append-assoc (flat (suc d) (view shown g ks)) (flat d (view shown g fs)) (map (second g) (prune shown (w .0) t))))
+            let w = v (u .0) (left-out-up (u .0) d (u .1)) in (
+              w .0,
+              w .1,
+              rw (
+                u .2,
+                w .2,
+                append-assoc (flat (suc d) (view shown g ks)) (flat d (view shown g fs)) (map (second g) (prune shown (w .0) t)),
+              ),
+            )
         go false u v =
             let w = v (suc d) (left-out-high (suc d) d (omega arith)) in
             (w .0, w .1, rw (prune-skip (suc d) (suc d) ks (flat d fs ++ t) (omega arith) (omega arith)) (w .2))

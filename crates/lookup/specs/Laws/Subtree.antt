@@ -43,7 +43,8 @@ module _ (l : List Entry) (e i : ℕ) where
 
   module _ (t hidden : ℕ) where
     -- below a node that t deleted
-    pub seen-hidden : i < length l → e < depth l i → 0 < hidden → hidden ≤ depth l i → seen-from t hidden e (drop i l) ≡ seen-from t hidden e (drop (i + 1) l)
+    pub seen-hidden : i < length l → e < depth l i → 0 < hidden → hidden ≤ depth l i
+        → seen-from t hidden e (drop i l) ≡ seen-from t hidden e (drop (i + 1) l)
     unfolding seen-from prune
     seen-hidden h k z m = rw (below-turn h k, lt-ltb 0 hidden z, le-leb hidden (depth l i) m)
 
@@ -100,10 +101,12 @@ module _ {f : Tree} {n p : ℕ} (o : Holder f n p) where
       c .keeps (numbered n) (λ r. under n (plain r)) (λ r e. sym (under-line n r) ∙ e) [] refl (o .before) (o .behind)
       ∙ rw (append-nil (c .above), o .number, keep-all (λ r. under n (plain r)) (lines-of (c .it ∷ c .above) (c .children)) inner-rows)
     where
-      inner-rows : (r : Row Marked Marked) → List·Memᴰ r (lines-of (o .place .it ∷ o .place .above) (o .place .children)) → under n (plain r) ≡ true
+      inner-rows : (r : Row Marked Marked) → List·Memᴰ r (lines-of (o .place .it ∷ o .place .above) (o .place .children))
+          → under n (plain r) ≡ true
       inner-rows r m =
           under-line n r
-          ∙ rw (any-below (λ a. a) (numbered n) (rw (o .number)) (of-rows (λ a. a) r (o .place .it ∷ o .place .above) (o .place .children) m))
+          ∙ rw (any-below (λ a. a) (numbered n) (rw (o .number)) (of-rows (λ a. a) r (o .place .it ∷ o .place .above)
+          (o .place .children) m))
           (or-true (numbered n (r .it)))
 
   -- n and all below it that t sees, in document order

@@ -88,7 +88,8 @@ climb-back : (l : List Entry) (e i : ℕ) → i ≤ length l → map (item l) (c
 unfolding climb back
 climb-back l e zero h = refl
 climb-back l e (suc i) h =
-    rw (reverse-take l [] i (omega arith)) (go (ltb (depth l i) e) (climb-back l (depth l i) i (omega arith)) (climb-back l e i (omega arith)))
+    rw (reverse-take l [] i (omega arith)) (go (ltb (depth l i) e) (climb-back l (depth l i) i (omega arith))
+    (climb-back l e i (omega arith)))
   where
     go : (b : Bool) → map (item l) (climb l (depth l i) i) ≡ back (depth l i) (reverseAux (take i l) [])
         → map (item l) (climb l e i) ≡ back e (reverseAux (take i l) [])
@@ -118,10 +119,12 @@ module _ {f : Tree} {p : ℕ} (c : NodeAt 0 f p) where
   unfolding ups above-places back
   ups-at =
       let k : p ≤ length (flat 0 f) = omega (arith, inside) in
-      rw depth-at (climb-back (flat 0 f) (c .depth) p k ∙ ap (λ l. back (c .depth) (reverseAux l [])) rows-before ∙ c .ancestors [] ∙ append-nil (c .above))
+      rw depth-at (climb-back (flat 0 f) (c .depth) p k ∙ ap (λ l. back (c .depth) (reverseAux l [])) rows-before ∙ c .ancestors [] ∙
+      append-nil (c .above))
 
   pub rows-behind : drop (suc p) (flat 0 f) ≡ flat (suc (c .depth)) (c .children) ++ c .behind
   rows-behind =
       let e : suc p ≡ length (c .before) + 1 = omega (arith, c .count) in
-      ap (drop (suc p)) (c .split) ∙ ap (λ n. drop n (c .before ++ ((c .depth, c .it) ∷ (flat (suc (c .depth)) (c .children) ++ c .behind)))) e
+      ap (drop (suc p)) (c .split) ∙ ap (λ n. drop n (c .before ++ ((c .depth, c .it) ∷
+      (flat (suc (c .depth)) (c .children) ++ c .behind)))) e
       ∙ drop-append-add (c .before) _ 1

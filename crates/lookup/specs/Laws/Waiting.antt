@@ -59,7 +59,8 @@ one-node : (q : Marked → Bool) (l : List Entry) (i : ℕ) → unique l ≡ tru
     → any (λ a. numbered (number-of (item l i)) a && q a) (items l) ≡ q (item l i)
 one-node q [] i u h = absurd (omega arith)
 one-node q (x ∷ l) zero u h =
-    rw (eq-eqb (number-of (x .1)) (number-of (x .1)) refl, none-with (number-of (x .1)) q (items l) (unique-head x l u .0)) (or-false (q (x .1)))
+    rw (eq-eqb (number-of (x .1)) (number-of (x .1)) refl, none-with (number-of (x .1)) q (items l) (unique-head x l u .0))
+    (or-false (q (x .1)))
 one-node q (x ∷ l) (suc i) u h =
     let g = unique-head x l u in
     let k : i < length l = omega arith in
@@ -131,15 +132,18 @@ module _ (l : List Entry) (t : ℕ) where
         )
 
     -- the locks of a step on the node at p: the numbers that it inserts are held by no node
-    pub way-blocks : (s : Step) (p : ℕ) → p < length l → number-of (item l p) ≡ target s → any (λ m. any (numbered m) (items l)) (inserts s) ≡ false
-        → any (clashes (locks s (numbers-above l p)) t) (items l) ≡ blocks-way (need s .node) (need s .parent) (need s .above) t (item l p ∷ ups l p)
+    pub way-blocks : (s : Step) (p : ℕ) → p < length l → number-of (item l p) ≡ target s
+        → any (λ m. any (numbered m) (items l)) (inserts s) ≡ false
+        → any (clashes (locks s (numbers-above l p)) t) (items l)
+        ≡ blocks-way (need s .node) (need s .parent) (need s .above) t (item l p ∷ ups l p)
     unfolding locks ups above-places blocks-way
     way-blocks s p h e b =
         let ps : List ℕ = above-places l p in
         any-clashes (locks s (numbers-above l p))
         ∙ rw (
           ← e,
-          meets-append (each (need s .node) (number-of (item l p))) (up (need s) (map number-of (map (item l) ps)) ++ every-one (need s .new) (inserts s)),
+          meets-append (each (need s .node) (number-of (item l p))) (up (need s) (map number-of (map (item l) ps)) ++ every-one
+              (need s .new) (inserts s)),
           meets-append (up (need s) (map number-of (map (item l) ps))) (every-one (need s .new) (inserts s)),
           meets-node (need s .node) p h,
           meets-up (need s) ps (λ i m. let z = climb-before l (depth l p) p m in omega arith),

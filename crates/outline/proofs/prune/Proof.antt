@@ -64,7 +64,8 @@ loop-again-2 c =
       omega (arith, l .inv .1),
       omega (arith, q .many, l .inv .3 .many, test .taken, count .ensures),
       kept-on (l .inv .3) q,
-      prune-keep keeps (nodes (l .s)) (l .below) (l .j) inside _ _ (l .k) _ (l .inv .4) (next-below .ensures) (if1 .left) (l .inv .1) (q .nodes),
+      prune-keep keeps (nodes (l .s)) (l .below) (l .j) inside _ _ (l .k) _ (l .inv .4) (next-below .ensures) (if1 .left) (l .inv .1)
+          (q .nodes),
     )
 
 returns : tie.Need-returns Inv-loop μ-loop

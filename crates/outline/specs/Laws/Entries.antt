@@ -56,4 +56,5 @@ module _ {s s′ : List ℕ} (o : Only 10 6150 s s′) where
       (ns : List Entry) → tabulate n (entry s′) ≡ ns → Left s s′ (header s) ns
   outline-left h n c a b back from ns e =
       left-of o (omega arith) (omega arith) h n c a b back (λ i l. let f = from i l in (f .0, f .1, f .2, f .3))
-      (λ i l. let f = from i (omega arith) in rw (f .2, same-cell o (slot s (f .0)) (λ z. omega arith)) (f .4 l)) (same-header o (omega arith)) e
+      (λ i l. let f = from i (omega arith) in rw (f .2, same-cell o (slot s (f .0)) (λ z. omega arith)) (f .4 l))
+      (same-header o (omega arith)) e

@@ -37,7 +37,8 @@ shift-start s n = record {
     same : (i : ℕ) → Copy s i s i
     same i = record { slot = refl; depth = refl; number = refl }
 
-pub shift-turn : {s s′ s″ : List ℕ} (k j n : ℕ) → Shifted s s′ k n → Entered s′ s″ (j + 1) (slot s′ j) (depth s′ j) (number s′ j) → k ≡ j + 1 → k ≤ n
+pub shift-turn : {s s′ s″ : List ℕ} (k j n : ℕ) → Shifted s s′ k n → Entered s′ s″ (j + 1) (slot s′ j) (depth s′ j) (number s′ j)
+    → k ≡ j + 1 → k ≤ n
     → n < 1024 → Shifted s s″ j n
 shift-turn {s} {s′} {s″} k j n f e z a b = record {
   only = only-both (entry-at 0) 6144 (f .only) (e .only) (omega arith) (omega arith) (omega arith) (omega arith);
@@ -60,7 +61,8 @@ unfoldable back : ℕ → ℕ → ℕ → ℕ
 back p n j = cond (ltb j p) j (cond (ltb j n) (j + 1) (cond (eqb j n) p j))
 
 module _ (s s₁ s₂ s₃ s₄ : List ℕ) (n p k d m : ℕ) (h : Layout s) (c : count s ≡ n) (room : n < 1024) (l : p ≤ n) (e : k ≡ slot s n)
-    (f : Filled (cell-at k + 4) 2 (λ j. 0) s s₁) (g : Shifted s₁ s₂ p n) (x : Entered s₂ s₃ p k d m) (y : s₄ ≡ put-word s₃ count-at (n + 1)) where
+    (f : Filled (cell-at k + 4) 2 (λ j. 0) s s₁) (g : Shifted s₁ s₂ p n) (x : Entered s₂ s₃ p k d m)
+    (y : s₄ ≡ put-word s₃ count-at (n + 1)) where
   in-range : k < 1024
   in-range = rw e (h .slots n room)
 
@@ -153,7 +155,8 @@ module _ (s s₁ s₂ s₃ s₄ : List ℕ) (n p k d m : ℕ) (h : Layout s) (c 
         number = refl;
         many = length-nodes s₄ ∙ counted ∙ omega (arith, length-nodes s);
         left = then-left (nodes s) (insert p (d, new)) first-left
-            (outline-left only (first-left .layout) (n + 1) counted (omega arith) (omega arith) (back p n) from (insert p (d, new) (nodes s₁)) list);
+            (outline-left only (first-left .layout) (n + 1) counted (omega arith) (omega arith) (back p n) from
+            (insert p (d, new) (nodes s₁)) list);
       }
 
 -- the fields of the new node

@@ -106,7 +106,8 @@ module _ (shown : Marked → Bool) (l : List Entry) (below j : ℕ) (h : j < len
 
       go : (t : Bool) → ltb 0 below ≡ t → (u v : Bool) →
           cond (t && u) (prune shown below xs) (cond v (x ∷ prune shown 0 xs) (prune shown (suc (x .0)) xs)) ≡
-          cond (eqb (cond (t && u) below (cond v 0 (suc (x .0)))) 0) (x ∷ prune shown 0 xs) (prune shown (cond (t && u) below (cond v 0 (suc (x .0)))) xs)
+          cond (eqb (cond (t && u) below (cond v 0 (suc (x .0)))) 0) (x ∷ prune shown 0 xs)
+          (prune shown (cond (t && u) below (cond v 0 (suc (x .0)))) xs)
       go true p true v = rw (ne-eqb below 0 (λ z. omega (arith, ltb-true 0 below p)))
       go true p false true = refl
       go true p false false = rw (ne-eqb (suc (x .0)) 0 (λ z. omega arith))
@@ -116,14 +117,17 @@ module _ (shown : Marked → Bool) (l : List Entry) (below j : ℕ) (h : j < len
       go false p false false = rw (ne-eqb (suc (x .0)) 0 (λ z. omega arith))
 
   -- element j is left out
-  pub prune-skip : (m : List Entry) (k b : ℕ) → take k l ++ prune shown below (drop j l) ≡ m → b ≡ next-below shown below (getD l j no-entry) → 0 < b
+  pub prune-skip : (m : List Entry) (k b : ℕ) → take k l ++ prune shown below (drop j l) ≡ m
+      → b ≡ next-below shown below (getD l j no-entry) → 0 < b
       → take k l ++ prune shown b (drop (j + 1) l) ≡ m
   prune-skip m k b v e z =
-      let ne : eqb (next-below shown below (getD l j no-entry)) 0 ≡ false = ne-eqb (next-below shown below (getD l j no-entry)) 0 (λ q. omega arith) in
+      let ne : eqb (next-below shown below (getD l j no-entry)) 0 ≡ false =
+      ne-eqb (next-below shown below (getD l j no-entry)) 0 (λ q. omega arith) in
       rw (e, add-one j) (ap (λ (r : List Entry). take k l ++ r) (sym (turn ∙ rw ne)) ∙ v)
 
   -- element j is kept, at place k
-  pub prune-keep : (m l′ : List Entry) (k b : ℕ) → take k l ++ prune shown below (drop j l) ≡ m → b ≡ next-below shown below (getD l j no-entry)
+  pub prune-keep : (m l′ : List Entry) (k b : ℕ) → take k l ++ prune shown below (drop j l) ≡ m
+      → b ≡ next-below shown below (getD l j no-entry)
       → b ≤ 0 → k ≤ j → l′ ≡ exchange k j l →
       take (k + 1) l′ ++ prune shown b (drop (j + 1) l′) ≡ m
   unfolding exchange
@@ -156,12 +160,14 @@ unfolding prune
 prune-start shown [] h e = absurd (omega arith)
 prune-start shown (x ∷ l) h e = rw e
 
-pub prune-done : (shown : Marked → Bool) (m l : List Entry) (k below j : ℕ) → take k l ++ prune shown below (drop j l) ≡ m → length l ≤ j → take k l ≡ m
+pub prune-done : (shown : Marked → Bool) (m l : List Entry) (k below j : ℕ) → take k l ++ prune shown below (drop j l) ≡ m → length l ≤ j
+    → take k l ≡ m
 unfolding prune
 prune-done shown m l k below j v h = sym (append-nil (take k l)) ∙ (rw (drop-of-length-le l h) at v)
 
 -- the count cut down
-pub cut-left : (s s′ : List ℕ) (k : ℕ) → s′ ≡ put-word s count-at k → Layout s → 1 ≤ k → k ≤ length (nodes s) → Left s s′ (header s) (take k (nodes s))
+pub cut-left : (s s′ : List ℕ) (k : ℕ) → s′ ≡ put-word s count-at k → Layout s → 1 ≤ k → k ≤ length (nodes s)
+    → Left s s′ (header s) (take k (nodes s))
 unfolding count nodes
 cut-left s s′ k e h a b =
     let o : Only count-at 2 s s′ = rw e (only-word s count-at k) in

@@ -5,7 +5,10 @@ use Rattle.table.proofs.content.Statement.{statement}
 use Rattle.table.proofs.content.Tie as tie
 
 add-result-4 : tie.Need-add-result-4
-add-result-4 c = let a = c .before .before in omega (arith, size-small _ (a .args .i) (a .args .o) _ (c .slot .ensures .0) (a .pre .0) (a .pre .1) (a .pre .3))
+add-result-4 c = let a = c .before .before in omega (
+  arith,
+  size-small _ (a .args .i) (a .args .o) _ (c .slot .ensures .0) (a .pre .0) (a .pre .1) (a .pre .3),
+)
 
 shared-slice-read-result : tie.Need-shared-slice-read-result
 shared-slice-read-result c =

@@ -10,7 +10,8 @@ use Rattle.table.proofs.content_bytes.Statement.{statement}
 use Rattle.table.proofs.content_bytes.Tie as tie
 
 -- the m bytes from `at` on are those of t
-part-is : (s t : List ℕ) (at m : ℕ) → m ≡ length t → at + m ≤ length s → ((j : ℕ) → j < length t → getD s (at + j) 0 ≡ getD t j 0) → take m (drop at s) ≡ t
+part-is : (s t : List ℕ) (at m : ℕ) → m ≡ length t → at + m ≤ length s → ((j : ℕ) → j < length t → getD s (at + j) 0 ≡ getD t j 0)
+    → take m (drop at s) ≡ t
 part-is s t at m e h f =
     let n : length (take m (drop at s)) ≡ m = length-take-le m (drop at s) (simp length-drop (omega arith)) in
     ext-getD 0 (take m (drop at s)) t (n ∙ e)

@@ -18,7 +18,8 @@ returns : tie.Need-returns
 returns c =
     let args = c .before .before .before .before .before .before .before .before .args in
     let slot = c .before .before .before .before .before .slot in
-    copied-kept _ _ _ (args .o) (args .p) _ _ _ _ _ (slot .ensures .0) (c .before .before .copy-32 .ensures) (omega arith) (omega arith) (omega arith)
+    copied-kept _ _ _ (args .o) (args .p) _ _ _ _ _ (slot .ensures .0) (c .before .before .copy-32 .ensures) (omega arith) (omega arith)
+    (omega arith)
     (omega arith) (search needs) (search needs) (search needs) (search needs)
 
 pub copy-content-spec : {M : Type 1} → statement M

@@ -18,7 +18,8 @@ abbrev μ-loop : tie.MeasureT-loop
 μ-loop s n m i₀ i = length (nodes s) - i
 
 returns : tie.Need-returns Inv-loop μ-loop
-returns c = first-found _ _ _ no-entry (c .before .before .before .loop .inv .1) (search needs) (eq-eqb _ _ (sym (c .before .number .ensures) ∙ c .if1 .taken))
+returns c = first-found _ _ _ no-entry (c .before .before .before .loop .inv .1) (search needs)
+    (eq-eqb _ _ (sym (c .before .number .ensures) ∙ c .if1 .taken))
 
 loop-again : tie.Need-loop-again Inv-loop μ-loop
 loop-again c =

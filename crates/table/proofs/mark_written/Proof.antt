@@ -10,7 +10,8 @@ set-writer-requires : tie.Need-set-writer-requires
 set-writer-requires c κs =
     let writer = c .before .before .writer in
     let begin = c .before .before .before .before .before in
-    let size = over-size (begin .args .s .now) (begin .args .i) (begin .args .t) _ (writer .ensures) (begin .pre .0) (begin .pre .1) (c .before .if1 .taken) in
+    let size = over-size (begin .args .s .now) (begin .args .i) (begin .args .t) _ (writer .ensures) (begin .pre .0) (begin .pre .1)
+    (c .before .if1 .taken) in
     (begin .pre .0, begin .pre .1, begin .pre .2, size)
 
 returns : tie.Need-returns
@@ -19,7 +20,8 @@ returns c =
     let writer = c4 .before .writer in
     let begin = c4 .before .before .before .before in
     let set-writer = c .before .before .set-writer in
-    written-over (begin .args .s .now) (begin .args .i) (begin .args .t) _ (writer .ensures) (begin .pre .0) (begin .pre .1) (c4 .if1 .taken)
+    written-over (begin .args .s .now) (begin .args .i) (begin .args .t) _ (writer .ensures) (begin .pre .0) (begin .pre .1)
+    (c4 .if1 .taken)
     (set-writer .ensures)
 
 copy-content-requires : tie.Need-copy-content-requires

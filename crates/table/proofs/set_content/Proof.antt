@@ -17,7 +17,8 @@ returns c =
     let slot = c .before .before .before .before .slot in
     let store = c .before .before .store in
     let args = c .before .before .before .before .before .before .before .before .args in
-    let content = stored-kept _ _ (args .i) 0 _ _ _ _ _ _ (args .b .now) (slot .ensures .0) (store .ensures) (omega arith) (omega arith) (search needs)
+    let content = stored-kept _ _ (args .i) 0 _ _ _ _ _ _ (args .b .now) (slot .ensures .0) (store .ensures) (omega arith) (omega arith)
+    (search needs)
     (search needs) (search needs) refl (search needs) (search needs) (λ j h. refl) in
     content .kept
 
