@@ -4,13 +4,14 @@ use Prim.Native.Nat.{ℕ, suc, _+_, _-_, _<_}
 use mathlib.Core.Bool.{Bool, false, cond, not, _&&_}
 use mathlib.Core.List.{List, [], _∷_, _++_, map, List·Memᴰ}
 use lib.ListN.{length, getD, take, drop}
-use lib.Dec.{eqb, leb, ltb}
+use lib.Dec.{eqb, ltb}
 use Rattle.tree.specs.Lists.{any}
 use Rattle.tree.specs.Steps.{Step, T, C, R, U, D, I, TT, RR, UU, is-named}
-use Rattle.locks.specs.Modes.{Mode, ModeSet, union, among}
+use Rattle.locks.specs.Modes.{Mode, union, among}
 use Rattle.locks.specs.Needs.{Need, need, Lock}
 use Rattle.protocol.specs.State.{Marked, numbered, seen-by, written-by, deleted-by, inserted-by, granted-to, with-held}
 use Rattle.layout.specs.Lists.{modify, insert}
+use Rattle.layout.specs.Flat as Flat
 use Rattle.layout.specs.Flat.{second}
 use Rattle.layout.specs.Layout.{Entry, no-entry}
 use Rattle.lookup.specs.Places.{depth, item, items, number-of, above-places}
@@ -36,9 +37,9 @@ Inside is l = (i : ℕ) → List·Memᴰ i is → i < length l
 
 -- ends of transactions -----------------------------------------------------------------------
 
--- a row of this depth is left out: it lies below one that was; `below` is the least depth left out now, 0 for none
+-- a row of this depth lies below one that was left out
 abbrev pub left-out : ℕ → ℕ → Bool
-left-out below depth = ltb 0 below && leb below depth
+left-out below depth = Flat.left-out below depth
 
 -- what an abort of t keeps
 abbrev pub not-inserted-by : ℕ → Marked → Bool
@@ -82,11 +83,13 @@ renamed-by t a b x = cond (is-named a (x .now)) (written-by t b x) x
 -- UU of t on the node at p
 unfoldable pub renamed-rows : ℕ → List ℕ → List ℕ → ℕ → List Entry → List Entry
 renamed-rows t a b p l =
-    take p l ++ (second (renamed-by t a b) (getD l p no-entry) ∷ changed-below (seen-by t) (renamed-by t a b) (depth l p) 0 (drop (suc p) l))
+    take p l ++ (second (renamed-by t a b) (getD l p no-entry) ∷ changed-below (seen-by t) (renamed-by t a b) (depth l p) 0
+    (drop (suc p) l))
 
 -- a new child -------------------------------------------------------------------------------------
 
--- of the rows behind a node at depth top: how many stand before a new child that is put right behind the j-th of its children that count, or
+-- of the rows behind a node at depth top: how many stand before a new child that is put right behind the j-th of its children that count,
+-- or
 -- before all for j = 0, or behind all where there are fewer
 unfoldable pub before-new : {A : Type 0} → (A → Bool) → ℕ → ℕ → List (ℕ × A) → ℕ
 before-new counts top j [] = 0

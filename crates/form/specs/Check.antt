@@ -1,18 +1,15 @@
 -- What the parts of the check of the form compute.
-use mathlib.Core.Path.{_≡_}
-use Prim.Native.Nat.{ℕ, zero, suc, _+_, _/_, _%_, _≤_, _<_}
+use Prim.Native.Nat.{ℕ, _+_, _/_, _%_, _≤_, _<_}
 use mathlib.Core.Bool.{Bool, true, false, cond, _&&_, _||_}
 use mathlib.Core.List.{List, [], _∷_}
 use lib.ListN.{length, getD}
 use lib.Dec.{eqb, leb, ltb}
 use Rattle.tree.specs.Lists.{every, same}
 use Rattle.tree.specs.Content.{document-kind, between}
-use Rattle.locks.specs.Modes.{no-mode}
-use Rattle.locks.specs.Modes.{bit}
-use Rattle.protocol.specs.State.{nobody, Marked}
+use Rattle.locks.specs.Modes.{no-mode, bit}
+use Rattle.protocol.specs.State.{nobody}
 use Rattle.protocol.specs.Calls.{node-limit}
-use Rattle.layout.specs.Lists.{tabulate}
-use Rattle.layout.specs.Layout.{state-size, format-mark, entry-at, word, part, count, slot, depth, number, cell, decode, nodes}
+use Rattle.layout.specs.Layout.{tabulate, state-size, format-mark, entry-at, word, part, count, slot, depth, number, cell, decode, nodes}
 use Rattle.form.specs.Form.{in-range, valid-rows, cells, sizes-in-range}
 
 -- the first sixteen bytes: length, mark and count

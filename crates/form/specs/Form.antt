@@ -1,19 +1,16 @@
 -- The form of the lent bytes (docs/STATE.md), and the state that bytes of the form hold.
 use mathlib.Core.Path.{_≡_}
-use Prim.Native.Nat.{ℕ, zero, suc}
+use Prim.Native.Nat.{ℕ, suc}
 use mathlib.Core.Bool.{Bool, true, false, _&&_, _||_}
 use mathlib.Core.List.{List, [], _∷_}
 use lib.ListN.{length, getD}
 use lib.Dec.{eqb, leb, ltb}
 use Rattle.tree.specs.Lists.{every, distinct, same}
-use Rattle.tree.specs.Forest.{Forest, nil, node}
 use Rattle.tree.specs.Content.{document-kind, element-kind, text-kind, content-limit, between}
 use Rattle.protocol.specs.State.{nobody, Marked, Tree, State, writer-of}
 use Rattle.protocol.specs.Calls.{node-limit}
-use Rattle.layout.specs.Lists.{tabulate}
+use Rattle.layout.specs.Layout.{tabulate, state-size, format-mark, part, count, slot, cell, Entry, nodes, unique, Layout, header}
 use Rattle.layout.specs.Flat.{flat}
-use Rattle.layout.specs.Layout.{state-size, format-mark, part, count, slot, cell, is-open, Entry, nodes, Layout, header}
-use Rattle.lookup.specs.Places.{unique}
 
 -- nodes --------------------------------------------------------------------------------
 
@@ -43,14 +40,8 @@ valid-rows [] = false
 valid-rows (x ∷ xs) = eqb (x .0) 0 && valid-document (x .1) && valid-below 0 xs
 
 -- the same of a tree
-unfoldable pub all-valid : Tree → Bool
-all-valid nil = true
-all-valid (node a ks fs) = valid a && all-valid ks && all-valid fs
-
 unfoldable pub valid-tree : Tree → Bool
-valid-tree nil = false
-valid-tree (node a ks nil) = valid-document a && all-valid ks
-valid-tree (node a ks (node b js fs)) = false
+valid-tree f = valid-rows (flat 0 f)
 
 -- bytes ------------------------------------------------------------------------------------
 

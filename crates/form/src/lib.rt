@@ -1,7 +1,7 @@
 // The form of the lent bytes (docs/STATE.md): its check, and the bytes of the beginning.
 ghost use mathlib.Core.Path.{_≡_};
-ghost use Prim.Native.Nat.{ℕ, _+_, _*_, _^_, _<_, _≤_};
-ghost use lib.ListN.{length, getD};
+ghost use Prim.Native.Nat.{_+_, _^_, _<_, _≤_};
+ghost use lib.ListN.{length};
 ghost use Rattle.tree.specs.Lists.{same};
 ghost use Rattle.locks.specs.Modes.{bit};
 ghost use Rattle.layout.specs.Layout.{state-size, count, cell, part};
@@ -9,22 +9,6 @@ ghost use Rattle.form.specs.Form.{sizes-in-range, apart, form};
 ghost use Rattle.layout.specs.Laws.Bytes.{Filled};
 ghost use Rattle.form.specs.Start.{outline-byte, start-byte, Started};
 ghost use Rattle.form.specs.Check.{valid-header, column, cell-in-range, valid-first, valid-nodes, Outlined};
-
-// The bytes that a state takes; those behind are never touched.
-pub const SIZE: usize = 110608;
-
-// The first bytes of a state.
-const MARK: [u8; 8] = *b"NFSTATE1";
-
-const NODES: usize = 1024;
-
-const OUTLINE: usize = 16;
-
-const ENTRY: usize = 6;
-
-const CELLS: usize = 6160;
-
-const CELL: usize = 70;
 
 // Whether s begins with the bytes of b.
 fn begins(s: &[u8], b: &[u8]) -> bool
@@ -45,17 +29,17 @@ fn begins(s: &[u8], b: &[u8]) -> bool
 fn header(s: &[u8]) -> bool
     ensures { λ r. ⌜ r ≡ valid-header (now (s .entry)) ⌝ }
 {
-    if s.len() < SIZE {
+    if s.len() < layout::SIZE {
         return false;
     }
-    if !begins(s, &MARK) {
+    if !begins(s, &layout::MARK) {
         return false;
     }
-    let n = layout::word(s, 10) as usize;
+    let n = layout::word(s, layout::COUNT) as usize;
     if n < 1 {
         return false;
     }
-    n <= NODES
+    n <= layout::NODES
 }
 
 fn has_bit(w: u64, i: usize) -> bool
@@ -81,7 +65,7 @@ fn apart(s: &[u8], o: usize, n: usize, limit: usize) -> bool
     let mut seen = [0u64; 1024];
     let mut i: usize = 0;
     while i < n {
-        let w = layout::word(s, OUTLINE + ENTRY * i + o) as usize;
+        let w = layout::word(s, layout::OUTLINE + layout::ENTRY * i + o) as usize;
         if w >= limit {
             return false;
         }
@@ -101,7 +85,7 @@ fn sizes(s: &[u8], k: usize) -> bool
     requires { ⌜ (state-size ≤ length (now s)) × (k < 1024) ⌝ }
     ensures { λ r. ⌜ r ≡ sizes-in-range (cell (now (s .entry)) k) ⌝ }
 {
-    let c = CELLS + CELL * k;
+    let c = layout::CELLS + layout::CELL * k;
     if 32 < s[c + 4] {
         return false;
     }
@@ -116,7 +100,7 @@ fn cell(s: &[u8], k: usize, low: u8, high: u8, most: u8) -> bool
     requires { ⌜ (state-size ≤ length (now s)) × (k < 1024) ⌝ }
     ensures { λ r. ⌜ r ≡ cell-in-range low high most (cell (now (s .entry)) k) ⌝ }
 {
-    let c = CELLS + CELL * k;
+    let c = layout::CELLS + layout::CELL * k;
     if s[c] < low {
         return false;
     }
@@ -140,13 +124,13 @@ fn document(s: &[u8]) -> bool
     requires { ⌜ Outlined (now s) ⌝ }
     ensures { λ r. ⌜ r ≡ valid-first (now (s .entry)) ⌝ }
 {
-    if layout::word(s, OUTLINE + 2) != 0 {
+    if layout::word(s, layout::OUTLINE + 2) != 0 {
         return false;
     }
-    if layout::word(s, OUTLINE + 4) != 0 {
+    if layout::word(s, layout::OUTLINE + 4) != 0 {
         return false;
     }
-    cell(s, layout::word(s, OUTLINE) as usize, 1, 1, 0)
+    cell(s, layout::word(s, layout::OUTLINE) as usize, 1, 1, 0)
 }
 
 // Whether the n nodes are those of a tree: the document first, and every other at most one deeper than the node before it.
@@ -160,14 +144,20 @@ fn nodes(s: &[u8], n: usize) -> bool
     let mut before: usize = 0;
     let mut i: usize = 1;
     while i < n {
-        let d = layout::word(s, OUTLINE + ENTRY * i + 2) as usize;
+        let d = layout::word(s, layout::OUTLINE + layout::ENTRY * i + 2) as usize;
         if d < 1 {
             return false;
         }
         if before + 1 < d {
             return false;
         }
-        if !cell(s, layout::word(s, OUTLINE + ENTRY * i) as usize, 2, 4, 16) {
+        if !cell(
+            s,
+            layout::word(s, layout::OUTLINE + layout::ENTRY * i) as usize,
+            2,
+            4,
+            16,
+        ) {
             return false;
         }
         before = d;
@@ -183,8 +173,8 @@ pub fn formed(s: &[u8]) -> bool
     if !header(s) {
         return false;
     }
-    let n = layout::word(s, 10) as usize;
-    if !apart(s, 0, NODES, NODES) {
+    let n = layout::word(s, layout::COUNT) as usize;
+    if !apart(s, 0, layout::NODES, layout::NODES) {
         return false;
     }
     if !nodes(s, n) {
@@ -215,13 +205,13 @@ fn start_byte(j: usize) -> u8
     ensures { λ r. ⌜ r ≡ start-byte j ⌝ }
 {
     if j < 8 {
-        return MARK[j];
+        return layout::MARK[j];
     }
-    if j < OUTLINE {
-        return if j == 10 { 1 } else { 0 };
+    if j < layout::OUTLINE {
+        return if j == layout::COUNT { 1 } else { 0 };
     }
-    if j < CELLS {
-        return outline_byte(j - OUTLINE);
+    if j < layout::CELLS {
+        return outline_byte(j - layout::OUTLINE);
     }
     1
 }
@@ -232,7 +222,7 @@ fn begin(s: &mut [u8])
     ensures { λ r. ⌜ Filled 0 6161 start-byte (now (s .entry)) (now (s .exit)) ⌝ }
 {
     let mut j: usize = 0;
-    while j < CELLS + 1 {
+    while j < layout::CELLS + 1 {
         s[j] = start_byte(j);
         j += 1;
     }
@@ -242,10 +232,10 @@ fn begin(s: &mut [u8])
 pub fn start(s: &mut [u8]) -> bool
     ensures { λ r. ⌜ Started (now (s .entry)) (now (s .exit)) r ⌝ }
 {
-    if s.len() < SIZE {
+    if s.len() < layout::SIZE {
         return false;
     }
     begin(s);
-    layout::clear(s, CELLS + 1, SIZE - CELLS - 1);
+    layout::clear(s, layout::CELLS + 1, layout::SIZE - layout::CELLS - 1);
     true
 }

@@ -1,8 +1,8 @@
 -- The fields of a node, and a node with one of them changed.
 use mathlib.Core.Path.{_≡_}
-use Prim.Native.Nat.{ℕ, zero, suc, _≤_}
+use Prim.Native.Nat.{ℕ, zero, suc, _+_, _≤_}
 use mathlib.Core.Bool.{Bool, true, false, cond, not}
-use mathlib.Core.List.{List, [], _∷_, _++_}
+use mathlib.Core.List.{List}
 use lib.ListN.{getD}
 use lib.Dec.{eqb}
 use Rattle.tree.specs.Steps.{with-content}
@@ -10,7 +10,7 @@ use Rattle.locks.specs.Modes.{no-mode, in-word}
 use Rattle.tree.specs.Document.{Node}
 use Rattle.protocol.specs.State.{nobody, unwritten, wrote, writer-of, saved-of, Marked, committed-content}
 use Rattle.protocol.specs.State.{with-now, with-update, with-inserter, with-deleter, with-held}
-use Rattle.layout.specs.Layout.{slot, cell, stored, update-of, nodes, no-entry, Kept}
+use Rattle.layout.specs.Layout.{slot, cell, stored, update-of, nodes, Kept}
 use Rattle.layout.specs.Lists.{modify}
 use Rattle.layout.specs.Flat.{second}
 
@@ -61,18 +61,15 @@ with-text o b a =
 abbrev pub with-bytes : List ℕ → Marked → Marked
 with-bytes b a = with-now (with-content (a .now) b) a
 
--- the content now saved where somebody wrote, and the other way round
-abbrev pub with-saved : Marked → Marked
-with-saved a = with-update (update-of (writer-of (a .update)) (a .now .content)) a
-
+-- the saved content is the content now
 abbrev pub restored : Marked → Marked
 restored a = with-bytes (saved-of (a .update)) a
 
--- what saving the content of the node at place i leaves; its saved bytes are looked at when a writer is stored
-pub record Saved (s s′ : List ℕ) (i : ℕ) : Type 0 where
-  pub kept : Kept s s′ (modify i (second with-saved) (nodes s))
-  pub bytes : saved-bytes s′ i ≡ getD (nodes s) i no-entry .1 .now .content
-  pub size : saved-size s′ i ≤ 32
+-- what storing b as the content o of the node at i leaves; saved bytes are looked at when a writer is stored
+pub record Stored (s s′ : List ℕ) (i o : ℕ) (b : List ℕ) : Type 0 where
+  pub kept : Kept s s′ (modify i (second (with-text o b)) (nodes s))
+  pub bytes : stored o (cell s′ (slot s′ i)) ≡ b
+  pub size : getD (cell s′ (slot s′ i)) (4 + o) 0 ≤ 32
 
 -- transaction t writes: the committed content is saved
 abbrev pub marked-written : ℕ → Marked → Marked

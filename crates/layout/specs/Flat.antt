@@ -1,6 +1,6 @@
 -- A forest as a list: document order, each node with its depth.
-use Prim.Native.Nat.{ℕ, zero, suc}
-use mathlib.Core.Bool.{Bool, true, false, cond, _&&_}
+use Prim.Native.Nat.{ℕ, suc}
+use mathlib.Core.Bool.{Bool, cond, _&&_}
 use mathlib.Core.List.{List, [], _∷_, _++_}
 use lib.Dec.{leb, ltb}
 use Rattle.tree.specs.Forest.{Forest, nil, node}
@@ -9,14 +9,18 @@ use Rattle.tree.specs.Forest.{Forest, nil, node}
 abbrev pub second : {A B : Type 0} → (A → B) → ℕ × A → ℕ × B
 second g x = (x .0, g (x .1))
 
+-- a row of this depth is left out: it lies below one that was; `below` is the least depth left out now, 0 for none
+abbrev pub left-out : ℕ → ℕ → Bool
+left-out below depth = ltb 0 below && leb below depth
+
 module _ {A : Type 0} where
   unfoldable pub flat : ℕ → Forest A → List (ℕ × A)
   flat d nil = []
   flat d (node a ks fs) = (d, a) ∷ (flat (suc d) ks ++ flat d fs)
 
-  -- a list without the nodes that are not shown and all below them; below is the least depth that is left out now, 0 for none
+  -- a list without the nodes that are not shown and all below them
   unfoldable pub prune : (A → Bool) → ℕ → List (ℕ × A) → List (ℕ × A)
   prune shown below [] = []
   prune shown below (x ∷ xs) =
-      cond (ltb 0 below && leb below (x .0)) (prune shown below xs)
+      cond (left-out below (x .0)) (prune shown below xs)
       (cond (shown (x .1)) (x ∷ prune shown 0 xs) (prune shown (suc (x .0)) xs))

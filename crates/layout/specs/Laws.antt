@@ -1,10 +1,9 @@
 pub mod Lists
 pub mod Bytes
-pub mod Nodes
 pub mod Kept
+pub mod Nodes
 pub mod Fields
 pub mod Texts
-pub mod Written
 pub mod Locks
 pub mod Bits
 pub mod Opens

@@ -1,15 +1,14 @@
 -- Where the lent bytes hold what: docs/STATE.md.
-use Prim.Native.Nat.{ℕ, _+_, _*_, _-_, _≤_, _<_}
+use Prim.Native.Nat.{ℕ, zero, suc, _+_, _*_, _-_, _≤_, _<_}
 use mathlib.Core.Path.{_≡_}
-use mathlib.Core.Bool.{Bool, true, false, cond}
-use mathlib.Core.List.{List, [], _∷_}
+use mathlib.Core.Bool.{Bool, false, cond}
+use mathlib.Core.List.{List, [], _∷_, map}
 use lib.Dec.{eqb}
 use lib.ListN.{length, getD, take, drop}
 use Rattle.tree.specs.Text.{bytes}
-use Rattle.locks.specs.Modes.{ModeSet, no-mode, in-word}
-use Rattle.locks.specs.Modes.{bit}
+use Rattle.tree.specs.Lists.{distinct}
+use Rattle.locks.specs.Modes.{ModeSet, no-mode, in-word, bit}
 use Rattle.protocol.specs.State.{nobody, is-transaction, Update, unwritten, wrote, Marked, unmarked, Header}
-use Rattle.layout.specs.Lists.{tabulate}
 
 -- offsets ----------------------------------------------------------------------------
 
@@ -101,9 +100,18 @@ Entry = ℕ × Marked
 unfoldable pub entry : List ℕ → ℕ → Entry
 entry s i = (depth s i, decode (number s i) (cell s (slot s i)) (held s (slot s i)))
 
+-- the first n of a rule: f 0, f 1, ..
+unfoldable pub tabulate : {A : Type 0} → ℕ → (ℕ → A) → List A
+tabulate zero f = []
+tabulate (suc n) f = f 0 ∷ tabulate n (λ i. f (suc i))
+
 -- all nodes held, in document order: what the other crates see of the bytes
 unfoldable pub nodes : List ℕ → List Entry
 nodes s = tabulate (count s) (entry s)
+
+-- no two of them have the same number
+abbrev pub unique : List Entry → Bool
+unique l = distinct (map (λ x. x .1 .now .number) l)
 
 -- where there is none
 abbrev pub no-entry : Entry

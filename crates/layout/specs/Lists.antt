@@ -1,15 +1,10 @@
--- Lists by place: one element changed, one put in, and those of a rule.
+-- Lists by place: one element changed, one put in, and the first that passes.
 use Prim.Native.Nat.{ℕ, zero, suc}
 use mathlib.Core.Bool.{Bool, cond}
 use mathlib.Core.List.{List, [], _∷_, _++_}
 use lib.ListN.{take, drop}
 
 module _ {A : Type 0} where
-  -- the first n of a rule: f 0, f 1, ..
-  unfoldable pub tabulate : ℕ → (ℕ → A) → List A
-  tabulate zero f = []
-  tabulate (suc n) f = f 0 ∷ tabulate n (λ i. f (suc i))
-
   -- the element at place i by f; the others stay
   unfoldable pub modify : ℕ → (A → A) → List A → List A
   modify i f [] = []

@@ -5,6 +5,33 @@ ghost use lib.ListN.{length, getD};
 ghost use Rattle.layout.specs.Layout.{word};
 ghost use Rattle.layout.specs.Laws.Bytes.{put-word, Filled};
 
+// The first bytes of a state, and the bytes that it takes; those behind are never touched.
+pub const MARK: [u8; 8] = *b"NFSTATE1";
+
+pub const SIZE: usize = 110608;
+
+// The most nodes.
+pub const NODES: usize = 1024;
+
+// Where the bytes hold the open transactions and how many nodes are held.
+pub const OPEN: usize = 8;
+
+pub const COUNT: usize = 10;
+
+// The outline, and the bytes of an entry; the cells, and those of one.
+pub const OUTLINE: usize = 16;
+
+pub const ENTRY: usize = 6;
+
+pub const CELLS: usize = 6160;
+
+pub const CELL: usize = 70;
+
+// The lock words, and the bytes of those of one transaction.
+pub const LOCKS: usize = 77840;
+
+pub const WORDS: usize = 2048;
+
 pub fn join(low: u8, high: u8) -> u16
     ensures { λ r. ⌜ r ≡ low + 256 * high ⌝ }
 {

@@ -1,7 +1,7 @@
 -- A step that finds its node at a place of the rows: all that it is judged by and answers, in terms of rows.
 use mathlib.Core.Path.{_≡_}
 use Prim.Native.Nat.{ℕ, zero, suc}
-use mathlib.Core.Bool.{Bool, true, false, cond, not, _&&_, _||_}
+use mathlib.Core.Bool.{Bool, true, false, not, _&&_, _||_}
 use mathlib.Core.List.{List, [], _∷_, map}
 use lib.ListN.{length}
 use lib.Dec.{eqb, ltb, leb}
@@ -14,7 +14,7 @@ use Rattle.tree.specs.Steps.{Value, done, kind-parent, child-is, none, content-
 use Rattle.locks.specs.Modes.{Mode, against}
 use Rattle.locks.specs.Needs.{Need, need, locks, needs}
 use Rattle.locks.specs.Words.{word}
-use Rattle.protocol.specs.State.{Marked, State, number-held, callers-document, with-tree, act, grant}
+use Rattle.protocol.specs.State.{Marked, State, callers-document, with-tree, act, grant}
 use Rattle.protocol.specs.Lent.{Room, has-room}
 use Rattle.protocol.specs.Causes.{unfit-kind, unfit-content, held-number, unfit-place, full-table, short-buffer}
 use Rattle.protocol.specs.Calls.{node-limit, wait-set, number-taken, table-full, Next, checked, takes-step, refused, waits}
@@ -98,7 +98,10 @@ judged-at t s room M l p =
     (refused unfit-kind, wrong-kind-on s (item l p .now .kind))
     ∷ (refused unfit-content, wrong-content-on s (item l p .now .kind))
     ∷ (refused held-number, taken-in s l)
-    ∷ (waits (wait-word t (need s) (M .header .is-open) (item l p ∷ ups l p)), not (eqb (wait-word t (need s) (M .header .is-open) (item l p ∷ ups l p)) 0))
+    ∷ (
+      waits (wait-word t (need s) (M .header .is-open) (item l p ∷ ups l p)),
+      not (eqb (wait-word t (need s) (M .header .is-open) (item l p ∷ ups l p)) 0),
+    )
     ∷ (refused unfit-place, misplaced-on s (item l p .now .kind) (map kind-of (children t l p)))
     ∷ (refused full-table, full-in s l)
     ∷ (refused short-buffer, not (has-room (answer-at s t l p) room)) ∷ [])

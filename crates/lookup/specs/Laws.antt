@@ -1,10 +1,10 @@
 pub mod NodeAt
 pub mod Up
+pub mod Passes
 pub mod Seen
 pub mod Find
 pub mod Subtree
 pub mod Children
 pub mod Waiting
-pub mod Masks
 pub mod Placing
 pub mod Judgement

@@ -1,14 +1,15 @@
 -- Places in the rows of a tree: what loops over them compute. Rows are the nodes held in document order, each with its depth.
-use Prim.Native.Nat.{ℕ, zero, suc, _+_}
+use Prim.Native.Nat.{ℕ, zero, suc}
 use mathlib.Core.Bool.{Bool, cond, _&&_}
 use mathlib.Core.List.{List, [], _∷_, map}
-use lib.ListN.{length, getD, drop}
+use lib.ListN.{getD, drop}
 use lib.Dec.{eqb, ltb}
-use Rattle.tree.specs.Lists.{every, keep, distinct}
+use Rattle.tree.specs.Lists.{every, keep}
 use Rattle.protocol.specs.State.{Marked, numbered, seen-by}
 use Rattle.layout.specs.Lists.{first}
 use Rattle.layout.specs.Flat.{prune}
 use Rattle.layout.specs.Layout.{Entry, no-entry}
+pub use Rattle.layout.specs.Layout.{unique}
 
 -- the depth and the node at a place
 abbrev pub depth : List Entry → ℕ → ℕ
@@ -22,10 +23,6 @@ items l = map (λ x. x .1) l
 
 abbrev pub number-of : Marked → ℕ
 number-of a = a .now .number
-
--- no two rows have one number
-abbrev pub unique : List Entry → Bool
-unique l = distinct (map (λ x. number-of (x .1)) l)
 
 -- the first place with this number, or the length
 abbrev pub place-of : ℕ → List Entry → ℕ
@@ -59,10 +56,6 @@ seen-at t l p = every (seen-by t) (item l p ∷ ups l p)
 unfoldable pub below : {A : Type 0} → ℕ → List (ℕ × A) → List (ℕ × A)
 below e [] = []
 below e (x ∷ xs) = cond (ltb e (x .0)) (x ∷ below e xs) []
-
--- the place behind the subtree of the node at p
-unfoldable pub subtree-end : List Entry → ℕ → ℕ
-subtree-end l p = suc p + length (below (depth l p) (drop (suc p) l))
 
 -- a child of a node at depth e, if it is below that node; t did not delete it
 abbrev pub child-seen : ℕ → ℕ → Entry → Bool

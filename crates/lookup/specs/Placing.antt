@@ -16,7 +16,8 @@ unfoldable pub ordered-behind : ℕ → ℕ → List ℕ → Bool
 ordered-behind a n [] = true
 ordered-behind a n (x ∷ xs) = cond (eqb x attribute-kind) (eqb a n && ordered-behind (suc a) (suc n) xs) (ordered-behind a (suc n) xs)
 
--- a child of this kind as the k-th: by the children's number, how many are attributes, whether attributes are first, and whether all may be there
+-- a child of this kind as the k-th: by the children's number, how many are attributes, whether attributes are first, and whether all may be
+-- there
 unfoldable pub placed-by : ℕ → ℕ → ℕ → (count attributes : ℕ) (ordered allowed : Bool) → Bool
 placed-by parent kind k n a ordered allowed =
     leb 1 k && leb k (suc n) && (takes parent kind && allowed && cond (eqb parent element-kind)

@@ -8,20 +8,9 @@ use lib.Dec.{eqb, ltb, leb}
 use Rattle.protocol.specs.State.{Marked}
 use Rattle.layout.specs.Lists.{modify, insert}
 use Rattle.layout.specs.Fields.{field}
-use Rattle.layout.specs.Layout.{entry-at, slot, depth, number, is-open, Entry, nodes, no-entry, Left, header}
+use Rattle.layout.specs.Layout.{entry-at, Entry, nodes, no-entry, Left, header}
 use Rattle.layout.specs.Laws.Bytes.{Only}
-
--- the entry at place i
-pub record Placed (s : List ℕ) (i k d n : ℕ) : Type 0 where
-  pub slot : slot s i ≡ k
-  pub depth : depth s i ≡ d
-  pub number : number s i ≡ n
-
--- the entry at place i of s′ is that at place j of s
-pub record Copy (s : List ℕ) (j : ℕ) (s′ : List ℕ) (i : ℕ) : Type 0 where
-  pub slot : slot s′ i ≡ slot s j
-  pub depth : depth s′ i ≡ depth s j
-  pub number : number s′ i ≡ number s j
+use Rattle.layout.specs.Laws.Nodes.{Placed, Copy}
 
 -- only the entry at place i may differ, and it is this
 pub record Entered (s s′ : List ℕ) (i k d n : ℕ) : Type 0 where

@@ -1,31 +1,20 @@
 // The outline of the lent bytes: a node put in at a place, and nodes taken out. Slots stay where they are; only the outline's entries move.
 ghost use mathlib.Core.Path.{_≡_};
 ghost use mathlib.Core.Bool.{true};
-ghost use mathlib.Core.List.{[]};
-ghost use Prim.Native.Nat.{_+_, _-_, _*_, _<_, _≤_};
+ghost use Prim.Native.Nat.{_+_, _<_, _≤_};
 ghost use lib.ListN.{length, getD, take};
 ghost use Rattle.protocol.specs.State.{inserted-by};
 ghost use Rattle.layout.specs.Lists.{insert};
-ghost use Rattle.layout.specs.Layout.{state-size, slot, depth, number, is-open, nodes, no-entry, Layout, Left, Kept, header};
+ghost use Rattle.layout.specs.Layout.{state-size, slot, depth, number, nodes, no-entry, Layout, Left, Kept, header};
 ghost use Rattle.layout.specs.Flat.{prune};
 ghost use Rattle.outline.specs.Outline.{Entered, Shifted, Opened, exchange, next-below, not-marked};
-
-const COUNT: usize = 10;
-
-const OUTLINE: usize = 16;
-
-const ENTRY: usize = 6;
-
-const CELLS: usize = 6160;
-
-const CELL: usize = 70;
 
 // The outline's entry at place i.
 fn set_entry(s: &mut [u8], i: usize, k: u16, d: u16, n: u16)
     requires { ⌜ (state-size ≤ length (now s)) × (i < 1024) ⌝ }
     ensures { λ r. ⌜ Entered (now (s .entry)) (now (s .exit)) i k d n ⌝ }
 {
-    let at = OUTLINE + ENTRY * i;
+    let at = layout::OUTLINE + layout::ENTRY * i;
     layout::set_word(s, at, k);
     layout::set_word(s, at + 2, d);
     layout::set_word(s, at + 4, n);
@@ -34,9 +23,10 @@ fn set_entry(s: &mut [u8], i: usize, k: u16, d: u16, n: u16)
 // The entry at place i copied to the next place.
 fn copy_up(s: &mut [u8], i: usize)
     requires { ⌜ (state-size ≤ length (now s)) × (i < 1023) ⌝ }
-    ensures { λ r. ⌜ Entered (now (s .entry)) (now (s .exit)) (i + 1) (slot (now (s .entry)) i) (depth (now (s .entry)) i) (number (now (s .entry)) i) ⌝ }
+    ensures { λ r. ⌜ Entered (now (s .entry)) (now (s .exit)) (i + 1) (slot (now (s .entry)) i) (depth (now (s .entry)) i)
+        (number (now (s .entry)) i) ⌝ }
 {
-    let at = OUTLINE + ENTRY * i;
+    let at = layout::OUTLINE + layout::ENTRY * i;
     let k = layout::word(s, at);
     let d = layout::word(s, at + 2);
     let n = layout::word(s, at + 4);
@@ -62,10 +52,10 @@ fn open_place(s: &mut [u8], p: usize, d: u16, n: u16)
 {
     let m = table::count(s);
     let k = table::slot(s, m);
-    layout::clear(s, CELLS + CELL * k + 4, 2);
+    layout::clear(s, layout::CELLS + layout::CELL * k + 4, 2);
     shift(s, p, m);
     set_entry(s, p, k as u16, d, n);
-    layout::set_word(s, COUNT, (m + 1) as u16);
+    layout::set_word(s, layout::COUNT, (m + 1) as u16);
 }
 
 // A node inserted by t, at place p and depth d.
@@ -91,16 +81,16 @@ pub fn swap(s: &mut [u8], i: usize, j: usize)
     if i == j {
         return;
     }
-    let a = OUTLINE + ENTRY * i;
+    let a = layout::OUTLINE + layout::ENTRY * i;
     let ki = layout::word(s, a);
     let di = layout::word(s, a + 2);
     let ni = layout::word(s, a + 4);
-    let b = OUTLINE + ENTRY * j;
+    let b = layout::OUTLINE + layout::ENTRY * j;
     let kj = layout::word(s, b);
     let dj = layout::word(s, b + 2);
     let nj = layout::word(s, b + 4);
-    set_entry(s, i, kj, dj, nj);
     set_entry(s, j, ki, di, ni);
+    set_entry(s, i, kj, dj, nj);
 }
 
 // Only the first k nodes are held; the slots of the others are free.
@@ -108,7 +98,7 @@ pub fn cut(s: &mut [u8], k: usize)
     requires { ⌜ (Layout (now s)) × (1 ≤ k) × (k ≤ length (nodes (now s))) ⌝ }
     ensures { λ r. ⌜ Left (now (s .entry)) (now (s .exit)) (header (now (s .entry))) (take k (nodes (now (s .entry)))) ⌝ }
 {
-    layout::set_word(s, COUNT, k as u16);
+    layout::set_word(s, layout::COUNT, k as u16);
 }
 
 // One more than the depth of the node at j where its mark o is t, else 0.

@@ -10,25 +10,14 @@ ghost use Rattle.layout.specs.Lists.{modify, first};
 ghost use Rattle.layout.specs.Flat.{second};
 ghost use Rattle.layout.specs.Layout.{slot, nodes, no-entry, Layout, Kept};
 ghost use Rattle.layout.specs.Fields.{field, storable, with-field, with-kind};
-ghost use Rattle.layout.specs.Fields.{has-text, text, with-bytes, restored, saved-bytes, saved-size, Saved, marked-written};
-
-// The bytes that a state takes; those behind are never touched.
-pub const SIZE: usize = 110608;
-
-const OUTLINE: usize = 16;
-
-const ENTRY: usize = 6;
-
-const CELLS: usize = 6160;
-
-const CELL: usize = 70;
+ghost use Rattle.layout.specs.Fields.{has-text, text, with-bytes, restored, saved-bytes, saved-size, Stored, marked-written};
 
 // How many nodes are held.
 pub fn count(s: &[u8]) -> usize
     requires { ⌜ Layout (now s) ⌝ }
     ensures { λ r. ⌜ r ≡ length (nodes (now (s .entry))) ⌝ }
 {
-    layout::word(s, 10) as usize
+    layout::word(s, layout::COUNT) as usize
 }
 
 // The slot of the outline's entry at place i, used or free.
@@ -36,21 +25,21 @@ pub fn slot(s: &[u8], i: usize) -> usize
     requires { ⌜ (Layout (now s)) × (i < 1024) ⌝ }
     ensures { λ r. ⌜ (r ≡ slot (now (s .entry)) i) × (r < 1024) ⌝ }
 {
-    layout::word(s, OUTLINE + ENTRY * i) as usize
+    layout::word(s, layout::OUTLINE + layout::ENTRY * i) as usize
 }
 
 pub fn depth(s: &[u8], i: usize) -> u16
     requires { ⌜ (Layout (now s)) × (i < length (nodes (now s))) ⌝ }
     ensures { λ r. ⌜ r ≡ getD (nodes (now (s .entry))) i no-entry .0 ⌝ }
 {
-    layout::word(s, OUTLINE + ENTRY * i + 2)
+    layout::word(s, layout::OUTLINE + layout::ENTRY * i + 2)
 }
 
 pub fn number(s: &[u8], i: usize) -> u16
     requires { ⌜ (Layout (now s)) × (i < length (nodes (now s))) ⌝ }
     ensures { λ r. ⌜ r ≡ getD (nodes (now (s .entry))) i no-entry .1 .now .number ⌝ }
 {
-    layout::word(s, OUTLINE + ENTRY * i + 4)
+    layout::word(s, layout::OUTLINE + layout::ENTRY * i + 4)
 }
 
 // Byte o of the cell of the node at i: 0 kind, 1 writer, 2 inserter, 3 deleter.
@@ -58,7 +47,7 @@ pub fn field(s: &[u8], i: usize, o: usize) -> u8
     requires { ⌜ (Layout (now s)) × (i < length (nodes (now s))) × (o < 4) ⌝ }
     ensures { λ r. ⌜ r ≡ field o (getD (nodes (now (s .entry))) i no-entry .1) ⌝ }
 {
-    s[CELLS + CELL * slot(s, i) + o]
+    s[layout::CELLS + layout::CELL * slot(s, i) + o]
 }
 
 pub fn kind(s: &[u8], i: usize) -> u8
@@ -94,7 +83,7 @@ pub fn set_field(s: &mut [u8], i: usize, o: usize, v: u8)
     ensures { λ r. ⌜ Kept (now (s .entry)) (now (s .exit)) (modify i (second (with-field o v)) (nodes (now (s .entry)))) ⌝ }
 {
     let k = slot(s, i);
-    s[CELLS + CELL * k + o] = v;
+    s[layout::CELLS + layout::CELL * k + o] = v;
 }
 
 pub fn set_kind(s: &mut [u8], i: usize, v: u8)
@@ -133,7 +122,7 @@ pub fn size(s: &[u8], i: usize, o: usize) -> usize
         × (has-text o (getD (nodes (now s)) i no-entry .1) ≡ true) ⌝ }
     ensures { λ r. ⌜ (r ≡ length (text o (getD (nodes (now (s .entry))) i no-entry .1))) × (r ≤ 32) ⌝ }
 {
-    s[CELLS + CELL * slot(s, i) + 4 + o] as usize
+    s[layout::CELLS + layout::CELL * slot(s, i) + 4 + o] as usize
 }
 
 // Byte j of a content of the node at i.
@@ -142,7 +131,7 @@ pub fn content(s: &[u8], i: usize, o: usize, j: usize) -> u8
         × (has-text o (getD (nodes (now s)) i no-entry .1) ≡ true) × (j < length (text o (getD (nodes (now s)) i no-entry .1))) ⌝ }
     ensures { λ r. ⌜ r ≡ getD (text o (getD (nodes (now (s .entry))) i no-entry .1)) j 0 ⌝ }
 {
-    s[CELLS + CELL * slot(s, i) + 6 + 32 * o + j]
+    s[layout::CELLS + layout::CELL * slot(s, i) + 6 + 32 * o + j]
 }
 
 // A content of the node at i.
@@ -152,7 +141,7 @@ pub fn content_bytes(s: &[u8], i: usize, o: usize) -> &[u8]
     ensures { λ r. ⌜ now r ≡ text o (getD (nodes (now (s .entry))) i no-entry .1) ⌝ }
 {
     let n = size(s, i, o);
-    let at = CELLS + CELL * slot(s, i) + 6 + 32 * o;
+    let at = layout::CELLS + layout::CELL * slot(s, i) + 6 + 32 * o;
     &s[at..at + n]
 }
 
@@ -161,18 +150,19 @@ pub fn set_content(s: &mut [u8], i: usize, b: &[u8])
     ensures { λ r. ⌜ Kept (now (s .entry)) (now (s .exit)) (modify i (second (with-bytes (now (b .entry)))) (nodes (now (s .entry)))) ⌝ }
 {
     let k = slot(s, i);
-    s[CELLS + CELL * k + 4] = b.len() as u8;
-    layout::store(s, CELLS + CELL * k + 6, b);
+    s[layout::CELLS + layout::CELL * k + 4] = b.len() as u8;
+    layout::store(s, layout::CELLS + layout::CELL * k + 6, b);
 }
 
-// The content now is saved.
-fn save_content(s: &mut [u8], i: usize)
-    requires { ⌜ (Layout (now s)) × (i < length (nodes (now s))) ⌝ }
-    ensures { λ r. ⌜ Saved (now (s .entry)) (now (s .exit)) i ⌝ }
+// The content o of the node at i stored as its content p.
+fn copy_content(s: &mut [u8], i: usize, o: usize, p: usize)
+    requires { ⌜ (Layout (now s)) × (i < length (nodes (now s))) × (o < 2) × (p < 2) × (o ≡ p → ⊥)
+        × (has-text o (getD (nodes (now s)) i no-entry .1) ≡ true) ⌝ }
+    ensures { λ r. ⌜ Stored (now (s .entry)) (now (s .exit)) i p (text o (getD (nodes (now (s .entry))) i no-entry .1)) ⌝ }
 {
-    let c = CELLS + CELL * slot(s, i);
-    s[c + 5] = s[c + 4];
-    layout::copy_32(s, c + 6, c + 38);
+    let c = layout::CELLS + layout::CELL * slot(s, i);
+    s[c + 4 + p] = s[c + 4 + o];
+    layout::copy_32(s, c + 6 + 32 * o, c + 6 + 32 * p);
 }
 
 // The bytes that were saved last are the saved content.
@@ -182,7 +172,7 @@ fn set_writer(s: &mut [u8], i: usize, t: u8)
         (modify i (second (with-update (wrote t (saved-bytes (now (s .entry)) i)))) (nodes (now (s .entry)))) ⌝ }
 {
     let k = slot(s, i);
-    s[CELLS + CELL * k + 1] = t;
+    s[layout::CELLS + layout::CELL * k + 1] = t;
 }
 
 // Transaction t writes: the content now is saved, if nobody wrote before.
@@ -194,7 +184,7 @@ pub fn mark_written(s: &mut [u8], i: usize, t: u8)
         set_writer(s, i, t);
         return;
     }
-    save_content(s, i);
+    copy_content(s, i, 0, 1);
     set_writer(s, i, t);
 }
 
@@ -203,9 +193,7 @@ pub fn restore_content(s: &mut [u8], i: usize)
     requires { ⌜ (Layout (now s)) × (i < length (nodes (now s))) × (has-text 1 (getD (nodes (now s)) i no-entry .1) ≡ true) ⌝ }
     ensures { λ r. ⌜ Kept (now (s .entry)) (now (s .exit)) (modify i (second restored) (nodes (now (s .entry)))) ⌝ }
 {
-    let c = CELLS + CELL * slot(s, i);
-    s[c + 4] = s[c + 5];
-    layout::copy_32(s, c + 38, c + 6);
+    copy_content(s, i, 1, 0);
 }
 
 // The place of the node numbered n, or the count.

@@ -1,8 +1,8 @@
 // Transactions in the lent bytes: which are open, and the modes that each was granted on each node.
 ghost use mathlib.Core.Path.{_≡_};
-ghost use mathlib.Core.Bool.{true, false, not, _&&_, _||_};
+ghost use mathlib.Core.Bool.{true, false, cond, not, _&&_, _||_};
 ghost use mathlib.Core.List.{map};
-ghost use Prim.Native.Nat.{ℕ, _+_, _-_, _*_, _^_, _<_, _≤_};
+ghost use Prim.Native.Nat.{_^_, _<_, _≤_};
 ghost use lib.ListN.{length, getD};
 ghost use lib.Dec.{eqb};
 ghost use Rattle.locks.specs.Modes.{in-word};
@@ -12,10 +12,6 @@ ghost use Rattle.layout.specs.Flat.{second};
 ghost use Rattle.layout.specs.Layout.{is-open, nodes, no-entry, Layout, Left, Kept, header};
 ghost use Rattle.layout.specs.Fields.{with-modes, unlocked};
 ghost use Rattle.layout.specs.Transaction.{Loaded};
-
-const OPEN: usize = 8;
-
-const LOCKS: usize = 77840;
 
 fn power(m: usize) -> u16
     requires { ⌜ m < 16 ⌝ }
@@ -28,23 +24,34 @@ pub fn is_open(s: &[u8], t: usize) -> bool
     requires { ⌜ (Layout (now s)) × (1 ≤ t) × (t ≤ 16) ⌝ }
     ensures { λ r. ⌜ r ≡ is-open (now (s .entry)) t ⌝ }
 {
-    (layout::word(s, OPEN) >> (t - 1)) % 2 == 1
+    (layout::word(s, layout::OPEN) >> (t - 1)) % 2 == 1
+}
+
+// Transaction t is opened if it was not open, else closed.
+fn turn(s: &mut [u8], t: usize)
+    requires { ⌜ (Layout (now s)) × (1 ≤ t) × (t ≤ 16) ⌝ }
+    ensures { λ r. ⌜ Left (now (s .entry)) (now (s .exit))
+        (with-open (λ u. cond (eqb u t) (not (is-open (now (s .entry)) t)) (is-open (now (s .entry)) u)) (header (now (s .entry))))
+        (nodes (now (s .entry))) ⌝ }
+{
+    let w = layout::word(s, layout::OPEN);
+    layout::set_word(s, layout::OPEN, w ^ power(t - 1));
 }
 
 pub fn open(s: &mut [u8], t: usize)
     requires { ⌜ (Layout (now s)) × (1 ≤ t) × (t ≤ 16) × (is-open (now s) t ≡ false) ⌝ }
-    ensures { λ r. ⌜ Left (now (s .entry)) (now (s .exit)) (with-open (λ u. eqb u t || is-open (now (s .entry)) u) (header (now (s .entry)))) (nodes (now (s .entry))) ⌝ }
+    ensures { λ r. ⌜ Left (now (s .entry)) (now (s .exit))
+        (with-open (λ u. eqb u t || is-open (now (s .entry)) u) (header (now (s .entry)))) (nodes (now (s .entry))) ⌝ }
 {
-    let w = layout::word(s, OPEN);
-    layout::set_word(s, OPEN, w ^ power(t - 1));
+    turn(s, t);
 }
 
 pub fn close(s: &mut [u8], t: usize)
     requires { ⌜ (Layout (now s)) × (1 ≤ t) × (t ≤ 16) × (is-open (now s) t ≡ true) ⌝ }
-    ensures { λ r. ⌜ Left (now (s .entry)) (now (s .exit)) (with-open (λ u. not (eqb u t) && is-open (now (s .entry)) u) (header (now (s .entry)))) (nodes (now (s .entry))) ⌝ }
+    ensures { λ r. ⌜ Left (now (s .entry)) (now (s .exit))
+        (with-open (λ u. not (eqb u t) && is-open (now (s .entry)) u) (header (now (s .entry)))) (nodes (now (s .entry))) ⌝ }
 {
-    let w = layout::word(s, OPEN);
-    layout::set_word(s, OPEN, w ^ power(t - 1));
+    turn(s, t);
 }
 
 // The modes that transaction t was granted on the node at i, as a word.
@@ -52,7 +59,10 @@ pub fn lock(s: &[u8], t: usize, i: usize) -> u16
     requires { ⌜ (Layout (now s)) × (1 ≤ t) × (t ≤ 16) × (i < length (nodes (now s))) ⌝ }
     ensures { λ r. ⌜ in-word r ≡ getD (nodes (now (s .entry))) i no-entry .1 .held t ⌝ }
 {
-    layout::word(s, LOCKS + 2048 * (t - 1) + 2 * table::slot(s, i))
+    layout::word(
+        s,
+        layout::LOCKS + layout::WORDS * (t - 1) + 2 * table::slot(s, i),
+    )
 }
 
 pub fn set_lock(s: &mut [u8], t: usize, i: usize, w: u16)
@@ -60,7 +70,7 @@ pub fn set_lock(s: &mut [u8], t: usize, i: usize, w: u16)
     ensures { λ r. ⌜ Kept (now (s .entry)) (now (s .exit)) (modify i (second (with-modes t w)) (nodes (now (s .entry)))) ⌝ }
 {
     let k = table::slot(s, i);
-    layout::set_word(s, LOCKS + 2048 * (t - 1) + 2 * k, w);
+    layout::set_word(s, layout::LOCKS + layout::WORDS * (t - 1) + 2 * k, w);
 }
 
 // Transaction t holds nothing.
@@ -68,7 +78,7 @@ pub fn release(s: &mut [u8], t: usize)
     requires { ⌜ (Layout (now s)) × (1 ≤ t) × (t ≤ 16) ⌝ }
     ensures { λ r. ⌜ Kept (now (s .entry)) (now (s .exit)) (map (second (released t)) (nodes (now (s .entry)))) ⌝ }
 {
-    layout::clear(s, LOCKS + 2048 * (t - 1), 2048);
+    layout::clear(s, layout::LOCKS + layout::WORDS * (t - 1), layout::WORDS);
 }
 
 // A transaction's mode sets: one 16-bit word for each node slot.
@@ -81,7 +91,7 @@ pub fn load(s: &[u8], t: usize) -> Transaction
     requires { ⌜ (Layout (now s)) × (1 ≤ t) × (t ≤ 16) ⌝ }
     ensures { λ r. ⌜ Loaded (now (s .entry)) t (r .modes) ⌝ }
 {
-    let base = LOCKS + 2048 * (t - 1);
+    let base = layout::LOCKS + layout::WORDS * (t - 1);
     let mut modes = [0u16; 1024];
     let mut k: usize = 0;
     while k < 1024 {

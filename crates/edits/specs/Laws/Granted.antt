@@ -12,15 +12,16 @@ use Rattle.tree.specs.Steps.{Step, T, C, R, U, D, I, TT, RR, UU, target, insert
 use Rattle.tree.specs.Laws.Tests.{or-left}
 use Rattle.tree.specs.Laws.Lists.{map-map, map-append}
 use Rattle.locks.specs.Needs.{Lock, need, locks}
-use Rattle.protocol.specs.State.{Marked, Tree, numbered, number-held, mark-node, seen-by, inserted-by, written-by, deleted-by, granted-to, grant, act}
+use Rattle.protocol.specs.State.{Marked, Tree, numbered, number-held, mark-node, seen-by, inserted-by, written-by, deleted-by, granted-to}
+use Rattle.protocol.specs.State.{grant, act}
 use Rattle.layout.specs.Lists.{modify, insert}
 use Rattle.layout.specs.Flat.{flat, second}
 use Rattle.layout.specs.Layout.{Entry, no-entry}
 use Rattle.lookup.specs.Places.{depth, item, items, number-of, unique, above-places, ups, numbers-above, seen-at}
 use Rattle.lookup.specs.Laws.Up.{climb-before}
-use Rattle.lookup.specs.Laws.Find.{nodes-held}
-use Rattle.edits.specs.Rows.{Lacks, number-at, Inside, left-out, all-granted, granted-up, changed-below, renamed-by, renamed-rows, new-place, stepped}
-use Rattle.edits.specs.Laws.Unique.{lacks-at}
+use Rattle.lookup.specs.Laws.Find.{nodes-held, lacks-at}
+use Rattle.edits.specs.Rows.{Lacks, number-at, Inside, left-out, all-granted, granted-up, changed-below, renamed-by, renamed-rows}
+use Rattle.edits.specs.Rows.{new-place, stepped}
 use Rattle.edits.specs.Laws.Lists.{map-modify, map-insert, map-take, map-drop}
 use Rattle.edits.specs.Laws.Updates.{mark-node-rows}
 use Rattle.edits.specs.Laws.Grants.{grant-rows, rows-locks, granted-new}
@@ -29,7 +30,8 @@ use Rattle.edits.specs.Laws.Insertion.{insert-rows}
 
 -- a change of all rows, and one of those below a node
 module _ {A : Type 0} (shown : A → Bool) (g h : A → A) (same : (a : A) → shown (h a) ≡ shown a) (swap : (a : A) → h (g a) ≡ g (h a)) where
-  changed-map : (top hidden : ℕ) (l : List (ℕ × A)) → map (second h) (changed-below shown g top hidden l) ≡ changed-below shown g top hidden (map (second h) l)
+  changed-map : (top hidden : ℕ) (l : List (ℕ × A)) → map (second h) (changed-below shown g top hidden l)
+      ≡ changed-below shown g top hidden (map (second h) l)
   unfolding changed-below
   changed-map top hidden [] = refl
   changed-map top hidden (x ∷ l) =
@@ -37,7 +39,8 @@ module _ {A : Type 0} (shown : A → Bool) (g h : A → A) (same : (a : A) → s
       (changed-below shown g top hidden l) (changed-below shown g top 0 l) (changed-below shown g top (suc (x .0)) l)
       (changed-map top hidden l) (changed-map top 0 l) (changed-map top (suc (x .0)) l))
     where
-      go : (b c e : Bool) (u v w : List (ℕ × A)) {u′ v′ w′ : List (ℕ × A)} → map (second h) u ≡ u′ → map (second h) v ≡ v′ → map (second h) w ≡ w′
+      go : (b c e : Bool) (u v w : List (ℕ × A)) {u′ v′ w′ : List (ℕ × A)} → map (second h) u ≡ u′ → map (second h) v ≡ v′
+          → map (second h) w ≡ w′
           → map (second h) (cond b (cond c (x ∷ u) (cond e (second g x ∷ v) (x ∷ w))) (x ∷ l))
           ≡ cond b (cond c (second h x ∷ u′) (cond e (second g (second h x) ∷ v′) (second h x ∷ w′))) (second h x ∷ map (second h) l)
       go true true e u v w p q r = rw p
@@ -65,13 +68,16 @@ module _ (t : ℕ) (ls : List Lock) where
   renamed-granted a b p l h =
       let g : Marked → Marked = renamed-by t a b in
       let k : List Entry = all-granted t ls l in
-      let e : getD k p no-entry ≡ second (granted-to t ls) (getD l p no-entry) = map-at (second (granted-to t ls)) l p no-entry no-entry h in
+      let e : getD k p no-entry ≡ second (granted-to t ls) (getD l p no-entry) =
+      map-at (second (granted-to t ls)) l p no-entry no-entry h in
       let d : depth l p ≡ depth k p = ap (λ x. x .0) (sym e) in
       let head : granted-to t ls (g (item l p)) ≡ g (item k p) = rename-swap a b (item l p) ∙ ap (λ x. g (x .1)) (sym e) in
-      let tail : all-granted t ls (changed-below (seen-by t) g (depth l p) 0 (drop (suc p) l)) ≡ changed-below (seen-by t) g (depth k p) 0 (drop (suc p) k) =
+      let tail : all-granted t ls (changed-below (seen-by t) g (depth l p) 0 (drop (suc p) l))
+      ≡ changed-below (seen-by t) g (depth k p) 0 (drop (suc p) k) =
       changed-map (seen-by t) g (granted-to t ls) (λ x. refl) (rename-swap a b) (depth l p) 0 (drop (suc p) l)
       ∙ (λ j. changed-below (seen-by t) g (d j) 0 (map-drop (second (granted-to t ls)) (suc p) l j)) in
-      map-append (second (granted-to t ls)) (take p l) (second g (getD l p no-entry) ∷ changed-below (seen-by t) g (depth l p) 0 (drop (suc p) l))
+      map-append (second (granted-to t ls)) (take p l) (second g (getD l p no-entry) ∷ changed-below (seen-by t) g (depth l p) 0
+      (drop (suc p) l))
       ∙ (λ j. map-take (second (granted-to t ls)) p l j ++ ((d j, head j) ∷ tail j))
 
 -- the places above are places
@@ -88,7 +94,8 @@ numbers-at-places l p = map-map number-of (item l) (number-at l) (above-places l
 lacks-places : (n : ℕ) (l : List Entry) (is : List ℕ) → Lacks n l → Inside is l → has n (map (number-at l) is) ≡ false
 lacks-places n l [] k b = refl
 lacks-places n l (i ∷ is) k b =
-    rw (ne-eqb (number-at l i) n (λ e. lacks-at n l i k (b i (List·Memᴰ·head refl)) e)) (lacks-places n l is k (λ j m. b j (List·Memᴰ·tail m)))
+    rw (ne-eqb (number-at l i) n (λ e. lacks-at n l i k (b i (List·Memᴰ·head refl)) e))
+    (lacks-places n l is k (λ j m. b j (List·Memᴰ·tail m)))
 
 module _ (t : ℕ) (f : Tree) (p : ℕ) (u : unique (flat 0 f) ≡ true) (h : p < length (flat 0 f)) where
   -- the locks of a step, as they are granted along the way up
@@ -116,7 +123,8 @@ module _ (t : ℕ) (f : Tree) (p : ℕ) (u : unique (flat 0 f) ≡ true) (h : p 
         ∙ ap (modify p (second g)) way
 
   -- THE LAW: the locks along the way up, then the step
-  pub step-rows : (s : Step) → number-at (flat 0 f) p ≡ target s → seen-at t (flat 0 f) p ≡ true → any (λ m. number-held m f) (inserts s) ≡ false
+  pub step-rows : (s : Step) → number-at (flat 0 f) p ≡ target s → seen-at t (flat 0 f) p ≡ true
+      → any (λ m. number-held m f) (inserts s) ≡ false
       → flat 0 (grant t (locks s (numbers-above (flat 0 f) p)) (act t s f)) ≡ stepped t s p (flat 0 f)
   unfolding stepped
   step-rows (T n) e s new = reads (T n) e new
@@ -135,7 +143,8 @@ module _ (t : ℕ) (f : Tree) (p : ℕ) (u : unique (flat 0 f) ≡ true) (h : p 
       grant-rows t ls (act t w f)
       ∙ ap (all-granted t ls) (insert-rows t n k x f p u h e)
       ∙ map-insert (second (granted-to t ls)) (new-place t k p (flat 0 f)) (suc (depth (flat 0 f) p), x) (flat 0 f)
-      ∙ (λ j. insert (new-place t k p (flat 0 f)) (suc (depth (flat 0 f) p), granted-new t w (numbers-above (flat 0 f) p) x refl o j) (way w e new j))
+      ∙ (λ j. insert (new-place t k p (flat 0 f)) (suc (depth (flat 0 f) p), granted-new t w (numbers-above (flat 0 f) p) x refl o j)
+      (way w e new j))
   step-rows (TT n) e s new = reads (TT n) e new
   step-rows (RR n) e s new = reads (RR n) e new
   step-rows (UU n a b) e s new =

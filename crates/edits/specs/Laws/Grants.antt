@@ -4,21 +4,17 @@ use Prim.Native.Nat.{ℕ, _<_}
 use mathlib.Core.Bool.{Bool, true, false, cond, _||_, or-false}
 use mathlib.Core.List.{List, [], _∷_, _++_, map, append-assoc, List·Memᴰ·head, List·Memᴰ·tail}
 use lib.ListN.{length}
-use lib.Bits.{bitOr}
 use lib.Dec.{eqb}
 use borrow.Author.Tests.{eqb-true, eqb-false, eq-eqb, ne-eqb}
 use Rattle.tree.specs.Lists.{any, has, distinct}
 use Rattle.tree.specs.Laws.Lists.{map-map, map-same, map-self, eqb-flip}
 use Rattle.tree.specs.Laws.Tests.{or-left, or-right}
 use Rattle.tree.specs.Steps.{Step, target, inserts}
-use Rattle.locks.specs.Modes.{Mode, ModeSet, no-mode, same-mode, among, union, in-word}
+use Rattle.locks.specs.Modes.{Mode, ModeSet, no-mode, same-mode, among, union}
 use Rattle.locks.specs.Needs.{Need, need, Lock, each, every-one, up, locks}
-use Rattle.locks.specs.Words.{word-of}
-use Rattle.locks.specs.Laws.Sets.{in-union}
 use Rattle.protocol.specs.State.{Marked, Tree, numbered, modes-on, granted-to, grant, with-held}
 use Rattle.layout.specs.Lists.{modify}
 use Rattle.layout.specs.Flat.{flat, second}
-use Rattle.layout.specs.Fields.{with-modes}
 use Rattle.layout.specs.Layout.{Entry}
 use Rattle.layout.specs.Laws.Lists.{length-modify}
 use Rattle.lookup.specs.Places.{items, unique}
@@ -75,8 +71,10 @@ locks-way : (s : Step) (ns : List ℕ) (n : ℕ) → target s ≡ n
 unfolding locks
 locks-way s ns n e =
     ap (λ ls. each (need s .node) (target s) ++ (ls ++ every-one (need s .new) (inserts s))) (along-up (need s) ns)
-    ∙ sym (append-assoc (each (need s .node) (target s)) (locks-along (need s .parent) (need s .above) (need s .above) ns) (every-one (need s .new) (inserts s)))
-    ∙ ap (λ q. (each (need s .node) q ++ locks-along (need s .parent) (need s .above) (need s .above) ns) ++ every-one (need s .new) (inserts s)) e
+    ∙ sym (append-assoc (each (need s .node) (target s)) (locks-along (need s .parent) (need s .above) (need s .above) ns)
+    (every-one (need s .new) (inserts s)))
+    ∙ ap (λ q. (each (need s .node) q ++ locks-along (need s .parent) (need s .above) (need s .above) ns) ++ every-one (need s .new)
+    (inserts s)) e
 
 -- one node -------------------------------------------------------------------------------
 
@@ -91,7 +89,8 @@ module _ (t : ℕ) where
       n = a .now .number
 
       go : (u : ℕ) (m : Mode) (b : Bool) → cond b (union (a .held u) (modes-on (ls ++ ks) n)) (a .held u) m
-          ≡ cond b (union (cond b (union (a .held u) (modes-on ls n)) (a .held u)) (modes-on ks n)) (cond b (union (a .held u) (modes-on ls n)) (a .held u)) m
+          ≡ cond b (union (cond b (union (a .held u) (modes-on ls n)) (a .held u)) (modes-on ks n))
+          (cond b (union (a .held u) (modes-on ls n)) (a .held u)) m
       go u m true = rw (modes-append ls ks n m) (or-assoc (a .held u m) (modes-on ls n m) (modes-on ks n m))
       go u m false = refl
 
@@ -154,12 +153,15 @@ module _ (t : ℕ) where
       let e : row-numbers k ≡ row-numbers l = numbers-modify (granted-modes t ms) (λ a. refl) i l in
       let same : map (number-at l) is ≡ map (number-at k) is = map-same (number-at l) (number-at k) is (λ j m. number-same l k j (sym e)) in
       rows-append (each ms (number-at l i)) (locks-along ms′ ms″ ms″ (map (number-at l) is)) l
-      ∙ ap (all-granted t (locks-along ms′ ms″ ms″ (map (number-at l) is))) (rows-at ms (number-at l i) l i u (b i (List·Memᴰ·head refl)) refl)
+      ∙ ap (all-granted t (locks-along ms′ ms″ ms″ (map (number-at l) is)))
+      (rows-at ms (number-at l i) l i u (b i (List·Memᴰ·head refl)) refl)
       ∙ ap (λ (ns : List ℕ). all-granted t (locks-along ms′ ms″ ms″ ns) k) same
-      ∙ rows-along ms′ ms″ ms″ is k (ap distinct e ∙ u) (λ j m. rw (length-modify i (second (granted-modes t ms)) l) (b j (List·Memᴰ·tail m)))
+      ∙ rows-along ms′ ms″ ms″ is k (ap distinct e ∙ u) (λ j m. rw (length-modify i (second (granted-modes t ms)) l)
+      (b j (List·Memᴰ·tail m)))
 
   -- on numbers that no row has
-  rows-new : (ms : List Mode) (qs : List ℕ) (l : List Entry) → any (λ q. any (numbered q) (items l)) qs ≡ false → all-granted t (every-one ms qs) l ≡ l
+  rows-new : (ms : List Mode) (qs : List ℕ) (l : List Entry) → any (λ q. any (numbered q) (items l)) qs ≡ false
+      → all-granted t (every-one ms qs) l ≡ l
   rows-new ms [] l h = rows-nil l
   rows-new ms (q ∷ qs) l h =
       rows-append (each ms q) (every-one ms qs) l
@@ -168,18 +170,22 @@ module _ (t : ℕ) where
   -- THE LAW: the locks of a step, along the places of the node and its proper ancestors
   module _ (s : Step) (l : List Entry) (i : ℕ) (is : List ℕ) (u : unique l ≡ true) (e : number-at l i ≡ target s) (b : Inside (i ∷ is) l)
       (new : any (λ q. any (numbered q) (items l)) (inserts s) ≡ false) where
-    pub rows-locks : all-granted t (locks s (map (number-at l) is)) l ≡ granted-along t (need s .node) (need s .parent) (need s .above) (i ∷ is) l
+    pub rows-locks : all-granted t (locks s (map (number-at l) is)) l
+        ≡ granted-along t (need s .node) (need s .parent) (need s .above) (i ∷ is) l
     rows-locks =
         let w : Need = need s in
         let ks : List Lock = locks-along (w .node) (w .parent) (w .above) (map (number-at l) (i ∷ is)) in
-        let f : row-numbers (all-granted t ks l) ≡ row-numbers l = map-map row-number (second (granted-to t ks)) row-number l (λ x m. refl) in
+        let f : row-numbers (all-granted t ks l) ≡ row-numbers l =
+        map-map row-number (second (granted-to t ks)) row-number l (λ x m. refl) in
         ap (λ (ls : List Lock). all-granted t ls l) (locks-way s (map (number-at l) is) (number-at l i) (sym e))
         ∙ rows-append ks (every-one (w .new) (inserts s)) l
-        ∙ rows-new (w .new) (inserts s) (all-granted t ks l) (ap (λ (z : ℕ → Bool). any z (inserts s)) (fun-ext (same-numbers (all-granted t ks l) l f)) ∙ new)
+        ∙ rows-new (w .new) (inserts s) (all-granted t ks l) (ap (λ (z : ℕ → Bool). any z (inserts s))
+        (fun-ext (same-numbers (all-granted t ks l) l f)) ∙ new)
         ∙ rows-along (w .node) (w .parent) (w .above) (i ∷ is) l u b
 
   -- the new node of an insertion: only the locks on its own number
-  granted-absent : (ms ms′ ms″ : List Mode) (qs : List ℕ) (a : Marked) → has (a .now .number) qs ≡ false → granted-to t (locks-along ms ms′ ms″ qs) a ≡ a
+  granted-absent : (ms ms′ ms″ : List Mode) (qs : List ℕ) (a : Marked) → has (a .now .number) qs ≡ false
+      → granted-to t (locks-along ms ms′ ms″ qs) a ≡ a
   granted-absent ms ms′ ms″ [] a h = granted-none a
   granted-absent ms ms′ ms″ (q ∷ qs) a h =
       let none : granted-to t (each ms q) a ≡ a = granted-each ms q a ∙ rw (eqb-flip q (a .now .number) (or-left _ _ h)) in
@@ -201,15 +207,3 @@ module _ (t : ℕ) where
       ∙ granted-none (granted-to t (each (w .new) m) a)
       ∙ granted-each (w .new) m a
       ∙ rw (eq-eqb m m refl)
-
--- a lock word with a list of modes more
-pub granted-word : (t v : ℕ) (ms : List Mode) (a : Marked) → in-word v ≡ a .held t → ((m : Mode) → in-word (word-of ms) m ≡ among ms m)
-    → with-modes t (bitOr v (word-of ms)) a ≡ granted-modes t ms a
-granted-word t v ms a e w = same-held a _ _ (λ u m. go u m (eqb u t) refl)
-  where
-    go : (u : ℕ) (m : Mode) (b : Bool) → eqb u t ≡ b
-        → cond b (in-word (bitOr v (word-of ms))) (a .held u) m ≡ cond b (union (a .held u) (among ms)) (a .held u) m
-    go u m true q =
-        let h : in-word v m ≡ a .held u m = ap (λ (p : ModeSet). p m) (e ∙ ap (a .held) (sym (eqb-true u t q))) in
-        in-union v (word-of ms) m ∙ (λ j. h j || w m j)
-    go u m false q = refl

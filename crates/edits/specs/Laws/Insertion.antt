@@ -13,15 +13,17 @@ use Rattle.protocol.specs.State.{Marked, Tree, numbered, seen-by}
 use Rattle.layout.specs.Lists.{insert}
 use Rattle.layout.specs.Flat.{flat}
 use Rattle.layout.specs.Layout.{Entry}
-use Rattle.lookup.specs.Places.{depth, item, unique, below}
+use Rattle.lookup.specs.Places.{depth, unique, below}
+use Rattle.lookup.specs.Laws.NodeAt.{not-below}
+use Rattle.lookup.specs.Laws.Up.{depth-at, rows-behind}
+use Rattle.lookup.specs.Laws.Find.{holder}
 use Rattle.edits.specs.Rows.{number-at, before-new, new-place}
 use Rattle.edits.specs.Laws.Lists.{insert-append}
-use Rattle.edits.specs.Laws.Subtree.{children, depth-of, before, behind, split, stops, not-below, put-within}
-use Rattle.edits.specs.Laws.RowAt.{row-at}
 
 module _ {A : Type 0} (counts : A → Bool) (top : ℕ) where
   -- rows deeper than children are passed by
-  new-skip : (j d : ℕ) (f : Forest A) (t : List (ℕ × A)) → suc top < d → before-new counts top j (flat d f ++ t) ≡ length (flat d f) + before-new counts top j t
+  new-skip : (j d : ℕ) (f : Forest A) (t : List (ℕ × A)) → suc top < d
+      → before-new counts top j (flat d f ++ t) ≡ length (flat d f) + before-new counts top j t
   unfolding flat before-new
   new-skip j d nil t h = omega arith
   new-skip j d (node a ks fs) t h =
@@ -71,7 +73,8 @@ module _ {A : Type 0} (counts : A → Bool) (top : ℕ) where
 
   -- the children of the node with the new one, and rows behind its subtree
   place-from : (j : ℕ) (new : A) (ks : Forest A) (t : List (ℕ × A)) → below top t ≡ []
-      → flat (suc top) (place counts (suc j) new ks) ++ t ≡ insert (before-new counts top j (flat (suc top) ks ++ t)) (suc top, new) (flat (suc top) ks ++ t)
+      → flat (suc top) (place counts (suc j) new ks) ++ t ≡ insert (before-new counts top j (flat (suc top) ks ++ t)) (suc top, new)
+      (flat (suc top) ks ++ t)
   unfolding flat place insert
   place-from zero new ks t h = rw (new-first ks t h)
   place-from (suc i) new nil t h = rw (new-stop (suc i) t h)
@@ -84,7 +87,8 @@ module _ {A : Type 0} (counts : A → Bool) (top : ℕ) where
 
       behind-child : (j : ℕ) → flat (suc top) (place counts (suc j) new fs) ++ t ≡ insert (before-new counts top j r) (suc top, new) r
           → (suc top, a) ∷ ((flat (suc (suc top)) ks ++ flat (suc top) (place counts (suc j) new fs)) ++ t)
-          ≡ insert (suc (length (flat (suc (suc top)) ks) + before-new counts top j r)) (suc top, new) ((suc top, a) ∷ (flat (suc (suc top)) ks ++ r))
+          ≡ insert (suc (length (flat (suc (suc top)) ks) + before-new counts top j r)) (suc top, new)
+          ((suc top, a) ∷ (flat (suc (suc top)) ks ++ r))
       behind-child j e =
           ap (λ l. (suc top, a) ∷ l)
           (append-assoc (flat (suc (suc top)) ks) (flat (suc top) (place counts (suc j) new fs)) t
@@ -93,35 +97,38 @@ module _ {A : Type 0} (counts : A → Bool) (top : ℕ) where
 
       go : (b : Bool) → flat (suc top) (place counts (suc i) new fs) ++ t ≡ insert (before-new counts top i r) (suc top, new) r
           → flat (suc top) (place counts (suc (suc i)) new fs) ++ t ≡ insert (before-new counts top (suc i) r) (suc top, new) r
-          → (suc top, a) ∷ ((flat (suc (suc top)) ks ++ flat (suc top) (cond b (place counts (suc i) new fs) (place counts (suc (suc i)) new fs))) ++ t)
+          → (suc top, a) ∷ ((flat (suc (suc top)) ks ++ flat (suc top) (cond b (place counts (suc i) new fs)
+          (place counts (suc (suc i)) new fs))) ++ t)
           ≡ insert (suc (length (flat (suc (suc top)) ks) + before-new counts top (cond b i (suc i)) r)) (suc top, new)
           ((suc top, a) ∷ (flat (suc (suc top)) ks ++ r))
       go true u v = behind-child i u
       go false u v = behind-child (suc i) v
 
   pub place-rows : (k : ℕ) (new : A) (ks : Forest A) (t : List (ℕ × A)) → below top t ≡ []
-      → flat (suc top) (place counts k new ks) ++ t ≡ insert (before-new counts top (k - 1) (flat (suc top) ks ++ t)) (suc top, new) (flat (suc top) ks ++ t)
+      → flat (suc top) (place counts k new ks) ++ t ≡ insert (before-new counts top (k - 1) (flat (suc top) ks ++ t)) (suc top, new)
+      (flat (suc top) ks ++ t)
   unfolding place
   place-rows zero new ks t h = place-from zero new ks t h
   place-rows (suc j) new ks t h = let o : suc j - 1 ≡ j = omega arith in rw o (place-from j new ks t h)
 
 -- the law --------------------------------------------------------------------------------------
 
-pub insert-rows : (t n k : ℕ) (new : Marked) (f : Tree) (p : ℕ) → unique (flat 0 f) ≡ true → p < length (flat 0 f) → number-at (flat 0 f) p ≡ n
+pub insert-rows : (t n k : ℕ) (new : Marked) (f : Tree) (p : ℕ) → unique (flat 0 f) ≡ true → p < length (flat 0 f)
+    → number-at (flat 0 f) p ≡ n
     → flat 0 (put (numbered n) (seen-by t) k new f) ≡ insert (new-place t k p (flat 0 f)) (suc (depth (flat 0 f) p), new) (flat 0 f)
 unfolding new-place
 insert-rows t n k new f p u h e =
-    let c = row-at f p u h in
-    let m = c .standing in
-    let b = before 0 m in
-    let x : Entry = (depth-of 0 m, item (flat 0 f) p) in
-    let r = flat (suc (depth-of 0 m)) (children m) ++ behind 0 m in
-    let i : ℕ = before-new (seen-by t) (depth-of 0 m) (k - 1) r in
-    let y : Entry = (suc (depth-of 0 m), new) in
-    let z : length (b ++ (x ∷ [])) ≡ suc p = length-append b (x ∷ []) ∙ omega (arith, c .place) in
-    let q : numbered n (item (flat 0 f) p) ≡ true = eq-eqb (number-at (flat 0 f) p) n e in
-    put-within (numbered n) (seen-by t) k new 0 m q (rw e at (c .none-below)) (rw e at (c .none-before)) (rw e at (c .none-behind))
-    ∙ ap (λ l. b ++ (x ∷ l)) (place-rows (seen-by t) (depth-of 0 m) k new (children m) (behind 0 m) (stops 0 m))
+    let o = holder f n p u h e in
+    let c = o .place in
+    let b = c .before in
+    let x : Entry = (c .depth, c .it) in
+    let r = flat (suc (c .depth)) (c .children) ++ c .behind in
+    let i : ℕ = before-new (seen-by t) (c .depth) (k - 1) r in
+    let y : Entry = (suc (c .depth), new) in
+    let z : length (b ++ (x ∷ [])) ≡ suc p = length-append b (x ∷ []) ∙ omega (arith, c .count) in
+    c .puts (numbered n) (seen-by t) k new (o .number) (o .children) (o .before) (o .behind)
+    ∙ ap (λ l. b ++ (x ∷ l)) (place-rows (seen-by t) (c .depth) k new (c .children) (c .behind) (c .stops))
     ∙ sym (append-snoc b x (insert i y r))
     ∙ sym (insert-append (b ++ (x ∷ [])) r i y)
-    ∙ (λ j. insert (z j + before-new (seen-by t) (c .deep j) (k - 1) (sym (c .rows-behind) j)) (suc (c .deep j), new) ((append-snoc b x r ∙ sym (split 0 m)) j))
+    ∙ (λ j. insert (z j + before-new (seen-by t) (sym (depth-at c) j) (k - 1) (sym (rows-behind c) j)) (suc (sym (depth-at c) j), new)
+    ((append-snoc b x r ∙ sym (c .split)) j))

@@ -5,28 +5,30 @@ use mathlib.Core.Bool.{Bool, true, false, cond, _&&_}
 use mathlib.Core.List.{List, [], _∷_, _++_, map}
 use lib.ListN.{length, take, drop, take-append-drop}
 use lib.Dec.{eqb}
-use Rattle.tree.specs.Lists.{any, distinct}
-use Rattle.tree.specs.Forest.{nil, node, Row, row, rows, amend}
+use Rattle.tree.specs.Lists.{any, every, keep, distinct}
+use Rattle.tree.specs.Forest.{nil, node, Row, row, rows, amend, view}
 use Rattle.tree.specs.Document.{Node, Document, lines, rooted, ruled, legal}
 use Rattle.tree.specs.Steps.{Step, T, C, R, U, D, I, TT, RR, UU, target, inserts}
 use Rattle.tree.specs.Laws.Tests.{or-left, or-right, and-right}
 use Rattle.tree.specs.Laws.Lists.{map-append, map-map, eqb-flip}
-use Rattle.protocol.specs.State.{Marked, Tree, numbered, number-held, seen-by, lasting, undone, unmarked, inserted-by, renamed, written-by, grant}
-use Rattle.protocol.specs.State.{act, commit-tree, abort-tree, tree-of}
+use Rattle.protocol.specs.State.{Marked, Tree, numbered, number-held, seen-by, lasting, undone, unmarked, inserted-by, renamed, written-by}
+use Rattle.protocol.specs.State.{grant, act, commit-tree, abort-tree, tree-of}
 use Rattle.locks.specs.Needs.{Lock}
 use Rattle.layout.specs.Lists.{insert}
 use Rattle.layout.specs.Flat.{flat, second, prune}
 use Rattle.layout.specs.Layout.{Entry}
 use Rattle.lookup.specs.Places.{items, number-of, unique}
-use Rattle.lookup.specs.Laws.NodeAt.{any-append, none-first, none-second}
-use Rattle.lookup.specs.Laws.Find.{unique-head, nodes-held}
-use Rattle.edits.specs.Rows.{row-number, row-numbers, number-at, Lacks, left-out, not-inserted-by}
-use Rattle.edits.specs.Laws.Unique.{has-number}
-use Rattle.edits.specs.Laws.Ends.{commit-rows, abort-rows, load-rows}
+use Rattle.lookup.specs.Laws.NodeAt.{lines-of, any-append, none-first, none-second}
+use Rattle.lookup.specs.Laws.Find.{unique-head, nodes-held, has-items, rows-nodes}
+use Rattle.lookup.specs.Laws.Subtree.{shown-forest}
+use Rattle.tree.specs.Laws.Distinct.{distinct-keep}
+use Rattle.edits.specs.Rows.{row-number, row-numbers, number-at, Lacks, not-inserted-by}
+use Rattle.edits.specs.Laws.Ends.{flat-view, load-rows}
 use Rattle.edits.specs.Laws.Insertion.{insert-rows}
 
 -- changes that keep every number
-numbers-amend : (g : Row Marked Marked → Marked) → ((r : Row Marked Marked) → number-of (g r) ≡ number-of (r .it)) → (d : ℕ) (up : List Marked) (f : Tree)
+numbers-amend : (g : Row Marked Marked → Marked) → ((r : Row Marked Marked) → number-of (g r) ≡ number-of (r .it))
+    → (d : ℕ) (up : List Marked) (f : Tree)
     → row-numbers (flat d (amend (λ a. a) g up f)) ≡ row-numbers (flat d f)
 unfolding flat amend
 numbers-amend g same d up nil = refl
@@ -54,7 +56,7 @@ unique-mark test g same f = ap distinct (numbers-amend (λ r. cond (test r) (g (
 -- a new number --------------------------------------------------------------------------------
 
 head-unique : (x : Entry) (l : List Entry) → Lacks (row-number x) l → unique l ≡ true → unique (x ∷ l) ≡ true
-head-unique x l h e = rw (sym (has-number (row-number x) l) ∙ h) e
+head-unique x l h e = rw (has-items (row-number x) l ∙ h) e
 
 unique-between : (u v : List Entry) (x : Entry) → unique (u ++ v) ≡ true → Lacks (row-number x) (u ++ v) → unique (u ++ (x ∷ v)) ≡ true
 unique-between [] v x h k = head-unique x v k h
@@ -76,7 +78,8 @@ unique-insert i x l h k =
 
 -- a step ----------------------------------------------------------------------------------------
 
-pub unique-act : (t : ℕ) (s : Step) (f : Tree) (p : ℕ) → unique (flat 0 f) ≡ true → p < length (flat 0 f) → number-at (flat 0 f) p ≡ target s
+pub unique-act : (t : ℕ) (s : Step) (f : Tree) (p : ℕ) → unique (flat 0 f) ≡ true → p < length (flat 0 f)
+    → number-at (flat 0 f) p ≡ target s
     → any (λ m. number-held m f) (inserts s) ≡ false → unique (flat 0 (act t s f)) ≡ true
 unique-act t (T n) f p u h e new = u
 unique-act t (C n k) f p u h e new = u
@@ -93,59 +96,41 @@ unique-act t (UU n a b) f p u h e new = unique-mark (renamed t n a) (written-by 
 
 -- ends ------------------------------------------------------------------------------------------
 
-lacks-prune : (shown : Marked → Bool) (n below : ℕ) (l : List Entry) → Lacks n l → Lacks n (prune shown below l)
-unfolding prune
-lacks-prune shown n below [] h = refl
-lacks-prune shown n below (x ∷ l) h =
-    let k : Lacks n l = or-right (numbered n (x .1)) _ h in
-    go (left-out below (x .0)) (shown (x .1)) (lacks-prune shown n below l k) (lacks-prune shown n 0 l k) (lacks-prune shown n (suc (x .0)) l k)
+unique-view : (shown : Marked → Bool) (g : Marked → Marked) → ((a : Marked) → number-of (g a) ≡ number-of a) → (f : Tree)
+    → unique (flat 0 f) ≡ true
+    → unique (flat 0 (view shown g f)) ≡ true
+unique-view shown g same f u =
+    let visible : Row Marked Marked → Bool = λ r. every shown (r .it ∷ r .above) in
+    let held : map (λ r. number-of (r .it)) (lines-of [] f) ≡ row-numbers (flat 0 f) =
+    by-node (lines-of [] f) (flat 0 f) (rows-nodes (λ a. a) 0 [] f) in
+    ap distinct (ap row-numbers (flat-view shown g 0 f) ∙ map-map row-number (second g) row-number (prune shown 0 (flat 0 f))
+    (λ x m. same (x .1))
+    ∙ sym (by-node (keep visible (lines-of [] f)) (prune shown 0 (flat 0 f)) (shown-forest shown [] 0 f refl)))
+    ∙ distinct-keep (λ r. number-of (r .it)) visible (lines-of [] f) (ap distinct held ∙ u)
   where
-    go : (b c : Bool) → Lacks n (prune shown below l) → Lacks n (prune shown 0 l) → Lacks n (prune shown (suc (x .0)) l)
-        → Lacks n (cond b (prune shown below l) (cond c (x ∷ prune shown 0 l) (prune shown (suc (x .0)) l)))
-    go true c i j k = i
-    go false true i j k = rw (or-left (numbered n (x .1)) _ h) j
-    go false false i j k = k
-
-unique-prune : (shown : Marked → Bool) (below : ℕ) (l : List Entry) → unique l ≡ true → unique (prune shown below l) ≡ true
-unfolding prune
-unique-prune shown below [] h = refl
-unique-prune shown below (x ∷ l) h =
-    let a = unique-head x l h in
-    go (left-out below (x .0)) (shown (x .1)) (unique-prune shown below l (a .1)) (unique-prune shown 0 l (a .1)) (unique-prune shown (suc (x .0)) l (a .1))
-  where
-    go : (b c : Bool) → unique (prune shown below l) ≡ true → unique (prune shown 0 l) ≡ true → unique (prune shown (suc (x .0)) l) ≡ true
-        → unique (cond b (prune shown below l) (cond c (x ∷ prune shown 0 l) (prune shown (suc (x .0)) l))) ≡ true
-    go true c i j k = i
-    go false true i j k = head-unique x (prune shown 0 l) (lacks-prune shown (row-number x) 0 l (unique-head x l h .0)) j
-    go false false i j k = k
-
-unique-end : (shown : Marked → Bool) (g : Marked → Marked) → ((a : Marked) → number-of (g a) ≡ number-of a) → (l : List Entry) → unique l ≡ true
-    → unique (map (second g) (prune shown 0 l)) ≡ true
-unique-end shown g same l u =
-    ap distinct (map-map row-number (second g) row-number (prune shown 0 l) (λ x m. same (x .1))) ∙ unique-prune shown 0 l u
+    by-node : (l : List (Row Marked Marked)) (k : List Entry) → map (λ r. r .it) l ≡ items k
+        → map (λ r. number-of (r .it)) l ≡ row-numbers k
+    by-node l k e =
+        sym (map-map number-of (λ (r : Row Marked Marked). r .it) (λ r. number-of (r .it)) l (λ r m. refl)) ∙ ap (map number-of) e
+        ∙ map-map number-of (λ (x : Entry). x .1) row-number k (λ x m. refl)
 
 pub unique-commit : (t : ℕ) (f : Tree) → unique (flat 0 f) ≡ true → unique (flat 0 (commit-tree t f)) ≡ true
-unique-commit t f u = ap unique (commit-rows t f) ∙ unique-end (seen-by t) (lasting t) (λ a. refl) (flat 0 f) u
+unfolding commit-tree
+unique-commit t f u = unique-view (seen-by t) (lasting t) (λ a. refl) f u
 
 pub unique-abort : (t : ℕ) (f : Tree) → unique (flat 0 f) ≡ true → unique (flat 0 (abort-tree t f)) ≡ true
-unique-abort t f u = ap unique (abort-rows t f) ∙ unique-end (not-inserted-by t) (undone t) (λ a. refl) (flat 0 f) u
+unfolding abort-tree
+unique-abort t f u = unique-view (not-inserted-by t) (undone t) (λ a. refl) f u
 
 -- what is loaded ----------------------------------------------------------------------------------
-
-numbers-lines : (d : ℕ) (up : List ℕ) (f : Document) → map (λ r. r .it .number) (rows (λ a. a .number) up f) ≡ map (λ x. x .1 .number) (flat d f)
-unfolding rows flat
-numbers-lines d up nil = refl
-numbers-lines d up (node a ks fs) =
-    rw (
-      map-append (λ (r : Row Node ℕ). r .it .number) (rows (λ a. a .number) (a .number ∷ up) ks) (rows (λ a. a .number) up fs),
-      map-append (λ (x : ℕ × Node). x .1 .number) (flat (suc d) ks) (flat d fs),
-      numbers-lines (suc d) (a .number ∷ up) ks,
-      numbers-lines d up fs,
-    )
 
 pub unique-load : (d : Document) → legal d ≡ true → unique (flat 0 (tree-of d)) ≡ true
 unfolding legal lines
 unique-load d h =
+    let number : Node → ℕ = λ a. a .number in
     ap unique (load-rows d)
-    ∙ ap distinct (map-map row-number (second unmarked) (λ (x : ℕ × Node). x .1 .number) (flat 0 d) (λ x m. refl) ∙ sym (numbers-lines 0 [] d))
+    ∙ ap distinct (map-map row-number (second unmarked) (λ (x : ℕ × Node). x .1 .number) (flat 0 d) (λ x m. refl)
+    ∙ sym (map-map number (λ (x : ℕ × Node). x .1) (λ x. x .1 .number) (flat 0 d) (λ x m. refl))
+    ∙ ap (map number) (sym (rows-nodes number 0 [] d))
+    ∙ map-map number (λ (r : Row Node ℕ). r .it) (λ r. r .it .number) (rows number [] d) (λ r m. refl))
     ∙ and-right (rooted d && ruled d) _ h

@@ -10,7 +10,8 @@ use Rattle.layout.specs.Lists.{modify, insert}
 
 module _ {A : Type 0} where
   -- the rows up to a change, and behind it
-  pub take-modify : (i : ℕ) (f : A → A) (l : List A) (d : A) → i < length l → take (suc i) (modify i f l) ≡ take i l ++ (f (getD l i d) ∷ [])
+  pub take-modify : (i : ℕ) (f : A → A) (l : List A) (d : A) → i < length l
+      → take (suc i) (modify i f l) ≡ take i l ++ (f (getD l i d) ∷ [])
   unfolding modify
   take-modify i f [] d h = absurd (omega arith)
   take-modify zero f (x ∷ l) d h = refl

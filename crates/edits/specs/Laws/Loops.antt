@@ -18,7 +18,7 @@ use Rattle.layout.specs.Flat.{second}
 use Rattle.layout.specs.Layout.{Entry, no-entry}
 use Rattle.lookup.specs.Places.{depth, item, seen-from, subtree}
 use Rattle.lookup.specs.Laws.Subtree.{seen-hidden, seen-deleted, seen-found, seen-left, seen-end}
-use Rattle.edits.specs.Laws.Ends.{left-out-parts, open-left-out}
+use Rattle.lookup.specs.Laws.Passes.{left-out-parts, open-left-out}
 use Rattle.edits.specs.Laws.Lists.{take-modify, drop-modify}
 use Rattle.edits.specs.Rows.{left-out, changed-below, renamed-by, renamed-rows, before-new, new-place}
 
@@ -40,10 +40,12 @@ module _ {A : Type 0} (shown : A → Bool) (g : A → A) (top : ℕ) (w : List (
 
       pub changed-out : getD l i x .0 ≤ top → l ≡ w
       unfolding changed-below
-      changed-out k = sym (take-append-drop i l) ∙ ap (λ (r : List (ℕ × A)). take i l ++ r) (row-at ∙ sym (rw (row-at, le-ltb top (getD l i x .0) k))) ∙ v
+      changed-out k = sym (take-append-drop i l) ∙ ap (λ (r : List (ℕ × A)). take i l ++ r)
+          (row-at ∙ sym (rw (row-at, le-ltb top (getD l i x .0) k))) ∙ v
 
       module _ (k : top < getD l i x .0) where
-        stays : (m : ℕ) → changed-below shown g top hidden (getD l i x ∷ drop (i + 1) l) ≡ getD l i x ∷ changed-below shown g top m (drop (i + 1) l)
+        stays : (m : ℕ) → changed-below shown g top hidden (getD l i x ∷ drop (i + 1) l)
+            ≡ getD l i x ∷ changed-below shown g top m (drop (i + 1) l)
             → Changing l (i + 1) m
         stays m e =
             rw (add-one i, take-suc l i x h, append-snoc, ← add-one i)
@@ -58,11 +60,6 @@ module _ {A : Type 0} (shown : A → Bool) (g : A → A) (top : ℕ) (w : List (
           pub changed-unseen : shown (getD l i x .1) ≡ false → Changing l (i + 1) (getD l i x .0 + 1)
           unfolding changed-below
           changed-unseen s = stays (getD l i x .0 + 1) (rw (lt-ltb top (getD l i x .0) k, e, s, add-one (getD l i x .0)))
-
-          -- a row that is shown: changed, or g leaves it as it is
-          pub changed-same : shown (getD l i x .1) ≡ true → g (getD l i x .1) ≡ getD l i x .1 → Changing l (i + 1) 0
-          unfolding changed-below
-          changed-same s q = stays 0 (rw (lt-ltb top (getD l i x .0) k, e, s, q))
 
           pub changed-row : shown (getD l i x .1) ≡ true → Changing (modify i (second g) l) (i + 1) 0
           unfolding changed-below
@@ -86,7 +83,12 @@ module _ {A : Type 0} (counts : A → Bool) (top : ℕ) (q : ℕ) where
       pub placed-out : getD l i x .0 ≤ top → q ≡ i
       unfolding before-new
       placed-out k =
-          v ∙ rw (drop-cons l i x h, le-ltb (suc top) (getD l i x .0) (omega arith), ne-eqb (getD l i x .0) (suc top) (λ e. omega arith), add-zero)
+          v ∙ rw (
+            drop-cons l i x h,
+            le-ltb (suc top) (getD l i x .0) (omega arith),
+            ne-eqb (getD l i x .0) (suc top) (λ e. omega arith),
+            add-zero,
+          )
 
       pub placed-here : getD l i x .0 ≡ top + 1 → j ≡ 0 → q ≡ i
       unfolding before-new
@@ -110,7 +112,13 @@ module _ {A : Type 0} (counts : A → Bool) (top : ℕ) (q : ℕ) where
       module _ (k : getD l i x .0 ≡ top + 1) (z : 0 < j) where
         child : before-new counts top j (drop i l) ≡ suc (before-new counts top (cond (counts (getD l i x .1)) (j - 1) j) (drop (i + 1) l))
         unfolding before-new
-        child = rw (drop-cons l i x h, le-ltb (suc top) (getD l i x .0) (omega arith), eq-eqb (getD l i x .0) (suc top) (omega arith), lt-ltb 0 j z, add-one i)
+        child = rw (
+          drop-cons l i x h,
+          le-ltb (suc top) (getD l i x .0) (omega arith),
+          eq-eqb (getD l i x .0) (suc top) (omega arith),
+          lt-ltb 0 j z,
+          add-one i,
+        )
 
         pub placed-counted : counts (getD l i x .1) ≡ true → Placing l (i + 1) (j - 1)
         placed-counted c = v ∙ rw (child, c) (omega arith)
@@ -147,7 +155,8 @@ module _ (t : ℕ) (a : List ℕ) (e total : ℕ) where
           counted-other s n = v ∙ rw (seen-found l e i t hidden h k (open-left-out hidden (depth l i) o) s, n)
 
           -- an element so named is counted, and may be changed
-          pub counted-hit : (g : Entry → Entry) → seen-by t (item l i) ≡ true → is-named a (item l i .now) ≡ true → Counting (modify i g l) (i + 1) 0 (hits + 1)
+          pub counted-hit : (g : Entry → Entry) → seen-by t (item l i) ≡ true → is-named a (item l i .now) ≡ true
+              → Counting (modify i g l) (i + 1) 0 (hits + 1)
           unfolding keep
           counted-hit g s n =
               v ∙ rw (seen-found l e i t hidden h k (open-left-out hidden (depth l i) o) s, n, add-one i, drop-modify i g l) (omega arith)
@@ -163,10 +172,12 @@ module _ (t p : ℕ) (l : List Entry) where
     pub changed-start : (b : List ℕ) → p < length l
         → Changing (seen-by t) (renamed-by t a b) (depth l p) (renamed-rows t a b p l) (modify p (second (renamed-by t a b)) l) (p + 1) 0
     unfolding renamed-rows
-    changed-start b h = rw (add-one p, take-modify p (second (renamed-by t a b)) l no-entry h, drop-modify p (second (renamed-by t a b)) l, append-snoc)
+    changed-start b h =
+        rw (add-one p, take-modify p (second (renamed-by t a b)) l no-entry h, drop-modify p (second (renamed-by t a b)) l, append-snoc)
 
     pub counted-start : (g : Entry → Entry)
-        → Counting t a (depth l p) (length (keep (λ x. is-named a (x .now)) (subtree t l p))) (modify p g l) (p + 1) 0 (cond (is-named a (item l p .now)) 1 0)
+        → Counting t a (depth l p) (length (keep (λ x. is-named a (x .now)) (subtree t l p))) (modify p g l) (p + 1) 0
+        (cond (is-named a (item l p .now)) 1 0)
     unfolding keep
     counted-start g =
         rw (add-one p, drop-modify p g l)

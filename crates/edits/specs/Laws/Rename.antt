@@ -2,10 +2,10 @@
 use mathlib.Core.Path.{_≡_, refl, sym, ap, _∙_}
 use Prim.Native.Nat.{ℕ, suc, _≤_, _<_}
 use mathlib.Core.Bool.{Bool, true, false, cond, _&&_, or-true, and-false}
-use mathlib.Core.List.{List, [], _∷_, _++_, append-assoc}
+use mathlib.Core.List.{List, [], _∷_, _++_, append-assoc, append-nil}
 use native.Mathlib.Omega.{arith}
 use lib.ListN.{length, drop}
-use borrow.Author.Tests.{lt-ltb, le-ltb, eq-eqb}
+use borrow.Author.Tests.{lt-ltb, le-ltb}
 use Rattle.tree.specs.Lists.{any, every}
 use Rattle.tree.specs.Forest.{Forest, nil, node, Row, row, amend}
 use Rattle.tree.specs.Steps.{UU, is-named}
@@ -13,11 +13,12 @@ use Rattle.tree.specs.Laws.Amend.{amend-agree}
 use Rattle.tree.specs.Laws.Rows.{any-below}
 use Rattle.protocol.specs.State.{Marked, Tree, numbered, seen-by, written-by, renamed, act}
 use Rattle.layout.specs.Flat.{flat}
-use Rattle.lookup.specs.Places.{depth, item, unique, ups, seen-at, below}
+use Rattle.lookup.specs.Places.{depth, item, unique, seen-at, below}
+use Rattle.lookup.specs.Laws.NodeAt.{not-below}
+use Rattle.lookup.specs.Laws.Up.{depth-at, item-at, ups-at, rows-before, rows-behind}
+use Rattle.lookup.specs.Laws.Find.{holder}
 use Rattle.edits.specs.Rows.{number-at, left-out, changed-below, renamed-by, renamed-rows}
-use Rattle.edits.specs.Laws.Ends.{left-out-high, left-out-low, left-out-up}
-use Rattle.edits.specs.Laws.Subtree.{children, depth-of, behind, stops, not-below, amend-within}
-use Rattle.edits.specs.Laws.RowAt.{row-at}
+use Rattle.lookup.specs.Laws.Passes.{left-out-high, left-out-low, left-out-up}
 
 module _ {A : Type 0} (shown : A → Bool) (g : A → A) where
   -- a change of the rows that are shown with all their ancestors
@@ -46,7 +47,8 @@ module _ {A : Type 0} (shown : A → Bool) (g : A → A) where
           append-assoc (flat (suc d) ks) (flat d fs) (changed-below shown g top hidden t),
         )
 
-    changed-then : (hidden d : ℕ) (up : List A) (f : Forest A) (t : List (ℕ × A)) → top < d → every shown up ≡ true → left-out hidden d ≡ false
+    changed-then : (hidden d : ℕ) (up : List A) (f : Forest A) (t : List (ℕ × A)) → top < d → every shown up ≡ true
+        → left-out hidden d ≡ false
         → (m : ℕ) × (left-out m d ≡ false)
         × (changed-below shown g top hidden (flat d f ++ t) ≡ flat d (amend (λ a. a) if-shown up f) ++ changed-below shown g top m t)
     unfolding flat changed-below amend
@@ -66,7 +68,8 @@ module _ {A : Type 0} (shown : A → Bool) (g : A → A) where
             → (m : ℕ) × (left-out m d ≡ false)
             × (cond b ((d, g a) ∷ changed-below shown g top 0 (flat (suc d) ks ++ (flat d fs ++ t)))
             ((d, a) ∷ changed-below shown g top (suc d) (flat (suc d) ks ++ (flat d fs ++ t)))
-            ≡ (d, cond (b && every shown up) (g a) a) ∷ (flat (suc d) (amend (λ a. a) if-shown (a ∷ up) ks) ++ flat d (amend (λ a. a) if-shown up fs))
+            ≡ (d, cond (b && every shown up) (g a) a) ∷ (flat (suc d) (amend (λ a. a) if-shown (a ∷ up) ks) ++ flat d
+            (amend (λ a. a) if-shown up fs))
             ++ changed-below shown g top m t)
         go true e u v =
             let x = u e in
@@ -124,28 +127,31 @@ module _ (t n : ℕ) (a b : List ℕ) where
   inside : (s : Row Marked Marked) → any (numbered n) (s .it ∷ s .above) ≡ true → by-line s ≡ if-shown (seen-by t) (renamed-by t a b) s
   inside s h = rw h (go (every (seen-by t) (s .it ∷ s .above)))
     where
-      go : (x : Bool) → cond (x && true && is-named a (s .it .now)) (written-by t b (s .it)) (s .it) ≡ cond x (renamed-by t a b (s .it)) (s .it)
+      go : (x : Bool) → cond (x && true && is-named a (s .it .now)) (written-by t b (s .it)) (s .it)
+          ≡ cond x (renamed-by t a b (s .it)) (s .it)
       go true = refl
       go false = refl
 
-  pub rename-rows : (f : Tree) (p : ℕ) → unique (flat 0 f) ≡ true → p < length (flat 0 f) → number-at (flat 0 f) p ≡ n → seen-at t (flat 0 f) p ≡ true
+  pub rename-rows : (f : Tree) (p : ℕ) → unique (flat 0 f) ≡ true → p < length (flat 0 f) → number-at (flat 0 f) p ≡ n
+      → seen-at t (flat 0 f) p ≡ true
       → flat 0 (act t (UU n a b) f) ≡ renamed-rows t a b p (flat 0 f)
   unfolding renamed-rows
   rename-rows f p u h e s =
-      let c = row-at f p u h in
-      let m = c .standing in
-      let r : Row Marked Marked = row (item (flat 0 f) p) (ups (flat 0 f) p) in
-      let up : List Marked = r .it ∷ r .above in
+      let o = holder f n p u h e in
+      let c = o .place in
+      let up : List Marked = c .it ∷ (c .above ++ []) in
       let g : Marked → Marked = renamed-by t a b in
-      let i : any (numbered n) up ≡ true = rw (eq-eqb (number-at (flat 0 f) p) n e) in
-      let low : amend (λ a. a) by-line up (children m) ≡ amend (λ a. a) (if-shown (seen-by t) g) up (children m) =
-      amend-agree (λ a. a) by-line (if-shown (seen-by t) g) up (children m)
+      let i : any (numbered n) up ≡ true = rw (o .number) in
+      let v : every (seen-by t) up ≡ true = rw (append-nil (c .above)) (rw (item-at c, ups-at c) at s) in
+      let low : amend (λ a. a) by-line up (c .children) ≡ amend (λ a. a) (if-shown (seen-by t) g) up (c .children) =
+      amend-agree (λ a. a) by-line (if-shown (seen-by t) g) up (c .children)
       (λ v o. inside v (rw (any-below (λ a. a) (numbered n) i o) (or-true (numbered n (v .it))))) in
-      let head : by-line r ≡ g (r .it) = inside r i ∙ rw s in
-      let tail : flat (suc (depth-of 0 m)) (amend (λ a. a) by-line up (children m)) ++ behind 0 m
+      let head : by-line (row (c .it) (c .above ++ [])) ≡ g (item (flat 0 f) p) =
+      inside (row (c .it) (c .above ++ [])) i ∙ rw v (ap g (sym (item-at c))) in
+      let tail : flat (suc (c .depth)) (amend (λ a. a) by-line up (c .children)) ++ c .behind
       ≡ changed-below (seen-by t) g (depth (flat 0 f) p) 0 (drop (suc p) (flat 0 f)) =
-      ap (λ k. flat (suc (depth-of 0 m)) k ++ behind 0 m) low
-      ∙ changed-subtree (seen-by t) g (depth-of 0 m) up (children m) (behind 0 m) s (stops 0 m)
-      ∙ (λ j. changed-below (seen-by t) g (c .deep j) 0 (sym (c .rows-behind) j)) in
-      amend-within (numbered n) by-line outside 0 m refl (rw e at (c .none-before)) (rw e at (c .none-behind))
-      ∙ (λ j. sym (c .rows-before) j ++ ((c .deep j, head j) ∷ tail j))
+      ap (λ k. flat (suc (c .depth)) k ++ c .behind) low
+      ∙ changed-subtree (seen-by t) g (c .depth) up (c .children) (c .behind) v (c .stops)
+      ∙ (λ j. changed-below (seen-by t) g (sym (depth-at c) j) 0 (sym (rows-behind c) j)) in
+      c .amends (numbered n) by-line outside [] refl (o .before) (o .behind)
+      ∙ (λ j. sym (rows-before c) j ++ ((sym (depth-at c) j, head j) ∷ tail j))

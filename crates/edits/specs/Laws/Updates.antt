@@ -19,7 +19,8 @@ pub flat-amend : {A K : Type 0} (key : A → K) (g : A → A) (p : List K) (d : 
     → flat d (amend key (λ r. g (r .it)) p f) ≡ map (second g) (flat d f)
 unfolding flat amend
 flat-amend key g p d nil = refl
-flat-amend key g p d (node a ks fs) = rw (flat-amend key g (key a ∷ p) (suc d) ks, flat-amend key g p d fs, map-append (second g) (flat (suc d) ks) (flat d fs))
+flat-amend key g p d (node a ks fs) =
+    rw (flat-amend key g (key a ∷ p) (suc d) ks, flat-amend key g p d fs, map-append (second g) (flat (suc d) ks) (flat d fs))
 
 -- a change that keeps the numbers
 module _ (g : Marked → Marked) (same : (a : Marked) → g a .now .number ≡ a .now .number) where
@@ -31,10 +32,12 @@ module _ (g : Marked → Marked) (same : (a : Marked) → g a .now .number ≡ a
 
 pub number-same : (l k : List Entry) (i : ℕ) → row-numbers l ≡ row-numbers k → number-at l i ≡ number-at k i
 number-same l k i e =
-    sym (List·getD-map row-number l i no-entry) ∙ ap (λ (ns : List ℕ). getD ns i (row-number no-entry)) e ∙ List·getD-map row-number k i no-entry
+    sym (List·getD-map row-number l i no-entry) ∙ ap (λ (ns : List ℕ). getD ns i (row-number no-entry)) e
+    ∙ List·getD-map row-number k i no-entry
 
 -- a change of the node numbered n: U with what it writes, D with its mark
-pub mark-node-rows : (n : ℕ) (g : Marked → Marked) (f : Tree) (p : ℕ) → unique (flat 0 f) ≡ true → p < length (flat 0 f) → number-at (flat 0 f) p ≡ n
+pub mark-node-rows : (n : ℕ) (g : Marked → Marked) (f : Tree) (p : ℕ) → unique (flat 0 f) ≡ true → p < length (flat 0 f)
+    → number-at (flat 0 f) p ≡ n
     → flat 0 (mark-node n g f) ≡ modify p (second g) (flat 0 f)
 mark-node-rows n g f p u h e =
     flat-amend (λ a. a) (λ a. cond (numbered n a) (g a) a) [] 0 f

@@ -1,33 +1,14 @@
 use native.Mathlib.Omega.{arith}
-use mathlib.Core.Path.{refl}
 use Rattle.form.specs.Laws.Check.{first-deep, first-numbered, first-cell, slot-small}
 use borrow.Author.Needs.{needs}
 use Rattle.form.proofs.document.Statement.{statement}
 use Rattle.form.proofs.document.Tie as tie
 
-add-word : tie.Need-add-word
-add-word c = search needs
-
-word-requires : tie.Need-word-requires
-word-requires c κs = search needs
-
 returns : tie.Need-returns
 returns c = first-deep _ _ (c .before .word .ensures) (c .if1 .taken)
 
-add-word-2 : tie.Need-add-word-2
-add-word-2 c = search needs
-
-word-requires-2 : tie.Need-word-requires-2
-word-requires-2 c κs = search needs
-
 returns-2 : tie.Need-returns-2
 returns-2 c = first-numbered _ _ (c .before .before .before .word .ensures) (search needs) _ (c .before .word2 .ensures) (c .if2 .taken)
-
-word-requires-3 : tie.Need-word-requires-3
-word-requires-3 c κs = search needs
-
-cast-cell : tie.Need-cast-cell
-cast-cell c = search needs
 
 cell-requires : tie.Need-cell-requires
 cell-requires c κs = (search needs, slot-small _ 0 _ (search needs) (omega arith) (c .word3 .ensures))
@@ -40,16 +21,5 @@ returns-3 c =
     first-cell _ _ (word .ensures) (search needs) _ (word2 .ensures) (search needs) _ (word3 .ensures) _ (c .cell .ensures)
 
 pub document-spec : {M : Type 1} → statement M
-document-spec =
-    tie.close
-    (tie.spec
-    add-word
-    word-requires
-    returns
-    add-word-2
-    word-requires-2
-    returns-2
-    word-requires-3
-    cast-cell
-    cell-requires
-    returns-3)
+document-spec = tie.close (tie.spec (λ c. search needs) (λ c κs. search needs) returns (λ c. search needs) (λ c κs. search needs) returns-2
+    (λ c κs. search needs) (λ c. search needs) cell-requires returns-3)

@@ -1,26 +1,18 @@
 use borrow.Author.Needs.{needs}
 use native.Mathlib.Omega.{arith}
-use mathlib.Core.Path.{_≡_, sym, _∙_}
+use mathlib.Core.Path.{sym, _∙_}
 use borrow.Author.Tests.{not-true, not-false}
 use Rattle.layout.specs.Layout.{count}
 use Rattle.form.specs.Laws.Check.{header-size, header-room, outlined, formed-header, formed-slots, formed-nodes, formed-numbers}
 use Rattle.form.proofs.formed.Statement.{statement}
 use Rattle.form.proofs.formed.Tie as tie
 
-header-requires : tie.Need-header-requires
-header-requires c κs = search needs
-
 returns : tie.Need-returns
 returns c = formed-header _ (sym (c .before .header .ensures) ∙ not-true _ (c .if1 .taken))
 
-word-requires : tie.Need-word-requires
-word-requires c κs = omega (arith, header-size _ (sym (c .before .header .ensures) ∙ not-false _ (c .if1 .left)))
-
-cast-n : tie.Need-cast-n
-cast-n c = search needs
-
 apart-requires : tie.Need-apart-requires
-apart-requires c κs = (header-size _ (sym (c .before .before .header .ensures) ∙ not-false _ (c .before .if1 .left)), omega arith, omega arith)
+apart-requires c κs =
+    (header-size _ (sym (c .before .before .header .ensures) ∙ not-false _ (c .before .if1 .left)), omega arith, omega arith)
 
 returns-2 : tie.Need-returns-2
 returns-2 c =
@@ -54,7 +46,8 @@ returns-3 c =
 apart-requires-2 : tie.Need-apart-requires-2
 unfolding count
 apart-requires-2 c κs =
-    let h = sym (c .before .before .before .before .before .before .header .ensures) ∙ not-false _ (c .before .before .before .before .before .if1 .left) in
+    let h = sym (c .before .before .before .before .before .before .header .ensures)
+    ∙ not-false _ (c .before .before .before .before .before .if1 .left) in
     (header-size _ h, omega arith, omega (arith, header-room _ h, c .before .before .before .before .word .ensures))
 
 returns-4 : tie.Need-returns-4
@@ -74,16 +67,6 @@ returns-4 c =
     (λ j. omega (arith, shared-slice-known .given j)) _ (word .ensures)
 
 pub formed-spec : {M : Type 1} → statement M
-formed-spec =
-    tie.close
-    (tie.spec
-    header-requires
-    returns
-    word-requires
-    cast-n
-    apart-requires
-    returns-2
-    nodes-requires
-    returns-3
-    apart-requires-2
-    returns-4)
+formed-spec = tie.close (tie.spec (λ c κs. search needs) returns
+    (λ c κs. omega (arith, header-size _ (sym (c .before .header .ensures) ∙ not-false _ (c .if1 .left)))) (λ c. search needs)
+    apart-requires returns-2 nodes-requires returns-3 apart-requires-2 returns-4)

@@ -1,5 +1,4 @@
-use native.Mathlib.Omega.{arith}
-use mathlib.Core.Path.{_≡_, sym, _∙_}
+use mathlib.Core.Path.{sym, _∙_}
 use borrow.Author.Tests.{not-true, not-false}
 use Rattle.layout.specs.Layout.{count}
 use Rattle.form.specs.Laws.Check.{header-short, header-mark, header-none, header-many}
@@ -10,20 +9,8 @@ use Rattle.form.proofs.header.Tie as tie
 returns : tie.Need-returns
 returns c = header-short _ (search needs)
 
-slice-aggregate-begins : tie.Need-slice-aggregate-begins
-slice-aggregate-begins c = search needs
-
-begins-requires : tie.Need-begins-requires
-begins-requires c κs = search needs
-
 returns-2 : tie.Need-returns-2
 returns-2 c = header-mark _ (search needs) (sym (c .before .begins .ensures) ∙ not-true _ (c .if2 .taken))
-
-word-requires : tie.Need-word-requires
-word-requires c κs = search needs
-
-cast-n : tie.Need-cast-n
-cast-n c = search needs
 
 returns-3 : tie.Need-returns-3
 unfolding count
@@ -42,14 +29,5 @@ returns-4 c =
     header-many _ (search needs) (sym (begins .ensures) ∙ not-false _ (if2 .left)) _ (word .ensures) (search needs)
 
 pub header-spec : {M : Type 1} → statement M
-header-spec =
-    tie.close
-    (tie.spec
-    returns
-    slice-aggregate-begins
-    begins-requires
-    returns-2
-    word-requires
-    cast-n
-    returns-3
-    returns-4)
+header-spec = tie.close (tie.spec returns (λ c. search needs) (λ c κs. search needs) returns-2 (λ c κs. search needs) (λ c. search needs)
+    returns-3 returns-4)

@@ -1,10 +1,8 @@
-use mathlib.Core.Path.{sym, _∙_}
+use mathlib.Core.Path.{sym, _∙_, _≡_}
 use borrow.Author.Needs.{needs}
-use native.Mathlib.Omega.{arith}
-use Prim.Native.Nat.{ℕ, _+_, _-_, _≤_, _<_}
-use mathlib.Core.Path.{_≡_, refl}
+use Prim.Native.Nat.{_-_, _≤_}
 use borrow.Author.Tests.{not-true, not-false}
-use lib.ListN.{length, drop}
+use lib.ListN.{drop}
 use Rattle.layout.specs.Layout as layout
 use Rattle.form.specs.Form.{cells}
 use Rattle.form.specs.Check.{valid-nodes}
@@ -13,40 +11,25 @@ use Rattle.form.proofs.nodes.Statement.{statement}
 use Rattle.form.proofs.nodes.Tie as tie
 
 abbrev Inv-loop : tie.InvT-loop
-Inv-loop s n before₀ i₀ before i = (1 ≤ i) × (i ≤ n) × (before ≤ 65535) × (valid-nodes s ≡ valid-from before (drop i (cells s)) (drop i (layout.nodes s)))
+Inv-loop s n before₀ i₀ before i =
+    (1 ≤ i) × (i ≤ n) × (before ≤ 65535) × (valid-nodes s ≡ valid-from before (drop i (cells s)) (drop i (layout.nodes s)))
 
 abbrev μ-loop : tie.MeasureT-loop
 μ-loop s n before₀ i₀ before i = n - i
-
-document-requires : tie.Need-document-requires Inv-loop μ-loop
-document-requires c κs = search needs
 
 returns : tie.Need-returns Inv-loop μ-loop
 returns c = first-bad _ (search needs) (sym (c .before .document .ensures) ∙ not-true _ (c .if1 .taken))
 
 loop-holds : tie.Need-loop-holds Inv-loop μ-loop
-loop-holds c = (search needs, search needs, search needs, first-good _ (search needs) (sym (c .before .document .ensures) ∙ not-false _ (c .if1 .left)))
-
-mul-word : tie.Need-mul-word Inv-loop μ-loop
-mul-word c = search needs
-
-add-word : tie.Need-add-word Inv-loop μ-loop
-add-word c = search needs
-
-add-word-2 : tie.Need-add-word-2 Inv-loop μ-loop
-add-word-2 c = search needs
-
-word-requires : tie.Need-word-requires Inv-loop μ-loop
-word-requires c κs = search needs
-
-cast-d : tie.Need-cast-d Inv-loop μ-loop
-cast-d c = search needs
+loop-holds c = (
+  search needs,
+  search needs,
+  search needs,
+  first-good _ (search needs) (sym (c .before .document .ensures) ∙ not-false _ (c .if1 .left)),
+)
 
 returns-2 : tie.Need-returns-2 Inv-loop μ-loop
 returns-2 c = rows-low _ _ _ _ (c .before .before .before .loop .inv .3) (search needs) (c .before .word .ensures) (search needs)
-
-add-if3 : tie.Need-add-if3 Inv-loop μ-loop
-add-if3 c = search needs
 
 returns-3 : tie.Need-returns-3 Inv-loop μ-loop
 returns-3 c =
@@ -54,20 +37,9 @@ returns-3 c =
     let word = c .before .before .word in
     rows-high _ _ _ _ (l .inv .3) (search needs) (word .ensures) (search needs) (search needs)
 
-mul-word-2 : tie.Need-mul-word-2 Inv-loop μ-loop
-mul-word-2 c = search needs
-
-add-word-3 : tie.Need-add-word-3 Inv-loop μ-loop
-add-word-3 c = search needs
-
-word-requires-2 : tie.Need-word-requires-2 Inv-loop μ-loop
-word-requires-2 c κs = search needs
-
-cast-cell : tie.Need-cast-cell Inv-loop μ-loop
-cast-cell c = search needs
-
 cell-requires : tie.Need-cell-requires Inv-loop μ-loop
-cell-requires c κs = (search needs, slot-small _ (c .before .before .before .before .before .loop .i) _ (search needs) (search needs) (c .word2 .ensures))
+cell-requires c κs =
+    (search needs, slot-small _ (c .before .before .before .before .before .loop .i) _ (search needs) (search needs) (c .word2 .ensures))
 
 returns-4 : tie.Need-returns-4 Inv-loop μ-loop
 returns-4 c =
@@ -77,12 +49,6 @@ returns-4 c =
     let cell = c .before .cell in
     rows-bad _ _ _ _ (l .inv .3) (search needs) (word .ensures) _ (word2 .ensures) (search needs) (search needs)
     (rw (← cell .ensures) (not-true _ (c .if4 .taken)))
-
-add-i : tie.Need-add-i Inv-loop μ-loop
-add-i c = search needs
-
-loop-less : tie.Need-loop-less Inv-loop μ-loop
-loop-less c = search needs
 
 loop-again : tie.Need-loop-again Inv-loop μ-loop
 loop-again c =
@@ -101,29 +67,7 @@ returns-5 : tie.Need-returns-5 Inv-loop μ-loop
 returns-5 c = rows-end _ (c .before .loop .before) (c .before .loop .i) (c .before .loop .inv .3) (search needs)
 
 pub nodes-spec : {M : Type 1} → statement M
-nodes-spec =
-    tie.close
-    (tie.spec
-    Inv-loop
-    μ-loop
-    document-requires
-    returns
-    loop-holds
-    mul-word
-    add-word
-    add-word-2
-    word-requires
-    cast-d
-    returns-2
-    add-if3
-    returns-3
-    mul-word-2
-    add-word-3
-    word-requires-2
-    cast-cell
-    cell-requires
-    returns-4
-    add-i
-    loop-less
-    loop-again
-    returns-5)
+nodes-spec = tie.close (tie.spec Inv-loop μ-loop (λ c κs. search needs) returns loop-holds (λ c. search needs) (λ c. search needs)
+    (λ c. search needs) (λ c κs. search needs) (λ c. search needs) returns-2 (λ c. search needs) returns-3 (λ c. search needs)
+    (λ c. search needs) (λ c κs. search needs) (λ c. search needs) cell-requires returns-4 (λ c. search needs) (λ c. search needs)
+    loop-again returns-5)

@@ -1,26 +1,17 @@
 -- The check of a cell, test by test.
-use mathlib.Core.Path.{_≡_, refl, sym, ap, _∙_}
-use Prim.Native.Nat.{ℕ, zero, suc, _+_, _*_, _≤_, _<_}
-use mathlib.Core.Bool.{Bool, true, false, _&&_, _||_, and-false}
-use mathlib.Core.List.{List, [], _∷_}
+use mathlib.Core.Path.{_≡_, sym, ap, _∙_}
+use Prim.Native.Nat.{ℕ, _+_, _≤_, _<_}
+use mathlib.Core.Bool.{Bool, true, false, _&&_, _||_}
+use mathlib.Core.List.{List}
 use native.Mathlib.Omega.{arith}
 use native.Mathlib.Nat.{add-zero}
-use lib.ListN.{length, getD}
+use lib.ListN.{getD}
 use lib.Dec.{eqb, leb}
 use borrow.Author.Tests.{le-leb, lt-leb, eq-eqb, ne-eqb}
-use Rattle.tree.specs.Content.{between, content-limit}
-use Rattle.locks.specs.Modes.{no-mode}
 use Rattle.layout.specs.Layout.{cell-at, cell, stored, decode}
 use Rattle.layout.specs.Laws.Fields.{cell-byte, writer-update}
 use Rattle.form.specs.Form.{in-range, sizes-in-range}
 use Rattle.form.specs.Check.{cell-in-range}
-
--- a test that fails among others
-pub and-no : (a : Bool) {b : Bool} → b ≡ false → (a && b) ≡ false
-and-no a h = rw h (and-false a)
-
-pub and-first : {a : Bool} (b : Bool) → a ≡ false → (a && b) ≡ false
-and-first b h = rw h
 
 module _ (s : List ℕ) (k : ℕ) where
   sizes-of : sizes-in-range (cell s k)
@@ -41,7 +32,8 @@ module _ (s : List ℕ) (k : ℕ) where
   module _ (low high most : ℕ) where
     cell-of : cell-in-range low high most (cell s k)
         ≡ (leb low (getD s (cell-at k) 0) && leb (getD s (cell-at k) 0) high
-        && (leb (getD s (cell-at k + 1) 0) 16 && (leb (getD s (cell-at k + 2) 0) most && leb (getD s (cell-at k + 3) 0) most)) && sizes-in-range (cell s k))
+        && (leb (getD s (cell-at k + 1) 0) 16 && (leb (getD s (cell-at k + 2) 0) most && leb (getD s (cell-at k + 3) 0) most))
+        && sizes-in-range (cell s k))
     unfolding cell-in-range in-range decode
     cell-of =
         rw (
@@ -60,11 +52,20 @@ module _ (s : List ℕ) (k : ℕ) where
 
     module _ (a : low ≤ getD s (cell-at k) 0) (b : getD s (cell-at k) 0 ≤ high) where
       pub cell-writer : 16 < getD s (cell-at k + 1) 0 → false ≡ cell-in-range low high most (cell s k)
-      cell-writer h = sym (cell-of ∙ rw (le-leb low (getD s (cell-at k) 0) a, le-leb (getD s (cell-at k) 0) high b, lt-leb (getD s (cell-at k + 1) 0) 16 h))
+      cell-writer h = sym (cell-of ∙ rw (
+        le-leb low (getD s (cell-at k) 0) a,
+        le-leb (getD s (cell-at k) 0) high b,
+        lt-leb (getD s (cell-at k + 1) 0) 16 h,
+      ))
 
       module _ (w : getD s (cell-at k + 1) 0 ≤ 16) where
-        cell-then : cell-in-range low high most (cell s k) ≡ ((leb (getD s (cell-at k + 2) 0) most && leb (getD s (cell-at k + 3) 0) most) && sizes-in-range (cell s k))
-        cell-then = cell-of ∙ rw (le-leb low (getD s (cell-at k) 0) a, le-leb (getD s (cell-at k) 0) high b, le-leb (getD s (cell-at k + 1) 0) 16 w)
+        cell-then : cell-in-range low high most (cell s k) ≡ ((leb (getD s (cell-at k + 2) 0) most && leb (getD s (cell-at k + 3) 0) most)
+            && sizes-in-range (cell s k))
+        cell-then = cell-of ∙ rw (
+          le-leb low (getD s (cell-at k) 0) a,
+          le-leb (getD s (cell-at k) 0) high b,
+          le-leb (getD s (cell-at k + 1) 0) 16 w,
+        )
 
         pub cell-inserter : most < getD s (cell-at k + 2) 0 → false ≡ cell-in-range low high most (cell s k)
         cell-inserter h = sym (cell-then ∙ rw (lt-leb (getD s (cell-at k + 2) 0) most h))
@@ -73,5 +74,6 @@ module _ (s : List ℕ) (k : ℕ) where
           pub cell-deleter : most < getD s (cell-at k + 3) 0 → false ≡ cell-in-range low high most (cell s k)
           cell-deleter h = sym (cell-then ∙ rw (le-leb (getD s (cell-at k + 2) 0) most i, lt-leb (getD s (cell-at k + 3) 0) most h))
 
-          pub cell-sizes : getD s (cell-at k + 3) 0 ≤ most → (r : Bool) → r ≡ sizes-in-range (cell s k) → r ≡ cell-in-range low high most (cell s k)
+          pub cell-sizes : getD s (cell-at k + 3) 0 ≤ most → (r : Bool) → r ≡ sizes-in-range (cell s k)
+              → r ≡ cell-in-range low high most (cell s k)
           cell-sizes h r e = e ∙ sym (cell-then ∙ rw (le-leb (getD s (cell-at k + 2) 0) most i, le-leb (getD s (cell-at k + 3) 0) most h))

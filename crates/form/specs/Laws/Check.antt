@@ -1,7 +1,7 @@
 -- The check of the rows, turn by turn, and the check as a whole.
 use mathlib.Core.Path.{_≡_, refl, sym, ap, ap₂, _∙_}
-use Prim.Native.Nat.{ℕ, zero, suc, _+_, _*_, _≤_, _<_}
-use mathlib.Core.Bool.{Bool, true, false, cond, _&&_, and-false}
+use Prim.Native.Nat.{ℕ, suc, _+_, _≤_, _<_}
+use mathlib.Core.Bool.{Bool, true, false, _&&_, and-false}
 use mathlib.Core.List.{List, [], _∷_, map}
 use native.Mathlib.Omega.{arith}
 use native.Mathlib.Nat.{add-zero}
@@ -10,14 +10,14 @@ use lib.ListN.{length, getD, drop, drop-of-length-le}
 use lib.Seq.{drop-cons}
 use lib.Dec.{eqb, leb, ltb}
 use borrow.Author.Tests.{le-leb, lt-leb, leb-true, lt-ltb, ltb-true, eq-eqb, ne-eqb}
-use Rattle.tree.specs.Lists.{every, same, distinct}
+use Rattle.tree.specs.Lists.{every, same}
 use Rattle.tree.specs.Content.{document-kind, element-kind, text-kind, between}
 use Rattle.tree.specs.Laws.Tests.{and-left, and-right}
 use Rattle.locks.specs.Modes.{no-mode}
-use Rattle.protocol.specs.State.{nobody, Marked}
+use Rattle.protocol.specs.State.{nobody}
 use Rattle.protocol.specs.Calls.{node-limit}
-use Rattle.layout.specs.Lists.{tabulate}
-use Rattle.layout.specs.Layout.{state-size, format-mark, entry-at, word, part, count, slot, depth, number, cell, held, decode, Entry, entry, nodes, no-entry}
+use Rattle.layout.specs.Layout.{state-size, format-mark, entry-at, word, part, count, slot, depth, number, cell, held, decode, Entry, entry}
+use Rattle.layout.specs.Layout.{nodes, no-entry}
 use Rattle.layout.specs.Laws.Lists.{length-tabulate, getD-tabulate, tabulate-same, map-tabulate}
 use Rattle.layout.specs.Laws.Nodes.{length-nodes, node-at}
 use Rattle.lookup.specs.Places.{number-of, unique}
@@ -42,16 +42,20 @@ swap-and false b true false e = refl
 swap-and false b false d e = refl
 
 from-cons : (before : ℕ) (c : List ℕ) (cs : List (List ℕ)) (x : Entry) (es : List Entry)
-    → valid-from before (c ∷ cs) (x ∷ es) ≡ (between 1 (suc before) (x .0) && ((valid (x .1) && sizes-in-range c) && valid-from (x .0) cs es))
+    → valid-from before (c ∷ cs) (x ∷ es) ≡ (between 1 (suc before) (x .0) &&
+    ((valid (x .1) && sizes-in-range c) && valid-from (x .0) cs es))
 unfolding valid-from valid-below
-from-cons before c cs x es = swap-and (sizes-in-range c) (every sizes-in-range cs) (between 1 (suc before) (x .0)) (valid (x .1)) (valid-below (x .0) es)
+from-cons before c cs x es =
+    swap-and (sizes-in-range c) (every sizes-in-range cs) (between 1 (suc before) (x .0)) (valid (x .1)) (valid-below (x .0) es)
 
 -- the cell says all of the node that the test asks
-cell-is-in-range : (low high most n : ℕ) (c : List ℕ) (h : ℕ → _) → in-range low high most (decode n c h) ≡ in-range low high most (decode 0 c (λ t. no-mode))
+cell-is-in-range : (low high most n : ℕ) (c : List ℕ) (h : ℕ → _)
+    → in-range low high most (decode n c h) ≡ in-range low high most (decode 0 c (λ t. no-mode))
 unfolding in-range decode
 cell-is-in-range low high most n c h = refl
 
-node-in-range : (s : List ℕ) (i : ℕ) → (valid (entry s i .1) && sizes-in-range (cell s (slot s i))) ≡ cell-in-range element-kind text-kind 16 (cell s (slot s i))
+node-in-range : (s : List ℕ) (i : ℕ) → (valid (entry s i .1) && sizes-in-range (cell s (slot s i)))
+    ≡ cell-in-range element-kind text-kind 16 (cell s (slot s i))
 unfolding valid entry cell-in-range
 node-in-range s i = rw (cell-is-in-range element-kind text-kind 16 (number s i) (cell s (slot s i)) _)
 
@@ -69,7 +73,8 @@ module _ (s : List ℕ) (before i : ℕ) where
   rows-turn : i < count s
       → valid-from before (drop i (cells s)) (drop i (nodes s))
       ≡ (between 1 (suc before) (depth s i) &&
-      (cell-in-range element-kind text-kind 16 (cell s (slot s i)) && valid-from (depth s i) (drop (i + 1) (cells s)) (drop (i + 1) (nodes s))))
+      (cell-in-range element-kind text-kind 16 (cell s (slot s i)) && valid-from (depth s i) (drop (i + 1) (cells s))
+      (drop (i + 1) (nodes s))))
   unfolding entry
   rows-turn h =
       let a : i < length (cells s) = omega (arith, length-cells s) in
@@ -84,7 +89,8 @@ module _ (s : List ℕ) (before i : ℕ) where
       )
       (rw (node-in-range s i))
 
-  module _ (d : ℕ) (v : valid-nodes s ≡ valid-from before (drop i (cells s)) (drop i (nodes s))) (h : i < count s) (q : d ≡ word s (entry-at i + 2)) where
+  module _ (d : ℕ) (v : valid-nodes s ≡ valid-from before (drop i (cells s)) (drop i (nodes s))) (h : i < count s)
+      (q : d ≡ word s (entry-at i + 2)) where
     e : d ≡ depth s i
     unfolding depth
     e = q
@@ -103,10 +109,12 @@ module _ (s : List ℕ) (before i : ℕ) where
       pub rows-bad : cell-in-range element-kind text-kind 16 (cell s k) ≡ false → false ≡ valid-nodes s
       rows-bad n = sym (v ∙ rows-turn h ∙ rw (← e, ← f, between-of 1 (suc before) d l (omega arith), n))
 
-      pub rows-next : cell-in-range element-kind text-kind 16 (cell s k) ≡ true → valid-nodes s ≡ valid-from d (drop (i + 1) (cells s)) (drop (i + 1) (nodes s))
+      pub rows-next : cell-in-range element-kind text-kind 16 (cell s k) ≡ true
+          → valid-nodes s ≡ valid-from d (drop (i + 1) (cells s)) (drop (i + 1) (nodes s))
       rows-next n = v ∙ rows-turn h ∙ rw (← e, ← f, between-of 1 (suc before) d l (omega arith), n)
 
-pub rows-end : (s : List ℕ) (before i : ℕ) → valid-nodes s ≡ valid-from before (drop i (cells s)) (drop i (nodes s)) → count s ≤ i → true ≡ valid-nodes s
+pub rows-end : (s : List ℕ) (before i : ℕ) → valid-nodes s ≡ valid-from before (drop i (cells s)) (drop i (nodes s)) → count s ≤ i
+    → true ≡ valid-nodes s
 unfolding valid-from valid-below
 rows-end s before i v h =
     let a : length (cells s) ≤ i = omega (arith, length-cells s) in
@@ -132,10 +140,17 @@ unfolding valid-nodes valid-rows valid-first valid-document cell-in-range valid-
 first-is s h =
     let a : 0 < length (cells s) = omega (arith, length-cells s) in
     let b : 0 < length (nodes s) = omega (arith, length-nodes s) in
-    ap₂ (λ (cs : List (List ℕ)) (es : List Entry). every sizes-in-range cs && valid-rows es) (drop-cons (cells s) 0 [] a) (drop-cons (nodes s) 0 no-entry b)
-    ∙ rw (cell-is s 0 h, node-at s 0 h, cell-is-in-range document-kind document-kind nobody (number s 0) (cell s (slot s 0)) _, cell-number s)
+    ap₂ (λ (cs : List (List ℕ)) (es : List Entry). every sizes-in-range cs && valid-rows es) (drop-cons (cells s) 0 [] a)
+    (drop-cons (nodes s) 0 no-entry b)
+    ∙ rw (
+      cell-is s 0 h,
+      node-at s 0 h,
+      cell-is-in-range document-kind document-kind nobody (number s 0) (cell s (slot s 0)) _,
+      cell-number s,
+    )
     (first-swap (sizes-in-range (cell s (slot s 0))) (every sizes-in-range (drop 1 (cells s))) (eqb (depth s 0) 0)
-    (in-range document-kind document-kind nobody (decode 0 (cell s (slot s 0)) (λ t. no-mode))) (eqb (number s 0) 0) (valid-below 0 (drop 1 (nodes s))))
+    (in-range document-kind document-kind nobody (decode 0 (cell s (slot s 0)) (λ t. no-mode))) (eqb (number s 0) 0)
+    (valid-below 0 (drop 1 (nodes s))))
 
 pub first-bad : (s : List ℕ) → 1 ≤ count s → valid-first s ≡ false → false ≡ valid-nodes s
 first-bad s h e = sym (first-is s h ∙ rw e)
@@ -154,7 +169,8 @@ module _ (s : List ℕ) (d : ℕ) (e : d ≡ word s 18) where
     unfolding valid-first depth number
     first-numbered h = rw (← e, eq-eqb d 0 f, ← g, ne-eqb n 0 h)
 
-    pub first-cell : n ≡ 0 → (k : ℕ) → k ≡ word s 16 → (r : Bool) → r ≡ cell-in-range document-kind document-kind nobody (cell s k) → r ≡ valid-first s
+    pub first-cell : n ≡ 0 → (k : ℕ) → k ≡ word s 16 → (r : Bool) → r ≡ cell-in-range document-kind document-kind nobody (cell s k)
+        → r ≡ valid-first s
     unfolding valid-first depth number slot
     first-cell h k i r j = rw (← e, eq-eqb d 0 f, ← g, eq-eqb n 0 h, ← i) j
 

@@ -5,9 +5,8 @@ use mathlib.Core.List.{List}
 use native.Mathlib.Omega.{arith}
 use lib.ListN.{length, getD, take, drop}
 use Rattle.protocol.specs.State.{nobody, State}
-use Rattle.layout.specs.Lists.{modify}
 use Rattle.layout.specs.Flat.{second}
-use Rattle.layout.specs.Layout.{cell-at, part, slot, cell, decode, nodes, no-entry, Sized, Layout, Kept}
+use Rattle.layout.specs.Layout.{cell-at, part, slot, cell, decode, nodes, no-entry, Layout, Kept}
 use Rattle.layout.specs.Laws.Lists.{modify-none}
 use Rattle.layout.specs.Laws.Bytes.{Only, part-same}
 use Rattle.layout.specs.Laws.Nodes.{length-nodes, length-cell, cell-kept}

@@ -1,6 +1,6 @@
 -- Numbers that are all different, as a loop with a map of bits finds out.
 use mathlib.Core.Path.{_≡_, refl, sym, ap, _∙_, fun-ext}
-use Prim.Native.Nat.{ℕ, zero, suc, _+_, _*_, _/_, _%_, _^_, _≤_, _<_}
+use Prim.Native.Nat.{ℕ, zero, suc, _+_, _/_, _%_, _^_, _≤_, _<_}
 use mathlib.Core.Bool.{Bool, true, false, cond, not, _&&_, _||_, and-false}
 use mathlib.Core.List.{List, [], _∷_}
 use native.Mathlib.Omega.{arith}
@@ -10,7 +10,7 @@ use lib.ListN.{length, getD, drop, set, drop-of-length-le}
 use lib.Seq.{drop-cons, getD-set-same, getD-set-other}
 use lib.Bits.{bitXor}
 use lib.Dec.{eqb, ltb}
-use borrow.Author.Tests.{eqb-true, eqb-false, eq-eqb, ne-eqb, ltb-true, lt-ltb, le-ltb}
+use borrow.Author.Tests.{eqb-true, eqb-false, eq-eqb, ne-eqb, lt-ltb, le-ltb}
 use Rattle.tree.specs.Lists.{every, has, distinct}
 use Rattle.tree.specs.Laws.Tests.{and-left, and-right}
 use Rattle.locks.specs.Modes.{bit}
@@ -22,7 +22,8 @@ use Rattle.form.specs.Check.{column, met, fresh}
 
 -- the meaning of `fresh` -------------------------------------------------------------------------
 
-not-met-again : (w : ℕ) (old : ℕ → Bool) (ws : List ℕ) → every (λ k. not (eqb k w || old k)) ws ≡ (not (has w ws) && every (λ k. not (old k)) ws)
+not-met-again : (w : ℕ) (old : ℕ → Bool) (ws : List ℕ) → every (λ k. not (eqb k w || old k)) ws
+    ≡ (not (has w ws) && every (λ k. not (old k)) ws)
 not-met-again w old [] = refl
 not-met-again w old (k ∷ ws) = rw (not-met-again w old ws) (go (eqb k w) (old k) (has w ws) (every (λ k. not (old k)) ws))
   where
@@ -32,7 +33,8 @@ not-met-again w old (k ∷ ws) = rw (not-met-again w old ws) (go (eqb k w) (old 
     go false true false d = refl
     go false false c d = refl
 
-fresh-is : (limit : ℕ) (old : ℕ → Bool) (ws : List ℕ) → fresh limit old ws ≡ (every (λ k. ltb k limit) ws && (every (λ k. not (old k)) ws && distinct ws))
+fresh-is : (limit : ℕ) (old : ℕ → Bool) (ws : List ℕ) → fresh limit old ws
+    ≡ (every (λ k. ltb k limit) ws && (every (λ k. not (old k)) ws && distinct ws))
 unfolding fresh
 fresh-is limit old [] = refl
 fresh-is limit old (w ∷ ws) =
@@ -74,7 +76,8 @@ met-more seen w l h = fun-ext (λ k. go k (eqb (k % 1024) (w % 1024)) refl (eqb 
     old = getD seen (w % 1024) 0
 
     go : (k : ℕ) (x : Bool) → eqb (k % 1024) (w % 1024) ≡ x → (y : Bool) → eqb (w / 1024) (k / 1024) ≡ y
-        → bit (getD (set seen (w % 1024) (bitXor old (2 ^ (w / 1024)))) (k % 1024) 0) (k / 1024) ≡ (eqb k w || bit (getD seen (k % 1024) 0) (k / 1024))
+        → bit (getD (set seen (w % 1024) (bitXor old (2 ^ (w / 1024)))) (k % 1024) 0) (k / 1024)
+        ≡ (eqb k w || bit (getD seen (k % 1024) 0) (k / 1024))
     go k true p true q =
         let a : k % 1024 ≡ w % 1024 = eqb-true (k % 1024) (w % 1024) p in
         let b : w / 1024 ≡ k / 1024 = eqb-true (w / 1024) (k / 1024) q in

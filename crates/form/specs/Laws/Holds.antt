@@ -1,25 +1,23 @@
 -- Bytes of the form hold a state, and what holds a state is of the form.
 use mathlib.Core.Path.{_≡_, refl, sym, ap, _∙_}
-use Prim.Native.Nat.{ℕ, zero, suc, _+_, _≤_, _<_}
+use Prim.Native.Nat.{ℕ, zero, suc, _<_}
 use mathlib.Core.Bool.{Bool, true, false, cond, _&&_, _||_, false≢true}
-use mathlib.Core.List.{List, [], _∷_}
+use mathlib.Core.List.{List, _∷_}
 use native.Mathlib.Omega.{arith}
 use lib.ListN.{length, getD}
 use lib.Dec.{eqb, leb, ltb}
-use borrow.Author.Tests.{le-leb, leb-true, lt-ltb, ltb-true, eqb-true, eqb-false, eq-eqb, ne-eqb}
+use borrow.Author.Tests.{le-leb, leb-true, lt-ltb, ltb-true, eqb-false, ne-eqb}
 use Rattle.tree.specs.Lists.{every, has, distinct, same}
 use Rattle.tree.specs.Content.{between, content-limit}
 use Rattle.tree.specs.Laws.Tests.{and-left, and-right, or-left, or-right}
 use Rattle.tree.specs.Laws.Compare.{same-equal, same-self}
-use Rattle.protocol.specs.State.{nobody, Marked, Tree, State}
+use Rattle.protocol.specs.State.{nobody, State}
 use Rattle.protocol.specs.Calls.{node-limit}
-use Rattle.layout.specs.Lists.{tabulate}
-use Rattle.layout.specs.Flat.{flat}
-use Rattle.layout.specs.Layout.{state-size, format-mark, part, count, slot, cell, header, Entry, nodes, Sized, Layout}
+use Rattle.layout.specs.Layout.{tabulate, state-size, format-mark, part, count, slot, cell, header, nodes, Sized, Layout}
 use Rattle.layout.specs.Laws.Nodes.{length-nodes}
 use Rattle.lookup.specs.Places.{unique}
 use Rattle.form.specs.Form.{valid-rows, valid-tree, slots, cells, sizes-in-range, apart, form, Holds}
-use Rattle.form.specs.Laws.Rows.{and-of, between-of, between-low, between-high, rows-valid, valid-forest}
+use Rattle.form.specs.Laws.Rows.{and-of, between-of, between-low, between-high, valid-forest}
 
 -- tests of lists that are given by a rule ---------------------------------------------------------
 
@@ -56,9 +54,11 @@ distinct-head x l h = go (has x l) h
 distinct-tabulate : (n : ℕ) (f : ℕ → ℕ) → distinct (tabulate n f) ≡ true → (i j : ℕ) → i < n → j < n → f i ≡ f j → i ≡ j
 unfolding tabulate
 distinct-tabulate zero f h i j a b e = absurd (omega arith)
-distinct-tabulate (suc n) f h i j a b e = go i j a b e (distinct-head (f 0) (tabulate n (λ k. f (suc k))) h) (distinct-tabulate n (λ k. f (suc k)))
+distinct-tabulate (suc n) f h i j a b e =
+    go i j a b e (distinct-head (f 0) (tabulate n (λ k. f (suc k))) h) (distinct-tabulate n (λ k. f (suc k)))
   where
-    go : (i j : ℕ) → i < suc n → j < suc n → f i ≡ f j → (has (f 0) (tabulate n (λ k. f (suc k))) ≡ false) × (distinct (tabulate n (λ k. f (suc k))) ≡ true)
+    go : (i j : ℕ) → i < suc n → j < suc n → f i ≡ f j → (has (f 0) (tabulate n (λ k. f (suc k))) ≡ false)
+        × (distinct (tabulate n (λ k. f (suc k))) ≡ true)
         → (distinct (tabulate n (λ k. f (suc k))) ≡ true → (i j : ℕ) → i < n → j < n → f (suc i) ≡ f (suc j) → i ≡ j) → i ≡ j
     go zero zero a b e h r = refl
     go zero (suc j) a b e h r = absurd (has-tabulate (f 0) n (λ k. f (suc k)) (h .0) j (omega arith) (sym e))
@@ -70,7 +70,8 @@ unfolding tabulate
 tabulate-distinct zero f h = refl
 tabulate-distinct (suc n) f h =
     rw (tabulate-has (f 0) n (λ k. f (suc k)) (λ i k e. let z : suc i ≡ 0 = h (suc i) 0 (omega arith) (omega arith) e in omega arith))
-    (tabulate-distinct n (λ k. f (suc k)) (λ i j a b e. let z : suc i ≡ suc j = h (suc i) (suc j) (omega arith) (omega arith) e in omega arith))
+    (tabulate-distinct n (λ k. f (suc k)) (λ i j a b e. let z : suc i ≡ suc j = h (suc i) (suc j) (omega arith)
+    (omega arith) e in omega arith))
 
 -- sizes -----------------------------------------------------------------------------------------------
 
@@ -126,13 +127,15 @@ all-seven a b c d e f g h =
 pub form-parts : {s : List ℕ} → form s ≡ true → Parts s
 unfolding form
 form-parts {s} h =
-    let p = all-seven (leb state-size (length s)) (same (part s 0 8) format-mark) (between 1 node-limit (count s)) (apart node-limit (slots s))
+    let p = all-seven (leb state-size (length s)) (same (part s 0 8) format-mark) (between 1 node-limit (count s))
+    (apart node-limit (slots s))
     (every sizes-in-range (cells s)) (valid-rows (nodes s)) (unique (nodes s)) h in
     record { size = p .0; mark = p .1; count = p .2; slots = p .3; sizes = p .4; rows = p .5; unique = p .6 }
 
 pub parts-form : {s : List ℕ} → Parts s → form s ≡ true
 unfolding form
-parts-form {s} p = and-of (and-of (and-of (and-of (and-of (and-of (p .size) (p .mark)) (p .count)) (p .slots)) (p .sizes)) (p .rows)) (p .unique)
+parts-form {s} p =
+    and-of (and-of (and-of (and-of (and-of (and-of (p .size) (p .mark)) (p .count)) (p .slots)) (p .sizes)) (p .rows)) (p .unique)
 
 pub form-layout : {s : List ℕ} → form s ≡ true → Layout s
 unfolding slots cells apart
@@ -142,19 +145,30 @@ form-layout {s} h = let p = form-parts h in record {
   some = between-low 1 node-limit (count s) (p .count);
   room = between-high 1 node-limit (count s) (p .count);
   many = length-nodes s;
-  slots = λ i l. ltb-true (slot s i) node-limit (every-tabulate (λ k. ltb k node-limit) node-limit (slot s) (and-left _ (distinct (slots s)) (p .slots)) i l);
+  slots = λ i l. ltb-true (slot s i) node-limit (every-tabulate (λ k. ltb k node-limit) node-limit (slot s)
+      (and-left _ (distinct (slots s)) (p .slots)) i l);
   apart = λ i j a b e. distinct-tabulate node-limit (slot s) (and-right (every (λ k. ltb k node-limit) (slots s)) _ (p .slots)) i j a b e;
   sizes = λ i l. sized-of (cell s (slot s i)) (every-tabulate sizes-in-range (count s) (λ i. cell s (slot s i)) (p .sizes) i l);
 }
 
 pub form-holds : (s : List ℕ) → form s ≡ true → (M : State) × Holds s M
+unfolding valid-tree
 form-holds s h =
     let p = form-parts h in
-    let t = valid-forest (nodes s) (p .rows) in
-    (record { header = header s; tree = t .0 }, record { layout = form-layout h; header = refl; rows = t .1; unique = p .unique; valid = t .2 })
+    let t = valid-forest (nodes s) (p .rows) in (
+      record { header = header s; tree = t .0 },
+      record {
+        layout = form-layout h;
+        header = refl;
+        rows = t .1;
+        unique = p .unique;
+        valid = sym
+            (ap valid-rows (t .1)) ∙ p .rows;
+      },
+    )
 
 pub holds-form : {s : List ℕ} {M : State} → Holds s M → form s ≡ true
-unfolding slots cells apart
+unfolding slots cells apart valid-tree
 holds-form {s} {M} h = let l = h .layout in
     let small = tabulate-every (λ k. ltb k node-limit) node-limit (slot s) (λ i a. lt-ltb (slot s i) node-limit (l .slots i a)) in
     parts-form (record {
@@ -163,6 +177,6 @@ holds-form {s} {M} h = let l = h .layout in
       count = between-of 1 node-limit (count s) (l .some) (l .room);
       slots = and-of small (tabulate-distinct node-limit (slot s) (l .apart));
       sizes = tabulate-every sizes-in-range (count s) (λ i. cell s (slot s i)) (λ i a. of-sized (cell s (slot s i)) (l .sizes i a));
-      rows = rw (h .rows) (rows-valid (M .tree) (h .valid));
+      rows = rw (h .rows) (h .valid);
       unique = h .unique;
     })

@@ -1,7 +1,6 @@
 -- Bytes hold one state at most.
 use mathlib.Core.Path.{_≡_, refl, sym, ap, ap₂, _∙_}
 use Prim.Native.Nat.{ℕ, suc}
-use mathlib.Core.Bool.{Bool}
 use mathlib.Core.List.{List, [], _∷_, _++_, append-nil}
 use native.Mathlib.Omega.{arith}
 use lib.ListN.{length, getD}
@@ -28,7 +27,8 @@ module _ {A : Type 0} where
   unfolding below
   below-first d ks fs =
       below-flat d (suc d) ks (flat d fs) (omega arith)
-      ∙ ap (λ (r : List (ℕ × A)). flat (suc d) ks ++ r) (ap (below d) (sym (append-nil (flat d fs))) ∙ below-none d d fs [] (omega arith) refl)
+      ∙ ap (λ (r : List (ℕ × A)). flat (suc d) ks ++ r) (ap (below d) (sym (append-nil (flat d fs))) ∙ below-none d d fs []
+      (omega arith) refl)
       ∙ append-nil (flat (suc d) ks)
 
   -- rows are those of one forest
@@ -47,4 +47,5 @@ module _ {A : Type 0} where
 
 pub holds-one : {s : List ℕ} (M N : State) → Holds s M → Holds s N → M ≡ N
 holds-one M N h k =
-    ap₂ (λ (h : Header) (f : Tree). record { header = h; tree = f }) (sym (h .header) ∙ k .header) (flat-one 0 (M .tree) (N .tree) (sym (h .rows) ∙ k .rows))
+    ap₂ (λ (h : Header) (f : Tree). record { header = h; tree = f }) (sym (h .header) ∙ k .header)
+    (flat-one 0 (M .tree) (N .tree) (sym (h .rows) ∙ k .rows))

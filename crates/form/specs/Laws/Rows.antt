@@ -1,20 +1,20 @@
--- Depths in document order: rows are valid exactly if they are those of a valid tree.
-use mathlib.Core.Path.{_≡_, refl, sym, ap, ap₂, _∙_, subst}
-use Prim.Native.Nat.{ℕ, zero, suc, _+_, _-_, _≤_, _<_}
-use mathlib.Core.Bool.{Bool, true, false, _&&_, false≢true}
+-- Depths in document order: valid rows are those of a tree, and what that says of its nodes.
+use mathlib.Core.Path.{_≡_, refl, sym, ap, ap₂, _∙_}
+use Prim.Native.Nat.{ℕ, zero, suc, _+_, _-_, _≤_}
+use mathlib.Core.Bool.{Bool, true, _&&_, false≢true}
 use mathlib.Core.List.{List, [], _∷_, _++_, append-assoc, append-nil}
 use native.Mathlib.Omega.{arith}
 use native.Mathlib.Nat.{zero-add, suc-add}
 use lib.ListN.{length}
 use lib.Dec.{eqb, leb}
-use borrow.Author.Tests.{le-leb, leb-true, eqb-true, eq-eqb}
-use Rattle.tree.specs.Forest.{Forest, nil, node}
+use borrow.Author.Tests.{le-leb, leb-true, eqb-true}
+use Rattle.tree.specs.Forest.{nil, node}
 use Rattle.tree.specs.Content.{between}
 use Rattle.tree.specs.Laws.Tests.{and-left, and-right}
 use Rattle.protocol.specs.State.{Marked, Tree}
 use Rattle.layout.specs.Flat.{flat}
 use Rattle.layout.specs.Layout.{Entry}
-use Rattle.form.specs.Form.{valid, valid-document, valid-below, valid-rows, all-valid, valid-tree}
+use Rattle.form.specs.Form.{valid, valid-document, valid-below, valid-rows, valid-tree}
 
 pub and-of : {a b : Bool} → a ≡ true → b ≡ true → (a && b) ≡ true
 and-of h k = rw (h, k)
@@ -28,36 +28,12 @@ between-low low high x h = leb-true low x (and-left (leb low x) _ h)
 pub between-high : (low high x : ℕ) → between low high x ≡ true → x ≤ high
 between-high low high x h = leb-true x high (and-right (leb low x) _ h)
 
--- the rows of a tree ------------------------------------------------------------------------
-
-below-flat : (before d : ℕ) (f : Tree) (t : List Entry) → 1 ≤ d → d ≤ suc before → all-valid f ≡ true → ((n : ℕ) → d ≤ suc n → valid-below n t ≡ true)
-    → valid-below before (flat d f ++ t) ≡ true
-unfolding valid-below all-valid flat
-below-flat before d nil t a b h k = k before b
-below-flat before d (node x ks fs) t a b h k =
-    let p : (valid x && all-valid ks) ≡ true = and-left (valid x && all-valid ks) _ h in
-    rw (between-of 1 (suc before) d a b, and-left (valid x) _ p, append-assoc (flat (suc d) ks) (flat d fs) t)
-    (below-flat d (suc d) ks (flat d fs ++ t) (omega arith) (omega arith) (and-right (valid x) _ p)
-    (λ n m. below-flat n d fs t a (omega arith) (and-right (valid x && all-valid ks) _ h) k))
-
-pub rows-valid : (f : Tree) → valid-tree f ≡ true → valid-rows (flat 0 f) ≡ true
-unfolding valid-rows valid-tree flat valid-below
-rows-valid nil h = h
-rows-valid (node a ks nil) h =
-    rw (and-left (valid-document a) _ h)
-    (below-flat 0 1 ks [] (omega arith) (omega arith) (and-right (valid-document a) _ h) (λ n m. refl))
-rows-valid (node a ks (node b js fs)) h = absurd (false≢true h)
-
 -- the tree of rows ---------------------------------------------------------------------------
 
 -- forests at the depths length, .., 2, 1, one behind the other
 unfoldable stacked : List Tree → List Entry
 stacked [] = []
 stacked (f ∷ fs) = flat (suc (length fs)) f ++ stacked fs
-
-unfoldable each-valid : List Tree → Bool
-each-valid [] = true
-each-valid (f ∷ fs) = all-valid f && each-valid fs
 
 -- with n empty ones before them
 unfoldable pad : ℕ → List Tree → List Tree
@@ -74,70 +50,91 @@ unfolding pad
 length-pad zero fs = sym (zero-add _)
 length-pad (suc n) fs = rw (length-pad n fs, suc-add)
 
-valid-pad : (n : ℕ) (fs : List Tree) → each-valid (pad n fs) ≡ each-valid fs
-unfolding pad each-valid all-valid
-valid-pad zero fs = refl
-valid-pad (suc n) fs = valid-pad n fs
-
 -- rows that may follow one of depth `before`: a forest for each depth from before + 1 down to 1
-record Stacked (before : ℕ) (l : List Entry) : Type 0 where
-  stack : List Tree
-  many : length stack ≡ suc before
-  same : l ≡ stacked stack
-  valid : each-valid stack ≡ true
+abbrev Stacked : ℕ → List Entry → Type 0
+Stacked before l = (fs : List Tree) × (length fs ≡ suc before) × (l ≡ stacked fs)
 
 -- one row more before them
-onto : (before d : ℕ) (a : Marked) (l : List Entry) (fs : List Tree) → 1 ≤ d → d ≤ suc before → valid a ≡ true
-    → length fs ≡ suc d → l ≡ stacked fs → each-valid fs ≡ true → Stacked before ((d, a) ∷ l)
-unfolding stacked each-valid all-valid flat
-onto before d a l [] low high p m s e = absurd (omega arith)
-onto before d a l (k ∷ []) low high p m s e = absurd (omega arith)
-onto before d a l (k ∷ (r ∷ fs)) low high p m s e =
-    let new : List Tree = node a k r ∷ fs in
-    let w : d ≡ suc (length fs) = omega arith in
-    let q : (all-valid r && each-valid fs) ≡ true = and-right (all-valid k) _ e in
-    record {
-      stack = pad (suc before - d) new;
-      many = length-pad (suc before - d) new ∙ omega arith;
-      same = rw (stacked-pad, s, w, append-assoc (flat (suc (suc (length fs))) k) (flat (suc (length fs)) r) (stacked fs));
-      valid = rw (valid-pad, p, and-left (all-valid k) _ e, and-left (all-valid r) _ q, and-right (all-valid r) _ q);
-    }
+onto : (before d : ℕ) (a : Marked) (l : List Entry) (fs : List Tree) → 1 ≤ d → d ≤ suc before → length fs ≡ suc d → l ≡ stacked fs
+    → Stacked before ((d, a) ∷ l)
+unfolding stacked flat
+onto before d a l [] low high m s = absurd (omega arith)
+onto before d a l (k ∷ []) low high m s = absurd (omega arith)
+onto before d a l (k ∷ (r ∷ fs)) low high m s =
+    let w : d ≡ suc (length fs) = omega arith in (
+      pad (suc before - d) (node a k r ∷ fs),
+      length-pad (suc before - d) (node a k r ∷ fs) ∙ omega arith,
+      rw (stacked-pad, s, w, append-assoc (flat (suc (suc (length fs))) k) (flat (suc (length fs)) r) (stacked fs)),
+    )
 
 stack-up : (before : ℕ) (l : List Entry) → valid-below before l ≡ true → Stacked before l
-unfolding valid-below stacked each-valid
-stack-up before [] h = record {
-  stack = pad (suc before) [];
-  many = length-pad (suc before) [] ∙ omega arith;
-  same = sym (stacked-pad (suc before) []);
-  valid = valid-pad (suc before) [];
-}
+unfolding valid-below stacked
+stack-up before [] h = (pad (suc before) [], length-pad (suc before) [] ∙ omega arith, sym (stacked-pad (suc before) []))
 stack-up before (x ∷ xs) h =
-    let p : (between 1 (suc before) (x .0) && valid (x .1)) ≡ true = and-left (between 1 (suc before) (x .0) && valid (x .1)) _ h in
-    let q : between 1 (suc before) (x .0) ≡ true = and-left (between 1 (suc before) (x .0)) _ p in
+    let q : between 1 (suc before) (x .0) ≡ true = and-left _ (valid (x .1)) (and-left _ (valid-below (x .0) xs) h) in
     let y = stack-up (x .0) xs (and-right (between 1 (suc before) (x .0) && valid (x .1)) _ h) in
-    onto before (x .0) (x .1) xs (y .stack) (between-low 1 (suc before) (x .0) q) (between-high 1 (suc before) (x .0) q)
-    (and-right (between 1 (suc before) (x .0)) _ p) (y .many) (y .same) (y .valid)
+    onto before (x .0) (x .1) xs (y .0) (between-low 1 (suc before) (x .0) q) (between-high 1 (suc before) (x .0) q) (y .1) (y .2)
 
-one-stacked : (l : List Entry) (f : Tree) → l ≡ stacked (f ∷ []) → each-valid (f ∷ []) ≡ true → (l ≡ flat 1 f) × (all-valid f ≡ true)
-unfolding stacked each-valid
-one-stacked l f s e = (s ∙ append-nil (flat 1 f), and-left (all-valid f) _ e)
+below-forest : (l : List Entry) (fs : List Tree) → length fs ≡ 1 → l ≡ stacked fs → (f : Tree) × (l ≡ flat 1 f)
+unfolding stacked
+below-forest l [] m s = absurd (omega arith)
+below-forest l (f ∷ (g ∷ fs)) m s = absurd (omega arith)
+below-forest l (f ∷ []) m s = (f, s ∙ append-nil (flat 1 f))
 
-below-forest : (l : List Entry) → valid-below 0 l ≡ true → (f : Tree) × (l ≡ flat 1 f) × (all-valid f ≡ true)
-below-forest l h = let y = stack-up 0 l h in go (y .stack) (y .many) (y .same) (y .valid)
-  where
-    go : (fs : List Tree) → length fs ≡ 1 → l ≡ stacked fs → each-valid fs ≡ true → (f : Tree) × (l ≡ flat 1 f) × (all-valid f ≡ true)
-    go [] m s e = absurd (omega arith)
-    go (f ∷ (g ∷ fs)) m s e = absurd (omega arith)
-    go (f ∷ []) m s e = let r = one-stacked l f s e in (f, r .0, r .1)
-
-pub valid-forest : (l : List Entry) → valid-rows l ≡ true → (f : Tree) × (l ≡ flat 0 f) × (valid-tree f ≡ true)
-unfolding valid-rows valid-tree flat
+pub valid-forest : (l : List Entry) → valid-rows l ≡ true → (f : Tree) × (l ≡ flat 0 f)
+unfolding valid-rows flat
 valid-forest [] h = absurd (false≢true h)
 valid-forest (x ∷ xs) h =
-    let p : (eqb (x .0) 0 && valid-document (x .1)) ≡ true = and-left (eqb (x .0) 0 && valid-document (x .1)) _ h in
-    let y = below-forest xs (and-right (eqb (x .0) 0 && valid-document (x .1)) _ h) in
-    let z : x .0 ≡ 0 = eqb-true (x .0) 0 (and-left (eqb (x .0) 0) _ p) in (
-      node (x .1) (y .0) nil,
-      ap₂ (λ (n : ℕ) (l : List Entry). (n, x .1) ∷ l) z (y .1 ∙ sym (append-nil (flat 1 (y .0)))),
-      and-of (and-right (eqb (x .0) 0) _ p) (y .2),
+    let y = stack-up 0 xs (and-right (eqb (x .0) 0 && valid-document (x .1)) _ h) in
+    let f = below-forest xs (y .0) (y .1) (y .2) in
+    let z : x .0 ≡ 0 = eqb-true (x .0) 0 (and-left _ (valid-document (x .1)) (and-left _ (valid-below 0 xs) h)) in
+    (node (x .1) (f .0) nil, ap₂ (λ (n : ℕ) (l : List Entry). (n, x .1) ∷ l) z (f .1 ∙ sym (append-nil (flat 1 (f .0)))))
+
+-- the nodes of a valid tree --------------------------------------------------------------------
+
+unfoldable pub all-valid : Tree → Bool
+all-valid nil = true
+all-valid (node a ks fs) = valid a && all-valid ks && all-valid fs
+
+below-valid : (before d : ℕ) (f : Tree) (t : List Entry) → 1 ≤ d → d ≤ suc before → all-valid f ≡ true
+    → ((n : ℕ) → d ≤ suc n → valid-below n t ≡ true)
+    → valid-below before (flat d f ++ t) ≡ true
+unfolding valid-below all-valid flat
+below-valid before d nil t a b h k = k before b
+below-valid before d (node x ks fs) t a b h k =
+    let p : (valid x && all-valid ks) ≡ true = and-left (valid x && all-valid ks) _ h in
+    rw (between-of 1 (suc before) d a b, and-left (valid x) _ p, append-assoc (flat (suc d) ks) (flat d fs) t)
+    (below-valid d (suc d) ks (flat d fs ++ t) (omega arith) (omega arith) (and-right (valid x) _ p)
+    (λ n m. below-valid n d fs t a (omega arith) (and-right (valid x && all-valid ks) _ h) k))
+
+valid-under : (before d : ℕ) (f : Tree) (t : List Entry) → valid-below before (flat d f ++ t) ≡ true
+    → (all-valid f ≡ true) × (n : ℕ) × (valid-below n t ≡ true)
+unfolding valid-below all-valid flat
+valid-under before d nil t h = (refl, before, h)
+valid-under before d (node x ks fs) t h =
+    let r : valid-below d (flat (suc d) ks ++ (flat d fs ++ t)) ≡ true =
+    ap (valid-below d) (sym (append-assoc (flat (suc d) ks) (flat d fs) t)) ∙ and-right (between 1 (suc before) d && valid x) _ h in
+    let k = valid-under d (suc d) ks (flat d fs ++ t) r in
+    let s = valid-under (k .1) d fs t (k .2) in (
+      and-of (and-of (and-right (between 1 (suc before) d) _ (and-left (between 1 (suc before) d && valid x) _ h)) (k .0)) (s .0),
+      s .1,
+      s .2,
     )
+
+-- a valid tree is a document with valid nodes below it
+pub tree-valid : (a : Marked) (ks : Tree) → valid-document a ≡ true → all-valid ks ≡ true → valid-tree (node a ks nil) ≡ true
+unfolding valid-rows valid-tree flat valid-below
+tree-valid a ks d h = rw d (below-valid 0 1 ks [] (omega arith) (omega arith) h (λ n m. refl))
+
+pub valid-root : (f : Tree) → valid-tree f ≡ true → (a : Marked) × (ks : Tree) × (f ≡ node a ks nil) × (valid-document a ≡ true)
+    × (all-valid ks ≡ true)
+unfolding valid-rows valid-tree flat valid-below
+valid-root nil h = absurd (false≢true h)
+valid-root (node a ks fs) h =
+    let r = valid-under 0 1 ks (flat 0 fs) (and-right (valid-document a) _ h) in
+    go fs (r .1) (r .2) (and-left (valid-document a) _ h) (r .0)
+  where
+    go : (fs : Tree) (n : ℕ) → valid-below n (flat 0 fs) ≡ true → valid-document a ≡ true → all-valid ks ≡ true
+        → (b : Marked) × (js : Tree) × (node a ks fs ≡ node b js nil) × (valid-document b ≡ true) × (all-valid js ≡ true)
+    go nil n q d v = (a, ks, refl, d, v)
+    go (node b js gs) n q d v = absurd (false≢true q)

@@ -1,24 +1,22 @@
 -- The bytes of the beginning hold the state of the beginning.
-use mathlib.Core.Path.{_≡_, refl, sym, ap, ap₂, _∙_, fun-ext, subst}
-use Prim.Native.Nat.{ℕ, zero, suc, _+_, _-_, _*_, _/_, _%_, _^_, _≤_, _<_}
+use mathlib.Core.Path.{_≡_, refl, sym, ap, _∙_, fun-ext, subst}
+use Prim.Native.Nat.{ℕ, _+_, _-_, _*_, _/_, _%_, _^_, _≤_, _<_}
 use mathlib.Core.Bool.{Bool, true, false, cond}
 use mathlib.Core.List.{List, [], _∷_}
 use native.Mathlib.Omega.{arith}
 use native.Mathlib.Nat.{zero-add, zero-div}
-use lib.ListN.{length, getD, take, drop, set}
+use lib.ListN.{length, getD, set}
 use lib.Seq.{ext-getD}
-use lib.Dec.{eqb, ltb, leb}
+use lib.Dec.{eqb, ltb}
 use borrow.Author.Tests.{eq-eqb, ne-eqb, lt-ltb, le-ltb, ltb-true, ltb-false, le-leb, lt-leb}
-use Rattle.tree.specs.Forest.{nil, node, view}
+use Rattle.tree.specs.Forest.{view}
 use Rattle.tree.specs.Document.{Node, node-0-alone}
-use Rattle.locks.specs.Modes.{ModeSet, no-mode, in-word}
-use Rattle.locks.specs.Modes.{bit}
-use Rattle.protocol.specs.State.{is-transaction, Marked, unmarked, tree-of, with-open, start-header, start-state}
-use Rattle.layout.specs.Lists.{tabulate}
+use Rattle.locks.specs.Modes.{no-mode, in-word}
+use Rattle.protocol.specs.State.{is-transaction, unmarked, tree-of, with-open, start-header, start-state}
+use Rattle.layout.specs.Layout.{tabulate, state-size, format-mark, entry-at, lock-at, word, part, count, slot, depth, number, cell, is-open}
+use Rattle.layout.specs.Layout.{held, decode, entry, nodes, Layout}
 use Rattle.layout.specs.Flat.{flat}
-use Rattle.layout.specs.Layout.{state-size, format-mark, entry-at, cell-at, lock-at, word, part, count, slot, depth, number, cell, is-open, held}
-use Rattle.layout.specs.Layout.{decode, Entry, entry, nodes, Sized, Layout}
-use Rattle.layout.specs.Laws.Bytes.{Only, Filled, filled-more, length-part, part-at, drop-high}
+use Rattle.layout.specs.Laws.Bytes.{Filled, filled-more, length-part, part-at, drop-high}
 use Rattle.layout.specs.Laws.Nodes.{length-nodes}
 use Rattle.layout.specs.Laws.Fields.{cell-byte}
 use Rattle.layout.specs.Laws.Locks.{no-modes, transaction-low, transaction-high}
@@ -126,7 +124,8 @@ module _ (s : List ℕ) (l : state-size ≤ length s) (b : (j : ℕ) → j < sta
       go t true e =
           let a : 1 ≤ t = transaction-low t e in
           let z : t ≤ 16 = transaction-high t e in
-          rw (word-is (lock-at t 0) (omega arith), byte-behind (lock-at t 0) (omega arith), byte-behind (lock-at t 0 + 1) (omega arith)) no-modes
+          rw (word-is (lock-at t 0) (omega arith), byte-behind (lock-at t 0) (omega arith), byte-behind (lock-at t 0 + 1) (omega arith))
+          no-modes
       go t false e = refl
 
   abbrev document : Node
@@ -161,18 +160,31 @@ module _ (s : List ℕ) (l : state-size ≤ length s) (b : (j : ℕ) → j < sta
     slots = λ i h. rw (slot-is i h) h;
     apart = λ i j h k e. sym (slot-is i h) ∙ e ∙ slot-is j k;
     sizes = λ i h. let z : i ≡ 0 = omega (arith, count-is) in
-        rw (z, slot-is 0 (omega arith)) (record { now = rw (cell-is 4 (omega arith)) (omega arith); saved = λ n. rw (cell-is 5 (omega arith)) (omega arith) });
+        rw (z, slot-is 0 (omega arith)) (record {
+          now = rw (cell-is 4 (omega arith)) (omega arith);
+          saved = λ n. rw
+              (cell-is 5 (omega arith)) (omega arith);
+        });
   }
 
   pub start-holds : Holds s start-state
   unfolding tree-of node-0-alone view flat
-  start-holds = record { layout = start-layout; header = ap (λ (f : ℕ → Bool). with-open f start-header) open-is; rows = nodes-is; unique = rw nodes-is; valid = valid-start }
+  start-holds = record {
+    layout = start-layout;
+    header = ap (λ (f : ℕ → Bool). with-open f start-header) open-is;
+    rows = nodes-is;
+    unique =
+        rw nodes-is;
+    valid = valid-start;
+  }
 
 -- the calls ------------------------------------------------------------------------------------------
 
 -- one byte more, from the first on
-pub filled-next : (n : ℕ) (v : ℕ → ℕ) (s s′ : List ℕ) (x : ℕ) → Filled 0 n v s s′ → n < length s → x ≡ v n → Filled 0 (n + 1) v s (set s′ n x)
-filled-next n v s s′ x f h e = subst (λ (m : ℕ). Filled 0 (n + 1) v s (set s′ m x)) (zero-add n) (filled-more 0 n v s s′ x f (omega arith) e)
+pub filled-next : (n : ℕ) (v : ℕ → ℕ) (s s′ : List ℕ) (x : ℕ) → Filled 0 n v s s′ → n < length s → x ≡ v n
+    → Filled 0 (n + 1) v s (set s′ n x)
+filled-next n v s s′ x f h e =
+    subst (λ (m : ℕ). Filled 0 (n + 1) v s (set s′ m x)) (zero-add n) (filled-more 0 n v s s′ x f (omega arith) e)
 
 pub started-short : (s : List ℕ) → length s < state-size → Started s s false
 started-short s h = record {
@@ -184,7 +196,8 @@ started-short s h = record {
   behind = refl;
 }
 
-pub started : (s s′ s″ : List ℕ) → state-size ≤ length s → Filled 0 6161 start-byte s s′ → Filled 6161 104447 (λ j. 0) s′ s″ → Started s s″ true
+pub started : (s s′ s″ : List ℕ) → state-size ≤ length s → Filled 0 6161 start-byte s s′ → Filled 6161 104447 (λ j. 0) s′ s″
+    → Started s s″ true
 started s s′ s″ h f g = record {
   answer = sym (le-leb state-size (length s) h);
   short = λ k. absurd (omega arith);

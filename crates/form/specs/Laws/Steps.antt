@@ -1,30 +1,30 @@
 -- What the form asks of a tree is kept by every step and every end, holds of what is loaded, and gives the state that changed bytes hold.
 use mathlib.Core.Path.{_≡_, refl, sym, ap, _∙_}
-use Prim.Native.Nat.{ℕ, zero, suc, _+_, _≤_, _<_}
-use mathlib.Core.Bool.{Bool, true, false, cond, not, _&&_, _||_, false≢true}
-use mathlib.Core.List.{List, [], _∷_, _++_, map}
+use Prim.Native.Nat.{ℕ, zero, suc, _≤_, _<_}
+use mathlib.Core.Bool.{Bool, true, false, cond, not, _&&_, false≢true}
+use mathlib.Core.List.{List, [], _∷_, _++_}
 use native.Mathlib.Omega.{arith}
-use lib.ListN.{length, getD}
-use lib.Dec.{eqb, leb}
-use borrow.Author.Tests.{le-leb, leb-true, not-false, eqb-true, eqb-false, eq-eqb, ne-eqb}
-use Rattle.tree.specs.Lists.{any, every, distinct}
-use Rattle.tree.specs.Forest.{Forest, nil, node, Row, row, view}
-use Rattle.tree.specs.Content.{document-kind, element-kind, attribute-kind, text-kind, between, allowed, takes, attributes-first, children-rule}
-use Rattle.tree.specs.Document.{Node, Document, node-0-alone, lines, numbers, top-kinds, ruled, rooted, legal}
+use lib.ListN.{length}
+use lib.Dec.{eqb}
+use borrow.Author.Tests.{not-false, eqb-true, eqb-false, ne-eqb}
+use Rattle.tree.specs.Lists.{every}
+use Rattle.tree.specs.Forest.{nil, node, Row, row, view}
+use Rattle.tree.specs.Content.{document-kind, element-kind, attribute-kind, text-kind, between, allowed, takes, children-rule}
+use Rattle.tree.specs.Document.{Node, Document, node-0-alone, top-kinds, ruled, rooted, legal}
 use Rattle.tree.specs.Steps.{Step, T, C, R, U, D, I, TT, RR, UU, target, wrong-kind-on}
-use Rattle.tree.specs.Laws.Tests.{and-left, and-right, or-left, or-right}
+use Rattle.tree.specs.Laws.Tests.{and-left, and-right}
 use Rattle.locks.specs.Needs.{Lock}
-use Rattle.protocol.specs.State.{nobody, Marked, Tree, State, numbered, seen-by, written-by, deleted-by, unmarked, inserted-by, granted-to, lasting, undone}
-use Rattle.protocol.specs.State.{mark, renamed, act, grant, commit-tree, abort-tree, tree-of, with-tree, start-state}
+use Rattle.protocol.specs.State.{nobody, Marked, Tree, State, numbered, seen-by, written-by, deleted-by, unmarked, inserted-by, granted-to}
+use Rattle.protocol.specs.State.{lasting, undone, mark, renamed, act, grant, commit-tree, abort-tree, tree-of, start-state}
 use Rattle.layout.specs.Flat.{flat}
-use Rattle.layout.specs.Layout.{Entry, no-entry, is-open, nodes, Layout, Left, Kept}
-use Rattle.lookup.specs.Places.{item, items, number-of, unique}
-use Rattle.lookup.specs.Laws.Find.{unique-head}
-use Rattle.form.specs.Form.{in-range, valid, valid-document, all-valid, valid-tree, Holds}
-use Rattle.form.specs.Laws.Rows.{and-of, between-low, between-high}
-use Rattle.form.specs.Laws.Valid.{Valid, FineDocument, is-valid, is-document, Keeps, keeps-written, keeps-granted, keeps-lasting, keeps-undone}
-use Rattle.form.specs.Laws.Valid.{valid-deleted, valid-inserted}
-use Rattle.form.specs.Laws.Valid.{Root, root-of, tree-of-root, valid-mark, valid-view, valid-put}
+use Rattle.layout.specs.Layout.{Entry, Left}
+use Rattle.lookup.specs.Places.{item, number-of, unique}
+use Rattle.lookup.specs.Laws.Find.{unique-head, lacks-at}
+use Rattle.form.specs.Form.{in-range, valid, valid-document, valid-below, valid-rows, valid-tree, Holds}
+use Rattle.form.specs.Laws.Rows.{and-of, between-low, between-high, all-valid}
+use Rattle.form.specs.Laws.Valid.{Valid, FineDocument, keeps-node, keeps-document, keeps-written, keeps-granted, keeps-lasting}
+use Rattle.form.specs.Laws.Valid.{keeps-undone, valid-deleted, valid-inserted, root-of, tree-of-root, valid-mark, valid-view}
+use Rattle.form.specs.Laws.Valid.{valid-put}
 
 -- bytes that hold a state again ------------------------------------------------------------------
 
@@ -32,11 +32,6 @@ use Rattle.form.specs.Laws.Valid.{Root, root-of, tree-of-root, valid-mar
 pub holds-left : {s s′ : List ℕ} (M : State) → Left s s′ (M .header) (flat 0 (M .tree)) → unique (flat 0 (M .tree)) ≡ true
     → valid-tree (M .tree) ≡ true → Holds s′ M
 holds-left M l u f = record { layout = l .layout; header = l .header; rows = l .nodes; unique = rw (l .nodes) u; valid = f }
-
--- after a change of the nodes alone
-pub holds-kept : {s s′ : List ℕ} {M : State} (f : Tree) → Holds s M → Kept s s′ (flat 0 f) → unique (flat 0 f) ≡ true → valid-tree f ≡ true
-    → Holds s′ (with-tree M f)
-holds-kept f h k u g = record { layout = k .layout; header = k .header ∙ h .header; rows = k .nodes; unique = rw (k .nodes) u; valid = g }
 
 -- in terms of the tree
 pub holds-unique : {s : List ℕ} {M : State} → Holds s M → unique (flat 0 (M .tree)) ≡ true
@@ -46,13 +41,15 @@ holds-unique h = ap unique (sym (h .rows)) ∙ h .unique
 
 pub valid-grant : (t : ℕ) (ls : List Lock) (f : Tree) → valid-tree f ≡ true → valid-tree (grant t ls f) ≡ true
 unfolding grant
-valid-grant t ls f h = valid-mark (λ r. granted-to t ls (r .it)) (λ r k. keeps-granted t ls .node (r .it) k) (λ a k. keeps-granted t ls .document a k) f h
+valid-grant t ls f h =
+    valid-mark (λ r. granted-to t ls (r .it)) (λ r k. keeps-node (keeps-granted t ls) (r .it) k) (keeps-document (keeps-granted t ls)) f h
 
 -- a change of the nodes that pass
 valid-some : (test : Row Marked Marked → Bool) (g : Marked → Marked) → ((a : Marked) → Valid a → Valid (g a))
     → ((a : Marked) → FineDocument a → test (row a []) ≡ true → FineDocument (g a))
     → (f : Tree) → valid-tree f ≡ true → valid-tree (mark (λ r. cond (test r) (g (r .it)) (r .it)) f) ≡ true
-valid-some test g k d f h = valid-mark (λ r. cond (test r) (g (r .it)) (r .it)) (λ r m. inner (test r) (r .it) m) (λ a m. top (test (row a [])) a m (d a m)) f h
+valid-some test g k d f h =
+    valid-mark (λ r. cond (test r) (g (r .it)) (r .it)) (λ r m. inner (test r) (r .it) m) (λ a m. top (test (row a [])) a m (d a m)) f h
   where
     inner : (b : Bool) (a : Marked) → Valid a → Valid (cond b (g a) a)
     inner true a m = k a m
@@ -63,17 +60,14 @@ valid-some test g k d f h = valid-mark (λ r. cond (test r) (g (r .it)) (r .it))
     top false a m e = m
 
 -- the node that a step is on is the document exactly if it is numbered 0
-lacks-at : (n : ℕ) (l : List Entry) (i : ℕ) → any (numbered n) (items l) ≡ false → i < length l → number-of (item l i) ≡ n → ⊥
-lacks-at n [] i h k e = omega arith
-lacks-at n (x ∷ l) zero h k e = eqb-false (number-of (x .1)) n (or-left (numbered n (x .1)) _ h) e
-lacks-at n (x ∷ l) (suc i) h k e = lacks-at n l i (or-right (numbered n (x .1)) _ h) (omega arith) e
-
-first-at : (p : ℕ) (a : Marked) (l : List Entry) → FineDocument a → unique ((0, a) ∷ l) ≡ true → p < suc (length l) → number-of (item ((0, a) ∷ l) p) ≡ 0
+first-at : (p : ℕ) (a : Marked) (l : List Entry) → FineDocument a → unique ((0, a) ∷ l) ≡ true → p < suc (length l)
+    → number-of (item ((0, a) ∷ l) p) ≡ 0
     → item ((0, a) ∷ l) p .now .kind ≡ document-kind
 first-at zero a l d u k e = d .kind
 first-at (suc p) a l d u k e = absurd (lacks-at (number-of a) l p (unique-head (0, a) l u .0) (omega arith) (e ∙ sym (d .number)))
 
-pub is-root : (f : Tree) (p : ℕ) → valid-tree f ≡ true → unique (flat 0 f) ≡ true → p < length (flat 0 f) → number-of (item (flat 0 f) p) ≡ 0
+pub is-root : (f : Tree) (p : ℕ) → valid-tree f ≡ true → unique (flat 0 f) ≡ true → p < length (flat 0 f)
+    → number-of (item (flat 0 f) p) ≡ 0
     → item (flat 0 f) p .now .kind ≡ document-kind
 unfolding flat
 is-root f p h u l e =
@@ -100,7 +94,8 @@ valid-act t (T n) f p l h u k e m = h
 valid-act t (C n i) f p l h u k e m = h
 valid-act t (R n) f p l h u k e m = h
 valid-act t (U n b) f p l h u k e m =
-    valid-some (λ r. numbered n (r .it)) (written-by t b) (keeps-written t b l .node) (λ a d v. keeps-written t b l .document a d) f h
+    valid-some (λ r. numbered n (r .it)) (written-by t b) (keeps-node (keeps-written t b l))
+    (λ a d v. keeps-document (keeps-written t b l) a d) f h
 valid-act t (D n) f p l h u k e m = valid-some (λ r. numbered n (r .it)) (deleted-by t) (valid-deleted t l)
     (λ a d v. absurd (eqb-false _ document-kind m (is-root f p h u k (e ∙ sym (eqb-true (a .now .number) n v) ∙ d .number)))) f h
 valid-act t (I x kind b n i) f p l h u k e m =
@@ -110,7 +105,8 @@ valid-act t (I x kind b n i) f p l h u k e m =
     (valid-inserted t a l (between-low element-kind text-kind kind q) (between-high element-kind text-kind kind q)) f h
 valid-act t (TT n) f p l h u k e m = h
 valid-act t (RR n) f p l h u k e m = h
-valid-act t (UU n a b) f p l h u k e m = valid-some (renamed t n a) (written-by t b) (keeps-written t b l .node) (λ a d v. keeps-written t b l .document a d) f h
+valid-act t (UU n a b) f p l h u k e m =
+    valid-some (renamed t n a) (written-by t b) (keeps-node (keeps-written t b l)) (λ a d v. keeps-document (keeps-written t b l) a d) f h
 
 -- ends ------------------------------------------------------------------------------------------------
 
@@ -120,7 +116,8 @@ valid-commit t f l h = valid-view (seen-by t) (lasting t) (keeps-lasting t) (λ 
 
 pub valid-abort : (t : ℕ) (f : Tree) → 1 ≤ t → valid-tree f ≡ true → valid-tree (abort-tree t f) ≡ true
 unfolding abort-tree
-valid-abort t f l h = valid-view (λ a. not (eqb (a .inserter) t)) (undone t) (keeps-undone t) (λ a d. rw (d .inserter, ne-eqb nobody t (λ e. omega arith))) f h
+valid-abort t f l h = valid-view (λ a. not (eqb (a .inserter) t)) (undone t) (keeps-undone t)
+    (λ a d. rw (d .inserter, ne-eqb nobody t (λ e. omega arith))) f h
 
 -- what is loaded ----------------------------------------------------------------------------------------
 
@@ -133,7 +130,8 @@ unfolding children-rule
 children-taken kind kinds h = and-left (every (takes kind) kinds) _ h
 
 -- of siblings that their parent's kind takes
-all-loaded : (kind : ℕ) (f : Document) → every (takes kind) (top-kinds f) ≡ true → ruled f ≡ true → all-valid (view (λ a. true) unmarked f) ≡ true
+all-loaded : (kind : ℕ) (f : Document) → every (takes kind) (top-kinds f) ≡ true → ruled f ≡ true
+    → all-valid (view (λ a. true) unmarked f) ≡ true
 unfolding view all-valid ruled
 all-loaded kind nil k h = refl
 all-loaded kind (node a ks fs) k h =
@@ -147,7 +145,8 @@ all-loaded kind (node a ks fs) k h =
     (all-loaded (a .kind) ks taken (and-right rule _ p)))
     (all-loaded kind fs (and-right (takes kind (a .kind)) _ k) (and-right (rule && ruled ks) _ h))
 
-loaded-root : (a : Node) (ks : Document) → rooted (node a ks nil) ≡ true → ruled (node a ks nil) ≡ true → valid-tree (tree-of (node a ks nil)) ≡ true
+loaded-root : (a : Node) (ks : Document) → rooted (node a ks nil) ≡ true → ruled (node a ks nil) ≡ true
+    → valid-tree (tree-of (node a ks nil)) ≡ true
 unfolding tree-of view ruled
 loaded-root a ks r h =
     let p : (allowed (a .kind) (a .content) && children-rule (a .kind) (top-kinds ks) && ruled ks) ≡ true =
@@ -176,5 +175,5 @@ valid-load d h =
     go (node a ks (node b js fs)) r h = absurd (false≢true r)
 
 pub valid-start : valid-tree (start-state .tree) ≡ true
-unfolding tree-of node-0-alone view valid-tree all-valid valid-document in-range
+unfolding tree-of node-0-alone view flat valid-tree valid-rows valid-below valid-document in-range
 valid-start = refl

@@ -1,70 +1,51 @@
 -- What the form asks of a tree is kept by every change that a call makes.
-use mathlib.Core.Path.{_≡_, refl, sym, ap, _∙_}
-use Prim.Native.Nat.{ℕ, zero, suc, _+_, _≤_, _<_}
-use mathlib.Core.Bool.{Bool, true, false, cond, not, _&&_, _||_, false≢true}
-use mathlib.Core.List.{List, [], _∷_, _++_, map}
+use mathlib.Core.Path.{_≡_, refl, _∙_}
+use Prim.Native.Nat.{ℕ, zero, suc, _≤_}
+use mathlib.Core.Bool.{Bool, true, false, cond, _&&_}
+use mathlib.Core.List.{List, [], _∷_}
 use native.Mathlib.Omega.{arith}
-use lib.ListN.{length, getD}
-use lib.Dec.{eqb, leb, ltb}
-use borrow.Author.Tests.{le-leb, leb-true, eqb-true, eqb-false, eq-eqb, ne-eqb}
-use Rattle.tree.specs.Lists.{any, every}
-use Rattle.tree.specs.Forest.{Forest, nil, node, Row, row, amend, view, place, put}
-use Rattle.tree.specs.Content.{document-kind, element-kind, text-kind, between, allowed, takes, children-rule}
-use Rattle.tree.specs.Document.{Document, Node, node-0-alone, top-kinds, ruled, rooted, legal}
-use Rattle.tree.specs.Steps.{Step, T, C, R, U, D, I, TT, RR, UU, target}
-use Rattle.tree.specs.Laws.Tests.{and-left, and-right, or-left, or-right, refuted}
+use lib.Dec.{eqb, leb}
+use borrow.Author.Tests.{le-leb, leb-true, eqb-true, eq-eqb}
+use Rattle.tree.specs.Forest.{nil, node, Row, row, amend, view, place, put}
+use Rattle.tree.specs.Content.{document-kind, element-kind, text-kind, between}
+use Rattle.tree.specs.Document.{Node}
+use Rattle.tree.specs.Laws.Tests.{and-left, and-right}
 use Rattle.locks.specs.Needs.{Lock}
-use Rattle.protocol.specs.State.{nobody, is-transaction, Marked, Tree, numbered, seen-by, written-by, deleted-by, unmarked, inserted-by, granted-to}
-use Rattle.protocol.specs.State.{writer-of, Update, update-without, unwritten}
-use Rattle.protocol.specs.State.{without, lasting, undone}
-use Rattle.protocol.specs.State.{mark, renamed, act, grant, commit-tree, abort-tree, tree-of}
-use Rattle.layout.specs.Flat.{flat}
-use Rattle.layout.specs.Layout.{Entry, no-entry}
-use Rattle.lookup.specs.Places.{item, items, number-of, unique}
-use Rattle.lookup.specs.Laws.Find.{unique-head}
-use Rattle.form.specs.Form.{in-range, valid, valid-document, all-valid, valid-tree}
-use Rattle.form.specs.Laws.Rows.{and-of, between-of, between-low, between-high}
+use Rattle.protocol.specs.State.{nobody, Marked, Tree, written-by, deleted-by, inserted-by, granted-to, writer-of, Update, update-without}
+use Rattle.protocol.specs.State.{unwritten, without, lasting, undone, mark}
+use Rattle.form.specs.Form.{in-range, valid, valid-document, valid-tree}
+use Rattle.form.specs.Laws.Rows.{and-of, between-of, between-low, between-high, all-valid, tree-valid, valid-root}
 
 -- nodes ------------------------------------------------------------------------------------
 
-pub record InRange (least greatest most : ℕ) (a : Marked) : Type 0 where
-  pub low : least ≤ a .now .kind
-  pub high : a .now .kind ≤ greatest
-  pub writer : writer-of (a .update) ≤ 16
-  pub inserter : a .inserter ≤ most
-  pub deleter : a .deleter ≤ most
+-- kind, writer, inserter and deleter in range
+abbrev pub InRange : ℕ → ℕ → ℕ → Marked → Type 0
+InRange low high most a =
+    (low ≤ a .now .kind) × (a .now .kind ≤ high) × (writer-of (a .update) ≤ 16) × (a .inserter ≤ most) × (a .deleter ≤ most)
 
 in-range-is : (low high most : ℕ) (a : Marked) → in-range low high most a ≡ true → InRange low high most a
 unfolding in-range
 in-range-is low high most a h =
     let k : between low high (a .now .kind) ≡ true = and-left (between low high (a .now .kind)) _ h in
-    let m : (leb (writer-of (a .update)) 16 && (leb (a .inserter) most && leb (a .deleter) most)) ≡ true = and-right (between low high (a .now .kind)) _ h in
-    let n : (leb (a .inserter) most && leb (a .deleter) most) ≡ true = and-right (leb (writer-of (a .update)) 16) _ m in
-    record {
-      low = between-low low high (a .now .kind) k;
-      high = between-high low high (a .now .kind) k;
-      writer = leb-true (writer-of (a .update)) 16 (and-left (leb (writer-of (a .update)) 16) _ m);
-      inserter = leb-true (a .inserter) most (and-left (leb (a .inserter) most) _ n);
-      deleter = leb-true (a .deleter) most (and-right (leb (a .inserter) most) _ n);
-    }
+    let m : (leb (writer-of (a .update)) 16 && (leb (a .inserter) most && leb (a .deleter) most)) ≡ true =
+    and-right (between low high (a .now .kind)) _ h in
+    let n : (leb (a .inserter) most && leb (a .deleter) most) ≡ true = and-right (leb (writer-of (a .update)) 16) _ m in (
+      between-low low high (a .now .kind) k,
+      between-high low high (a .now .kind) k,
+      leb-true (writer-of (a .update)) 16 (and-left (leb (writer-of (a .update)) 16) _ m),
+      leb-true (a .inserter) most (and-left (leb (a .inserter) most) _ n),
+      leb-true (a .deleter) most (and-right (leb (a .inserter) most) _ n),
+    )
 
 is-in-range : (low high most : ℕ) (a : Marked) → InRange low high most a → in-range low high most a ≡ true
 unfolding in-range
 is-in-range low high most a h =
-    and-of (between-of low high (a .now .kind) (h .low) (h .high))
-    (and-of (le-leb (writer-of (a .update)) 16 (h .writer)) (and-of (le-leb (a .inserter) most (h .inserter)) (le-leb (a .deleter) most (h .deleter))))
+    and-of (between-of low high (a .now .kind) (h .0) (h .1))
+    (and-of (le-leb (writer-of (a .update)) 16 (h .2)) (and-of (le-leb (a .inserter) most (h .3)) (le-leb (a .deleter) most (h .4))))
 
 -- what the form asks of a node below the document
 abbrev pub Valid : Marked → Type 0
 Valid a = InRange element-kind text-kind 16 a
-
-pub valid-is : {a : Marked} → valid a ≡ true → Valid a
-unfolding valid
-valid-is {a} h = in-range-is element-kind text-kind 16 a h
-
-pub is-valid : (a : Marked) → Valid a → valid a ≡ true
-unfolding valid
-is-valid a h = is-in-range element-kind text-kind 16 a h
 
 -- and of the document
 pub record FineDocument (a : Marked) : Type 0 where
@@ -74,43 +55,36 @@ pub record FineDocument (a : Marked) : Type 0 where
   pub inserter : a .inserter ≡ nobody
   pub deleter : a .deleter ≡ nobody
 
-pub document-is : {a : Marked} → valid-document a ≡ true → FineDocument a
-unfolding valid-document
-document-is {a} h =
-    let f = in-range-is document-kind document-kind nobody a (and-left (in-range document-kind document-kind nobody a) _ h) in
-    record {
-      kind = omega (arith, f .low, f .high);
-      number = eqb-true (a .now .number) 0 (and-right (in-range document-kind document-kind nobody a) _ h);
-      writer = f .writer;
-      inserter = omega (arith, f .inserter);
-      deleter = omega (arith, f .deleter);
-    }
+fine : {a : Marked} → InRange document-kind document-kind nobody a → a .now .number ≡ 0 → FineDocument a
+fine h n = record {
+  kind = omega (arith, h .0, h .1);
+  number = n;
+  writer = h .2;
+  inserter = omega (arith, h .3);
+  deleter = omega (arith, h .4);
+}
 
-pub is-document : (a : Marked) → FineDocument a → valid-document a ≡ true
-unfolding valid-document
-is-document a h =
-    and-of
-    (is-in-range document-kind document-kind nobody a
-    (record {
-      low = omega (arith, h .kind);
-      high = omega (arith, h .kind);
-      writer = h .writer;
-      inserter = omega (arith, h .inserter);
-      deleter = omega (arith, h .deleter);
-    }))
-    (eq-eqb (a .now .number) 0 (h .number))
+fine-range : {a : Marked} → FineDocument a → InRange document-kind document-kind nobody a
+fine-range d = (omega (arith, d .kind), omega (arith, d .kind), d .writer, omega (arith, d .inserter), omega (arith, d .deleter))
 
 -- changes of a node --------------------------------------------------------------------------
 
--- a change that keeps what the form asks, of a node below the document and of the document
+-- a change that keeps what the form asks of a node, be it the document or not
 pub record Keeps (g : Marked → Marked) : Type 0 where
-  pub node : (a : Marked) → Valid a → Valid (g a)
-  pub document : (a : Marked) → FineDocument a → FineDocument (g a)
+  pub range : (low high most : ℕ) (a : Marked) → InRange low high most a → InRange low high most (g a)
+  pub number : (a : Marked) → g a .now .number ≡ a .now .number
 
-without-small : (t u : ℕ) → u ≤ 16 → without t u ≤ 16
-without-small t u h = go (eqb u t)
+module _ {g : Marked → Marked} (k : Keeps g) where
+  pub keeps-node : (a : Marked) → Valid a → Valid (g a)
+  keeps-node a h = k .range element-kind text-kind 16 a h
+
+  pub keeps-document : (a : Marked) → FineDocument a → FineDocument (g a)
+  keeps-document a d = fine (k .range document-kind document-kind nobody a (fine-range d)) (k .number a ∙ d .number)
+
+without-small : (t u most : ℕ) → u ≤ most → without t u ≤ most
+without-small t u most h = go (eqb u t)
   where
-    go : (b : Bool) → cond b nobody u ≤ 16
+    go : (b : Bool) → cond b nobody u ≤ most
     go true = omega arith
     go false = h
 
@@ -121,81 +95,41 @@ update-small t u h = go (eqb (writer-of u) t)
     go true = omega arith
     go false = h
 
-without-nobody : (t u : ℕ) → u ≡ nobody → without t u ≡ nobody
-without-nobody t u h = go (eqb u t)
-  where
-    go : (b : Bool) → cond b nobody u ≡ nobody
-    go true = refl
-    go false = h
-
-pub keeps-same : Keeps (λ a. a)
-keeps-same = record { node = λ a h. h; document = λ a h. h }
-
 pub keeps-written : (t : ℕ) (b : List ℕ) → t ≤ 16 → Keeps (written-by t b)
-keeps-written t b l = record {
-  node = λ a h. record { low = h .low; high = h .high; writer = l; inserter = h .inserter; deleter = h .deleter };
-  document = λ a h. record { kind = h .kind; number = h .number; writer = l; inserter = h .inserter; deleter = h .deleter };
-}
+keeps-written t b l = record { range = λ low high most a h. (h .0, h .1, l, h .3, h .4); number = λ a. refl }
 
 pub keeps-granted : (t : ℕ) (ls : List Lock) → Keeps (granted-to t ls)
-keeps-granted t ls = record {
-  node = λ a h. record { low = h .low; high = h .high; writer = h .writer; inserter = h .inserter; deleter = h .deleter };
-  document = λ a h. record { kind = h .kind; number = h .number; writer = h .writer; inserter = h .inserter; deleter = h .deleter };
-}
+keeps-granted t ls = record { range = λ low high most a h. h; number = λ a. refl }
 
 pub keeps-lasting : (t : ℕ) → Keeps (lasting t)
 keeps-lasting t = record {
-  node = λ a h. record {
-    low = h .low;
-    high = h .high;
-    writer = update-small t (a .update) (h .writer);
-    inserter = without-small t (a .inserter) (h .inserter);
-    deleter = h .deleter;
-  };
-  document = λ a h. record {
-    kind = h .kind;
-    number = h .number;
-    writer = update-small t (a .update) (h .writer);
-    inserter = without-nobody t (a .inserter) (h .inserter);
-    deleter = h .deleter;
-  };
+  range = λ low high most a h. (h .0, h .1, update-small t (a .update) (h .2), without-small t (a .inserter) most (h .3), h .4);
+  number = λ a. refl;
 }
 
 pub keeps-undone : (t : ℕ) → Keeps (undone t)
 keeps-undone t = record {
-  node = λ a h. record {
-    low = h .low;
-    high = h .high;
-    writer = update-small t (a .update) (h .writer);
-    inserter = h .inserter;
-    deleter = without-small t (a .deleter) (h .deleter);
-  };
-  document = λ a h. record {
-    kind = h .kind;
-    number = h .number;
-    writer = update-small t (a .update) (h .writer);
-    inserter = h .inserter;
-    deleter = without-nobody t (a .deleter) (h .deleter);
-  };
+  range = λ low high most a h. (h .0, h .1, update-small t (a .update) (h .2), h .3, without-small t (a .deleter) most (h .4));
+  number = λ a. refl;
 }
 
 pub valid-deleted : (t : ℕ) → t ≤ 16 → (a : Marked) → Valid a → Valid (deleted-by t a)
-valid-deleted t l a h = record { low = h .low; high = h .high; writer = h .writer; inserter = h .inserter; deleter = l }
+valid-deleted t l a h = (h .0, h .1, h .2, h .3, l)
 
 pub valid-inserted : (t : ℕ) (a : Node) → t ≤ 16 → element-kind ≤ a .kind → a .kind ≤ text-kind → Valid (inserted-by t a)
-valid-inserted t a l low high = record { low = low; high = high; writer = omega arith; inserter = l; deleter = omega arith }
+valid-inserted t a l low high = (low, high, omega arith, l, omega arith)
 
 -- changes of a tree ----------------------------------------------------------------------------
 
 all-parts : (a : Marked) (ks fs : Tree) → all-valid (node a ks fs) ≡ true → Valid a × (all-valid ks ≡ true) × (all-valid fs ≡ true)
-unfolding all-valid
+unfolding all-valid valid
 all-parts a ks fs h =
     let p : (valid a && all-valid ks) ≡ true = and-left (valid a && all-valid ks) _ h in
-    (valid-is (and-left (valid a) _ p), and-right (valid a) _ p, and-right (valid a && all-valid ks) _ h)
+    (in-range-is element-kind text-kind 16 a (and-left (valid a) _ p), and-right (valid a) _ p, and-right (valid a && all-valid ks) _ h)
 
 parts-all : (a : Marked) (ks fs : Tree) → Valid a → all-valid ks ≡ true → all-valid fs ≡ true → all-valid (node a ks fs) ≡ true
-unfolding all-valid
-parts-all a ks fs h k l = and-of (and-of (is-valid a h) k) l
+unfolding all-valid valid
+parts-all a ks fs h k l = and-of (and-of (is-in-range element-kind text-kind 16 a h) k) l
 
 -- a valid tree is a document node with valid nodes below it
 pub record Root (f : Tree) : Type 0 where
@@ -206,15 +140,23 @@ pub record Root (f : Tree) : Type 0 where
   pub valid : all-valid below ≡ true
 
 pub root-of : (f : Tree) → valid-tree f ≡ true → Root f
-unfolding valid-tree
-root-of nil h = absurd (false≢true h)
-root-of (node a ks nil) h =
-    record { it = a; below = ks; whole = refl; document = document-is (and-left (valid-document a) _ h); valid = and-right (valid-document a) _ h }
-root-of (node a ks (node b js fs)) h = absurd (false≢true h)
+unfolding valid-document
+root-of f h =
+    let r = valid-root f h in
+    let a = r .0 in
+    let d = in-range-is document-kind document-kind nobody a (and-left (in-range document-kind document-kind nobody a) _ (r .3)) in
+    record {
+      it = a;
+      below = r .1;
+      whole = r .2;
+      document = fine d (eqb-true (a .now .number) 0 (and-right (in-range document-kind document-kind nobody a) _ (r .3)));
+      valid = r .4;
+    }
 
 pub tree-of-root : (a : Marked) (ks : Tree) → FineDocument a → all-valid ks ≡ true → valid-tree (node a ks nil) ≡ true
-unfolding valid-tree
-tree-of-root a ks h k = and-of (is-document a h) k
+unfolding valid-document
+tree-of-root a ks d k =
+    tree-valid a ks (and-of (is-in-range document-kind document-kind nobody a (fine-range d)) (eq-eqb (a .now .number) 0 (d .number))) k
 
 -- nodes anew in the same places
 all-amend : (g : Row Marked Marked → Marked) → ((r : Row Marked Marked) → Valid (r .it) → Valid (g r)) → (up : List Marked) (f : Tree)
@@ -223,7 +165,8 @@ unfolding amend
 all-amend g k up nil h = h
 all-amend g k up (node a ks fs) h =
     let p = all-parts a ks fs h in
-    parts-all (g (row a up)) (amend (λ a. a) g (a ∷ up) ks) (amend (λ a. a) g up fs) (k (row a up) (p .0)) (all-amend g k (a ∷ up) ks (p .1))
+    parts-all (g (row a up)) (amend (λ a. a) g (a ∷ up) ks) (amend (λ a. a) g up fs) (k (row a up) (p .0))
+    (all-amend g k (a ∷ up) ks (p .1))
     (all-amend g k up fs (p .2))
 
 pub valid-mark : (g : Row Marked Marked → Marked) → ((r : Row Marked Marked) → Valid (r .it) → Valid (g r))
@@ -255,10 +198,12 @@ unfolding view
 valid-view shown g k s f h =
     let r = root-of f h in
     rw (r .whole, s (r .it) (r .document))
-    (tree-of-root (g (r .it)) (view shown g (r .below)) (k .document (r .it) (r .document)) (all-view shown g (k .node) (r .below) (r .valid)))
+    (tree-of-root (g (r .it)) (view shown g (r .below)) (keeps-document k (r .it) (r .document))
+    (all-view shown g (keeps-node k) (r .below) (r .valid)))
 
 -- a new node
-all-place : (counts : Marked → Bool) (k : ℕ) (new : Marked) (f : Tree) → Valid new → all-valid f ≡ true → all-valid (place counts k new f) ≡ true
+all-place : (counts : Marked → Bool) (k : ℕ) (new : Marked) (f : Tree) → Valid new → all-valid f ≡ true
+    → all-valid (place counts k new f) ≡ true
 unfolding place all-valid
 all-place counts zero new f n h = parts-all new nil f n refl h
 all-place counts (suc zero) new f n h = parts-all new nil f n refl h
@@ -283,7 +228,8 @@ module _ (parent counts : Marked → Bool) (k : ℕ) (new : Marked) (n : Valid n
   all-put nil h = h
   all-put (node a ks fs) h =
       let p = all-parts a ks fs h in
-      parts-all a (cond (parent a) (place counts k new (put parent counts k new ks)) (put parent counts k new ks)) (put parent counts k new fs) (p .0)
+      parts-all a (cond (parent a) (place counts k new (put parent counts k new ks)) (put parent counts k new ks))
+      (put parent counts k new fs) (p .0)
       (all-children (parent a) (put parent counts k new ks) (all-put ks (p .1))) (all-put fs (p .2))
 
   pub valid-put : (f : Tree) → valid-tree f ≡ true → valid-tree (put parent counts k new f) ≡ true

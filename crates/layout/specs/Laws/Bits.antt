@@ -1,6 +1,6 @@
 -- One bit of a word changed.
-use mathlib.Core.Path.{_≡_, refl, sym, ap, _∙_}
-use Prim.Native.Nat.{ℕ, zero, suc, _+_, _*_, _-_, _/_, _%_, _^_, _≤_, _<_}
+use mathlib.Core.Path.{_≡_, refl, ap, _∙_}
+use Prim.Native.Nat.{ℕ, zero, suc, _+_, _*_, _-_, _/_, _%_, _^_, _<_}
 use mathlib.Core.Bool.{Bool, true, false, cond, not}
 use native.Mathlib.Omega.{arith}
 use native.Mathlib.Nat.{div-eq-of-lt, div-self, pow-suc}
@@ -20,7 +20,8 @@ bit-power m n = go (eqb m n) refl (ltb m n) refl
     go false p false q =
         let ne : m ≡ n → ⊥ = eqb-false m n p in
         let e : m ≡ suc (m - n - 1) + n = omega (arith, ltb-false m n q, ne) in
-        ap (λ (j : ℕ). 2 ^ j / 2 ^ n % 2) e ∙ rw (pow-add 2 (suc (m - n - 1)) n, shl-shr (2 ^ suc (m - n - 1)) n, pow-suc 2 (m - n - 1)) (omega arith)
+        ap (λ (j : ℕ). 2 ^ j / 2 ^ n % 2) e ∙ rw (pow-add 2 (suc (m - n - 1)) n, shl-shr (2 ^ suc (m - n - 1)) n, pow-suc 2 (m - n - 1))
+        (omega arith)
 
 xor-digit : (a b n : ℕ) → bitXor a b / 2 ^ n % 2 ≡ differ (a / 2 ^ n % 2) (b / 2 ^ n % 2)
 xor-digit a b n =
@@ -47,6 +48,7 @@ bit-xor w m n = rw (xor-digit w (2 ^ m) n, bit-power m n) (go (eqb m n) refl)
     left zero = refl
     left (suc x) = refl
 
-    go : (x : Bool) → eqb m n ≡ x → eqb (differ (w / 2 ^ n % 2) (cond x 1 0)) 1 ≡ cond x (not (eqb (w / 2 ^ m % 2) 1)) (eqb (w / 2 ^ n % 2) 1)
+    go : (x : Bool) → eqb m n ≡ x → eqb (differ (w / 2 ^ n % 2) (cond x 1 0)) 1
+        ≡ cond x (not (eqb (w / 2 ^ m % 2) 1)) (eqb (w / 2 ^ n % 2) 1)
     go true p = rw (eqb-true m n p) (turned (w / 2 ^ n % 2) (omega arith))
     go false p = rw (left (w / 2 ^ n % 2))

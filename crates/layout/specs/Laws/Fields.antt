@@ -1,22 +1,22 @@
 -- The bytes of a cell that stand for themselves, read and stored.
-use mathlib.Core.Path.{_≡_, refl, sym, ap, ap₂, _∙_, fun-ext, subst}
-use Prim.Native.Nat.{ℕ, zero, suc, _+_, _*_, _-_, _/_, _%_, _^_, _≤_, _<_}
+use mathlib.Core.Path.{_≡_, refl, sym, _∙_}
+use Prim.Native.Nat.{ℕ, zero, suc, _+_, _≤_, _<_}
 use mathlib.Core.Bool.{Bool, true, false, cond}
-use mathlib.Core.List.{List, [], _∷_, _++_, map}
+use mathlib.Core.List.{List}
 use native.Mathlib.Omega.{arith}
-use lib.ListN.{length, getD, take, drop, set}
+use lib.ListN.{length, getD, set}
 use lib.Seq.{drop-set-lt, getD-set-other}
-use lib.Dec.{eqb, ltb}
-use borrow.Author.Tests.{ltb-true, ltb-false, leb-true, eqb-true, eqb-false, eq-eqb, ne-eqb}
-use Rattle.locks.specs.Modes.{ModeSet, no-mode, in-word}
-use Rattle.protocol.specs.State.{is-transaction, unwritten, wrote, writer-of, Marked, with-update}
+use lib.Dec.{eqb}
+use borrow.Author.Tests.{eqb-true, ne-eqb}
+use Rattle.locks.specs.Modes.{ModeSet}
+use Rattle.protocol.specs.State.{nobody, unwritten, wrote, writer-of, Marked, with-update}
 use Rattle.layout.specs.Lists.{modify}
 use Rattle.layout.specs.Flat.{second}
-use Rattle.layout.specs.Layout.{state-size, entry-at, cell-at, word, part, count, slot, depth, number, cell, held, decode, Entry, entry, nodes}
+use Rattle.layout.specs.Layout.{entry-at, cell-at, word, slot, depth, number, cell, decode, entry, nodes}
 use Rattle.layout.specs.Layout.{stored, update-of, no-entry, Sized, Layout, Kept}
 use Rattle.layout.specs.Fields.{field, storable, with-field, saved-bytes, saved-size}
 use Rattle.layout.specs.Laws.Lists.{getD-set-eqb}
-use Rattle.layout.specs.Laws.Bytes.{Only, only-set, only-wider, part-at, part-set}
+use Rattle.layout.specs.Laws.Bytes.{only-set, only-wider, part-at, part-set}
 use Rattle.layout.specs.Laws.Nodes.{node-at, length-nodes, length-cell, cell-kept}
 
 -- a byte of the cell of the node at place i
@@ -42,7 +42,8 @@ writer-update u b = go (eqb u 0) refl
     go false e = refl
 
 -- k is the slot of the node at place i
-pub field-at : (s : List ℕ) (i o k : ℕ) → k ≡ slot s i → i < length (nodes s) → o < 4 → getD s (cell-at k + o) 0 ≡ field o (getD (nodes s) i no-entry .1)
+pub field-at : (s : List ℕ) (i o k : ℕ) → k ≡ slot s i → i < length (nodes s) → o < 4
+    → getD s (cell-at k + o) 0 ≡ field o (getD (nodes s) i no-entry .1)
 unfolding entry decode
 field-at s i o k e h l = rw (e, node-at s i (omega (arith, length-nodes s)), cell-byte s (slot s i) o (omega arith)) (go o l)
   where
@@ -53,70 +54,63 @@ field-at s i o k e h l = rw (e, node-at s i (omega (arith, length-nodes s)), cel
     go (suc (suc (suc zero))) l = refl
     go (suc (suc (suc (suc o)))) l = absurd (omega arith)
 
-decode-field : (o v m : ℕ) (c : List ℕ) (h : ℕ → ModeSet) → o < 4 → storable o v ≡ true → length c ≡ 70
-    → decode m (set c o v) h ≡ with-field o v (decode m c h)
-unfolding decode
-decode-field o v m c h l p e =
-    let k : o < length c = omega arith in
-    rw (
-      drop-set-lt 6 c o v (omega arith),
-      drop-set-lt 38 c o v (omega arith),
-      getD-set-other c o 4 v 0 (λ q. omega arith),
-      getD-set-other c o 5 v 0 (λ q. omega arith),
-    )
-    (simp getD-set-eqb (rw (go o p)))
-  where
-    go : (o : ℕ) → storable o v ≡ true
-        → update-of (cond (eqb o 1) v (getD c 1 0)) (stored 1 c) ≡ cond (eqb o 1) unwritten (update-of (getD c 1 0) (stored 1 c))
-    go zero p = refl
-    go (suc zero) p = rw p
-    go (suc (suc o)) p = rw (ne-eqb (suc (suc o)) 1 (λ q. omega arith))
+-- one of these bytes stored
+module _ (o v : ℕ) (c : List ℕ) (l : o < 4) (e : length c ≡ 70) where
+  size-byte : (j : ℕ) → 4 ≤ j → getD (set c o v) j 0 ≡ getD c j 0
+  size-byte j h = getD-set-other c o j v 0 (λ q. omega arith)
 
-sized-field : (o v : ℕ) (c : List ℕ) → o < 4 → storable o v ≡ true → length c ≡ 70 → Sized c → Sized (set c o v)
-sized-field o v c l p e z = record {
-  now = rw (getD-set-other c o 4 v 0 (λ q. omega arith)) (z .now);
-  saved = λ n. rw (getD-set-other c o 5 v 0 (λ q. omega arith)) (z .saved (λ q. n (getD-set-eqb c o 1 v 0 (omega arith) ∙ go o p q)));
-}
-  where
-    go : (o : ℕ) → storable o v ≡ true → getD c 1 0 ≡ 0 → cond (eqb o 1) v (getD c 1 0) ≡ 0
-    go zero p q = q
-    go (suc zero) p q = eqb-true v 0 p
-    go (suc (suc o)) p q = rw (ne-eqb (suc (suc o)) 1 (λ r. omega arith)) q
+  decode-byte : (m : ℕ) (h : ℕ → ModeSet)
+      → decode m (set c o v) h ≡ with-update (update-of (cond (eqb o 1) v (getD c 1 0)) (stored 1 c)) (with-field o v (decode m c h))
+  unfolding decode
+  decode-byte m h =
+      let k : o < length c = omega arith in
+      rw (drop-set-lt 6 c o v (omega arith), drop-set-lt 38 c o v (omega arith), size-byte 4 (omega arith), size-byte 5 (omega arith))
+      (simp getD-set-eqb)
 
-decode-writer : (t m : ℕ) (c : List ℕ) (h : ℕ → ModeSet) → 1 ≤ t → length c ≡ 70
-    → decode m (set c 1 t) h ≡ with-update (wrote t (stored 1 c)) (decode m c h)
-unfolding decode
-decode-writer t m c h l e =
-    let k : 1 < length c = omega arith in
-    rw (
-      drop-set-lt 6 c 1 t (omega arith),
-      drop-set-lt 38 c 1 t (omega arith),
-      getD-set-other c 1 4 t 0 (λ q. omega arith),
-      getD-set-other c 1 5 t 0 (λ q. omega arith),
-    )
-    (simp getD-set-eqb (rw (ne-eqb t 0 (λ q. omega arith))))
+  sized-byte : ((cond (eqb o 1) v (getD c 1 0) ≡ nobody → ⊥) → getD c 5 0 ≤ 32) → Sized c → Sized (set c o v)
+  sized-byte f z = record {
+    now = rw (size-byte 4 (omega arith)) (z .now);
+    saved = λ n. rw (size-byte 5 (omega arith)) (f (λ q. n (getD-set-eqb c o 1 v 0 (omega arith) ∙ q)));
+  }
 
--- the one law of the four
-pub field-kept : (s : List ℕ) (i o v k : ℕ) → k ≡ slot s i → Layout s → i < length (nodes s) → o < 4 → storable o v ≡ true
-    → Kept s (set s (cell-at k + o) v) (modify i (second (with-field o v)) (nodes s))
-unfolding cell
-field-kept s i o v k e h l b t =
-    let a : k < 1024 = rw e (h .slots i (omega (arith, length-nodes s, h .room))) in
-    let p : cell (set s (cell-at k + o) v) k ≡ set (cell s k) o v = part-set s (cell-at k) 70 o v (omega arith) in
-    cell-kept {k = k} (only-wider (cell-at k) 70 (only-set s (cell-at k + o) v) (omega arith) (omega arith)) h i (sym e)
-    (omega (arith, length-nodes s)) (with-field o v)
-    (λ m g q z. rw p (decode-field o v m (cell s k) g b t q)) (λ z. rw p (sized-field o v (cell s k) b t (length-cell s k (h .size) a) z))
+-- a byte that is storable alone
+update-field : (o v : ℕ) (c : List ℕ) → storable o v ≡ true
+    → update-of (cond (eqb o 1) v (getD c 1 0)) (stored 1 c) ≡ cond (eqb o 1) unwritten (update-of (getD c 1 0) (stored 1 c))
+update-field zero v c p = refl
+update-field (suc zero) v c p = rw p
+update-field (suc (suc o)) v c p = rw (ne-eqb (suc (suc o)) 1 (λ q. omega arith))
+
+saved-field : (o v : ℕ) (c : List ℕ) → storable o v ≡ true → Sized c → (cond (eqb o 1) v (getD c 1 0) ≡ nobody → ⊥) → getD c 5 0 ≤ 32
+saved-field zero v c p z n = z .saved n
+saved-field (suc zero) v c p z n = absurd (n (eqb-true v 0 p))
+saved-field (suc (suc o)) v c p z n = z .saved (λ q. n (rw (ne-eqb (suc (suc o)) 1 (λ r. omega arith)) q))
+
+-- byte o of the cell of the node at i stored, whose slot is k
+module _ (s : List ℕ) (i o v k : ℕ) (e : k ≡ slot s i) (h : Layout s) (l : i < length (nodes s)) (b : o < 4) where
+  in-cell : length (cell s k) ≡ 70
+  in-cell = length-cell s k (h .size) (rw e (h .slots i (omega (arith, length-nodes s, h .room))))
+
+  byte-kept : (g : Marked → Marked) → ((m : ℕ) (q : ℕ → ModeSet) → decode m (set (cell s k) o v) q ≡ g (decode m (cell s k) q))
+      → (Sized (cell s k) → (cond (eqb o 1) v (getD (cell s k) 1 0) ≡ nobody → ⊥) → getD (cell s k) 5 0 ≤ 32)
+      → Kept s (set s (cell-at k + o) v) (modify i (second g) (nodes s))
+  unfolding cell
+  byte-kept g d f =
+      let p : cell (set s (cell-at k + o) v) k ≡ set (cell s k) o v = part-set s (cell-at k) 70 o v (omega arith) in
+      cell-kept {k = k} (only-wider (cell-at k) 70 (only-set s (cell-at k + o) v) (omega arith) (omega arith)) h i (sym e)
+      (omega (arith, length-nodes s)) g (λ m q y z. rw p (d m q)) (λ z. rw p (sized-byte o v (cell s k) b in-cell (f z) z))
+
+  -- the one law of the four
+  pub field-kept : storable o v ≡ true → Kept s (set s (cell-at k + o) v) (modify i (second (with-field o v)) (nodes s))
+  unfolding decode
+  field-kept t =
+      byte-kept (with-field o v) (λ m q. decode-byte o v (cell s k) b in-cell m q ∙ rw (update-field o v (cell s k) t))
+      (saved-field o v (cell s k) t)
 
 -- the writer, where the size of what becomes the saved content is in range
 pub writer-kept : (s : List ℕ) (i t k : ℕ) → k ≡ slot s i → Layout s → i < length (nodes s) → 1 ≤ t → saved-size s i ≤ 32
     → Kept s (set s (cell-at k + 1) t) (modify i (second (with-update (wrote t (saved-bytes s i)))) (nodes s))
-unfolding cell saved-bytes saved-size
+unfolding saved-bytes saved-size decode
 writer-kept s i t k e h l b y =
-    let p : cell (set s (cell-at k + 1) t) k ≡ set (cell s k) 1 t = part-set s (cell-at k) 70 1 t (omega arith) in
-    cell-kept {k = k} (only-wider (cell-at k) 70 (only-set s (cell-at k + 1) t) (omega arith) (omega arith)) h i (sym e)
-    (omega (arith, length-nodes s)) (with-update (wrote t (saved-bytes s i)))
-    (λ m g q z. rw (p, ← e) (decode-writer t m (cell s k) g b q))
-    (λ z. rw p (record {
-      now = rw (getD-set-other (cell s k) 1 4 t 0 (λ q. omega arith)) (z .now);
-      saved = λ n. rw (getD-set-other (cell s k) 1 5 t 0 (λ q. omega arith)) (rw (← e) at y);
-    }))
+    byte-kept s i 1 t k e h l (omega arith) (with-update (wrote t (saved-bytes s i)))
+    (λ m q. decode-byte 1 t (cell s k) (omega arith) (in-cell s i 1 t k e h l (omega arith)) m q ∙ rw (ne-eqb t 0 (λ z. omega arith), e))
+    (λ z n. rw (← e) at y)

@@ -1,20 +1,15 @@
 -- Laws of lists by place.
-use mathlib.Core.Path.{_≡_, refl, sym, ap, ap₂, _∙_}
-use Prim.Native.Nat.{ℕ, zero, suc, _+_, _*_, _-_, _≤_, _<_}
+use mathlib.Core.Path.{_≡_, refl, sym, ap}
+use Prim.Native.Nat.{ℕ, zero, suc, _<_}
 use mathlib.Core.Bool.{Bool, true, false, cond}
-use mathlib.Core.List.{List, [], _∷_, _++_, map}
+use mathlib.Core.List.{List, [], _∷_, map}
 use native.Mathlib.Omega.{arith}
-use native.Mathlib.Nat.{zero-add, suc-add}
-use lib.ListN.{length, getD, take, drop, set, length-append, length-take, length-drop, length-set, List·getD-append}
-use lib.Seq.{take-nil, getD-take, getD-drop, ext-getD, getD-set-same, getD-set-other, getD-append-add}
-use lib.Dec.{eqb, ltb, leb}
-use borrow.Author.Tests.{eqb-true, eqb-false, ltb-true, ltb-false, leb-true, leb-false}
-use Rattle.layout.specs.Lists.{tabulate, modify, insert}
-
-pub drop-take : {A : Type 0} (m n : ℕ) (l : List A) → drop m (take (m + n) l) ≡ take n (drop m l)
-drop-take zero n l = rw zero-add
-drop-take (suc m) n [] = rw (suc-add, take-nil)
-drop-take (suc m) n (x ∷ l) = rw (suc-add, drop-take m n l)
+use lib.ListN.{length, getD, set}
+use lib.Seq.{getD-set-same, getD-set-other}
+use lib.Dec.{eqb}
+use borrow.Author.Tests.{eqb-true, eqb-false}
+use Rattle.layout.specs.Lists.{modify}
+use Rattle.layout.specs.Layout.{tabulate}
 
 module _ {A : Type 0} where
   pub length-tabulate : (n : ℕ) (f : ℕ → A) → length (tabulate n f) ≡ n
@@ -33,16 +28,6 @@ module _ {A : Type 0} where
   tabulate-same zero f g h = refl
   tabulate-same (suc n) f g h = rw (h 0 (omega arith), tabulate-same n (λ i. f (suc i)) (λ i. g (suc i)) (λ i k. h (suc i) (omega arith)))
 
-  -- a list with the elements of a rule
-  pub list-of : (n : ℕ) (f : ℕ → A) (l : List A) (d : A) → length l ≡ n → ((i : ℕ) → i < n → getD l i d ≡ f i) → l ≡ tabulate n f
-  unfolding tabulate
-  list-of zero f [] d e h = refl
-  list-of zero f (x ∷ l) d e h = absurd (omega arith)
-  list-of (suc n) f [] d e h = absurd (omega arith)
-  list-of (suc n) f (x ∷ l) d e h =
-      let p : x ≡ f 0 = h 0 (omega arith) in
-      rw (p, list-of n (λ i. f (suc i)) l d (omega arith) (λ i k. h (suc i) (omega arith)))
-
   pub length-modify : (i : ℕ) (f : A → A) (l : List A) → length (modify i f l) ≡ length l
   unfolding modify
   length-modify i f [] = refl
@@ -54,14 +39,6 @@ module _ {A : Type 0} where
   getD-modify i f [] d h = absurd (omega arith)
   getD-modify zero f (x ∷ xs) d h = refl
   getD-modify (suc i) f (x ∷ xs) d h = getD-modify i f xs d (omega arith)
-
-  pub getD-modify-other : (i j : ℕ) (f : A → A) (l : List A) (d : A) → (j ≡ i → ⊥) → getD (modify i f l) j d ≡ getD l j d
-  unfolding modify
-  getD-modify-other i j f [] d h = refl
-  getD-modify-other zero zero f (x ∷ xs) d h = absurd (h refl)
-  getD-modify-other zero (suc j) f (x ∷ xs) d h = refl
-  getD-modify-other (suc i) zero f (x ∷ xs) d h = refl
-  getD-modify-other (suc i) (suc j) f (x ∷ xs) d h = getD-modify-other i j f xs d (λ e. h (ap suc e))
 
   pub modify-modify : (i : ℕ) (f g : A → A) (l : List A) → modify i f (modify i g l) ≡ modify i (λ x. f (g x)) l
   unfolding modify
@@ -86,7 +63,8 @@ module _ {A : Type 0} where
       → tabulate n f′ ≡ modify i g (tabulate n f)
   unfolding tabulate modify
   modify-tabulate zero i f f′ g h e k = absurd (omega arith)
-  modify-tabulate (suc n) zero f f′ g h e k = rw (e, tabulate-same n (λ j. f′ (suc j)) (λ j. f (suc j)) (λ j l. k (suc j) (omega arith) (λ m. omega arith)))
+  modify-tabulate (suc n) zero f f′ g h e k =
+      rw (e, tabulate-same n (λ j. f′ (suc j)) (λ j. f (suc j)) (λ j l. k (suc j) (omega arith) (λ m. omega arith)))
   modify-tabulate (suc n) (suc i) f f′ g h e k =
       rw (
         k 0 (omega arith) (λ m. omega arith),
@@ -94,7 +72,8 @@ module _ {A : Type 0} where
       )
 
 -- every element of a rule changed
-pub map-tabulate : {A B : Type 0} (n : ℕ) (f : ℕ → A) (f′ : ℕ → B) (g : A → B) → ((j : ℕ) → j < n → f′ j ≡ g (f j)) → tabulate n f′ ≡ map g (tabulate n f)
+pub map-tabulate : {A B : Type 0} (n : ℕ) (f : ℕ → A) (f′ : ℕ → B) (g : A → B) → ((j : ℕ) → j < n → f′ j ≡ g (f j))
+    → tabulate n f′ ≡ map g (tabulate n f)
 unfolding tabulate
 map-tabulate zero f f′ g h = refl
 map-tabulate (suc n) f f′ g h = rw (h 0 (omega arith), map-tabulate n (λ j. f (suc j)) (λ j. f′ (suc j)) g (λ j l. h (suc j) (omega arith)))

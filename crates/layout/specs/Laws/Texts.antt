@@ -1,25 +1,25 @@
 -- The contents of a node, read and stored: o is 0 for the one now, 1 for the one saved.
-use mathlib.Core.Path.{_≡_, refl, sym, ap, ap₂, _∙_, fun-ext, subst}
-use Prim.Native.Nat.{ℕ, zero, suc, _+_, _*_, _-_, _/_, _%_, _^_, _≤_, _<_}
+use mathlib.Core.Path.{_≡_, refl, sym, ap, _∙_}
+use Prim.Native.Nat.{ℕ, zero, suc, _+_, _*_, _-_, _≤_, _<_}
 use mathlib.Core.Bool.{Bool, true, false, cond, not, true≢false}
-use mathlib.Core.List.{List, [], _∷_, _++_, map}
+use mathlib.Core.List.{List}
 use native.Mathlib.Omega.{arith}
 use native.Mathlib.Nat.{add-assoc}
-use lib.ListN.{length, getD, take, drop, set, length-take, length-drop}
-use lib.Dec.{eqb, ltb}
-use borrow.Author.Tests.{ltb-true, ltb-false, ne-eqb}
-use lib.Seq.{getD-set-same, getD-set-other, getD-take, getD-drop, ext-getD, take-take, length-take-le}
+use lib.ListN.{length, getD, take, drop, set, length-drop}
+use lib.Dec.{eqb}
+use borrow.Author.Tests.{eq-eqb, ne-eqb}
+use lib.Seq.{getD-set-same, getD-set-other, getD-take, getD-drop, ext-getD, length-take-le}
 use Rattle.locks.specs.Modes.{ModeSet}
-use Rattle.protocol.specs.State.{nobody, unwritten, wrote, writer-of, saved-of, Marked}
+use Rattle.protocol.specs.State.{nobody, unwritten, wrote, writer-of, saved-of, Marked, with-update}
 use Rattle.layout.specs.Lists.{modify}
 use Rattle.layout.specs.Flat.{second}
-use Rattle.layout.specs.Layout.{state-size, cell-at, part, count, slot, cell, stored, update-of}
-use Rattle.layout.specs.Layout.{decode, entry, nodes, no-entry, Sized, Layout, Kept}
-use Rattle.layout.specs.Fields.{has-text, text, with-text, saved-bytes, saved-size}
-use Rattle.layout.specs.Laws.Lists.{modify-same}
-use Rattle.layout.specs.Laws.Bytes.{Only, only-set, only-wider, only-then, Filled, part-at, part-same, length-part}
-use Rattle.layout.specs.Laws.Nodes.{node-at, length-nodes, length-cell, same-slot, cell-kept}
-use Rattle.layout.specs.Laws.Kept.{kept-as}
+use Rattle.layout.specs.Layout.{cell-at, part, count, slot, cell, stored, update-of, decode, entry, nodes, no-entry, Sized, Layout}
+use Rattle.layout.specs.Layout.{Kept}
+use Rattle.layout.specs.Fields.{has-text, text, with-text, restored, Stored, marked-written, saved-bytes, saved-size}
+use Rattle.layout.specs.Laws.Lists.{modify-modify, modify-same}
+use Rattle.layout.specs.Laws.Bytes.{Only, off, only-set, only-both, Filled, part-same}
+use Rattle.layout.specs.Laws.Kept.{kept-then, kept-as}
+use Rattle.layout.specs.Laws.Nodes.{node-at, length-nodes, length-cell, same-place, cell-kept}
 use Rattle.layout.specs.Laws.Fields.{cell-byte, writer-update}
 
 has-two : (o : ℕ) (a : Marked) → has-text o a ≡ true → o < 2
@@ -53,7 +53,8 @@ length-stored o c l e z =
     let w : length (take 32 (drop (6 + 32 * o) c)) ≡ 32 = length-take-le 32 (drop (6 + 32 * o) c) (omega arith) in
     length-take-le (getD c (4 + o) 0) (take 32 (drop (6 + 32 * o) c)) (omega arith)
 
-byte-stored : (o j : ℕ) (c : List ℕ) → o < 2 → getD c (4 + o) 0 ≤ 32 → j < getD c (4 + o) 0 → getD (stored o c) j 0 ≡ getD c (6 + 32 * o + j) 0
+byte-stored : (o j : ℕ) (c : List ℕ) → o < 2 → getD c (4 + o) 0 ≤ 32 → j < getD c (4 + o) 0
+    → getD (stored o c) j 0 ≡ getD c (6 + 32 * o + j) 0
 byte-stored o j c l z k =
     getD-take (getD c (4 + o) 0) (take 32 (drop (6 + 32 * o) c)) j 0 k ∙ getD-take 32 (drop (6 + 32 * o) c) j 0 (omega arith)
     ∙ getD-drop (6 + 32 * o) c j 0
@@ -98,17 +99,6 @@ module _ (s : List ℕ) (i o k : ℕ) (e : k ≡ slot s i) (h : Layout s) (l : i
     pub size-small : length (text o (getD (nodes s) i no-entry .1)) ≤ 32
     size-small = rw text-is (omega (arith, length-is, small))
 
--- the saved content of a node that somebody wrote
-pub saved-at : (s : List ℕ) (i : ℕ) → Layout s → i < length (nodes s) → (writer-of (getD (nodes s) i no-entry .1 .update) ≡ nobody → ⊥)
-    → saved-of (getD (nodes s) i no-entry .1 .update) ≡ saved-bytes s i
-unfolding saved-bytes
-saved-at s i h l n = text-is s i 1 (slot s i) refl h l (rw (ne-eqb (writer-of (getD (nodes s) i no-entry .1 .update)) nobody n))
-
-pub saved-small : (s : List ℕ) (i : ℕ) → Layout s → i < length (nodes s) → (writer-of (getD (nodes s) i no-entry .1 .update) ≡ nobody → ⊥)
-    → saved-size s i ≤ 32
-unfolding saved-size
-saved-small s i h l n = small s i 1 (slot s i) refl h l (rw (ne-eqb (writer-of (getD (nodes s) i no-entry .1 .update)) nobody n))
-
 -- storing --------------------------------------------------------------------------------
 
 decode-text : (o m : ℕ) (c c′ b : List ℕ) (h : ℕ → ModeSet) → o < 2 →
@@ -126,105 +116,103 @@ sized-text zero c c′ l w y x z = record { now = x; saved = λ n. rw y (z .save
 sized-text (suc zero) c c′ l w y x z = record { now = rw y (z .now); saved = λ n. x }
 sized-text (suc (suc o)) c c′ l w y x z = absurd (omega arith)
 
-stored-is : (o : ℕ) (c b : List ℕ) → o < 2 → length c ≡ 70 → length b ≤ 32 → getD c (4 + o) 0 ≡ length b →
-    ((j : ℕ) → j < length b → getD c (6 + 32 * o + j) 0 ≡ getD b j 0) → stored o c ≡ b
-stored-is o c b l e n x f =
-    let d : length (drop (6 + 32 * o) c) ≡ 64 - 32 * o = simp length-drop (omega arith) in
-    let w : length (take 32 (drop (6 + 32 * o) c)) ≡ 32 = length-take-le 32 (drop (6 + 32 * o) c) (omega arith) in
-    rw x (ext-getD 0 (take (length b) (take 32 (drop (6 + 32 * o) c))) b (length-take-le (length b) (take 32 (drop (6 + 32 * o) c)) (omega arith))
-    (λ j q. let k : j < length b = omega (arith, length-take-le (length b) (take 32 (drop (6 + 32 * o) c)) (omega arith)) in
-    getD-take (length b) (take 32 (drop (6 + 32 * o) c)) j 0 k ∙ getD-take 32 (drop (6 + 32 * o) c) j 0 (omega arith) ∙ getD-drop (6 + 32 * o) c j 0 ∙ f j k))
-
--- what storing b as the content o of the node at i leaves
-pub record Stored (s s″ : List ℕ) (i o : ℕ) (b : List ℕ) : Type 0 where
-  pub kept : Kept s s″ (modify i (second (with-text o b)) (nodes s))
-  pub bytes : stored o (cell s″ (slot s″ i)) ≡ b
-  pub size : getD (cell s″ (slot s″ i)) (4 + o) 0 ≤ 32
-
--- the size x and n bytes by a rule are stored, of which the first are those of b
-text-kept : (s s″ : List ℕ) (i o k x n : ℕ) (v : ℕ → ℕ) (b : List ℕ) → k ≡ slot s i → Layout s → i < length (nodes s) → o < 2 →
-    x ≡ length b → length b ≤ n → n ≤ 32 → Filled (cell-at k + 6 + 32 * o) n v (set s (cell-at k + 4 + o) x) s″ →
-    ((j : ℕ) → j < length b → v j ≡ getD b j 0) → Stored s s″ i o b
-unfolding part
-text-kept s s″ i o k x n v b e h l q a p w f g =
-    let r : k < 1024 = in-range s i o k e h l in
-    let s′ : List ℕ = set s (cell-at k + 4 + o) x in
-    let u : Only (cell-at k + 4 + o) 1 s s′ = only-set s (cell-at k + 4 + o) x in
-    let y : Only (cell-at k) 70 s s″ =
-    only-then (only-wider (cell-at k) 70 u (omega arith) (omega arith)) (only-wider (cell-at k) 70 (f .only) (omega arith) (omega arith)) in
-    let same : (j : ℕ) → j < 70 → getD s″ (cell-at k + j) 0 ≡ getD s (cell-at k + j) 0 → getD (cell s″ k) j 0 ≡ getD (cell s k) j 0 =
-    λ j m z. sym (cell-byte s″ k j m) ∙ z ∙ cell-byte s k j m in
-    let early : (j : ℕ) → j < 4 + o → getD s″ (cell-at k + j) 0 ≡ getD s (cell-at k + j) 0 =
-    λ j m. f .only .low (cell-at k + j) (omega arith) ∙ u .low (cell-at k + j) (omega arith) in
-    let sizes : getD (cell s″ k) (5 - o) 0 ≡ getD (cell s k) (5 - o) 0 =
-    same (5 - o) (omega arith)
-    (f .only .low (cell-at k + (5 - o)) (omega arith) ∙ getD-set-other s (cell-at k + 4 + o) (cell-at k + (5 - o)) x 0 (λ z. omega arith)) in
-    let size : getD (cell s″ k) (4 + o) 0 ≡ length b =
-    sym (cell-byte s″ k (4 + o) (omega arith)) ∙ f .only .low (cell-at k + (4 + o)) (omega arith)
-    ∙ rw (← add-assoc (cell-at k) 4 o) (getD-set-same s (cell-at k + 4 + o) x 0 (omega (arith, h .size)) ∙ a) in
-    let long : length (cell s″ k) ≡ 70 = length-cell s″ k (rw (y .long) (h .size)) r in
-    let is : stored o (cell s″ k) ≡ b =
-    stored-is o (cell s″ k) b q long (omega arith) size
-    (λ j z. sym (cell-byte s″ k (6 + 32 * o + j) (omega arith)) ∙ rw (far j) (f .bytes j (omega arith) ∙ g j z)) in
-    let there : slot s″ i ≡ k = same-slot y (omega arith) i (omega (arith, here s i o k e h l, h .room)) ∙ sym e in
-    record {
-      kept = cell-kept y h i (sym e) (here s i o k e h l) (with-text o b)
-          (λ m held t z. decode-text o m (cell s k) (cell s″ k) b held q (λ j c. same j (omega arith) (early j (omega arith))) sizes (other t long) is)
-          (λ z. sized-text o (cell s k) (cell s″ k) q (same 1 (omega arith) (early 1 (omega arith))) sizes (omega arith) z);
-      bytes = rw there is;
-      size = rw there (omega arith);
-    }
-  where
-    far : (j : ℕ) → cell-at k + (6 + 32 * o + j) ≡ cell-at k + 6 + 32 * o + j
-    far j = omega arith
-
-    behind : (j : ℕ) → j < 70 → 6 ≤ j → (t : Bool) → ltb j (6 + 32 * o) ≡ t → (6 + 32 * o ≤ j → 38 + 32 * o ≤ j)
-        → getD s″ (cell-at k + j) 0 ≡ getD s (cell-at k + j) 0
-    behind j c d true y z =
-        f .only .low (cell-at k + j) (omega (arith, ltb-true j (6 + 32 * o) y))
-        ∙ getD-set-other s (cell-at k + 4 + o) (cell-at k + j) x 0 (λ z. omega arith)
-    behind j c d false y z =
-        f .only .high (cell-at k + j) (omega (arith, z (ltb-false j (6 + 32 * o) y)))
-        ∙ getD-set-other s (cell-at k + 4 + o) (cell-at k + j) x 0 (λ z. omega arith)
-
-    other : length (cell s k) ≡ 70 → length (cell s″ k) ≡ 70 → take 32 (drop (38 - 32 * o) (cell s″ k)) ≡ take 32 (drop (38 - 32 * o) (cell s k))
-    other t u =
-        part-same (cell s k) (cell s″ k) (38 - 32 * o) 32 (u ∙ sym t)
-        (λ j c d. sym (cell-byte s″ k j (omega arith))
-        ∙ behind j (omega arith) (omega arith) (ltb j (6 + 32 * o)) refl (λ z. omega arith)
-        ∙ cell-byte s k j (omega arith))
-
--- the same with its places as the code has them: p that of the size, q that of the bytes
+-- the size x and n bytes by a rule are stored at the places p and q, the first bytes those of b
 pub stored-kept : (s s″ : List ℕ) (i o k x p q n : ℕ) (v : ℕ → ℕ) (b : List ℕ) → k ≡ slot s i →
     Filled q n v (set s p x) s″ → p ≡ cell-at k + 4 + o → q ≡ cell-at k + 6 + 32 * o →
     Layout s → i < length (nodes s) → o < 2 → x ≡ length b → length b ≤ n → n ≤ 32 → ((j : ℕ) → j < length b → v j ≡ getD b j 0) →
     Stored s s″ i o b
-stored-kept s s″ i o k x p q n v b e f y z h l u w c d g =
-    text-kept s s″ i o k x n v b e h l u w c d
-    (subst (λ (m : ℕ). Filled (cell-at k + 6 + 32 * o) n v (set s m x) s″) y (subst (λ (m : ℕ). Filled m n v (set s p x) s″) z f)) g
+unfolding part
+stored-kept s s″ i o k x p q n v b e f y w h l two a m n32 g =
+    let r : k < 1024 = in-range s i o k e h l in
+    let only : Only (cell-at k) 70 s s″ =
+    only-both (cell-at k) 70 (only-set s p x) (f .only) (omega arith) (omega arith) (omega arith) (omega arith) in
+    -- the other bytes of the cell
+    let same : (j : ℕ) → j < 70 → (j ≡ 4 + o → ⊥) → (6 + 32 * o ≤ j → 38 + 32 * o ≤ j) → getD (cell s″ k) j 0 ≡ getD (cell s k) j 0 =
+    λ j c d z. sym (cell-byte s″ k j c) ∙ off (f .only) (cell-at k + j) (λ u. let t = z (omega arith) in omega arith)
+    ∙ getD-set-other s p (cell-at k + j) x 0 (λ u. d (omega arith)) ∙ cell-byte s k j c in
+    let long : length (cell s k) ≡ 70 = length-cell s k (h .size) r in
+    let long″ : length (cell s″ k) ≡ 70 = length-cell s″ k (rw (only .long) (h .size)) r in
+    let at-size : cell-at k + (4 + o) ≡ p = omega arith in
+    let size : getD (cell s″ k) (4 + o) 0 ≡ length b =
+    sym (cell-byte s″ k (4 + o) (omega arith)) ∙ rw at-size (f .only .low p (omega arith) ∙ getD-set-same s p x 0
+    (omega (arith, h .size)) ∙ a) in
+    let is : stored o (cell s″ k) ≡ b =
+    ext-getD 0 (stored o (cell s″ k)) b (length-stored o (cell s″ k) two long″ (omega arith) ∙ size)
+    (λ j z. let c : j < length b = omega (arith, length-stored o (cell s″ k) two long″ (omega arith), size) in
+    let at : cell-at k + (6 + 32 * o + j) ≡ q + j = omega arith in
+    byte-stored o j (cell s″ k) two (omega arith) (omega arith) ∙ sym (cell-byte s″ k (6 + 32 * o + j) (omega arith))
+    ∙ rw at (f .bytes j (omega arith) ∙ g j c)) in
+    let there : slot s″ i ≡ k = same-place only i (λ z. omega (arith, here s i o k e h l, h .room)) .slot ∙ sym e in
+    let first : (j : ℕ) → j < 4 → getD (cell s″ k) j 0 ≡ getD (cell s k) j 0 =
+    λ j c. same j (omega arith) (λ u. omega arith) (λ u. omega arith) in
+    let other : getD (cell s″ k) (5 - o) 0 ≡ getD (cell s k) (5 - o) 0 = same (5 - o) (omega arith) (λ u. omega arith) (λ u. omega arith) in
+    record {
+      kept = cell-kept only h i (sym e) (here s i o k e h l) (with-text o b)
+          (λ m held t z. decode-text o m (cell s k) (cell s″ k) b held two first other
+          (part-same (cell s k) (cell s″ k) (38 - 32 * o) 32 (long″ ∙ sym long)
+          (λ j c d. same j (omega arith) (λ u. omega arith) (λ u. omega arith))) is)
+          (λ z. sized-text o (cell s k) (cell s″ k) two (first 1 (omega arith)) other (omega arith) z);
+      bytes = rw there is;
+      size = rw there (omega arith);
+    }
 
--- what storing the content o of the node at i as its content o′ leaves
-pub record Copied (s s″ : List ℕ) (i o o′ : ℕ) : Type 0 where
-  pub kept : Kept s s″ (modify i (second (λ a. with-text o′ (text o a) a)) (nodes s))
-  pub bytes : stored o′ (cell s″ (slot s″ i)) ≡ text o (getD (nodes s) i no-entry .1)
-  pub size : getD (cell s″ (slot s″ i)) (4 + o′) 0 ≤ 32
-
--- from the places p and q
+-- the content o of the node at i stored as its content o′, from the places p and q
 pub copied-kept : (s s″ : List ℕ) (i o o′ k p q p′ q′ : ℕ) → k ≡ slot s i →
     Filled q′ 32 (λ j. getD (set s p′ (getD s p 0)) (q + j) 0) (set s p′ (getD s p 0)) s″ →
     p ≡ cell-at k + 4 + o → q ≡ cell-at k + 6 + 32 * o → p′ ≡ cell-at k + 4 + o′ → q′ ≡ cell-at k + 6 + 32 * o′ →
     Layout s → i < length (nodes s) → has-text o (getD (nodes s) i no-entry .1) ≡ true → o′ < 2
-    → Copied s s″ i o o′
+    → Stored s s″ i o′ (text o (getD (nodes s) i no-entry .1))
 copied-kept s s″ i o o′ k p q p′ q′ e f y z y′ z′ h l a c =
     let b : List ℕ = text o (getD (nodes s) i no-entry .1) in
-    let x : getD s p 0 ≡ length b = ap (λ (m : ℕ). getD s m 0) y ∙ size-at s i o k e h l a in
-    let small : length b ≤ 32 = size-small s i o k e h l a in
-    let bytes : (j : ℕ) → j < length b → getD (set s p′ (getD s p 0)) (q + j) 0 ≡ getD b j 0 =
-    λ j w. getD-set-other s p′ (q + j) (getD s p 0) 0 (λ r. omega (arith, two s i o k e h l a))
-    ∙ ap (λ (m : ℕ). getD s (m + j) 0) z ∙ byte-at s i o k e h l a j w in
-    let t = stored-kept s s″ i o′ k (getD s p 0) p′ q′ 32 (λ j. getD (set s p′ (getD s p 0)) (q + j) 0) b e f y′ z′ h l c x small (omega arith) bytes in
-    record {
-      kept = kept-as _ _ (modify-same i (second (with-text o′ b)) (second (λ a. with-text o′ (text o a) a)) (nodes s) no-entry refl) (t .kept);
-      bytes = t .bytes;
-      size = t .size;
-    }
+    stored-kept s s″ i o′ k (getD s p 0) p′ q′ 32 _ b e f y′ z′ h l c
+    (ap (λ (m : ℕ). getD s m 0) y ∙ size-at s i o k e h l a) (size-small s i o k e h l a) (omega arith)
+    (λ j w. getD-set-other s p′ (q + j) (getD s p 0) 0 (λ r. omega (arith, two s i o k e h l a))
+    ∙ ap (λ (m : ℕ). getD s (m + j) 0) z ∙ byte-at s i o k e h l a j w)
+
+-- the saved content copied back
+pub restored-kept : (s s′ : List ℕ) (i : ℕ) → Stored s s′ i 0 (text 1 (getD (nodes s) i no-entry .1))
+    → Kept s s′ (modify i (second restored) (nodes s))
+restored-kept s s′ i t = kept-as _ _ (modify-same i _ (second restored) (nodes s) no-entry refl) (t .kept)
+
+-- the writer stored ------------------------------------------------------------------------
+
+-- t becomes the writer of the node at i, which u wrote
+module _ (s : List ℕ) (i t u : ℕ) (e : u ≡ writer-of (getD (nodes s) i no-entry .1 .update)) where
+  a : Marked
+  a = getD (nodes s) i no-entry .1
+
+  written : {s₁ : List ℕ} (g : Marked → Marked) → g a ≡ marked-written t a → Kept s s₁ (modify i (second g) (nodes s))
+      → Kept s s₁ (modify i (second (marked-written t)) (nodes s))
+  unfolding a
+  written g q k =
+      kept-as _ _ (modify-same i (second g) (second (marked-written t)) (nodes s) no-entry
+      (ap (λ (b : Marked). (getD (nodes s) i no-entry .0, b)) q)) k
+
+  -- what is saved stays
+  module _ (h : Layout s) (l : i < length (nodes s)) (n : u ≡ nobody → ⊥) where
+    has-saved : has-text 1 a ≡ true
+    unfolding a
+    has-saved = rw (ne-eqb (writer-of (a .update)) nobody (λ q. n (e ∙ q)))
+
+    pub over-size : saved-size s i ≤ 32
+    unfolding a has-saved saved-size
+    over-size = small s i 1 (slot s i) refl h l has-saved
+
+    pub written-over : {s₁ : List ℕ} → Kept s s₁ (modify i (second (with-update (wrote t (saved-bytes s i)))) (nodes s))
+        → Kept s s₁ (modify i (second (marked-written t)) (nodes s))
+    unfolding a has-saved written saved-bytes
+    written-over k =
+        written (with-update (wrote t (saved-bytes s i)))
+        (rw (ne-eqb (writer-of (a .update)) nobody (λ q. n (e ∙ q)), text-is s i 1 (slot s i) refl h l has-saved)) k
+
+  -- the content now is saved first
+  pub written-first : {s₁ s₂ : List ℕ} → u ≡ nobody → Stored s s₁ i 1 (getD (nodes s) i no-entry .1 .now .content)
+      → Kept s₁ s₂ (modify i (second (with-update (wrote t (saved-bytes s₁ i)))) (nodes s₁))
+      → Kept s s₂ (modify i (second (marked-written t)) (nodes s))
+  unfolding a written saved-bytes
+  written-first {s₁} n m k =
+      let b : List ℕ = a .now .content in
+      let f : Marked → Marked = with-update (wrote t (saved-bytes s₁ i)) in
+      written (λ x. f (with-text 1 b x)) (rw (eq-eqb (writer-of (a .update)) nobody (sym e ∙ n), m .bytes))
+      (kept-as _ _ (modify-modify i (second f) (second (with-text 1 b)) (nodes s))
+      (kept-then (modify i (second (with-text 1 b)) (nodes s)) (modify i (second f)) (m .kept) k))

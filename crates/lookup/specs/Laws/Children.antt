@@ -1,7 +1,7 @@
 -- The children of a place: their turns as a loop makes them, and that they give the lines of the children that the caller sees.
 use mathlib.Core.Path.{_≡_, refl, ap, _∙_}
 use Prim.Native.Nat.{ℕ, suc, _+_, _-_, _≤_, _<_}
-use mathlib.Core.Bool.{Bool, true, false, cond, not, _&&_, and-false, or-true}
+use mathlib.Core.Bool.{Bool, true, false, cond, _&&_, and-false, or-true}
 use mathlib.Core.List.{List, [], _∷_, _++_, map, append-nil}
 use native.Mathlib.Omega.{arith}
 use lib.ListN.{length, drop}
@@ -16,7 +16,7 @@ use Rattle.tree.specs.Laws.Lists.{keep-append}
 use Rattle.protocol.specs.State.{Marked, Tree, numbered, seen-by, callers-document}
 use Rattle.layout.specs.Flat.{flat}
 use Rattle.layout.specs.Layout.{Entry}
-use Rattle.lookup.specs.Places.{depth, item, items, number-of, below, child-seen, children-from, children, seen-at}
+use Rattle.lookup.specs.Places.{depth, item, items, number-of, child-seen, children-from, children, seen-at}
 use Rattle.lookup.specs.Found.{kth-child}
 use Rattle.lookup.specs.Laws.NodeAt.{nodes-of, lines-of, none-first, none-second}
 use Rattle.lookup.specs.Laws.Up.{depth-at, item-at, ups-at}
@@ -33,7 +33,8 @@ module _ (t : ℕ) (l : List Entry) (e i : ℕ) where
   unfolding children-from keep
   child-found h k s = rw (below-turn l e i h (omega arith), eq-eqb (depth l i) (suc e) k, s)
 
-  pub child-deleted : i < length l → depth l i ≡ suc e → seen-by t (item l i) ≡ false → children-from t e (drop i l) ≡ children-from t e (drop (i + 1) l)
+  pub child-deleted : i < length l → depth l i ≡ suc e → seen-by t (item l i) ≡ false
+      → children-from t e (drop i l) ≡ children-from t e (drop (i + 1) l)
   unfolding children-from keep
   child-deleted h k s = rw (below-turn l e i h (omega arith), s, and-false (eqb (depth l i) (suc e)))
 
@@ -66,7 +67,8 @@ kth-first c cs = refl
 
 pub kth-later : (k : ℕ) (c : Marked) (cs : List Marked) → 1 < k → kth-child k (c ∷ cs) ≡ kth-child (k - 1) cs
 unfolding kth-child
-kth-later k c cs h = let e : k ≡ suc (suc (k - 2)) = omega arith in let z : k - 1 ≡ suc (k - 2) = omega arith in ap (λ n. kth-child n (c ∷ cs)) e ∙ rw z
+kth-later k c cs h =
+    let e : k ≡ suc (suc (k - 2)) = omega arith in let z : k - 1 ≡ suc (k - 2) = omega arith in ap (λ n. kth-child n (c ∷ cs)) e ∙ rw z
 
 -- the lines of the children -----------------------------------------------------------------
 
@@ -111,7 +113,8 @@ top-children t n e up (node a ks fs) u v h =
     rw (
       u,
       keep-append (is-child n) (lines-of (a ∷ up) ks) (lines-of up fs),
-      none-child n (suc (suc e)) (a ∷ up) ks (or-left (numbered n a) _ h) (none-first (numbered n) (flat (suc (suc e)) ks) (flat (suc e) fs) j),
+      none-child n (suc (suc e)) (a ∷ up) ks (or-left (numbered n a) _ h)
+          (none-first (numbered n) (flat (suc (suc e)) ks) (flat (suc e) fs) j),
       eq-eqb (suc e) (suc e) refl,
       keep-append (child-seen t e) (flat (suc (suc e)) ks) (flat (suc e) fs),
       none-top t e (suc (suc e)) ks (omega arith),
@@ -123,7 +126,8 @@ top-children t n e up (node a ks fs) u v h =
     Y : List Entry
     Y = keep (child-seen t e) (flat (suc e) fs)
 
-    go : (b : Bool) → map (λ r. r .it) X ≡ items Y → map (λ r. r .it) (cond (b && every (seen-by t) up) (row a up ∷ X) X) ≡ items (cond b ((suc e, a) ∷ Y) Y)
+    go : (b : Bool) → map (λ r. r .it) X ≡ items Y → map (λ r. r .it) (cond (b && every (seen-by t) up) (row a up ∷ X) X)
+        ≡ items (cond b ((suc e, a) ∷ Y) Y)
     go true r = rw (v, r)
     go false r = r
 

@@ -1,18 +1,18 @@
 -- A number and its place: where no number is held twice, the node numbered n is the one at its place.
 use mathlib.Core.Path.{_≡_, refl, sym, ap, _∙_}
-use Prim.Native.Nat.{ℕ, suc, _<_}
+use Prim.Native.Nat.{ℕ, zero, suc, _<_}
 use mathlib.Core.Bool.{Bool, true, false, cond, _||_, false≢true}
 use mathlib.Core.List.{List, [], _∷_, _++_, map, append-nil}
 use native.Mathlib.Omega.{arith}
 use lib.ListN.{length, length-map}
 use lib.Dec.{eqb, ltb, leb·suc-suc}
-use borrow.Author.Tests.{eqb-true, eq-eqb, lt-ltb}
-use Rattle.tree.specs.Lists.{any, every, has, keep, distinct}
+use borrow.Author.Tests.{eqb-true, eqb-false, eq-eqb, lt-ltb}
+use Rattle.tree.specs.Lists.{any, every, has, keep}
 use Rattle.tree.specs.Forest.{Forest, nil, node, Row, row, rows}
 use Rattle.tree.specs.Document as document
 use Rattle.tree.specs.Document.{here, at, is, select, some?}
 use Rattle.tree.specs.Laws.Tests.{or-left, or-right}
-use Rattle.tree.specs.Laws.Lists.{any-map, map-append, map-map, eqb-flip}
+use Rattle.tree.specs.Laws.Lists.{any-map, map-append, eqb-flip}
 use Rattle.protocol.specs.State.{Marked, Tree, nodes, numbered, number-held, seen-by, callers-document}
 use Rattle.layout.specs.Lists.{first}
 use Rattle.layout.specs.Flat.{flat}
@@ -25,17 +25,16 @@ use Rattle.lookup.specs.Laws.Seen.{plain, seen-line, select-seen}
 
 -- all nodes held are those of the rows ---------------------------------------------------
 
-module _ {A : Type 0} where
-  pub rows-nodes : (d : ℕ) (up : List A) (f : Forest A) → map (λ r. r .it) (lines-of up f) ≡ nodes-of (flat d f)
-  unfolding rows flat
-  rows-nodes d up nil = refl
-  rows-nodes d up (node a ks fs) =
-      rw (
-        map-append (λ (r : Row A A). r .it) (lines-of (a ∷ up) ks) (lines-of up fs),
-        map-append (λ (x : ℕ × A). x .1) (flat (suc d) ks) (flat d fs),
-        rows-nodes (suc d) (a ∷ up) ks,
-        rows-nodes d up fs,
-      )
+pub rows-nodes : {A K : Type 0} (key : A → K) (d : ℕ) (up : List K) (f : Forest A) → map (λ r. r .it) (rows key up f) ≡ nodes-of (flat d f)
+unfolding rows flat
+rows-nodes key d up nil = refl
+rows-nodes {A} {K} key d up (node a ks fs) =
+    rw (
+      map-append (λ (r : Row A K). r .it) (rows key (key a ∷ up) ks) (rows key up fs),
+      map-append (λ (x : ℕ × A). x .1) (flat (suc d) ks) (flat d fs),
+      rows-nodes key (suc d) (key a ∷ up) ks,
+      rows-nodes key d up fs,
+    )
 
 pub keep-none-any : {A : Type 0} (t : A → Bool) (l : List A) → any t l ≡ false → keep t l ≡ []
 unfolding keep
@@ -44,15 +43,10 @@ keep-none-any t (x ∷ l) h = rw (or-left (t x) _ h) (keep-none-any t l (or-righ
 
 pub nodes-held : (f : Tree) → nodes f ≡ items (flat 0 f)
 unfolding nodes
-nodes-held f = rows-nodes 0 [] f
+nodes-held f = rows-nodes (λ a. a) 0 [] f
 
 pub count-held : (f : Tree) → length (nodes f) ≡ length (flat 0 f)
 count-held f = ap length (nodes-held f) ∙ length-map (flat 0 f) (λ x. x .1)
-
-pub unique-held : (f : Tree) → unique (flat 0 f) ≡ distinct (map number-of (nodes f))
-unique-held f =
-    ap distinct
-    (sym (map-map number-of (λ (x : Entry). x .1) (λ x. number-of (x .1)) (flat 0 f) (λ x m. refl)) ∙ ap (map number-of) (sym (nodes-held f)))
 
 -- some passes exactly if the first place is inside
 pub any-first : {A : Type 0} (t : A → Bool) (l : List A) → any t l ≡ ltb (first t l) (length l)
@@ -65,7 +59,8 @@ any-first t (x ∷ l) = go (t x) (any-first t l)
     go false e = e ∙ sym (leb·suc-suc (suc (first t l)) (length l))
 
 pub held-place : (m : ℕ) (f : Tree) → number-held m f ≡ ltb (place-of m (flat 0 f)) (length (flat 0 f))
-held-place m f = ap (any (numbered m)) (nodes-held f) ∙ any-map (numbered m) (λ x. x .1) (flat 0 f) ∙ any-first (λ (x : Entry). numbered m (x .1)) (flat 0 f)
+held-place m f = ap (any (numbered m)) (nodes-held f) ∙ any-map (numbered m) (λ x. x .1) (flat 0 f)
+    ∙ any-first (λ (x : Entry). numbered m (x .1)) (flat 0 f)
 
 -- what a search by number finds
 pub found-number : (n : ℕ) (l : List Entry) → place-of n l < length l → number-of (item l (place-of n l)) ≡ n
@@ -73,16 +68,23 @@ found-number n l h = eqb-true (number-of (item l (place-of n l))) n (first-passe
 
 -- apart ------------------------------------------------------------------------------------
 
-has-items : (n : ℕ) (l : List Entry) → has n (map (λ x. number-of (x .1)) l) ≡ any (numbered n) (items l)
+pub has-items : (n : ℕ) (l : List Entry) → has n (map (λ x. number-of (x .1)) l) ≡ any (numbered n) (items l)
 has-items n l = any-map (λ q. eqb q n) (λ (x : Entry). number-of (x .1)) l ∙ sym (any-map (numbered n) (λ (x : Entry). x .1) l)
 
-pub unique-head : (x : Entry) (l : List Entry) → unique (x ∷ l) ≡ true → (any (numbered (number-of (x .1))) (items l) ≡ false) × (unique l ≡ true)
+pub unique-head : (x : Entry) (l : List Entry) → unique (x ∷ l) ≡ true
+    → (any (numbered (number-of (x .1))) (items l) ≡ false) × (unique l ≡ true)
 unique-head x l h = go (has (number-of (x .1)) (map (λ x. number-of (x .1)) l)) (has-items (number-of (x .1)) l) h
   where
     go : (b : Bool) → b ≡ any (numbered (number-of (x .1))) (items l) → cond b false (unique l) ≡ true
         → (any (numbered (number-of (x .1))) (items l) ≡ false) × (unique l ≡ true)
     go true e k = absurd (false≢true k)
     go false e k = (sym e, k)
+
+-- a number that no row has is at no place
+pub lacks-at : (n : ℕ) (l : List Entry) (i : ℕ) → any (numbered n) (items l) ≡ false → i < length l → number-of (item l i) ≡ n → ⊥
+lacks-at n [] i h k e = omega arith
+lacks-at n (x ∷ l) zero h k e = eqb-false (number-of (x .1)) n (or-left (numbered n (x .1)) _ h) e
+lacks-at n (x ∷ l) (suc i) h k e = lacks-at n l i (or-right (numbered n (x .1)) _ h) (omega arith) e
 
 -- a row's number is no other row's
 pub alone : (l : List Entry) (x : Entry) (k : List Entry) → unique (l ++ (x ∷ k)) ≡ true
@@ -120,15 +122,17 @@ holder f n p u h e =
     }
 
 -- no node in the forest has the number
-none-numbered : (n d : ℕ) (up : List Marked) (f : Tree) → any (numbered n) (nodes-of (flat d f)) ≡ false → keep (λ r. numbered n (r .it)) (lines-of up f) ≡ []
+none-numbered : (n d : ℕ) (up : List Marked) (f : Tree) → any (numbered n) (nodes-of (flat d f)) ≡ false
+    → keep (λ r. numbered n (r .it)) (lines-of up f) ≡ []
 none-numbered n d up f h =
     keep-none-any (λ r. numbered n (r .it)) (lines-of up f)
-    (sym (any-map (numbered n) (λ (r : Row Marked Marked). r .it) (lines-of up f)) ∙ ap (any (numbered n)) (rows-nodes d up f) ∙ h)
+    (sym (any-map (numbered n) (λ (r : Row Marked Marked). r .it) (lines-of up f)) ∙ ap (any (numbered n)) (rows-nodes (λ a. a) d up f) ∙ h)
 
 pub here-nowhere : (t n : ℕ) (f : Tree) → number-held n f ≡ false → here n (callers-document t f) ≡ false
 unfolding keep
 here-nowhere t n f h =
-    ap some? (select-seen (is n) t f ∙ ap (λ l. map plain (keep (seen-line t) l)) (none-numbered n 0 [] f (ap (any (numbered n)) (sym (nodes-held f)) ∙ h)))
+    ap some? (select-seen (is n) t f ∙ ap (λ l. map plain (keep (seen-line t) l))
+    (none-numbered n 0 [] f (ap (any (numbered n)) (sym (nodes-held f)) ∙ h)))
 
 module _ {f : Tree} {n p : ℕ} (o : Holder f n p) where
   rows-numbered : keep (λ r. numbered n (r .it)) (lines-of [] f) ≡ row (o .place .it) (o .place .above) ∷ []
@@ -139,13 +143,16 @@ module _ {f : Tree} {n p : ℕ} (o : Holder f n p) where
       ∙ rw (o .number, none-numbered n (suc (c .depth)) (c .it ∷ (c .above ++ [])) (c .children) (o .children), append-nil (c .above))
 
   module _ (t : ℕ) where
-    lines-numbered : select (is n) (callers-document t f) ≡ cond (seen-at t (flat 0 f) p) (row (item (flat 0 f) p .now) (numbers-above (flat 0 f) p) ∷ []) []
+    lines-numbered : select (is n) (callers-document t f) ≡ cond (seen-at t (flat 0 f) p)
+        (row (item (flat 0 f) p .now) (numbers-above (flat 0 f) p) ∷ []) []
     unfolding keep
     lines-numbered =
         rw (item-at (o .place), ups-at (o .place))
-        (select-seen (is n) t f ∙ ap (λ l. map plain (keep (seen-line t) l)) rows-numbered ∙ go (every (seen-by t) (o .place .it ∷ o .place .above)))
+        (select-seen (is n) t f ∙ ap (λ l. map plain (keep (seen-line t) l)) rows-numbered ∙ go
+        (every (seen-by t) (o .place .it ∷ o .place .above)))
       where
-        go : (b : Bool) → map plain (cond b (row (o .place .it) (o .place .above) ∷ []) []) ≡ cond b (plain (row (o .place .it) (o .place .above)) ∷ []) []
+        go : (b : Bool) → map plain (cond b (row (o .place .it) (o .place .above) ∷ []) [])
+            ≡ cond b (plain (row (o .place .it) (o .place .above)) ∷ []) []
         go true = refl
         go false = refl
 

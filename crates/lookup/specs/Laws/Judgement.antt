@@ -10,8 +10,7 @@ use borrow.Author.Tests.{le-ltb}
 use Rattle.tree.specs.Lists.{any, keep}
 use Rattle.tree.specs.Forest.{row}
 use Rattle.tree.specs.Document.{Node, Document, Line, here, at, child, under, select}
-use Rattle.tree.specs.Steps.{Step, T, C, R, U, D, I, TT, RR, UU, target, inserts, kind-at, answer, kth, is-named}
-use Rattle.tree.specs.Steps.{none, numbers-are, cells-are, how-many}
+use Rattle.tree.specs.Steps.{Step, T, C, R, U, D, I, TT, RR, UU, target, inserts, answer, kth, is-named, numbers-are, cells-are, how-many}
 use Rattle.tree.specs.Laws.Lists.{map-map, any-same, keep-map}
 use Rattle.protocol.specs.State.{Marked, State, number-held, callers-document}
 use Rattle.protocol.specs.Lent.{Room}
@@ -19,7 +18,7 @@ use Rattle.protocol.specs.Calls.{node-limit, number-taken, unchanged, refused, 
 use Rattle.layout.specs.Flat.{flat}
 use Rattle.layout.specs.Layout.{Entry}
 use Rattle.lookup.specs.Places.{item, number-of, unique, place-of, numbers-above, seen-at, children, subtree}
-use Rattle.lookup.specs.Found.{taken-in, full-in, kind-of, kth-child, answer-at, Found, judged-at}
+use Rattle.lookup.specs.Found.{kth-child, answer-at, Found, judged-at}
 use Rattle.lookup.specs.Laws.Find.{Holder, holder, held-place, count-held, here-nowhere, here-at, line-at}
 use Rattle.lookup.specs.Laws.Children.{child-lines}
 use Rattle.lookup.specs.Laws.Subtree.{subtree-lines}
@@ -46,16 +45,20 @@ kth-same zero (r ∷ ls) (c ∷ cs) e = refl
 kth-same (suc zero) (r ∷ ls) (c ∷ cs) e = let z : r .it ≡ c .now = cc in rw z
 kth-same (suc (suc k)) (r ∷ ls) (c ∷ cs) e = kth-same (suc k) ls cs (cc)
 
-count-same : (q : Node → Bool) (ls : List Line) (cs : List Marked) → Same ls cs → length (keep (λ r. q (r .it)) ls) ≡ length (keep (λ c. q (c .now)) cs)
+count-same : (q : Node → Bool) (ls : List Line) (cs : List Marked) → Same ls cs
+    → length (keep (λ r. q (r .it)) ls) ≡ length (keep (λ c. q (c .now)) cs)
 count-same q ls cs e =
-    sym (ap length (keep-map q (λ r. q (r .it)) (λ (r : Line). r .it) ls (λ r m. refl)) ∙ length-map (keep (λ r. q (r .it)) ls) (λ r. r .it))
+    sym (ap length (keep-map q (λ r. q (r .it)) (λ (r : Line). r .it) ls (λ r m. refl)) ∙ length-map (keep (λ r. q (r .it)) ls)
+    (λ r. r .it))
     ∙ ap (λ l. length (keep q l)) e
-    ∙ ap length (keep-map q (λ c. q (c .now)) (λ (c : Marked). c .now) cs (λ c m. refl)) ∙ length-map (keep (λ c. q (c .now)) cs) (λ c. c .now)
+    ∙ ap length (keep-map q (λ c. q (c .now)) (λ (c : Marked). c .now) cs (λ c m. refl))
+    ∙ length-map (keep (λ c. q (c .now)) cs) (λ c. c .now)
 
 -- the nine steps ---------------------------------------------------------------------------
 
 answer-here : (s : Step) (t : ℕ) (l : List Entry) (p : ℕ) (d : Document) → at (target s) d ≡ row (item l p .now) (numbers-above l p)
-    → Same (select (child (target s)) d) (children t l p) → Same (select (under (target s)) d) (subtree t l p) → answer s d ≡ answer-at s t l p
+    → Same (select (child (target s)) d) (children t l p) → Same (select (under (target s)) d) (subtree t l p) → answer s d
+    ≡ answer-at s t l p
 answer-here (T n) t l p d e c u = rw e
 answer-here (C n k) t l p d e c u = kth-same k (select (child n) d) (children t l p) c
 answer-here (R n) t l p d e c u = rw e
@@ -96,7 +99,8 @@ module _ (l : List Entry) (t : ℕ) (s : Step) (M : State) (rows : l ≡ flat 0 
           line = line-is;
           lock-list = rw line-is;
           kind = ap (λ (r : Line). r .it .kind) line-is;
-          held = any-same (λ m. number-held m (M .tree)) (λ m. ltb (place-of m l) (length l)) (inserts s) (λ m i. held-place m (M .tree) ∙ rw (← rows));
+          held = any-same (λ m. number-held m (M .tree)) (λ m. ltb (place-of m l) (length l)) (inserts s)
+              (λ m i. held-place m (M .tree) ∙ rw (← rows));
           wait = λ b. rw line-is (wait-set-at t s M l p (sym rows) u h n b);
           others = by-nodes (λ x. x .kind) (select (child (target s)) (callers-document t (M .tree))) (children t l p) children-are;
           full = ap (λ z. any (λ m. leb node-limit z) (inserts s)) (count-held (M .tree) ∙ ap length (sym rows));

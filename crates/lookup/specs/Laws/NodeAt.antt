@@ -8,7 +8,7 @@ use lib.ListN.{length, length-append}
 use lib.Dec.{ltb}
 use borrow.Author.Tests.{ltb-true, ltb-false, lt-ltb, le-ltb}
 use Rattle.tree.specs.Lists.{any, keep}
-use Rattle.tree.specs.Forest.{Forest, nil, node, Row, row, rows}
+use Rattle.tree.specs.Forest.{Forest, nil, node, Row, row, rows, amend, place, put}
 use Rattle.tree.specs.Laws.Tests.{or-left, or-right, refuted}
 use Rattle.tree.specs.Laws.Lists.{map-append, keep-append}
 use Rattle.layout.specs.Flat.{flat}
@@ -95,10 +95,12 @@ module _ {A : Type 0} where
 
   -- no such node in two lists of rows: none in either
   pub none-first : (q : A → Bool) (l k : List (ℕ × A)) → any q (nodes-of (l ++ k)) ≡ false → any q (nodes-of l) ≡ false
-  none-first q l k h = or-left _ (any q (nodes-of k)) (sym (ap (any q) (map-append (λ x. x .1) l k) ∙ any-append q (nodes-of l) (nodes-of k)) ∙ h)
+  none-first q l k h =
+      or-left _ (any q (nodes-of k)) (sym (ap (any q) (map-append (λ x. x .1) l k) ∙ any-append q (nodes-of l) (nodes-of k)) ∙ h)
 
   pub none-second : (q : A → Bool) (l k : List (ℕ × A)) → any q (nodes-of (l ++ k)) ≡ false → any q (nodes-of k) ≡ false
-  none-second q l k h = or-right (any q (nodes-of l)) _ (sym (ap (any q) (map-append (λ x. x .1) l k) ∙ any-append q (nodes-of l) (nodes-of k)) ∙ h)
+  none-second q l k h =
+      or-right (any q (nodes-of l)) _ (sym (ap (any q) (map-append (λ x. x .1) l k) ∙ any-append q (nodes-of l) (nodes-of k)) ∙ h)
 
   -- no such node in the forest nor above it: none is kept
   pub keep-nowhere : (q : A → Bool) (k : Row A A → Bool) → Only q k → (d : ℕ) (up : List A) (f : Forest A) → any q up ≡ false
@@ -121,6 +123,47 @@ module _ {A : Type 0} where
       → keep k (lines-of up (node a ks fs)) ≡ keep k (lines-of (a ∷ up) ks) ++ keep k (lines-of up fs)
   unfolding rows keep
   keep-parts k a up ks fs h = rw h (keep-append k (lines-of (a ∷ up) ks) (lines-of up fs))
+
+  -- edits that reach only some rows ------------------------------------------------------
+
+  -- the first row behind
+  pub not-below : (top : ℕ) (x : ℕ × A) (t : List (ℕ × A)) → below top (x ∷ t) ≡ [] → x .0 ≤ top
+  unfolding below
+  not-below top x t h = go (ltb top (x .0)) refl h
+    where
+      go : (b : Bool) → ltb top (x .0) ≡ b → cond b (x ∷ below top t) [] ≡ [] → x .0 ≤ top
+      go true e k = absurd (let z : _≡_ {A = ℕ} 1 0 = cc in omega arith)
+      go false e k = ltb-false top (x .0) e
+
+  -- a change that leaves rows without a node that passes q on their line
+  abbrev pub Leaves : (A → Bool) → (Row A A → A) → Type 0
+  Leaves q g = (r : Row A A) → on-line q r ≡ false → g r ≡ r .it
+
+  amend-nowhere : (q : A → Bool) (g : Row A A → A) → Leaves q g → (d : ℕ) (up : List A) (f : Forest A) → any q up ≡ false
+      → any q (nodes-of (flat d f)) ≡ false → amend (λ a. a) g up f ≡ f
+  unfolding amend flat
+  amend-nowhere q g o d up nil u h = refl
+  amend-nowhere q g o d up (node a ks fs) u h =
+      let i : q a ≡ false = or-left (q a) _ h in
+      let j : any q (nodes-of (flat (suc d) ks ++ flat d fs)) ≡ false = or-right (q a) _ h in
+      rw (
+        o (row a up) (rw (i, u)),
+        amend-nowhere q g o (suc d) (a ∷ up) ks (rw (i, u)) (none-first q (flat (suc d) ks) (flat d fs) j),
+        amend-nowhere q g o d up fs u (none-second q (flat (suc d) ks) (flat d fs) j),
+      )
+
+  -- a new node below those that pass q
+  put-nowhere : (q counts : A → Bool) (k : ℕ) (new : A) (d : ℕ) (f : Forest A) → any q (nodes-of (flat d f)) ≡ false
+      → put q counts k new f ≡ f
+  unfolding put flat
+  put-nowhere q counts k new d nil h = refl
+  put-nowhere q counts k new d (node a ks fs) h =
+      let j : any q (nodes-of (flat (suc d) ks ++ flat d fs)) ≡ false = or-right (q a) _ h in
+      rw (
+        or-left (q a) _ h,
+        put-nowhere q counts k new (suc d) ks (none-first q (flat (suc d) ks) (flat d fs) j),
+        put-nowhere q counts k new d fs (none-second q (flat (suc d) ks) (flat d fs) j),
+      )
 
   -- the node at a place ------------------------------------------------------------------
 
@@ -145,13 +188,20 @@ module _ {A : Type 0} where
     pub keeps : (q : A → Bool) (k : Row A A → Bool) → Only q k → (up : List A) → any q up ≡ false → any q (nodes-of before) ≡ false
         → any q (nodes-of behind) ≡ false
         → keep k (lines-of up f) ≡ keep k (row it (above ++ up) ∷ lines-of (it ∷ (above ++ up)) children)
+    -- and so is what an edit of those rows changes
+    pub amends : (q : A → Bool) (g : Row A A → A) → Leaves q g → (up : List A) → any q up ≡ false → any q (nodes-of before) ≡ false
+        → any q (nodes-of behind) ≡ false → flat d (amend (λ a. a) g up f)
+        ≡ before ++ ((depth, g (row it (above ++ up))) ∷ (flat (suc depth) (amend (λ a. a) g (it ∷ (above ++ up)) children) ++ behind))
+    pub puts : (q counts : A → Bool) (k : ℕ) (new : A) → q it ≡ true → any q (nodes-of (flat (suc depth) children)) ≡ false
+        → any q (nodes-of before) ≡ false → any q (nodes-of behind) ≡ false
+        → flat d (put q counts k new f) ≡ before ++ ((depth, it) ∷ (flat (suc depth) (place counts k new children) ++ behind))
 
   below-shallow : (e d : ℕ) (f : Forest A) → d ≤ e → below e (flat d f) ≡ []
   unfolding below
   below-shallow e d f h = ap (below e) (sym (append-nil (flat d f))) ∙ below-none e d f [] h refl
 
   at-self : (d : ℕ) (a : A) (ks fs : Forest A) → NodeAt d (node a ks fs) 0
-  unfolding flat rows keep
+  unfolding flat rows keep amend put
   at-self d a ks fs = record {
     depth = d;
     it = a;
@@ -167,10 +217,12 @@ module _ {A : Type 0} where
     earlier = λ q e. refl;
     keeps = λ q k o up u b c. ap (λ l. cond (k (row a up)) (row a up ∷ l) l)
         (keep-append k (lines-of (a ∷ up) ks) (lines-of up fs) ∙ rw (keep-nowhere q k o d up fs u c) (append-nil _));
+    amends = λ q g o up u b c. rw (amend-nowhere q g o d up fs u c);
+    puts = λ q counts k new t h b c. rw (t, put-nowhere q counts k new (suc d) ks h, put-nowhere q counts k new d fs c);
   }
 
   at-inner : (d : ℕ) (a : A) (ks fs : Forest A) (i : ℕ) → NodeAt (suc d) ks i → NodeAt d (node a ks fs) (suc i)
-  unfolding flat rows keep back
+  unfolding flat rows keep back amend put
   at-inner d a ks fs i c = record {
     depth = c .depth;
     it = c .it;
@@ -178,9 +230,7 @@ module _ {A : Type 0} where
     above = c .above ++ (a ∷ []);
     before = (d, a) ∷ c .before;
     behind = c .behind ++ flat d fs;
-    split = ap (λ l. (d, a) ∷ l)
-        (ap (λ l. l ++ flat d fs) (c .split) ∙ append-assoc (c .before) _ (flat d fs)
-        ∙ ap (λ l. c .before ++ ((c .depth, c .it) ∷ l)) (append-assoc (flat (suc (c .depth)) (c .children)) (c .behind) (flat d fs)));
+    split = around (c .depth, c .it) (flat (suc (c .depth)) (c .children)) (c .split);
     count = ap suc (c .count);
     deep = omega (arith, c .deep);
     stops = below-append (c .depth) (c .behind) (flat d fs) (c .stops) (below-shallow (c .depth) d fs (omega (arith, c .deep)));
@@ -191,10 +241,29 @@ module _ {A : Type 0} where
         ∙ rw (keep-nowhere q k o d up fs u (none-second q (c .behind) (flat d fs) e), append-nil (keep k (lines-of (a ∷ up) ks)))
         (c .keeps q k o (a ∷ up) (rw (or-left (q a) _ b, u)) (or-right (q a) _ b) (none-first q (c .behind) (flat d fs) e)
         ∙ ap (λ z. keep k (row (c .it) z ∷ lines-of (c .it ∷ z) (c .children))) (sym (append-assoc (c .above) (a ∷ []) up)));
+    amends = λ q g o up u b e.
+        let i : q a ≡ false = or-left (q a) _ b in
+        rw (
+          o (row a up) (rw (i, u)),
+          amend-nowhere q g o d up fs u (none-second q (c .behind) (flat d fs) e),
+          append-assoc (c .above) (a ∷ []) up,
+        )
+        (around _ (flat (suc (c .depth)) (amend (λ a. a) g (c .it ∷ (c .above ++ (a ∷ up))) (c .children)))
+        (c .amends q g o (a ∷ up) (rw (i, u)) (or-right (q a) _ b) (none-first q (c .behind) (flat d fs) e)));
+    puts = λ q counts k new t h b e.
+        rw (or-left (q a) _ b, put-nowhere q counts k new d fs (none-second q (c .behind) (flat d fs) e))
+        (around _ (flat (suc (c .depth)) (place counts k new (c .children)))
+        (c .puts q counts k new t h (or-right (q a) _ b) (none-first q (c .behind) (flat d fs) e)));
   }
+    where
+      around : (y : ℕ × A) (l : List (ℕ × A)) {m : List (ℕ × A)} → m ≡ c .before ++ (y ∷ (l ++ c .behind))
+          → (d, a) ∷ (m ++ flat d fs) ≡ (d, a) ∷ (c .before ++ (y ∷ (l ++ (c .behind ++ flat d fs))))
+      around y l e =
+          ap (λ k. (d, a) ∷ k) (ap (λ k. k ++ flat d fs) e ∙ append-assoc (c .before) (y ∷ (l ++ c .behind)) (flat d fs)
+          ∙ ap (λ k. c .before ++ (y ∷ k)) (append-assoc l (c .behind) (flat d fs)))
 
   at-later : (d : ℕ) (a : A) (ks fs : Forest A) (i : ℕ) → NodeAt d fs i → NodeAt d (node a ks fs) (suc (length (flat (suc d) ks) + i))
-  unfolding flat rows keep back
+  unfolding flat rows keep back amend put
   at-later d a ks fs i c = record {
     depth = c .depth;
     it = c .it;
@@ -202,7 +271,7 @@ module _ {A : Type 0} where
     above = c .above;
     before = (d, a) ∷ (flat (suc d) ks ++ c .before);
     behind = c .behind;
-    split = ap (λ l. (d, a) ∷ l) (ap (λ l. flat (suc d) ks ++ l) (c .split) ∙ sym (append-assoc (flat (suc d) ks) (c .before) _));
+    split = around (c .depth, c .it) (flat (suc (c .depth)) (c .children)) (c .split);
     count = ap suc (length-append (flat (suc d) ks) (c .before) ∙ ap (λ n. length (flat (suc d) ks) + n) (c .count));
     deep = c .deep;
     stops = c .stops;
@@ -219,16 +288,34 @@ module _ {A : Type 0} where
         keep-parts k a up ks fs (fails q k o a up j u)
         ∙ rw (keep-nowhere q k o (suc d) (a ∷ up) ks (rw (j, u)) (none-first q (flat (suc d) ks) (c .before) i))
         (c .keeps q k o up u (none-second q (flat (suc d) ks) (c .before) i) e);
+    amends = λ q g o up u b e.
+        let i : q a ≡ false = or-left (q a) _ b in
+        let j : any q (nodes-of (flat (suc d) ks ++ c .before)) ≡ false = or-right (q a) _ b in
+        rw (o (row a up) (rw (i, u)), amend-nowhere q g o (suc d) (a ∷ up) ks (rw (i, u)) (none-first q (flat (suc d) ks) (c .before) j))
+        (around _ (flat (suc (c .depth)) (amend (λ a. a) g (c .it ∷ (c .above ++ up)) (c .children)))
+        (c .amends q g o up u (none-second q (flat (suc d) ks) (c .before) j) e));
+    puts = λ q counts k new t h b e.
+        let j : any q (nodes-of (flat (suc d) ks ++ c .before)) ≡ false = or-right (q a) _ b in
+        rw (or-left (q a) _ b, put-nowhere q counts k new (suc d) ks (none-first q (flat (suc d) ks) (c .before) j))
+        (around _ (flat (suc (c .depth)) (place counts k new (c .children)))
+        (c .puts q counts k new t h (none-second q (flat (suc d) ks) (c .before) j) e));
   }
+    where
+      around : (y : ℕ × A) (l : List (ℕ × A)) {m : List (ℕ × A)} → m ≡ c .before ++ (y ∷ (l ++ c .behind))
+          → (d, a) ∷ (flat (suc d) ks ++ m) ≡ (d, a) ∷ ((flat (suc d) ks ++ c .before) ++ (y ∷ (l ++ c .behind)))
+      around y l e =
+          ap (λ k. (d, a) ∷ k) (ap (λ k. flat (suc d) ks ++ k) e ∙ sym (append-assoc (flat (suc d) ks) (c .before) (y ∷ (l ++ c .behind))))
 
   pub node-at : (d : ℕ) (f : Forest A) (i : ℕ) → i < length (flat d f) → NodeAt d f i
   unfolding flat
   node-at d nil i h = absurd (omega arith)
   node-at d (node a ks fs) zero h = at-self d a ks fs
-  node-at d (node a ks fs) (suc i) h = go (ltb i (length (flat (suc d) ks))) refl (node-at (suc d) ks i) (node-at d fs (i - length (flat (suc d) ks)))
+  node-at d (node a ks fs) (suc i) h =
+      go (ltb i (length (flat (suc d) ks))) refl (node-at (suc d) ks i) (node-at d fs (i - length (flat (suc d) ks)))
     where
       go : (b : Bool) → ltb i (length (flat (suc d) ks)) ≡ b → (i < length (flat (suc d) ks) → NodeAt (suc d) ks i)
-          → (i - length (flat (suc d) ks) < length (flat d fs) → NodeAt d fs (i - length (flat (suc d) ks))) → NodeAt d (node a ks fs) (suc i)
+          → (i - length (flat (suc d) ks) < length (flat d fs) → NodeAt d fs (i - length (flat (suc d) ks)))
+          → NodeAt d (node a ks fs) (suc i)
       go true e down next = at-inner d a ks fs i (down (ltb-true i _ e))
       go false e down next =
           let m = length (flat (suc d) ks) in

@@ -4,7 +4,6 @@ use Prim.Native.Nat.{ℕ, zero, suc, _+_, _-_, _≤_, _<_}
 use mathlib.Core.Bool.{Bool, true, false, cond, not, _&&_, and-false, false≢true}
 use mathlib.Core.List.{List, [], _∷_, _++_}
 use native.Mathlib.Omega.{arith}
-use native.Mathlib.Numerals.{add-one}
 use lib.ListN.{length, take, drop, length-append, take-append-drop}
 use lib.Dec.{eqb, leb, ltb, leb·zero, leb·suc-suc, eqb·suc-zero}
 use borrow.Author.Tests.{eqb-true, eqb-false, leb-true, le-leb, lt-leb, eq-eqb, ne-eqb}
@@ -31,31 +30,15 @@ ordered-other a n (x ∷ l) h = rw (ne-eqb a n (λ e. omega arith)) (go (eqb x a
 pub ordered-start : (n : ℕ) (l : List ℕ) → attributes-first l ≡ ordered-behind n n l
 unfolding attributes-first ordered-behind
 ordered-start n [] = refl
-ordered-start n (x ∷ l) = rw (eq-eqb n n refl) (go (eqb x attribute-kind) (ordered-start (suc n) l) (ordered-other n (suc n) l (omega arith)))
+ordered-start n (x ∷ l) =
+    rw (eq-eqb n n refl) (go (eqb x attribute-kind) (ordered-start (suc n) l) (ordered-other n (suc n) l (omega arith)))
   where
     go : (b : Bool) → attributes-first l ≡ ordered-behind (suc n) (suc n) l → ordered-behind n (suc n) l ≡ no-attribute l
         → cond b (attributes-first l) (no-attribute l) ≡ cond b (ordered-behind (suc n) (suc n) l) (ordered-behind n (suc n) l)
     go true e f = e
     go false e f = sym f
 
--- its turns: x comes next, n were passed, a of them attributes
-module _ (a n x : ℕ) (l : List ℕ) where
-  pub ordered-attribute : x ≡ attribute-kind → a ≡ n → ordered-behind a n (x ∷ l) ≡ ordered-behind (a + 1) (n + 1) l
-  unfolding ordered-behind
-  ordered-attribute h e = rw (eq-eqb x attribute-kind h, eq-eqb a n e, add-one a, add-one n)
-
-  pub ordered-late : x ≡ attribute-kind → (a ≡ n → ⊥) → ordered-behind a n (x ∷ l) ≡ false
-  unfolding ordered-behind
-  ordered-late h e = rw (eq-eqb x attribute-kind h, ne-eqb a n e)
-
-  pub ordered-kind : (x ≡ attribute-kind → ⊥) → ordered-behind a n (x ∷ l) ≡ ordered-behind a (n + 1) l
-  unfolding ordered-behind
-  ordered-kind h = rw (ne-eqb x attribute-kind h, add-one)
-
-pub ordered-end : (a n : ℕ) → ordered-behind a n [] ≡ true
-unfolding ordered-behind
-ordered-end a n = refl
-
+-- its turns
 module _ (x : ℕ) (l : List ℕ) where
   pub attributes-one : x ≡ attribute-kind → attributes (x ∷ l) ≡ 1 + attributes l
   unfolding attributes keep
@@ -64,10 +47,6 @@ module _ (x : ℕ) (l : List ℕ) where
   pub attributes-other : (x ≡ attribute-kind → ⊥) → attributes (x ∷ l) ≡ attributes l
   unfolding attributes keep
   attributes-other h = rw (ne-eqb x attribute-kind h)
-
-pub attributes-none : attributes [] ≡ 0
-unfolding attributes keep
-attributes-none = refl
 
 -- the insertion --------------------------------------------------------------------------------
 
@@ -135,10 +114,12 @@ insert-before x l = go (eqb x attribute-kind) (no-attribute l) refl
 
 -- the new one behind another kind
 insert-behind : (x j : ℕ) (l : List ℕ)
-    → (not (eqb x attribute-kind) && no-attribute l) ≡ (no-attribute l && cond (eqb x attribute-kind) (leb (suc j) (attributes l)) (leb (attributes l) (suc j)))
+    → (not (eqb x attribute-kind) && no-attribute l) ≡ (no-attribute l && cond (eqb x attribute-kind) (leb (suc j) (attributes l))
+    (leb (attributes l) (suc j)))
 insert-behind x j l = go (eqb x attribute-kind) (no-attribute l) refl
   where
-    go : (b c : Bool) → no-attribute l ≡ c → (not b && no-attribute l) ≡ (no-attribute l && cond b (leb (suc j) (attributes l)) (leb (attributes l) (suc j)))
+    go : (b c : Bool) → no-attribute l ≡ c → (not b && no-attribute l)
+        ≡ (no-attribute l && cond b (leb (suc j) (attributes l)) (leb (attributes l) (suc j)))
     go true true e = rw (e, count-none l e) (sym (lt-leb (suc j) 0 (omega arith)))
     go true false e = rw e
     go false true e = rw (e, count-none l e) (sym (le-leb 0 (suc j) (omega arith)))
@@ -146,7 +127,8 @@ insert-behind x j l = go (eqb x attribute-kind) (no-attribute l) refl
 
 -- the rule for attributes, with one more at j from 0
 first-insert : (x j : ℕ) (l : List ℕ) → j ≤ length l
-    → attributes-first (take j l ++ (x ∷ drop j l)) ≡ (attributes-first l && cond (eqb x attribute-kind) (leb j (attributes l)) (leb (attributes l) j))
+    → attributes-first (take j l ++ (x ∷ drop j l)) ≡ (attributes-first l && cond (eqb x attribute-kind) (leb j (attributes l))
+    (leb (attributes l) j))
 unfolding attributes-first attributes keep
 first-insert x zero l h = insert-before x l
 first-insert x (suc j) [] h = absurd (omega arith)
@@ -157,14 +139,16 @@ first-insert x (suc j) (y ∷ l) h = go (eqb y attribute-kind) (first-insert x j
         ≡ (attributes-first l && cond (eqb x attribute-kind) (leb j (attributes l)) (leb (attributes l) j))
         → cond b (attributes-first (take j l ++ (x ∷ drop j l))) (no-attribute (take j l ++ (x ∷ drop j l)))
         ≡ (cond b (attributes-first l) (no-attribute l)
-        && cond (eqb x attribute-kind) (leb (suc j) (length (cond b (y ∷ keep (λ z. eqb z attribute-kind) l) (keep (λ z. eqb z attribute-kind) l))))
+        && cond (eqb x attribute-kind) (leb (suc j) (length (cond b (y ∷ keep (λ z. eqb z attribute-kind) l)
+        (keep (λ z. eqb z attribute-kind) l))))
         (leb (length (cond b (y ∷ keep (λ z. eqb z attribute-kind) l) (keep (λ z. eqb z attribute-kind) l))) (suc j)))
     go true e = rw (leb·suc-suc j (attributes l), leb·suc-suc (attributes l) j) e
     go false e = every-insert (λ z. not (eqb z attribute-kind)) j x l ∙ insert-behind x j l
 
 pub length-insert : {A : Type 0} (j : ℕ) (x : A) (l : List A) → length (take j l ++ (x ∷ drop j l)) ≡ suc (length l)
 length-insert j x l =
-    length-append (take j l) (x ∷ drop j l) ∙ let e = length-append (take j l) (drop j l) in let f = ap length (take-append-drop j l) in omega arith
+    length-append (take j l) (x ∷ drop j l) ∙ let e =
+    length-append (take j l) (drop j l) in let f = ap length (take-append-drop j l) in omega arith
 
 one-only : (n : ℕ) → leb (suc n) 1 ≡ eqb n 0
 one-only zero = refl
@@ -172,7 +156,8 @@ one-only (suc n) = lt-leb (suc (suc n)) 1 (omega arith) ∙ sym (eqb·suc-zero n
 
 -- the theorem: the rules for the place of a new child, from what the pass counts and tests
 pub placed-pass : (parent kind k : ℕ) (others : List ℕ)
-    → placed parent kind k others ≡ placed-by parent kind k (length others) (attributes others) (attributes-first others) (every (takes parent) others)
+    → placed parent kind k others ≡ placed-by parent kind k (length others) (attributes others) (attributes-first others)
+    (every (takes parent) others)
 unfolding placed placed-by children-rule insert-at
 placed-pass parent kind zero others = refl
 placed-pass parent kind (suc j) others = go (leb (suc j) (suc (length others))) refl
@@ -180,7 +165,8 @@ placed-pass parent kind (suc j) others = go (leb (suc j) (suc (length others))) 
     rest : Bool
     rest = takes parent kind && every (takes parent) others
         && cond (eqb parent element-kind)
-        (attributes-first others && cond (eqb kind attribute-kind) (leb (suc j) (suc (attributes others))) (ltb (attributes others) (suc j)))
+        (attributes-first others && cond (eqb kind attribute-kind) (leb (suc j) (suc (attributes others)))
+        (ltb (attributes others) (suc j)))
         (eqb (length others) 0)
 
     rule : suc j ≤ suc (length others) → children-rule parent (insert-at (suc j) kind others) ≡ rest

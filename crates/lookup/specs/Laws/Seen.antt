@@ -4,7 +4,7 @@ use Prim.Native.Nat.{ℕ}
 use mathlib.Core.Bool.{Bool}
 use mathlib.Core.List.{List, [], _∷_, map}
 use Rattle.tree.specs.Lists.{every, keep}
-use Rattle.tree.specs.Forest.{Row, row, rows}
+use Rattle.tree.specs.Forest.{Row, row}
 use Rattle.tree.specs.Document.{Line, lines, select}
 use Rattle.tree.specs.Laws.Lists.{keep-map, keep-keep}
 use Rattle.tree.specs.Laws.View.{rows-view}

@@ -31,12 +31,6 @@ pub climb-start : (l : List Entry) (e : ℕ) → climb l e 0 ≡ []
 unfolding climb
 climb-start l e = refl
 
--- nothing is above depth 0
-pub climb-top : (l : List Entry) (i : ℕ) → climb l 0 i ≡ []
-unfolding climb
-climb-top l zero = refl
-climb-top l (suc i) = rw (le-ltb (depth l i) 0 (omega arith)) (climb-top l i)
-
 -- the same for the nodes there
 module _ (l : List Entry) (e i : ℕ) (h : 0 < i) where
   pub ups-found : depth l (i - 1) < e → map (item l) (climb l e i) ≡ item l (i - 1) ∷ map (item l) (climb l (depth l (i - 1)) (i - 1))
@@ -44,9 +38,6 @@ module _ (l : List Entry) (e i : ℕ) (h : 0 < i) where
 
   pub ups-passed : e ≤ depth l (i - 1) → map (item l) (climb l e i) ≡ map (item l) (climb l e (i - 1))
   ups-passed k = ap (map (item l)) (climb-passed l e i h k)
-
-pub ups-top : (l : List Entry) (i : ℕ) → map (item l) (climb l 0 i) ≡ []
-ups-top l i = ap (map (item l)) (climb-top l i)
 
 -- none of the nodes on the way up was deleted by t
 abbrev pub seen-up : ℕ → List Entry → ℕ → ℕ → Bool
@@ -61,9 +52,6 @@ module _ (t : ℕ) (l : List Entry) (e i : ℕ) (h : 0 < i) where
 
   pub seen-up-passed : e ≤ depth l (i - 1) → seen-up t l e i ≡ seen-up t l e (i - 1)
   seen-up-passed k = ap (every (seen-by t)) (ups-passed l e i h k)
-
-pub seen-up-top : (t : ℕ) (l : List Entry) (i : ℕ) → seen-up t l 0 i ≡ true
-seen-up-top t l i = ap (every (seen-by t)) (ups-top l i)
 
 pub seen-up-start : (t : ℕ) (l : List Entry) (e : ℕ) → seen-up t l e 0 ≡ true
 unfolding climb
@@ -100,7 +88,8 @@ climb-back : (l : List Entry) (e i : ℕ) → i ≤ length l → map (item l) (c
 unfolding climb back
 climb-back l e zero h = refl
 climb-back l e (suc i) h =
-    rw (reverse-take l [] i (omega arith)) (go (ltb (depth l i) e) (climb-back l (depth l i) i (omega arith)) (climb-back l e i (omega arith)))
+    rw (reverse-take l [] i (omega arith)) (go (ltb (depth l i) e) (climb-back l (depth l i) i (omega arith))
+    (climb-back l e i (omega arith)))
   where
     go : (b : Bool) → map (item l) (climb l (depth l i) i) ≡ back (depth l i) (reverseAux (take i l) [])
         → map (item l) (climb l e i) ≡ back e (reverseAux (take i l) [])
@@ -123,15 +112,19 @@ module _ {f : Tree} {p : ℕ} (c : NodeAt 0 f p) where
   pub inside : p < length (flat 0 f)
   inside = rw (c .split, length-append (c .before)) (omega (arith, c .count))
 
+  pub rows-before : take p (flat 0 f) ≡ c .before
+  rows-before = ap (take p) (c .split) ∙ take-at (c .before) _ p (c .count)
+
   pub ups-at : ups (flat 0 f) p ≡ c .above
   unfolding ups above-places back
   ups-at =
-      let b : take p (flat 0 f) ≡ c .before = ap (take p) (c .split) ∙ take-at (c .before) _ p (c .count) in
       let k : p ≤ length (flat 0 f) = omega (arith, inside) in
-      rw depth-at (climb-back (flat 0 f) (c .depth) p k ∙ ap (λ l. back (c .depth) (reverseAux l [])) b ∙ c .ancestors [] ∙ append-nil (c .above))
+      rw depth-at (climb-back (flat 0 f) (c .depth) p k ∙ ap (λ l. back (c .depth) (reverseAux l [])) rows-before ∙ c .ancestors [] ∙
+      append-nil (c .above))
 
   pub rows-behind : drop (suc p) (flat 0 f) ≡ flat (suc (c .depth)) (c .children) ++ c .behind
   rows-behind =
       let e : suc p ≡ length (c .before) + 1 = omega (arith, c .count) in
-      ap (drop (suc p)) (c .split) ∙ ap (λ n. drop n (c .before ++ ((c .depth, c .it) ∷ (flat (suc (c .depth)) (c .children) ++ c .behind)))) e
+      ap (drop (suc p)) (c .split) ∙ ap (λ n. drop n (c .before ++ ((c .depth, c .it) ∷
+      (flat (suc (c .depth)) (c .children) ++ c .behind)))) e
       ∙ drop-append-add (c .before) _ 1

@@ -1,17 +1,17 @@
 -- Waiting: the locks of a step meet the nodes on its way up, and no others; the wait set as a word.
 use mathlib.Core.Path.{_≡_, refl, sym, ap, _∙_, fun-ext}
-use Prim.Native.Nat.{ℕ, zero, suc, _+_, _*_, _-_, _^_, _≤_, _<_}
+use Prim.Native.Nat.{ℕ, zero, suc, _+_, _*_, _-_, _^_, _<_}
 use mathlib.Core.Bool.{Bool, true, false, cond, not, _&&_, _||_}
 use mathlib.Core.List.{List, [], _∷_, _++_, map, List·Memᴰ, List·Memᴰ·head, List·Memᴰ·tail}
 use native.Mathlib.Omega.{arith}
 use native.Mathlib.Nat.{pow-succ'}
 use lib.ListN.{length}
 use lib.Dec.{eqb}
-use borrow.Author.Tests.{eq-eqb}
+use borrow.Author.Tests.{eq-eqb, ne-eqb}
 use Rattle.tree.specs.Lists.{any}
 use Rattle.tree.specs.Steps.{Step, target, inserts}
 use Rattle.tree.specs.Laws.Tests.{or-left, or-right}
-use Rattle.tree.specs.Laws.Lists.{any-map, any-same, eqb-flip}
+use Rattle.tree.specs.Laws.Lists.{any-map, any-same}
 use Rattle.locks.specs.Modes.{Mode, against}
 use Rattle.locks.specs.Needs.{Need, need, Lock, each, every-one, up, locks}
 use Rattle.locks.specs.Words.{word}
@@ -19,32 +19,11 @@ use Rattle.protocol.specs.State.{Marked, State, transactions, nodes, numbered, 
 use Rattle.protocol.specs.Calls.{clashes, blocks, sum-of-bits, wait-set}
 use Rattle.layout.specs.Flat.{flat}
 use Rattle.layout.specs.Layout.{Entry}
-use Rattle.lookup.specs.Places.{depth, item, items, number-of, unique, climb, above-places, ups, numbers-above}
+use Rattle.lookup.specs.Places.{depth, item, items, number-of, unique, above-places, ups, numbers-above}
 use Rattle.lookup.specs.Found.{blocks-node, blocks-way, wait-word}
 use Rattle.lookup.specs.Laws.NodeAt.{any-append}
-use Rattle.lookup.specs.Laws.Up.{climb-before, ups-found, ups-passed, ups-top}
-use Rattle.lookup.specs.Laws.Find.{nodes-held, unique-head}
-
--- the turns --------------------------------------------------------------------------
-
--- a loop goes down through the places: those from i on were looked at, e is the depth of the last ancestor found
-module _ (ms ms′ ms″ : List Mode) (u : ℕ) (l : List Entry) (e i : ℕ) (h : 0 < i) where
-  pub way-found : depth l (i - 1) < e → blocks-way ms ms′ ms″ u (map (item l) (climb l e i))
-      ≡ (blocks-node ms u (item l (i - 1)) || blocks-way ms′ ms″ ms″ u (map (item l) (climb l (depth l (i - 1)) (i - 1))))
-  unfolding blocks-way
-  way-found k = ap (blocks-way ms ms′ ms″ u) (ups-found l e i h k)
-
-  pub way-passed : e ≤ depth l (i - 1) → blocks-way ms ms′ ms″ u (map (item l) (climb l e i)) ≡ blocks-way ms ms′ ms″ u (map (item l) (climb l e (i - 1)))
-  way-passed k = ap (blocks-way ms ms′ ms″ u) (ups-passed l e i h k)
-
-pub way-top : (ms ms′ ms″ : List Mode) (u : ℕ) (l : List Entry) (i : ℕ) → blocks-way ms ms′ ms″ u (map (item l) (climb l 0 i)) ≡ false
-unfolding blocks-way
-way-top ms ms′ ms″ u l i = ap (blocks-way ms ms′ ms″ u) (ups-top l i)
-
-pub way-start : (ms ms′ ms″ : List Mode) (u : ℕ) (l : List Entry) (p : ℕ)
-    → blocks-way ms ms′ ms″ u (item l p ∷ ups l p) ≡ (blocks-node ms u (item l p) || blocks-way ms′ ms″ ms″ u (map (item l) (climb l (depth l p) p)))
-unfolding blocks-way ups above-places
-way-start ms ms′ ms″ u l p = refl
+use Rattle.lookup.specs.Laws.Up.{climb-before}
+use Rattle.lookup.specs.Laws.Find.{nodes-held, unique-head, lacks-at}
 
 -- tests of two lists in either order ---------------------------------------------------
 
@@ -76,21 +55,16 @@ none-with : (n : ℕ) (q : Marked → Bool) (l : List Marked) → any (numbered 
 none-with n q [] h = refl
 none-with n q (a ∷ l) h = rw (or-left (numbered n a) _ h) (none-with n q l (or-right (numbered n a) _ h))
 
--- a node's number is no later one's
-later-other : (n i : ℕ) (l : List Entry) → any (numbered n) (items l) ≡ false → i < length l → eqb (number-of (item l i)) n ≡ false
-later-other n i [] h k = absurd (omega arith)
-later-other n zero (x ∷ l) h k = or-left (numbered n (x .1)) _ h
-later-other n (suc i) (x ∷ l) h k = later-other n i l (or-right (numbered n (x .1)) _ h) (omega arith)
-
 one-node : (q : Marked → Bool) (l : List Entry) (i : ℕ) → unique l ≡ true → i < length l
     → any (λ a. numbered (number-of (item l i)) a && q a) (items l) ≡ q (item l i)
 one-node q [] i u h = absurd (omega arith)
 one-node q (x ∷ l) zero u h =
-    rw (eq-eqb (number-of (x .1)) (number-of (x .1)) refl, none-with (number-of (x .1)) q (items l) (unique-head x l u .0)) (or-false (q (x .1)))
+    rw (eq-eqb (number-of (x .1)) (number-of (x .1)) refl, none-with (number-of (x .1)) q (items l) (unique-head x l u .0))
+    (or-false (q (x .1)))
 one-node q (x ∷ l) (suc i) u h =
     let g = unique-head x l u in
     let k : i < length l = omega arith in
-    rw (eqb-flip (number-of (item l i)) (number-of (x .1)) (later-other (number-of (x .1)) i l (g .0) k)) (one-node q l i (g .1) k)
+    rw (ne-eqb (number-of (x .1)) (number-of (item l i)) (λ e. lacks-at (number-of (x .1)) l i (g .0) k (sym e))) (one-node q l i (g .1) k)
 
 -- the way up ------------------------------------------------------------------------------
 
@@ -158,15 +132,18 @@ module _ (l : List Entry) (t : ℕ) where
         )
 
     -- the locks of a step on the node at p: the numbers that it inserts are held by no node
-    pub way-blocks : (s : Step) (p : ℕ) → p < length l → number-of (item l p) ≡ target s → any (λ m. any (numbered m) (items l)) (inserts s) ≡ false
-        → any (clashes (locks s (numbers-above l p)) t) (items l) ≡ blocks-way (need s .node) (need s .parent) (need s .above) t (item l p ∷ ups l p)
+    pub way-blocks : (s : Step) (p : ℕ) → p < length l → number-of (item l p) ≡ target s
+        → any (λ m. any (numbered m) (items l)) (inserts s) ≡ false
+        → any (clashes (locks s (numbers-above l p)) t) (items l)
+        ≡ blocks-way (need s .node) (need s .parent) (need s .above) t (item l p ∷ ups l p)
     unfolding locks ups above-places blocks-way
     way-blocks s p h e b =
         let ps : List ℕ = above-places l p in
         any-clashes (locks s (numbers-above l p))
         ∙ rw (
           ← e,
-          meets-append (each (need s .node) (number-of (item l p))) (up (need s) (map number-of (map (item l) ps)) ++ every-one (need s .new) (inserts s)),
+          meets-append (each (need s .node) (number-of (item l p))) (up (need s) (map number-of (map (item l) ps)) ++ every-one
+              (need s .new) (inserts s)),
           meets-append (up (need s) (map number-of (map (item l) ps))) (every-one (need s .new) (inserts s)),
           meets-node (need s .node) p h,
           meets-up (need s) ps (λ i m. let z = climb-before l (depth l p) p m in omega arith),

@@ -1,9 +1,6 @@
 use Rattle.layout.specs.Layout.{nodes, no-entry}
-use native.Mathlib.Omega.{arith}
-use mathlib.Core.Path.{_≡_, refl, sym, ap, _∙_}
-use Prim.Native.Nat.{ℕ, zero, suc, _+_, _-_, _*_, _≤_, _<_}
-use lib.ListN.{length, getD, take, drop}
-use mathlib.Core.List.{_++_}
+use mathlib.Core.Path.{sym, ap, _∙_}
+use lib.ListN.{getD}
 use mathlib.Core.Bool.{not}
 use borrow.Author.Tests.{eq-eqb, ne-eqb}
 use Rattle.outline.specs.Outline.{not-marked}
@@ -11,18 +8,6 @@ use Rattle.outline.specs.Laws.Prune.{below-out, below-kept}
 use borrow.Author.Needs.{needs}
 use Rattle.outline.proofs.below_marked.Statement.{statement}
 use Rattle.outline.proofs.below_marked.Tie as tie
-
-field-requires : tie.Need-field-requires
-field-requires c κs = search needs
-
-depth-requires : tie.Need-depth-requires
-depth-requires c κs = search needs
-
-cast-result : tie.Need-cast-result
-cast-result c = search needs
-
-add-result : tie.Need-add-result
-add-result c = search needs
 
 returns : tie.Need-returns
 returns c =
@@ -43,5 +28,5 @@ returns-2 c =
     below-kept keeps 0 row (ap not (ne-eqb _ _ (λ e. c .if1 .left (field .ensures ∙ e))))
 
 pub below-marked-spec : {M : Type 1} → statement M
-below-marked-spec =
-    tie.close (tie.spec field-requires depth-requires cast-result add-result returns returns-2)
+below-marked-spec = tie.close (tie.spec (λ c κs. search needs) (λ c κs. search needs) (λ c. search needs) (λ c. search needs) returns
+    returns-2)

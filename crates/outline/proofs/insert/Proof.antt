@@ -4,12 +4,6 @@ use borrow.Author.Needs.{needs}
 use Rattle.outline.proofs.insert.Statement.{statement}
 use Rattle.outline.proofs.insert.Tie as tie
 
-open-place-requires : tie.Need-open-place-requires
-open-place-requires c κs = search needs
-
-set-kind-requires : tie.Need-set-kind-requires
-set-kind-requires c κs = search needs
-
 clear-writer-requires : tie.Need-clear-writer-requires
 clear-writer-requires c κs =
     let c8 = c .before .before .before .before .before .before .before .before in
@@ -97,9 +91,6 @@ unlock-requires c κs =
       ),
     )
 
-same-length : tie.Need-same-length
-same-length c = search needs
-
 returns : tie.Need-returns
 returns c =
     let c8 = c .before .before .before .before .before .before .before .before in
@@ -117,15 +108,5 @@ returns c =
     (set-deleter .ensures) (set-content .ensures) (unlock .ensures) (pre .2)
 
 pub insert-spec : {M : Type 1} → statement M
-insert-spec =
-    tie.close
-    (tie.spec
-    open-place-requires
-    set-kind-requires
-    clear-writer-requires
-    set-inserter-requires
-    set-deleter-requires
-    set-content-requires
-    unlock-requires
-    same-length
-    returns)
+insert-spec = tie.close (tie.spec (λ c κs. search needs) (λ c κs. search needs) clear-writer-requires set-inserter-requires
+    set-deleter-requires set-content-requires unlock-requires (λ c. search needs) returns)

@@ -1,26 +1,15 @@
 use Rattle.layout.specs.Layout.{nodes, no-entry}
 use native.Mathlib.Omega.{arith}
-use mathlib.Core.Path.{_≡_, refl, sym, ap, _∙_}
-use Prim.Native.Nat.{ℕ, zero, suc, _+_, _-_, _*_, _≤_, _<_}
-use lib.ListN.{length, getD, take, drop}
-use mathlib.Core.List.{_++_}
+use mathlib.Core.Path.{_∙_}
+use lib.ListN.{getD}
 use Rattle.outline.specs.Outline.{not-marked}
 use Rattle.outline.specs.Laws.Prune.{below-deep, below-past}
 use borrow.Author.Needs.{needs}
 use Rattle.outline.proofs.next_below.Statement.{statement}
 use Rattle.outline.proofs.next_below.Tie as tie
 
-below-marked-requires : tie.Need-below-marked-requires
-below-marked-requires c κs = search needs
-
 returns : tie.Need-returns
 returns c = rw (c .before .if1 .taken) (c .below-marked .ensures)
-
-depth-requires : tie.Need-depth-requires
-depth-requires c κs = search needs
-
-cast-if2 : tie.Need-cast-if2
-cast-if2 c = search needs
 
 returns-2 : tie.Need-returns-2
 returns-2 c =
@@ -31,9 +20,6 @@ returns-2 c =
     let row = getD (nodes (args .s .now)) (args .j) no-entry in
     below-deep keeps _ row (if1 .left) (rw (← depth .ensures) (c .if2 .taken))
 
-below-marked-requires-2 : tie.Need-below-marked-requires-2
-below-marked-requires-2 c κs = search needs
-
 returns-3 : tie.Need-returns-3
 returns-3 c =
     let args = c .before .before .before .before .before .args in
@@ -43,13 +29,5 @@ returns-3 c =
     c .below-marked2 .ensures ∙ below-past keeps _ row (rw (← depth .ensures) (omega arith))
 
 pub next-below-spec : {M : Type 1} → statement M
-next-below-spec =
-    tie.close
-    (tie.spec
-    below-marked-requires
-    returns
-    depth-requires
-    cast-if2
-    returns-2
-    below-marked-requires-2
-    returns-3)
+next-below-spec = tie.close (tie.spec (λ c κs. search needs) returns (λ c κs. search needs) (λ c. search needs) returns-2
+    (λ c κs. search needs) returns-3)

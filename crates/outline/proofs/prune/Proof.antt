@@ -1,15 +1,14 @@
-use Rattle.outline.specs.Laws.Prune.{kept-on}
+use Rattle.outline.specs.Laws.Prune.{kept-on, prune-start, prune-skip, prune-keep, pruned-left}
 use Rattle.layout.specs.Laws.Kept.{kept-same}
 use borrow.Author.Needs.{needs}
 use native.Mathlib.Omega.{arith}
-use mathlib.Core.Path.{_≡_, refl, sym, ap, _∙_}
-use Prim.Native.Nat.{ℕ, zero, suc, _+_, _-_, _*_, _≤_, _<_}
-use lib.ListN.{length, getD, take, drop}
+use mathlib.Core.Path.{_≡_}
+use Prim.Native.Nat.{_-_, _≤_, _<_}
+use lib.ListN.{length, take, drop}
 use mathlib.Core.List.{_++_}
 use Rattle.layout.specs.Flat.{prune}
-use Rattle.layout.specs.Layout.{nodes, Layout, Kept, is-open, state-size}
+use Rattle.layout.specs.Layout.{nodes, Kept}
 use Rattle.outline.specs.Outline.{not-marked}
-use Rattle.outline.specs.Laws.Prune.{prune-start, prune-skip, prune-keep, prune-done, cut-left, pruned-left}
 use Rattle.outline.proofs.prune.Statement.{statement}
 use Rattle.outline.proofs.prune.Tie as tie
 
@@ -21,9 +20,6 @@ Inv-loop s₀ o t m k₀ j₀ below₀ s k j below =
 
 abbrev μ-loop : tie.MeasureT-loop
 μ-loop s₀ o t m k₀ j₀ below₀ s k j below = length (nodes s₀) - j
-
-count-requires : tie.Need-count-requires Inv-loop μ-loop
-count-requires c κs = search needs
 
 loop-holds : tie.Need-loop-holds Inv-loop μ-loop
 loop-holds c =
@@ -38,15 +34,6 @@ loop-holds c =
       prune-start (not-marked (args .o) (args .t)) rows some (pre .2),
     )
 
-next-below-requires : tie.Need-next-below-requires Inv-loop μ-loop
-next-below-requires c κs = search needs
-
-add-j : tie.Need-add-j Inv-loop μ-loop
-add-j c = search needs
-
-loop-less : tie.Need-loop-less Inv-loop μ-loop
-loop-less c = search needs
-
 loop-again : tie.Need-loop-again Inv-loop μ-loop
 loop-again c =
     let args = c .before .before .before .before .before .before .before .before .args in
@@ -59,18 +46,6 @@ loop-again c =
       l .inv .3,
       prune-skip keeps (nodes (l .s)) (l .below) (l .j) (search needs) _ (l .k) _ (l .inv .4) (next-below .ensures) (c .if1 .taken),
     )
-
-swap-requires : tie.Need-swap-requires Inv-loop μ-loop
-swap-requires c κs = search needs
-
-add-k : tie.Need-add-k Inv-loop μ-loop
-add-k c = search needs
-
-add-j-2 : tie.Need-add-j-2 Inv-loop μ-loop
-add-j-2 c = search needs
-
-loop-less-2 : tie.Need-loop-less-2 Inv-loop μ-loop
-loop-less-2 c = search needs
 
 loop-again-2 : tie.Need-loop-again-2 Inv-loop μ-loop
 loop-again-2 c =
@@ -89,14 +64,9 @@ loop-again-2 c =
       omega (arith, l .inv .1),
       omega (arith, q .many, l .inv .3 .many, test .taken, count .ensures),
       kept-on (l .inv .3) q,
-      prune-keep keeps (nodes (l .s)) (l .below) (l .j) inside _ _ (l .k) _ (l .inv .4) (next-below .ensures) (if1 .left) (l .inv .1) (q .nodes),
+      prune-keep keeps (nodes (l .s)) (l .below) (l .j) inside _ _ (l .k) _ (l .inv .4) (next-below .ensures) (if1 .left) (l .inv .1)
+          (q .nodes),
     )
-
-cut-requires : tie.Need-cut-requires Inv-loop μ-loop
-cut-requires c κs = search needs
-
-same-length : tie.Need-same-length Inv-loop μ-loop
-same-length c = search needs
 
 returns : tie.Need-returns Inv-loop μ-loop
 returns c =
@@ -110,22 +80,6 @@ returns c =
     pruned-left keeps (l .k) (l .below) (l .j) (l .inv .3) (l .inv .4) past (cut .ensures)
 
 pub prune-spec : {M : Type 1} → statement M
-prune-spec =
-    tie.close
-    (tie.spec
-    Inv-loop
-    μ-loop
-    count-requires
-    loop-holds
-    next-below-requires
-    add-j
-    loop-less
-    loop-again
-    swap-requires
-    add-k
-    add-j-2
-    loop-less-2
-    loop-again-2
-    cut-requires
-    same-length
-    returns)
+prune-spec = tie.close (tie.spec Inv-loop μ-loop (λ c κs. search needs) loop-holds (λ c κs. search needs) (λ c. search needs)
+    (λ c. search needs) loop-again (λ c κs. search needs) (λ c. search needs) (λ c. search needs) (λ c. search needs) loop-again-2
+    (λ c κs. search needs) (λ c. search needs) returns)

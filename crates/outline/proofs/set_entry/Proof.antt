@@ -4,30 +4,6 @@ use borrow.Author.Needs.{needs}
 use Rattle.outline.proofs.set_entry.Statement.{statement}
 use Rattle.outline.proofs.set_entry.Tie as tie
 
-mul-at : tie.Need-mul-at
-mul-at c = search needs
-
-add-at : tie.Need-add-at
-add-at c = search needs
-
-set-word-requires : tie.Need-set-word-requires
-set-word-requires c κs = search needs
-
-add-set-word : tie.Need-add-set-word
-add-set-word c = search needs
-
-set-word-requires-2 : tie.Need-set-word-requires-2
-set-word-requires-2 c κs = search needs
-
-add-set-word-2 : tie.Need-add-set-word-2
-add-set-word-2 c = search needs
-
-set-word-requires-3 : tie.Need-set-word-requires-3
-set-word-requires-3 c κs = search needs
-
-same-length : tie.Need-same-length
-same-length c = search needs
-
 returns : tie.Need-returns
 returns c =
     let c8 = c .before .before .before .before .before .before .before .before in
@@ -38,15 +14,5 @@ returns c =
     (omega arith) (omega arith)
 
 pub set-entry-spec : {M : Type 1} → statement M
-set-entry-spec =
-    tie.close
-    (tie.spec
-    mul-at
-    add-at
-    set-word-requires
-    add-set-word
-    set-word-requires-2
-    add-set-word-2
-    set-word-requires-3
-    same-length
-    returns)
+set-entry-spec = tie.close (tie.spec (λ c. search needs) (λ c. search needs) (λ c κs. search needs) (λ c. search needs)
+    (λ c κs. search needs) (λ c. search needs) (λ c κs. search needs) (λ c. search needs) returns)

@@ -1,23 +1,25 @@
 -- Lists with an element put in, and with two exchanged.
-use mathlib.Core.Path.{_≡_, refl, sym, ap, ap₂, _∙_}
-use Prim.Native.Nat.{ℕ, zero, suc, _+_, _-_, _≤_, _<_}
-use mathlib.Core.Bool.{Bool, true, false, cond}
-use mathlib.Core.List.{List, [], _∷_, _++_}
+use mathlib.Core.Path.{_≡_, refl, sym, ap, _∙_}
+use Prim.Native.Nat.{ℕ, zero, suc, _+_, _≤_, _<_}
+use mathlib.Core.List.{List, [], _∷_}
 use native.Mathlib.Omega.{arith}
 use native.Mathlib.Numerals.{add-one}
-use lib.ListN.{length, getD, take, drop}
-use Rattle.layout.specs.Lists.{tabulate, modify, insert}
+use lib.ListN.{length, take, drop}
+use Rattle.layout.specs.Lists.{modify, insert}
+use Rattle.layout.specs.Layout.{tabulate}
 use Rattle.layout.specs.Laws.Lists.{tabulate-same}
 
 module _ {A : Type 0} where
   pub insert-tabulate : (n p : ℕ) (f f′ : ℕ → A) (x : A) → p ≤ n → ((i : ℕ) → i < p → f′ i ≡ f i) → f′ p ≡ x
       → ((i : ℕ) → p ≤ i → i < n → f′ (i + 1) ≡ f i) → tabulate (suc n) f′ ≡ insert p x (tabulate n f)
   unfolding tabulate insert
-  insert-tabulate n zero f f′ x h low e high = rw (e, tabulate-same n (λ i. f′ (suc i)) f (λ i l. ap f′ (sym (add-one i)) ∙ high i (omega arith) l))
+  insert-tabulate n zero f f′ x h low e high =
+      rw (e, tabulate-same n (λ i. f′ (suc i)) f (λ i l. ap f′ (sym (add-one i)) ∙ high i (omega arith) l))
   insert-tabulate zero (suc p) f f′ x h low e high = absurd (omega arith)
   insert-tabulate (suc n) (suc p) f f′ x h low e high =
       rw (low 0 (omega arith))
-      (ap (λ (l : List A). f 0 ∷ l) (insert-tabulate n p (λ i. f (suc i)) (λ i. f′ (suc i)) x (omega arith) (λ i l. low (suc i) (omega arith)) e
+      (ap (λ (l : List A). f 0 ∷ l) (insert-tabulate n p (λ i. f (suc i)) (λ i. f′ (suc i)) x (omega arith)
+      (λ i l. low (suc i) (omega arith)) e
       (λ i l m. ap f′ (sym (add-one (i + 1)) ∙ omega arith) ∙ high (suc i) (omega arith) (omega arith))))
 
   pub take-modify : (i n : ℕ) (f : A → A) (l : List A) → n ≤ i → take n (modify i f l) ≡ take n l

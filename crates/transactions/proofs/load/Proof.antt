@@ -1,8 +1,8 @@
 use borrow.Author.Needs.{needs}
 use native.Mathlib.Omega.{arith}
 use borrow.Author.Count.{below-none}
-use mathlib.Core.Path.{_≡_, refl, sym, ap, _∙_}
-use Prim.Native.Nat.{ℕ, zero, suc, _+_, _-_, _*_, _≤_, _<_}
+use mathlib.Core.Path.{_≡_, refl}
+use Prim.Native.Nat.{ℕ, _-_, _≤_, _<_}
 use lib.ListN.{length, getD, length-set}
 use Rattle.layout.specs.Layout.{word, lock-at}
 use Rattle.layout.specs.Laws.Locks.{loaded-of, loaded-more}
@@ -15,38 +15,8 @@ Inv-loop s t base modes₀ k₀ modes k = (k ≤ 1024) × (length modes ≡ 1024
 abbrev μ-loop : tie.MeasureT-loop
 μ-loop s t base modes₀ k₀ modes k = 1024 - k
 
-sub-base : tie.Need-sub-base Inv-loop μ-loop
-sub-base c = search needs
-
-mul-base : tie.Need-mul-base Inv-loop μ-loop
-mul-base c = search needs
-
-add-base : tie.Need-add-base Inv-loop μ-loop
-add-base c = search needs
-
 loop-holds : tie.Need-loop-holds Inv-loop μ-loop
 loop-holds c = (search needs, refl, below-none _)
-
-mul-word : tie.Need-mul-word Inv-loop μ-loop
-mul-word c = search needs
-
-add-word : tie.Need-add-word Inv-loop μ-loop
-add-word c = search needs
-
-word-requires : tie.Need-word-requires Inv-loop μ-loop
-word-requires c κs = search needs
-
-mul-modes : tie.Need-mul-modes Inv-loop μ-loop
-mul-modes c = search needs
-
-array-write-modes : tie.Need-array-write-modes Inv-loop μ-loop
-array-write-modes c = search needs
-
-add-k : tie.Need-add-k Inv-loop μ-loop
-add-k c = search needs
-
-loop-less : tie.Need-loop-less Inv-loop μ-loop
-loop-less c = search needs
 
 loop-again : tie.Need-loop-again Inv-loop μ-loop
 loop-again c =
@@ -62,21 +32,6 @@ returns : tie.Need-returns Inv-loop μ-loop
 returns c = loaded-of _ _ _ (search needs) (search needs) (search needs) (λ i h. c .before .loop .inv .2 i (omega arith))
 
 pub load-spec : {M : Type 1} → statement M
-load-spec =
-    tie.close
-    (tie.spec
-    Inv-loop
-    μ-loop
-    sub-base
-    mul-base
-    add-base
-    loop-holds
-    mul-word
-    add-word
-    word-requires
-    mul-modes
-    array-write-modes
-    add-k
-    loop-less
-    loop-again
+load-spec = tie.close (tie.spec Inv-loop μ-loop (λ c. search needs) (λ c. search needs) (λ c. search needs) loop-holds (λ c. search needs)
+    (λ c. search needs) (λ c κs. search needs) (λ c. search needs) (λ c. search needs) (λ c. search needs) (λ c. search needs) loop-again
     returns)

@@ -6,14 +6,8 @@ use borrow.Author.Needs.{needs}
 use Rattle.transactions.proofs.power.Statement.{statement}
 use Rattle.transactions.proofs.power.Tie as tie
 
-cast-result : tie.Need-cast-result
-cast-result c = search needs
-
-shl-result : tie.Need-shl-result
-shl-result c = search needs
-
 returns : tie.Need-returns
 returns c = shl-exact 1 (c .args .m) 16 (lit< tt) (omega arith) ∙ omega arith
 
 pub power-spec : {M : Type 1} → statement M
-power-spec = tie.close (tie.spec cast-result shl-result returns)
+power-spec = tie.close (tie.spec (λ c. search needs) (λ c. search needs) returns)
