@@ -9,7 +9,7 @@ use Rattle.tree.specs.Document.{lines}
 use Rattle.protocol.specs.State.{tree-of}
 use Rattle.protocol.specs.Calls.{loadable, Input, unreadable, stands-for, node-limit}
 use Rattle.layout.specs.Flat.{flat}
-use Rattle.layout.specs.Layout.{state-size, is-open, nodes, Layout}
+use Rattle.layout.specs.Layout.{state-size, header, nodes, Layout}
 use Rattle.xml.specs.Shape.{Shape, size, longest, document}
 use Rattle.xml.specs.Grammar.{Spells}
 use Rattle.xml.specs.Reading.{input-limit, ReadsWithin}
@@ -29,10 +29,10 @@ pub record Fails (limit : ℕ) (x : List ℕ) (cause offset : ℕ) : Type 0 wher
   pub most : offset ≤ input-limit
   pub only : (i : Input) → ReadsWithin limit x i → i ≡ unreadable cause offset
 
--- nothing is open, and the nodes are those of the input's document
+-- the header is as it was, and the nodes are those of the input's document
 pub record Replaced (x s s′ : List ℕ) : Type 0 where
   pub layout : Layout s′
   pub long : length s′ ≡ length s
   pub behind : drop state-size s′ ≡ drop state-size s
-  pub closed : is-open s′ ≡ (λ u. false)
+  pub header : header s′ ≡ header s
   pub nodes : (f : Shape) → Spells x f → nodes s′ ≡ flat 0 (tree-of (document f))

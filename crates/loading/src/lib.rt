@@ -43,7 +43,7 @@ fn empty(s: &mut [u8])
 
 // The nodes replaced by those of the input.
 fn replace(s: &mut [u8], x: &[u8])
-    requires { ⌜ (form (now s) ≡ true) × (any (is-open (now s)) transactions ≡ false) × ((left : ℕ) × Stands 1024 (now x) left) ⌝ }
+    requires { ⌜ (form (now s) ≡ true) × ((left : ℕ) × Stands 1024 (now x) left) ⌝ }
     ensures { λ r. ⌜ Replaced (now (x .entry)) (now (s .entry)) (now (s .exit)) ⌝ }
 {
     empty(s);

@@ -21,7 +21,6 @@ replace-requires c κs =
     let count = c .before .before .left in
     let f = o .before .before .before in (
       sym (f .before .formed .ensures) ∙ not-false _ (f .if1 .left),
-      sym (o .before .any-open .ensures) ∙ o .if2 .left,
       (_, stands _ (omega arith) (omega arith) _ _ _ (count .given .1) (judge .ensures)),
     )
 

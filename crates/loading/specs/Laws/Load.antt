@@ -25,7 +25,6 @@ use Rattle.xml.specs.Shape.{document}
 use Rattle.xml.specs.Reading.{ReadsAs}
 use Rattle.filling.specs.Fill.{Begun, Filled}
 use Rattle.loading.specs.Load.{Stands, Fails, Replaced}
-use Rattle.loading.specs.Laws.Opens.{none-open}
 
 -- the function `replace` ---------------------------------------------------------------------
 
@@ -33,14 +32,12 @@ pub begun : {x s s′ : List ℕ} {left : ℕ} {q : Header} → Stands node-limi
     → Begun x s′
 begun d k = record { shape = d .shape; spelled = d .spelled; few = d .few; short = d .short; layout = k .layout; alone = k .nodes }
 
-pub replaced : {x s s′ s″ : List ℕ} → any (is-open s) transactions ≡ false → Left s s′ (header s) (flat 0 (tree-of node-0-alone))
-    → Filled x s′ s″
-    → Replaced x s s″
-replaced {s = s} e k f = record {
+pub replaced : {x s s′ s″ : List ℕ} → Left s s′ (header s) (flat 0 (tree-of node-0-alone)) → Filled x s′ s″ → Replaced x s s″
+replaced k f = record {
   layout = f .layout;
   long = f .same .long ∙ k .long;
   behind = f .same .behind ∙ k .behind;
-  closed = f .same .header ∙ k .header ∙ none-open s e;
+  header = f .same .header ∙ k .header;
   nodes = f .nodes;
 }
 
@@ -52,7 +49,7 @@ legal-of d h = and-left (legal d) _ (and-left (legal d && leb (length (lines d))
 
 -- the same calls are open in the state that the bytes hold
 asked : {s : List ℕ} {M : State} {b : Bool} → Holds s M → any (is-open s) transactions ≡ b → any (M .header .is-open) transactions ≡ b
-asked h e = ap (λ (q : ℕ → Bool). any q transactions) (sym (h .header)) ∙ e
+asked h e = ap (λ (q : Header). any (q .is-open) transactions) (sym (h .header)) ∙ e
 
 module _ {s : List ℕ} (f : form s ≡ true) where
   pub load-open : any (is-open s) transactions ≡ true → (i : Input) → Performed s s (Refused 15) (load i)
@@ -75,7 +72,7 @@ module _ {s : List ℕ} (f : form s ≡ true) where
       held : {M : State} → Holds s M → Holds s′ (with-tree M (tree-of D))
       held {M} h = record {
         layout = k .layout;
-        header = k .closed ∙ sym (none-open s e) ∙ h .header;
+        header = k .header ∙ h .header;
         rows = k .nodes (d .shape) (d .spelled);
         unique = rw (k .nodes (d .shape) (d .spelled)) (unique-load D (legal-of D (d .fits)));
         valid = valid-load D (legal-of D (d .fits));

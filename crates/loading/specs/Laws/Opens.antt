@@ -47,21 +47,3 @@ module _ (q : ℕ → Bool) (t : ℕ) (a : Asking q t) where
   pub ask-none : 16 < t → false ≡ any q transactions
   unfolding Asking any-from
   ask-none h = let e : 17 - t ≡ 0 = omega arith in sym (a ∙ rw e)
-
-none-from : (q : ℕ → Bool) (n t u : ℕ) → any-from q t n ≡ false → t ≤ u → u < t + n → q u ≡ false
-unfolding any-from
-none-from q zero t u h l m = absurd (omega arith)
-none-from q (suc n) t u h l m = go (leb u t) refl (λ k. none-from q n (suc t) u (or-right (q t) (any-from q (suc t) n) h) k (omega arith))
-  where
-    go : (b : Bool) → leb u t ≡ b → (suc t ≤ u → q u ≡ false) → q u ≡ false
-    go true e f = let p : u ≡ t = omega (arith, leb-true u t e) in rw p (or-left (q t) (any-from q (suc t) n) h)
-    go false e f = f (omega (arith, leb-false u t e))
-
-pub none-open : (s : List ℕ) → any (is-open s) transactions ≡ false → is-open s ≡ (λ u. false)
-unfolding is-open
-none-open s h = fun-ext (λ u. go u (is-transaction u) refl)
-  where
-    go : (u : ℕ) (b : Bool) → is-transaction u ≡ b → is-open s u ≡ false
-    go u true e =
-        none-from (is-open s) 16 1 u (sym (all-sixteen (is-open s)) ∙ h) (between-low 1 16 u e) (omega (arith, between-high 1 16 u e))
-    go u false e = rw e

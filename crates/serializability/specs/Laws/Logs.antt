@@ -34,7 +34,7 @@ module _ {X E : Type 0} (g : X → E) where
   logged-read (step t s room) b l L = rw (map-log t (L .open-log t ++ l) (L .open-log), map-append g (L .open-log t) l)
   logged-read write b l L = refl
 
-  map-joined : (ls : List (List X)) → joined (map (map g) ls) ≡ map g (joined ls)
+  pub map-joined : (ls : List (List X)) → joined (map (map g) ls) ≡ map g (joined ls)
   map-joined [] = refl
   map-joined (l ∷ ls) = rw (map-joined ls) (sym (map-append g l (joined ls)))
 

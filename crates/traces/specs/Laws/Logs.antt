@@ -63,27 +63,27 @@ module _ (x : Exchange) where
 
   refused-none : (c : Call) (o : Outcome) → is-granted o ≡ false → (is-write c ≡ false → told-granted (x .code) ≡ is-granted o) → [] ≡ granted-in x c
   unfolding is-write
-  refused-none start o g t = none-granted _
-  refused-none (load i) o g t = none-granted _
-  refused-none (begin u) o g t = none-granted _
-  refused-none (commit u) o g t = none-granted _
-  refused-none (abort u) o g t = none-granted _
+  refused-none start o g t = none-granted (told-granted (x .code))
+  refused-none (load i) o g t = none-granted (told-granted (x .code))
+  refused-none (begin u) o g t = none-granted (told-granted (x .code))
+  refused-none (commit u) o g t = none-granted (told-granted (x .code))
+  refused-none (abort u) o g t = none-granted (told-granted (x .code))
   refused-none (step u s room) o g t = rw (t refl, g)
-  refused-none write o g t = none-granted _
+  refused-none write o g t = none-granted (told-granted (x .code))
 
   gives : (c : Call) (M : State) → Gives c (next c M)
   unfolding answer-of first-after lent-after is-write
   gives c M = every-call Gives M (record {
     refusal = λ c o g r t m. ([], refl, refused-none c o g t);
-    at-start = λ t m. ([], refl, none-granted _);
-    at-unread = λ c i t m. ([], refl, none-granted _);
-    at-load = λ d h t m. ([], refl, none-granted _);
-    at-begin = λ u i o t m. ([], refl, none-granted _);
-    at-commit = λ u i o t m. ([], refl, none-granted _);
-    at-abort = λ u i o t m. ([], refl, none-granted _);
+    at-start = λ t m. ([], refl, none-granted (told-granted (x .code)));
+    at-unread = λ c i t m. ([], refl, none-granted (told-granted (x .code)));
+    at-load = λ d h t m. ([], refl, none-granted (told-granted (x .code)));
+    at-begin = λ u i o t m. ([], refl, none-granted (told-granted (x .code)));
+    at-commit = λ u i o t m. ([], refl, none-granted (told-granted (x .code)));
+    at-abort = λ u i o t m. ([], refl, none-granted (told-granted (x .code)));
     at-step = λ u s room i o p t m.
         (record { taken = _; exchange = x; answered = record { code = m .code; first = m .first; second = m .second } } ∷ [], refl, rw (t refl));
-    at-write = λ t m. ([], refl, none-granted _);
+    at-write = λ t m. ([], refl, none-granted (told-granted (x .code)));
   }) c
 
 -- the flag of a call that writes plays no part
@@ -128,18 +128,25 @@ module _ (M : State) (x : Exchange) (c : Call) (d : Demand2 M x c) where
       ∙ rw (← given .2) (sym (logged-read by-exchange c (is-granted (next c M .outcome)) (given .0) L))
 
 -- one log from which the history's logs and the one by codes are read off
-pub log-given : (before : List Call) (xs : List Exchange) (cs : List Call) → Each InReached before xs cs → (L : Log Given)
-    → (K : Log Given) × ({E : Type 0} (f : Taken → E)
-    → log-after f (read-off (λ g. f (g .taken)) L) (history (reached before) cs) ≡ read-off (λ g. f (g .taken)) K)
+log-given : (before : List Call) (xs : List Exchange) (cs : List Call) → Each InReached before xs cs → (L : Log Given)
+    → (K : Log Given) × (log-after (λ t. t .step) (read-off (λ g. g .taken .step) L) (history (reached before) cs) ≡ read-off (λ g. g .taken .step) K)
+    × (log-after (λ t. t .value) (read-off (λ g. g .taken .value) L) (history (reached before) cs) ≡ read-off (λ g. g .taken .value) K)
     × (log-by-codes (read-off by-exchange L) xs cs ≡ read-off by-exchange K)
 unfolding log-after history log-by-codes
-log-given before [] [] h L = (L, λ f. refl, refl)
+log-given before [] [] h L = (L, refl, refl, refl)
 log-given before [] (c ∷ cs) h L = absurd h
 log-given before (x ∷ xs) [] h L = absurd h
 log-given before (x ∷ xs) (c ∷ cs) h L =
     let M = reached before in
     let k = log-given (before ++ (c ∷ [])) xs cs (h .1) (with-given M x c (h .0) L) in
-    (k .0, λ f. rw (read-taken M x c (h .0) f L) (rw (further before c) at (k .1 f)), rw (read-codes M x c (h .0) L) (k .2))
+    (
+      k .0,
+      ap (λ (z : Log Step). log-after (λ t. t .step) z (history (next c M .state) cs)) (read-taken M x c (h .0) (λ t. t .step) L)
+          ∙ (rw (further before c) at (k .1)),
+      ap (λ (z : Log Value). log-after (λ t. t .value) z (history (next c M .state) cs)) (read-taken M x c (h .0) (λ t. t .value) L)
+          ∙ (rw (further before c) at (k .2)),
+      rw (read-codes M x c (h .0) L) (k .3),
+    )
 
 all-answered : (gs : List Given) → AllAnswered (map plain-value (map (λ g. g .taken .value) gs)) (map by-exchange gs)
 all-answered [] = tt
@@ -155,24 +162,25 @@ module _ (x : Exchange) (xs : List Exchange) (cs : List Call) (g : outcome (x .c
 
   fed-is : fed (since-start cs) ≡ read-off (λ g. g .taken .step) K
   unfolding log-after history next state-after
-  fed-is = log-given [] xs cs h (new-log node-0-alone) .1 (λ t. t .step)
+  fed-is = log-given [] xs cs h (new-log node-0-alone) .1
 
   answered-is : answered (since-start cs) ≡ read-off (λ g. g .taken .value) K
   unfolding log-after history next state-after
-  answered-is = log-given [] xs cs h (new-log node-0-alone) .1 (λ t. t .value)
+  answered-is = log-given [] xs cs h (new-log node-0-alone) .2
 
   codes-are : G ≡ read-off by-exchange K
   unfolding log-by-codes
-  codes-are = rw g (log-given [] xs cs h (new-log node-0-alone) .2)
+  codes-are = rw g (log-given [] xs cs h (new-log node-0-alone) .3)
 
   steps-are : (gs : List Given) → steps (map by-exchange gs) ≡ map (λ g. g .taken .step) gs
   steps-are gs = map-map (λ (s : GrantedStep). s .step) by-exchange (λ g. g .taken .step) gs (λ g i. refl)
 
   pub feeds : Feeds G (since-start cs)
-  feeds = rw (codes-are, fed-is) (record {
-    first = refl;
-    committed = map-map steps (map by-exchange) (map (λ g. g .taken .step)) (K .committed) (λ gs i. steps-are gs);
-    open-log = λ t. steps-are (K .open-log t);
+  feeds = rw codes-are (record {
+    first = sym (ap (λ (F : Log Step). F .first) fed-is);
+    committed = map-map steps (map by-exchange) (map (λ g. g .taken .step)) (K .committed) (λ gs i. steps-are gs)
+        ∙ sym (ap (λ (F : Log Step). F .committed) fed-is);
+    open-log = λ t. steps-are (K .open-log t) ∙ sym (ap (λ (F : Log Step). F .open-log t) fed-is);
   })
 
   pub plain-answers-given : PlainAnswers G
