@@ -9,7 +9,7 @@ use Rattle.tree.specs.Lists.{every, distinct, same}
 use Rattle.tree.specs.Content.{document-kind, element-kind, text-kind, content-limit, between}
 use Rattle.protocol.specs.State.{nobody, Marked, Tree, State, writer-of}
 use Rattle.protocol.specs.Calls.{node-limit}
-use Rattle.layout.specs.Layout.{tabulate, state-size, format-mark, part, count, slot, cell, Entry, nodes, unique, Layout, header}
+use Rattle.layout.specs.Encoding.{tabulate, state-size, format-mark, part, count, slot, cell, Entry, nodes, unique, Layout, header}
 use Rattle.layout.specs.Flat.{flat}
 
 -- nodes --------------------------------------------------------------------------------

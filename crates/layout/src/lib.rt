@@ -1,4 +1,4 @@
-// The lent bytes: words of sixteen bits, and bytes stored, cleared and copied. Where they hold what is in specs/Layout.antt.
+// The lent bytes: words of sixteen bits, and bytes stored, cleared and copied. Where they hold what is in specs/Encoding.antt.
 ghost use mathlib.Core.Path.{_≡_};
 ghost use Prim.Native.Nat.{ℕ, _+_, _*_, _<_, _≤_};
 ghost use lib.ListN.{length, getD};

@@ -5,6 +5,7 @@ pub mod Seen
 pub mod Find
 pub mod Subtree
 pub mod Children
+pub mod Along
 pub mod Waiting
 pub mod Placing
 pub mod Judgement

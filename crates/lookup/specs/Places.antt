@@ -9,7 +9,7 @@ use Rattle.protocol.specs.State.{Marked, numbered, seen-by}
 use Rattle.layout.specs.Lists.{first}
 use Rattle.layout.specs.Flat.{prune}
 use Rattle.layout.specs.Layout.{Entry, no-entry}
-pub use Rattle.layout.specs.Layout.{unique}
+pub use Rattle.layout.specs.Encoding.{unique}
 
 -- the depth and the node at a place
 abbrev pub depth : List Entry → ℕ → ℕ

@@ -18,7 +18,7 @@ use Rattle.layout.specs.Lists.{modify, insert}
 use Rattle.layout.specs.Flat.{flat, second}
 use Rattle.layout.specs.Layout.{Entry, no-entry}
 use Rattle.lookup.specs.Places.{depth, item, items, number-of, unique, above-places, ups, numbers-above, seen-at}
-use Rattle.lookup.specs.Laws.Up.{climb-before}
+use Rattle.lookup.specs.Laws.Up.{above-inside}
 use Rattle.lookup.specs.Laws.Find.{nodes-held, lacks-at}
 use Rattle.edits.specs.Rows.{Lacks, number-at, Inside, left-out, all-granted, granted-up, changed-below, renamed-by, renamed-rows}
 use Rattle.edits.specs.Rows.{new-place, stepped}
@@ -79,12 +79,6 @@ module _ (t : ℕ) (ls : List Lock) where
       map-append (second (granted-to t ls)) (take p l) (second g (getD l p no-entry) ∷ changed-below (seen-by t) g (depth l p) 0
       (drop (suc p) l))
       ∙ (λ j. map-take (second (granted-to t ls)) p l j ++ ((d j, head j) ∷ tail j))
-
--- the places above are places
-pub above-inside : (l : List Entry) (p : ℕ) → p < length l → Inside (p ∷ above-places l p) l
-unfolding above-places
-above-inside l p h i (List·Memᴰ·head e) = rw e h
-above-inside l p h i (List·Memᴰ·tail m) = let k : i < p = climb-before l (depth l p) p m in omega arith
 
 numbers-at-places : (l : List Entry) (p : ℕ) → numbers-above l p ≡ map (number-at l) (above-places l p)
 unfolding ups

@@ -1,8 +1,8 @@
 -- The locks of a step, granted along the way up from a place.
 use mathlib.Core.Path.{_≡_, refl, sym, ap, _∙_, fun-ext}
 use Prim.Native.Nat.{ℕ, _<_}
-use mathlib.Core.Bool.{Bool, true, false, cond, _||_, or-false}
-use mathlib.Core.List.{List, [], _∷_, _++_, map, append-assoc, List·Memᴰ·head, List·Memᴰ·tail}
+use mathlib.Core.Bool.{Bool, true, false, cond, _||_, or-false, or-assoc}
+use mathlib.Core.List.{List, [], _∷_, _++_, map, List·Memᴰ·head, List·Memᴰ·tail}
 use lib.ListN.{length}
 use lib.Dec.{eqb}
 use borrow.Author.Tests.{eqb-true, eqb-false, eq-eqb, ne-eqb}
@@ -11,22 +11,19 @@ use Rattle.tree.specs.Laws.Lists.{map-map, map-same, map-self, eqb-flip}
 use Rattle.tree.specs.Laws.Tests.{or-left, or-right}
 use Rattle.tree.specs.Steps.{Step, target, inserts}
 use Rattle.locks.specs.Modes.{Mode, ModeSet, no-mode, same-mode, among, union}
-use Rattle.locks.specs.Needs.{Need, need, Lock, each, every-one, up, locks}
+use Rattle.locks.specs.Needs.{Need, need, Lock, each, every-one, locks}
 use Rattle.protocol.specs.State.{Marked, Tree, numbered, modes-on, granted-to, grant, with-held}
 use Rattle.layout.specs.Lists.{modify}
 use Rattle.layout.specs.Flat.{flat, second}
 use Rattle.layout.specs.Layout.{Entry}
 use Rattle.layout.specs.Laws.Lists.{length-modify}
 use Rattle.lookup.specs.Places.{items, unique}
+use Rattle.lookup.specs.Laws.Along.{locks-along, locks-way}
 use Rattle.edits.specs.Rows.{Lacks, Inside, all-granted, row-number, row-numbers, number-at, granted-modes, granted-along}
 use Rattle.edits.specs.Laws.Unique.{same-numbers, by-number, by-number-none, by-number-one}
 use Rattle.edits.specs.Laws.Updates.{flat-amend, numbers-modify, number-same}
 
 -- sets of modes --------------------------------------------------------------------------
-
-or-assoc : (a b c : Bool) → (a || (b || c)) ≡ ((a || b) || c)
-or-assoc true b c = refl
-or-assoc false b c = refl
 
 pub modes-append : (ls ks : List Lock) (n : ℕ) (m : Mode) → modes-on (ls ++ ks) n m ≡ (modes-on ls n m || modes-on ks n m)
 modes-append [] ks n m = refl
@@ -35,7 +32,7 @@ modes-append (l ∷ ls) ks n m = go (eqb (l .0) n) (modes-append ls ks n m)
     go : (b : Bool) → modes-on (ls ++ ks) n m ≡ (modes-on ls n m || modes-on ks n m)
         → cond b (union (among (l .1 ∷ [])) (modes-on (ls ++ ks) n)) (modes-on (ls ++ ks) n) m
         ≡ (cond b (union (among (l .1 ∷ [])) (modes-on ls n)) (modes-on ls n) m || modes-on ks n m)
-    go true e = rw e (or-assoc (among (l .1 ∷ []) m) (modes-on ls n m) (modes-on ks n m))
+    go true e = rw e (sym (or-assoc (among (l .1 ∷ []) m) (modes-on ls n m) (modes-on ks n m)))
     go false e = e
 
 pub modes-each : (ms : List Mode) (q n : ℕ) (m : Mode) → modes-on (each ms q) n m ≡ cond (eqb q n) (among ms m) false
@@ -50,31 +47,6 @@ modes-each (x ∷ ms) q n m = go (eqb q n) (modes-each ms q n m)
         → cond b (union (among (x ∷ [])) (modes-on (each ms q) n)) (modes-on (each ms q) n) m ≡ cond b (same-mode m x || among ms m) false
     go true e = rw (e, or-false (same-mode m x))
     go false e = e
-
--- locks ------------------------------------------------------------------------------------
-
--- ms on the first number, ms′ on the next, and ms″ on all others
-abbrev locks-along : List Mode → List Mode → List Mode → List ℕ → List Lock
-locks-along ms ms′ ms″ [] = []
-locks-along ms ms′ ms″ (q ∷ qs) = each ms q ++ locks-along ms′ ms″ ms″ qs
-
-along-one : (ms : List Mode) (qs : List ℕ) → every-one ms qs ≡ locks-along ms ms ms qs
-along-one ms [] = refl
-along-one ms (q ∷ qs) = ap (λ ls. each ms q ++ ls) (along-one ms qs)
-
-along-up : (w : Need) (qs : List ℕ) → up w qs ≡ locks-along (w .parent) (w .above) (w .above) qs
-along-up w [] = refl
-along-up w (q ∷ qs) = ap (λ ls. each (w .parent) q ++ ls) (along-one (w .above) qs)
-
-locks-way : (s : Step) (ns : List ℕ) (n : ℕ) → target s ≡ n
-    → locks s ns ≡ locks-along (need s .node) (need s .parent) (need s .above) (n ∷ ns) ++ every-one (need s .new) (inserts s)
-unfolding locks
-locks-way s ns n e =
-    ap (λ ls. each (need s .node) (target s) ++ (ls ++ every-one (need s .new) (inserts s))) (along-up (need s) ns)
-    ∙ sym (append-assoc (each (need s .node) (target s)) (locks-along (need s .parent) (need s .above) (need s .above) ns)
-    (every-one (need s .new) (inserts s)))
-    ∙ ap (λ q. (each (need s .node) q ++ locks-along (need s .parent) (need s .above) (need s .above) ns) ++ every-one (need s .new)
-    (inserts s)) e
 
 -- one node -------------------------------------------------------------------------------
 
@@ -91,7 +63,7 @@ module _ (t : ℕ) where
       go : (u : ℕ) (m : Mode) (b : Bool) → cond b (union (a .held u) (modes-on (ls ++ ks) n)) (a .held u) m
           ≡ cond b (union (cond b (union (a .held u) (modes-on ls n)) (a .held u)) (modes-on ks n))
           (cond b (union (a .held u) (modes-on ls n)) (a .held u)) m
-      go u m true = rw (modes-append ls ks n m) (or-assoc (a .held u m) (modes-on ls n m) (modes-on ks n m))
+      go u m true = rw (modes-append ls ks n m) (sym (or-assoc (a .held u m) (modes-on ls n m) (modes-on ks n m)))
       go u m false = refl
 
   -- a set of modes more

@@ -1,19 +1,22 @@
 -- Bytes of the form hold a state, and what holds a state is of the form.
 use mathlib.Core.Path.{_≡_, refl, sym, ap, _∙_}
 use Prim.Native.Nat.{ℕ, zero, suc, _<_}
-use mathlib.Core.Bool.{Bool, true, false, cond, _&&_, _||_, false≢true}
-use mathlib.Core.List.{List, _∷_}
+use mathlib.Core.Bool.{Bool, true, false, _&&_, _||_}
+use mathlib.Core.List.{List, List·Memᴰ, List·Memᴰ·head, List·Memᴰ·tail}
 use native.Mathlib.Omega.{arith}
 use lib.ListN.{length, getD}
 use lib.Dec.{eqb, leb, ltb}
 use borrow.Author.Tests.{le-leb, leb-true, lt-ltb, ltb-true, eqb-false, ne-eqb}
 use Rattle.tree.specs.Lists.{every, has, distinct, same}
 use Rattle.tree.specs.Content.{between, content-limit}
-use Rattle.tree.specs.Laws.Tests.{and-left, and-right, or-left, or-right}
+use Rattle.tree.specs.Laws.Tests.{and-left, and-right}
+use Rattle.tree.specs.Laws.Lists.{every-at}
+use Rattle.tree.specs.Laws.Distinct.{distinct-one}
 use Rattle.tree.specs.Laws.Compare.{same-equal, same-self}
 use Rattle.protocol.specs.State.{nobody, State}
 use Rattle.protocol.specs.Calls.{node-limit}
 use Rattle.layout.specs.Layout.{tabulate, state-size, format-mark, part, count, slot, cell, header, nodes, Sized, Layout}
+use Rattle.layout.specs.Laws.Lists.{map-tabulate}
 use Rattle.layout.specs.Laws.Nodes.{length-nodes}
 use Rattle.lookup.specs.Places.{unique}
 use Rattle.form.specs.Form.{valid-rows, valid-tree, slots, cells, sizes-in-range, apart, form, Holds}
@@ -21,57 +24,38 @@ use Rattle.form.specs.Laws.Rows.{and-of, between-of, between-low, betwee
 
 -- tests of lists that are given by a rule ---------------------------------------------------------
 
+in-tabulate : {A : Type 0} (n : ℕ) (f : ℕ → A) (i : ℕ) → i < n → List·Memᴰ (f i) (tabulate n f)
+unfolding tabulate
+in-tabulate zero f i h = absurd (omega arith)
+in-tabulate (suc n) f zero h = List·Memᴰ·head refl
+in-tabulate (suc n) f (suc i) h = List·Memᴰ·tail (in-tabulate n (λ j. f (suc j)) i (omega arith))
+
 module _ {A : Type 0} (t : A → Bool) where
   pub every-tabulate : (n : ℕ) (f : ℕ → A) → every t (tabulate n f) ≡ true → (i : ℕ) → i < n → t (f i) ≡ true
-  unfolding tabulate
-  every-tabulate zero f h i k = absurd (omega arith)
-  every-tabulate (suc n) f h zero k = and-left (t (f 0)) _ h
-  every-tabulate (suc n) f h (suc i) k = every-tabulate n (λ j. f (suc j)) (and-right (t (f 0)) _ h) i (omega arith)
+  every-tabulate n f h i k = every-at t (tabulate n f) h {a = f i} (in-tabulate n f i k)
 
   pub tabulate-every : (n : ℕ) (f : ℕ → A) → ((i : ℕ) → i < n → t (f i) ≡ true) → every t (tabulate n f) ≡ true
   unfolding tabulate
   tabulate-every zero f h = refl
   tabulate-every (suc n) f h = and-of (h 0 (omega arith)) (tabulate-every n (λ j. f (suc j)) (λ i k. h (suc i) (omega arith)))
 
-has-tabulate : (x n : ℕ) (f : ℕ → ℕ) → has x (tabulate n f) ≡ false → (i : ℕ) → i < n → f i ≡ x → ⊥
-unfolding tabulate
-has-tabulate x zero f h i k e = omega arith
-has-tabulate x (suc n) f h zero k e = eqb-false (f 0) x (or-left (eqb (f 0) x) _ h) e
-has-tabulate x (suc n) f h (suc i) k e = has-tabulate x n (λ j. f (suc j)) (or-right (eqb (f 0) x) _ h) i (omega arith) e
+distinct-tabulate : (n : ℕ) (f : ℕ → ℕ) → distinct (tabulate n f) ≡ true → (i j : ℕ) → i < n → j < n → f i ≡ f j → i ≡ j
+distinct-tabulate n f h i j a b e =
+    distinct-one f (tabulate n (λ i. i)) (ap distinct (sym (map-tabulate n (λ i. i) f f (λ j l. refl))) ∙ h)
+    {a = i} {b = j} (in-tabulate n (λ i. i) i a) (in-tabulate n (λ i. i) j b) e
 
 tabulate-has : (x n : ℕ) (f : ℕ → ℕ) → ((i : ℕ) → i < n → f i ≡ x → ⊥) → has x (tabulate n f) ≡ false
 unfolding tabulate
 tabulate-has x zero f h = refl
 tabulate-has x (suc n) f h = rw (ne-eqb (f 0) x (h 0 (omega arith))) (tabulate-has x n (λ j. f (suc j)) (λ i k. h (suc i) (omega arith)))
 
-distinct-head : (x : ℕ) (l : List ℕ) → distinct (x ∷ l) ≡ true → (has x l ≡ false) × (distinct l ≡ true)
-distinct-head x l h = go (has x l) h
-  where
-    go : (b : Bool) → cond b false (distinct l) ≡ true → (b ≡ false) × (distinct l ≡ true)
-    go true h = absurd (false≢true h)
-    go false h = (refl, h)
-
-distinct-tabulate : (n : ℕ) (f : ℕ → ℕ) → distinct (tabulate n f) ≡ true → (i j : ℕ) → i < n → j < n → f i ≡ f j → i ≡ j
-unfolding tabulate
-distinct-tabulate zero f h i j a b e = absurd (omega arith)
-distinct-tabulate (suc n) f h i j a b e =
-    go i j a b e (distinct-head (f 0) (tabulate n (λ k. f (suc k))) h) (distinct-tabulate n (λ k. f (suc k)))
-  where
-    go : (i j : ℕ) → i < suc n → j < suc n → f i ≡ f j → (has (f 0) (tabulate n (λ k. f (suc k))) ≡ false)
-        × (distinct (tabulate n (λ k. f (suc k))) ≡ true)
-        → (distinct (tabulate n (λ k. f (suc k))) ≡ true → (i j : ℕ) → i < n → j < n → f (suc i) ≡ f (suc j) → i ≡ j) → i ≡ j
-    go zero zero a b e h r = refl
-    go zero (suc j) a b e h r = absurd (has-tabulate (f 0) n (λ k. f (suc k)) (h .0) j (omega arith) (sym e))
-    go (suc i) zero a b e h r = absurd (has-tabulate (f 0) n (λ k. f (suc k)) (h .0) i (omega arith) e)
-    go (suc i) (suc j) a b e h r = ap suc (r (h .1) i j (omega arith) (omega arith) e)
-
 tabulate-distinct : (n : ℕ) (f : ℕ → ℕ) → ((i j : ℕ) → i < n → j < n → f i ≡ f j → i ≡ j) → distinct (tabulate n f) ≡ true
 unfolding tabulate
 tabulate-distinct zero f h = refl
 tabulate-distinct (suc n) f h =
     rw (tabulate-has (f 0) n (λ k. f (suc k)) (λ i k e. let z : suc i ≡ 0 = h (suc i) 0 (omega arith) (omega arith) e in omega arith))
-    (tabulate-distinct n (λ k. f (suc k)) (λ i j a b e. let z : suc i ≡ suc j = h (suc i) (suc j) (omega arith)
-    (omega arith) e in omega arith))
+    (tabulate-distinct n (λ k. f (suc k)) (λ i j a b e.
+    let z : suc i ≡ suc j = h (suc i) (suc j) (omega arith) (omega arith) e in omega arith))
 
 -- sizes -----------------------------------------------------------------------------------------------
 
@@ -157,14 +141,7 @@ form-holds s h =
     let p = form-parts h in
     let t = valid-forest (nodes s) (p .rows) in (
       record { header = header s; tree = t .0 },
-      record {
-        layout = form-layout h;
-        header = refl;
-        rows = t .1;
-        unique = p .unique;
-        valid = sym
-            (ap valid-rows (t .1)) ∙ p .rows;
-      },
+      record { layout = form-layout h; header = refl; rows = t .1; unique = p .unique; valid = ap valid-rows (sym (t .1)) ∙ p .rows },
     )
 
 pub holds-form : {s : List ℕ} {M : State} → Holds s M → form s ≡ true

@@ -81,18 +81,12 @@ module _ (s : List ℕ) (l : state-size ≤ length s) (b : (j : ℕ) → j < sta
       part-at s 0 8 i k ∙ rw (zero-add i) (b i (omega arith) ∙ byte-mark i k))
 
   count-is : count s ≡ 1
-  unfolding count
-  count-is = word-is 10 (omega arith) ∙ rw (byte-header 10 (omega arith) (omega arith), byte-header 11 (omega arith) (omega arith))
+  unfolding count start-byte
+  count-is = word-is 10 (omega arith)
 
   open-is : is-open s ≡ (λ t. false)
-  unfolding is-open
-  open-is =
-      fun-ext (λ t. rw (
-        word-is 8 (omega arith),
-        byte-header 8 (omega arith) (omega arith),
-        byte-header 9 (omega arith) (omega arith),
-        zero-div (2 ^ (t - 1)),
-      ) (go (is-transaction t)))
+  unfolding is-open start-byte
+  open-is = fun-ext (λ t. rw (word-is 8 (omega arith), zero-div (2 ^ (t - 1))) (go (is-transaction t)))
     where
       go : (x : Bool) → cond x false false ≡ false
       go true = refl
@@ -106,12 +100,12 @@ module _ (s : List ℕ) (l : state-size ≤ length s) (b : (j : ℕ) → j < sta
       (rw (outline-low (16 + 6 * i - 16) (omega arith), outline-high (16 + 6 * i + 1 - 16) (omega arith)) (omega arith))
 
   depth-is : depth s 0 ≡ 0
-  unfolding depth outline-byte
-  depth-is = word-is 18 (omega arith) ∙ rw (byte-outline 18 (omega arith) (omega arith), byte-outline 19 (omega arith) (omega arith))
+  unfolding depth start-byte outline-byte
+  depth-is = word-is 18 (omega arith)
 
   number-is : number s 0 ≡ 0
-  unfolding number outline-byte
-  number-is = word-is 20 (omega arith) ∙ rw (byte-outline 20 (omega arith) (omega arith), byte-outline 21 (omega arith) (omega arith))
+  unfolding number start-byte outline-byte
+  number-is = word-is 20 (omega arith)
 
   cell-is : (o : ℕ) → o < 70 → getD (cell s 0) o 0 ≡ cond (eqb (6160 + o) 6160) 1 0
   cell-is o h = sym (cell-byte s 0 o h) ∙ b (6160 + o) (omega arith) ∙ byte-cell (6160 + o) (omega arith)

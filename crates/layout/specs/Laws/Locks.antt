@@ -1,6 +1,7 @@
 -- The lock words and the word of open transactions, read and stored.
 use mathlib.Core.Path.{_≡_, refl, sym, ap, _∙_, fun-ext}
-use Prim.Native.Nat.{ℕ, zero, suc, _+_, _*_, _≤_, _<_}
+use Prim.Native.Nat.{ℕ, zero, suc, _+_, _*_, _^_, _≤_, _<_}
+use native.Mathlib.Nat.{zero-div}
 use mathlib.Core.Bool.{Bool, true, false, cond}
 use mathlib.Core.List.{List, map}
 use native.Mathlib.Omega.{arith}
@@ -10,7 +11,7 @@ use lib.Dec.{eqb, ltb, leb}
 use borrow.Author.Count.{below-more}
 use borrow.Author.Tests.{ltb-true, ltb-false, lt-ltb, le-ltb, leb-true, le-leb, eqb-true, eqb-false}
 use Rattle.tree.specs.Laws.Tests.{and-left, and-right, refuted}
-use Rattle.locks.specs.Modes.{Mode, ModeSet, no-mode, in-word, LT, LC, LR, LU, LW, LTT, LRR, LUU, LIR, LIU, LIW, LICW}
+use Rattle.locks.specs.Modes.{ModeSet, no-mode, in-word, index}
 use Rattle.protocol.specs.State.{is-transaction, Marked, released, with-held}
 use Rattle.layout.specs.Lists.{modify}
 use Rattle.layout.specs.Flat.{second}
@@ -34,21 +35,7 @@ is-transaction-of t a b = rw (le-leb 1 t a, le-leb t 16 b)
 
 -- the empty word
 pub no-modes : in-word 0 ≡ no-mode
-no-modes = fun-ext go
-  where
-    go : (a : Mode) → in-word 0 a ≡ no-mode a
-    go LT = refl
-    go LC = refl
-    go LR = refl
-    go LU = refl
-    go LW = refl
-    go LTT = refl
-    go LRR = refl
-    go LUU = refl
-    go LIR = refl
-    go LIU = refl
-    go LIW = refl
-    go LICW = refl
+no-modes = fun-ext (λ a. rw (zero-div (2 ^ index a)))
 
 -- the word of transaction t and the node at i, whose slot is k
 pub held-at : (s : List ℕ) (t i k : ℕ) → k ≡ slot s i → 1 ≤ t → t ≤ 16 → i < length (nodes s)

@@ -140,8 +140,9 @@ stored-kept s s″ i o k x p q n v b e f y w h l two a m n32 g =
     ext-getD 0 (stored o (cell s″ k)) b (length-stored o (cell s″ k) two long″ (omega arith) ∙ size)
     (λ j z. let c : j < length b = omega (arith, length-stored o (cell s″ k) two long″ (omega arith), size) in
     let at : cell-at k + (6 + 32 * o + j) ≡ q + j = omega arith in
-    byte-stored o j (cell s″ k) two (omega arith) (omega arith) ∙ sym (cell-byte s″ k (6 + 32 * o + j) (omega arith))
-    ∙ rw at (f .bytes j (omega arith) ∙ g j c)) in
+    let byte : getD (cell s″ k) (6 + 32 * o + j) 0 ≡ getD b j 0 =
+    sym (cell-byte s″ k (6 + 32 * o + j) (omega arith)) ∙ rw at (f .bytes j (omega arith) ∙ g j c) in
+    byte-stored o j (cell s″ k) two (omega arith) (omega arith) ∙ byte) in
     let there : slot s″ i ≡ k = same-place only i (λ z. omega (arith, here s i o k e h l, h .room)) .slot ∙ sym e in
     let first : (j : ℕ) → j < 4 → getD (cell s″ k) j 0 ≡ getD (cell s k) j 0 =
     λ j c. same j (omega arith) (λ u. omega arith) (λ u. omega arith) in

@@ -1,7 +1,7 @@
 -- A number and its place: where no number is held twice, the node numbered n is the one at its place.
 use mathlib.Core.Path.{_≡_, refl, sym, ap, _∙_}
 use Prim.Native.Nat.{ℕ, zero, suc, _<_}
-use mathlib.Core.Bool.{Bool, true, false, cond, _||_, false≢true}
+use mathlib.Core.Bool.{Bool, true, false, cond, _||_}
 use mathlib.Core.List.{List, [], _∷_, _++_, map, append-nil}
 use native.Mathlib.Omega.{arith}
 use lib.ListN.{length, length-map}
@@ -13,6 +13,7 @@ use Rattle.tree.specs.Document as document
 use Rattle.tree.specs.Document.{here, at, is, select, some?}
 use Rattle.tree.specs.Laws.Tests.{or-left, or-right}
 use Rattle.tree.specs.Laws.Lists.{any-map, map-append, eqb-flip}
+use Rattle.tree.specs.Laws.Distinct.{head-new}
 use Rattle.protocol.specs.State.{Marked, Tree, nodes, numbered, number-held, seen-by, callers-document}
 use Rattle.layout.specs.Lists.{first}
 use Rattle.layout.specs.Flat.{flat}
@@ -73,12 +74,9 @@ has-items n l = any-map (λ q. eqb q n) (λ (x : Entry). number-of (x .1)) l ∙
 
 pub unique-head : (x : Entry) (l : List Entry) → unique (x ∷ l) ≡ true
     → (any (numbered (number-of (x .1))) (items l) ≡ false) × (unique l ≡ true)
-unique-head x l h = go (has (number-of (x .1)) (map (λ x. number-of (x .1)) l)) (has-items (number-of (x .1)) l) h
-  where
-    go : (b : Bool) → b ≡ any (numbered (number-of (x .1))) (items l) → cond b false (unique l) ≡ true
-        → (any (numbered (number-of (x .1))) (items l) ≡ false) × (unique l ≡ true)
-    go true e k = absurd (false≢true k)
-    go false e k = (sym e, k)
+unique-head x l h =
+    let g = head-new (λ (y : Entry). number-of (y .1)) x l h in
+    (sym (has-items (number-of (x .1)) l) ∙ g .0, g .1)
 
 -- a number that no row has is at no place
 pub lacks-at : (n : ℕ) (l : List Entry) (i : ℕ) → any (numbered n) (items l) ≡ false → i < length l → number-of (item l i) ≡ n → ⊥

@@ -1,7 +1,7 @@
 -- The node at a place of a forest: the rows before and behind it, its proper ancestors, and the rows of its subtree.
 use mathlib.Core.Path.{_≡_, refl, sym, ap, _∙_}
 use Prim.Native.Nat.{ℕ, zero, suc, _+_, _-_, _≤_, _<_}
-use mathlib.Core.Bool.{Bool, true, false, cond, _||_, false≢true}
+use mathlib.Core.Bool.{Bool, true, false, cond, _||_, false≢true, or-assoc}
 use mathlib.Core.List.{List, [], _∷_, _++_, map, reverseAux, append-assoc, append-nil}
 use native.Mathlib.Omega.{arith}
 use lib.ListN.{length, length-append}
@@ -16,11 +16,7 @@ use Rattle.lookup.specs.Places.{below}
 
 pub any-append : {A : Type 0} (q : A → Bool) (l k : List A) → any q (l ++ k) ≡ (any q l || any q k)
 any-append q [] k = refl
-any-append q (x ∷ l) k = rw (any-append q l k) (go (q x) (any q l) (any q k))
-  where
-    go : (a b c : Bool) → (a || (b || c)) ≡ ((a || b) || c)
-    go true b c = refl
-    go false b c = refl
+any-append q (x ∷ l) k = rw (any-append q l k) (sym (or-assoc (q x) (any q l) (any q k)))
 
 module _ {A : Type 0} where
   -- the nodes of rows

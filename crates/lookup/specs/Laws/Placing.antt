@@ -1,7 +1,7 @@
 -- The place of a new child: the pass over the kinds of the children decides as the rules do.
 use mathlib.Core.Path.{_≡_, refl, sym, ap, _∙_}
 use Prim.Native.Nat.{ℕ, zero, suc, _+_, _-_, _≤_, _<_}
-use mathlib.Core.Bool.{Bool, true, false, cond, not, _&&_, and-false, false≢true}
+use mathlib.Core.Bool.{Bool, true, false, cond, not, _&&_, and-false, false≢true, and-true, and-assoc, and-comm}
 use mathlib.Core.List.{List, [], _∷_, _++_}
 use native.Mathlib.Omega.{arith}
 use lib.ListN.{length, take, drop, length-append, take-append-drop}
@@ -53,21 +53,14 @@ module _ (x : ℕ) (l : List ℕ) where
 -- every, over the parts of a list with one more
 every-append : (t : ℕ → Bool) (l k : List ℕ) → every t (l ++ k) ≡ (every t l && every t k)
 every-append t [] k = refl
-every-append t (x ∷ l) k = rw (every-append t l k) (go (t x) (every t l) (every t k))
-  where
-    go : (a b c : Bool) → (a && (b && c)) ≡ ((a && b) && c)
-    go true b c = refl
-    go false b c = refl
+every-append t (x ∷ l) k = rw (every-append t l k) (sym (and-assoc (t x) (every t l) (every t k)))
 
 every-insert : (t : ℕ → Bool) (j x : ℕ) (l : List ℕ) → every t (take j l ++ (x ∷ drop j l)) ≡ (t x && every t l)
 every-insert t j x l =
-    every-append t (take j l) (x ∷ drop j l) ∙ go (every t (take j l)) (t x) (every t (drop j l))
+    let u = every t (take j l) in
+    let v = every t (drop j l) in
+    every-append t (take j l) (x ∷ drop j l) ∙ sym (and-assoc u (t x) v) ∙ ap (λ b. b && v) (and-comm u (t x)) ∙ and-assoc (t x) u v
     ∙ ap (λ b. t x && b) (sym (every-append t (take j l) (drop j l)) ∙ ap (every t) (take-append-drop j l))
-  where
-    go : (a b c : Bool) → (a && (b && c)) ≡ (b && (a && c))
-    go true b c = refl
-    go false true c = refl
-    go false false c = refl
 
 -- no attribute exactly if there are none
 none-attribute : (l : List ℕ) → no-attribute l ≡ eqb (attributes l) 0
@@ -95,10 +88,6 @@ count-none l h = eqb-true (attributes l) 0 (sym (none-attribute l) ∙ h)
 
 count-some : (l : List ℕ) → no-attribute l ≡ false → 0 < attributes l
 count-some l h = let e = eqb-false (attributes l) 0 (sym (none-attribute l) ∙ h) in omega arith
-
-and-true : (b : Bool) → (b && true) ≡ b
-and-true true = refl
-and-true false = refl
 
 -- the new one before all
 insert-before : (x : ℕ) (l : List ℕ)

@@ -77,6 +77,12 @@ climb-before l e (suc i) {q} m = go (ltb (depth l i) e) (λ n. climb-before l (d
     go true f g n = self f n
     go false f g n = let z = g n in omega arith
 
+-- and so are the node's and those above it
+pub above-inside : (l : List Entry) (p : ℕ) → p < length l → (i : ℕ) → List·Memᴰ i (p ∷ above-places l p) → i < length l
+unfolding above-places
+above-inside l p h i (List·Memᴰ·head e) = rw e h
+above-inside l p h i (List·Memᴰ·tail m) = let k : i < p = climb-before l (depth l p) p m in omega arith
+
 -- the proper ancestors -----------------------------------------------------------------
 
 reverse-take : (l t : List Entry) (k : ℕ) → k < length l → reverseAux (take (suc k) l) t ≡ getD l k no-entry ∷ reverseAux (take k l) t

@@ -1,7 +1,7 @@
 -- Waiting: the locks of a step meet the nodes on its way up, and no others; the wait set as a word.
 use mathlib.Core.Path.{_≡_, refl, sym, ap, _∙_, fun-ext}
 use Prim.Native.Nat.{ℕ, zero, suc, _+_, _*_, _-_, _^_, _<_}
-use mathlib.Core.Bool.{Bool, true, false, cond, not, _&&_, _||_}
+use mathlib.Core.Bool.{Bool, true, false, cond, not, _&&_, _||_, or-false}
 use mathlib.Core.List.{List, [], _∷_, _++_, map, List·Memᴰ, List·Memᴰ·head, List·Memᴰ·tail}
 use native.Mathlib.Omega.{arith}
 use native.Mathlib.Nat.{pow-succ'}
@@ -13,23 +13,20 @@ use Rattle.tree.specs.Steps.{Step, target, inserts}
 use Rattle.tree.specs.Laws.Tests.{or-left, or-right}
 use Rattle.tree.specs.Laws.Lists.{any-map, any-same}
 use Rattle.locks.specs.Modes.{Mode, against}
-use Rattle.locks.specs.Needs.{Need, need, Lock, each, every-one, up, locks}
+use Rattle.locks.specs.Needs.{Need, need, Lock, each, every-one, locks}
 use Rattle.locks.specs.Words.{word}
 use Rattle.protocol.specs.State.{Marked, State, transactions, nodes, numbered, number-held}
 use Rattle.protocol.specs.Calls.{clashes, blocks, sum-of-bits, wait-set}
 use Rattle.layout.specs.Flat.{flat}
 use Rattle.layout.specs.Layout.{Entry}
-use Rattle.lookup.specs.Places.{depth, item, items, number-of, unique, above-places, ups, numbers-above}
+use Rattle.lookup.specs.Places.{item, items, number-of, unique, above-places, ups, numbers-above}
 use Rattle.lookup.specs.Found.{blocks-node, blocks-way, wait-word}
 use Rattle.lookup.specs.Laws.NodeAt.{any-append}
-use Rattle.lookup.specs.Laws.Up.{climb-before}
+use Rattle.lookup.specs.Laws.Up.{above-inside}
+use Rattle.lookup.specs.Laws.Along.{locks-along, locks-way}
 use Rattle.lookup.specs.Laws.Find.{nodes-held, unique-head, lacks-at}
 
 -- tests of two lists in either order ---------------------------------------------------
-
-pub or-false : (b : Bool) → (b || false) ≡ b
-or-false true = refl
-or-false false = refl
 
 pub any-never : {A : Type 0} (l : List A) → any (λ a. false) l ≡ false
 any-never [] = refl
@@ -109,26 +106,15 @@ module _ (l : List Entry) (t : ℕ) where
         ∙ any-same (λ m. any (λ a. numbered (number-of (item l i)) a && against (a .held t) m) (items l)) (against (item l i .held t)) ms
         (λ m x. one-node (λ a. against (a .held t) m) l i u h)
 
-    meets-all : (ms : List Mode) (ps : List ℕ) → ((i : ℕ) → List·Memᴰ i ps → i < length l)
-        → meets l t (every-one ms (map number-of (map (item l) ps))) ≡ blocks-way ms ms ms t (map (item l) ps)
+    meets-along : (ms ms′ ms″ : List Mode) (ps : List ℕ) → ((i : ℕ) → List·Memᴰ i ps → i < length l)
+        → meets l t (locks-along ms ms′ ms″ (map number-of (map (item l) ps))) ≡ blocks-way ms ms′ ms″ t (map (item l) ps)
     unfolding blocks-way
-    meets-all ms [] h = meets-nothing
-    meets-all ms (p ∷ ps) h =
+    meets-along ms ms′ ms″ [] h = meets-nothing
+    meets-along ms ms′ ms″ (p ∷ ps) h =
         rw (
-          meets-append (each ms (number-of (item l p))) (every-one ms (map number-of (map (item l) ps))),
+          meets-append (each ms (number-of (item l p))) (locks-along ms′ ms″ ms″ (map number-of (map (item l) ps))),
           meets-node ms p (h p (List·Memᴰ·head refl)),
-          meets-all ms ps (λ i m. h i (List·Memᴰ·tail m)),
-        )
-
-    meets-up : (w : Need) (ps : List ℕ) → ((i : ℕ) → List·Memᴰ i ps → i < length l)
-        → meets l t (up w (map number-of (map (item l) ps))) ≡ blocks-way (w .parent) (w .above) (w .above) t (map (item l) ps)
-    unfolding blocks-way
-    meets-up w [] h = meets-nothing
-    meets-up w (p ∷ ps) h =
-        rw (
-          meets-append (each (w .parent) (number-of (item l p))) (every-one (w .above) (map number-of (map (item l) ps))),
-          meets-node (w .parent) p (h p (List·Memᴰ·head refl)),
-          meets-all (w .above) ps (λ i m. h i (List·Memᴰ·tail m)),
+          meets-along ms′ ms″ ms″ ps (λ i m. h i (List·Memᴰ·tail m)),
         )
 
     -- the locks of a step on the node at p: the numbers that it inserts are held by no node
@@ -136,20 +122,15 @@ module _ (l : List Entry) (t : ℕ) where
         → any (λ m. any (numbered m) (items l)) (inserts s) ≡ false
         → any (clashes (locks s (numbers-above l p)) t) (items l)
         ≡ blocks-way (need s .node) (need s .parent) (need s .above) t (item l p ∷ ups l p)
-    unfolding locks ups above-places blocks-way
+    unfolding ups
     way-blocks s p h e b =
-        let ps : List ℕ = above-places l p in
+        let w : Need = need s in
+        let ps : List ℕ = p ∷ above-places l p in
+        let ls : List Lock = locks-along (w .node) (w .parent) (w .above) (map number-of (map (item l) ps)) in
         any-clashes (locks s (numbers-above l p))
-        ∙ rw (
-          ← e,
-          meets-append (each (need s .node) (number-of (item l p))) (up (need s) (map number-of (map (item l) ps)) ++ every-one
-              (need s .new) (inserts s)),
-          meets-append (up (need s) (map number-of (map (item l) ps))) (every-one (need s .new) (inserts s)),
-          meets-node (need s .node) p h,
-          meets-up (need s) ps (λ i m. let z = climb-before l (depth l p) p m in omega arith),
-          meets-new (need s .new) (inserts s) b,
-          or-false (blocks-way (need s .parent) (need s .above) (need s .above) t (map (item l) ps)),
-        )
+        ∙ ap (meets l t) (locks-way s (numbers-above l p) (number-of (item l p)) (sym e))
+        ∙ rw (meets-append ls (every-one (w .new) (inserts s)), meets-new (w .new) (inserts s) b, or-false (meets l t ls))
+        (meets-along (w .node) (w .parent) (w .above) ps (above-inside l p h))
 
 -- the wait set as a word ------------------------------------------------------------------
 
