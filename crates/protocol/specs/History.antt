@@ -57,7 +57,8 @@ with-entries t l L = record { first = L .first; committed = L .committed; open-l
 abbrev pub with-commit : {E : Type 0} → ℕ → Log E → Log E
 with-commit t L = record { first = L .first; committed = L .committed ++ (L .open-log t ∷ []); open-log = with-log t [] (L .open-log) }
 
--- the log after a call: whether it was granted, and the entries of the steps that were granted in it
+-- the log after a call: whether it was granted, and the entries of the steps that were granted in it, which are logged whatever came of
+-- the whole call; one that is not granted has none today (`NotGranted` in serializability)
 abbrev pub logged : {E : Type 0} → Call → Bool → List E → Log E → Log E
 logged start g es L = cond g (new-log node-0-alone) L
 logged (load (unreadable cause offset)) g es L = L
@@ -72,7 +73,8 @@ unfoldable pub log-after : {E : Type 0} → (Taken → E) → Log E → List Eve
 log-after entry L [] = L
 log-after entry L (e ∷ es) = log-after entry (logged (e .call) (is-granted (e .outcome)) (map entry (e .steps)) L) es
 
--- the plain run is fed the arguments of the calls, and of their answers only which were granted: a step's entry is the step
+-- the plain run is fed the arguments of the calls, and of their answers only which were granted: a step's entry is the step, which is the
+-- one that was asked for (`StepGranted` in serializability, `Feeds` in traces)
 abbrev pub fed : List Event → Log Step
 fed h = log-after (λ x. x .step) (new-log node-0-alone) h
 

@@ -21,7 +21,7 @@ is-transaction t = between 1 16 t
 abbrev pub transactions : List ℕ
 transactions = 1 ∷ 2 ∷ 3 ∷ 4 ∷ 5 ∷ 6 ∷ 7 ∷ 8 ∷ 9 ∷ 10 ∷ 11 ∷ 12 ∷ 13 ∷ 14 ∷ 15 ∷ 16 ∷ []
 
--- what open transactions did to a node's content: nothing, or which one wrote it, and the content before, saved only then (the committed
+-- what open transactions did to a node's content: nothing, or which one wrote it, and the content before its first write (the committed
 -- one; no document shows it where the writer itself inserted the node)
 pub data Update : Type 0 where
   unwritten : Update

@@ -14,7 +14,7 @@ use Rattle.protocol.specs.State.{State, start-state, Marked, is-transaction, tr
 use Rattle.protocol.specs.State.{callers-document, held-document, document-of, committed-document}
 use Rattle.protocol.specs.Lent.{Room}
 use Rattle.protocol.specs.Causes.{no-such-node}
-use Rattle.protocol.specs.Calls.{Call, start, abort, step, write, written, waits, refused, blocks, next}
+use Rattle.protocol.specs.Calls.{Call, start, abort, step, write, granted, written, waits, refused, blocks, next}
 use Rattle.protocol.specs.History.{Event, history, state-after, is-granted, fed, answered, plain, plain-run-answers, pending}
 
 -- a list that begins with a start, which is always granted, and the state that it reaches. They begin in one fixed state: start forgets the
@@ -89,6 +89,11 @@ pub record Reached (M : State) : Type 0 where
 -- demand 1: a call that waits or is refused leaves the state as it was, and no step in it was granted
 abbrev pub NotGranted : Type 0
 NotGranted = (c : Call) (M : State) → is-granted (next c M .outcome) ≡ false → (next c M .steps ≡ []) × (next c M .state ≡ M)
+
+-- a granted step is the one that was asked for, and its answer is the one that the call returned
+abbrev pub StepGranted : Type 0
+StepGranted = (t : ℕ) (s : Step) (room : Room) (M : State) (v : Value) → next (step t s room) M .outcome ≡ granted v
+    → next (step t s room) M .steps ≡ record { step = s; value = v } ∷ []
 
 -- demand 2: "a 16-bit set with bit t-1 for each such transaction t, and no other", never empty
 pub record WaitSet (w t : ℕ) (ls : List Lock) (M : State) : Type 0 where

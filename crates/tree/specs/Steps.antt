@@ -87,12 +87,13 @@ misplaced-on (TT n) on others = false
 misplaced-on (RR n) on others = false
 misplaced-on (UU n a b) on others = false
 
--- the same in a document; cause 7: "no node so numbered"
-abbrev pub kind-at : Step → Document → ℕ
-kind-at s d = at (target s) d .it .kind
-
+-- cause 7: "no node so numbered, or the caller deleted it or an ancestor": such a node is not in the caller's document
 abbrev pub unknown : Step → Document → Bool
 unknown s d = not (here (target s) d)
+
+-- causes 8, 9 and 11 in a document
+abbrev pub kind-at : Step → Document → ℕ
+kind-at s d = at (target s) d .it .kind
 
 abbrev pub wrong-kind : Step → Document → Bool
 wrong-kind s d = wrong-kind-on s (kind-at s d)
@@ -107,7 +108,8 @@ misplaced s d = misplaced-on s (kind-at s d) (kinds (select (child (target s)) d
 abbrev pub number-there : Step → Document → Bool
 number-there s d = any (λ m. here m d) (inserts s)
 
--- the plain rules allow the step: none of "a node not there, a number there already, a kind or place against the tree's rules"
+-- the plain rules allow the step: not "a node not there, a number there already, a kind or place against the tree's rules", nor a content
+-- or name that is not allowed (cause 9, which no granted step has either)
 abbrev pub fits : Step → Document → Bool
 fits s d = not (unknown s d || wrong-kind s d || wrong-content s d || number-there s d || misplaced s d)
 

@@ -7,7 +7,7 @@ use lib.Dec.{eqb}
 use borrow.Author.Tests.{eqb-false, not-true}
 use Rattle.tree.specs.Lists.{keep}
 use Rattle.tree.specs.Laws.Lists.{every-at}
-use Rattle.tree.specs.Steps.{Step, answer}
+use Rattle.tree.specs.Steps.{Step, Value, done}
 use Rattle.locks.specs.Needs.{needs}
 use Rattle.protocol.specs.State.{State, is-transaction, transactions, callers-document}
 use Rattle.protocol.specs.Lent.{Room}
@@ -15,7 +15,7 @@ use Rattle.protocol.specs.Causes.{not-a-transaction, not-open, no-such-node}
 use Rattle.protocol.specs.Calls.{step, Outcome, granted, written, waits, refused, refused-at, Check, blocks, wait-set, step-checks, judged}
 use Rattle.protocol.specs.Calls.{next}
 use Rattle.protocol.specs.History.{is-granted}
-use Rattle.serializability.specs.Theorem.{NotGranted, Waiting, NoClashNoWait, FoundNotSeven}
+use Rattle.serializability.specs.Theorem.{NotGranted, StepGranted, Waiting, NoClashNoWait, FoundNotSeven}
 use Rattle.serializability.specs.Laws.Outcomes.{checked-cases, checked-by, every-call}
 use Rattle.serializability.specs.Laws.WaitSet.{sum-bit, sum-bound, sum-none}
 
@@ -60,15 +60,21 @@ module _ (t : ℕ) (s : Step) (room : Room) (M : State) where
       let i : w ≡ set = ap (λ o. by-numbers o .1) (sym e ∙ x .3 ∙ ap (λ (z : Check). z .0) c) in
       (i, ap (λ z. eqb z 0) i ∙ not-true _ (sym (ap (λ (z : Check). z .1) c) ∙ x .2))
 
-  -- a granted step answers what the step does on the caller's document, and is the one step in the call
-  pub step-granted : is-granted (next (step t s room) M .outcome) ≡ true → let v = answer s (callers-document t (M .tree)) in
-      (next (step t s room) M .outcome ≡ granted v) × (next (step t s room) M .steps ≡ record { step = s; value = v } ∷ [])
-  unfolding next judged
-  step-granted = let v = answer s (callers-document t (M .tree)) in
-      checked-cases (λ n. is-granted (n .outcome) ≡ true → (n .outcome ≡ granted v) ×
-      (n .steps ≡ record { step = s; value = v } ∷ [])) checks M _
-      (λ c i e g. absurd (true≢false (sym g ∙ not-true _ (every-at (λ (x : Check). not (is-granted (x .0))) checks refl i))))
-      (λ p g. (refl, refl))
+-- the answer of a granted call
+value-of : Outcome → Value
+value-of (granted v) = v
+value-of (written d) = done
+value-of (waits w) = done
+value-of (refused c) = done
+value-of (refused-at c o) = done
+
+pub step-granted : StepGranted
+unfolding next judged value-of
+step-granted t s room M v =
+    checked-cases (λ n. n .outcome ≡ granted v → n .steps ≡ record { step = s; value = v } ∷ []) (checks t s room M) M _
+    (λ c i e h. absurd (true≢false (sym (every-at (λ (x : Check). not (is-granted (x .0))) (checks t s room M) refl i)
+    ∙ ap (λ o. not (is-granted o)) h)))
+    (λ p h. ap (λ o. record { step = s; value = value-of o } ∷ []) h)
 
 pub waiting : Waiting
 unfolding wait-set
