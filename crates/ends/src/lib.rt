@@ -1,5 +1,6 @@
 // Start, begin, commit and abort.
-use protocol::{Answer, causes};
+use protocol::Answer;
+use protocol::causes;
 ghost use mathlib.Core.Path.{_≡_};
 ghost use mathlib.Core.Bool.{true, cond};
 ghost use mathlib.Core.List.{map};

@@ -1,6 +1,7 @@
 // The steps that only read: C, R, TT and RR.
 use locks::StepName;
-use protocol::{Answer, causes};
+use protocol::Answer;
+use protocol::causes;
 ghost use Rattle.tree.specs.Steps.{C, R, TT, RR};
 ghost use Rattle.protocol.specs.Calls.{step};
 ghost use Rattle.protocol.specs.Lent.{first-lent, second-lent};

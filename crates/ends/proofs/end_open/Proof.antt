@@ -5,12 +5,12 @@ use Rattle.ends.proofs.end_open.Statement.{statement}
 use Rattle.ends.proofs.end_open.Tie as tie
 
 prune-requires : tie.Need-prune-requires
-prune-requires c κs = 
+prune-requires c κs =
     let d = unmarked-document (c .before .before .before .pre) (c .before .before .before .args .commits) _ (c .going .ensures) in
     (c .before .before .before .pre .layout, d .0, d .1)
 
 close-requires : tie.Need-close-requires
-close-requires c κs = 
+close-requires c κs =
     let pre = c .before .before .before .before .before .before .before .before .before .before .before .pre in
     let nodes = c .before .before .before .end-nodes .ensures in
     (nodes .layout, pre .low, pre .high, kept-open _ nodes (left-open _ (c .before .before .before .before .before .before .before .prune .ensures) (pre .is-open)))

@@ -154,4 +154,4 @@ ended {s} commits t o e a b c =
     left-as _ (map (second g) kept)
     (map-map (second (released t)) (second f) (second g) kept (λ x i. ap (λ (y : Marked). (x .0, y)) (marks-whole commits t (x .1))))
     (closed-after t _ (map (second (released t)))
-        (left-then kept (map (second f)) (left-as _ _ (ap (λ (q : Marked → Bool). prune q 0 (nodes s)) (going-stays commits t o e)) a) b) c)
+    (left-then kept (map (second f)) (left-as _ _ (ap (λ (q : Marked → Bool). prune q 0 (nodes s)) (going-stays commits t o e)) a) b) c)

@@ -1,6 +1,5 @@
 use borrow.Author.Needs.{needs}
 use native.Mathlib.Omega.{arith}
-use mathlib.Core.Path.{_≡_}
 use Rattle.engine.specs.Laws.Admission.{admit-barred, admit-missing, admit-deleted, admit-found}
 use Rattle.engine.proofs.admit.Statement.{statement}
 use Rattle.engine.proofs.admit.Tie as tie
@@ -12,7 +11,7 @@ count-requires : tie.Need-count-requires
 count-requires c κs = c .before .before .caller .ensures .opened (c .before .if1 .left) .layout
 
 returns-2 : tie.Need-returns-2
-returns-2 c = 
+returns-2 c =
     admit-missing (c .before .before .before .before .before .caller .ensures .opened (c .before .before .before .before .if1 .left)) _ (c .before .before .before .find .ensures) (c .rejected2 .ensures) (omega (arith, c .before .before .count .ensures))
 
 cast-u : tie.Need-cast-u
@@ -22,12 +21,12 @@ way-up-requires : tie.Need-way-up-requires
 way-up-requires c κs = (c .before .before .before .before .caller .ensures .opened (c .before .before .before .if1 .left) .layout, omega (arith, c .before .count .ensures))
 
 returns-3 : tie.Need-returns-3
-returns-3 c = 
+returns-3 c =
     admit-deleted (c .before .before .before .before .before .before .before .before .caller .ensures .opened (c .before .before .before .before .before .before .before .if1 .left)) _ (c .before .before .before .before .before .before .find .ensures) (c .rejected3 .ensures) _
     (omega (arith, c .before .before .before .before .before .count .ensures)) (c .before .before .before .way-up .ensures) (c .before .if3 .taken)
 
 returns-4 : tie.Need-returns-4
-returns-4 c = 
+returns-4 c =
     admit-found (c .before .before .before .before .before .before .before .caller .ensures .opened (c .before .before .before .before .before .before .if1 .left)) _ (c .before .before .before .before .before .find .ensures) _ (omega (arith, c .before .before .before .before .count .ensures))
     (c .before .before .way-up .ensures) (c .if3 .left)
 

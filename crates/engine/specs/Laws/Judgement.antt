@@ -164,7 +164,7 @@ module _ {s : List ℕ} {t : ℕ} {a : Admission} {cause : ℕ} {w : NeedWords} 
     asked-waits n room =
         stopped-stays {o = waits set} (λ x. not-both (standing z .formed) x)
         (λ M h. let e : set ≡ set-at (a .t) st M (nodes s) (a .place) = set-is ∙ rw (← h .header) in
-            standing z .next M h st refl room ∙ behind-own (a .t) st room M (nodes s) (a .place) fitting ∙ rw (← e, ne-eqb set 0 n)) refl
+        standing z .next M h st refl room ∙ behind-own (a .t) st room M (nodes s) (a .place) fitting ∙ rw (← e, ne-eqb set 0 n)) refl
         (λ writing. refl)
 
     asked-free : set ≡ 0 → Free s t a w st
@@ -233,7 +233,7 @@ module _ {s : List ℕ} {t : ℕ} {a : Admission} {w : NeedWords} {st : Step} (f
   free-refused c e n =
       stopped-stays {o = refused c} (λ x. not-both (f .standing .formed) x)
       (λ M h. to-late M h
-          ∙ first-applies M [] (granting (a .t) st M (nodes s) (a .place)) (late-causes (a .t) st room (nodes s) (a .place)) c e n) refl
+      ∙ first-applies M [] (granting (a .t) st M (nodes s) (a .place)) (late-causes (a .t) st room (nodes s) (a .place)) c e n) refl
       (λ writing. refl)
 
   pub free-granted : {s′ : List ℕ} → first-cause (late-causes (a .t) st room (nodes s) (a .place)) ≡ 0

@@ -1,5 +1,5 @@
 use borrow.Author.Needs.{needs}
-use mathlib.Core.Path.{_≡_, sym, _∙_}
+use mathlib.Core.Path.{sym, _∙_}
 use borrow.Author.Tests.{not-true, not-false}
 use Rattle.locking.specs.Laws.Waits.{blocks-shut, blocks-self, blocks-other}
 use Rattle.locking.proofs.blocks.Statement.{statement}

@@ -18,19 +18,19 @@ element-copy-out-add : tie.Need-element-copy-out-add Inv-loop μ-loop
 element-copy-out-add c = omega (arith, c .before .before .before .before .pre .3 .room)
 
 cast-add : tie.Need-cast-add Inv-loop μ-loop
-cast-add c = 
+cast-add c =
     let l = c .before .before .before .loop in
     let inside = granting-inside (c .before .before .before .before .before .pre .3) (l .inv .1) (search needs) in
     let layout = l .inv .1 .kept .layout in
     record { fits = omega (arith, inside, layout .room, layout .many) }
 
 add-requires : tie.Need-add-requires Inv-loop μ-loop
-add-requires c κs = 
+add-requires c κs =
     let l = c .before .before .before .before .loop in
     (l .inv .1 .kept .layout, search needs, search needs, granting-inside (c .before .before .before .before .before .before .pre .3) (l .inv .1) (search needs))
 
 loop-again : tie.Need-loop-again Inv-loop μ-loop
-loop-again c = 
+loop-again c =
     let l = c .before .before .before .before .before .before .before .loop in
     (search needs, granting-turn (c .before .before .before .before .before .before .before .before .before .pre .3) (l .inv .1) _ (search needs) (c .before .before .before .word-at .ensures) (c .before .before .add .ensures))
 

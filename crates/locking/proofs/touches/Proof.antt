@@ -11,7 +11,7 @@ use Rattle.locking.proofs.touches.Statement.{statement}
 use Rattle.locking.proofs.touches.Tie as tie
 
 abbrev Inv-loop : tie.InvT-loop
-Inv-loop s u masks places count held j₀ j = 
+Inv-loop s u masks places count held j₀ j =
     let way = nodes-of (nodes s) (record { places = places; count = count }) in
     touches-from masks 0 u way ≡ touches-from masks j u (drop j way)
 
@@ -28,7 +28,7 @@ share-requires : tie.Need-share-requires Inv-loop μ-loop
 share-requires c κs = rw (c .word-at .ensures) (words-small _ (c .before .before .before .before .before .before .before .before .pre .3) (c .before .before .before .before .before .loop .j))
 
 returns : tie.Need-returns Inv-loop μ-loop
-returns c = 
+returns c =
     let pre = c .before .before .before .before .before .before .before .before .before .before .pre in
     let l = c .before .before .before .before .before .before .before .loop in
     let inside = pre .4 .inside (l .j) (search needs) in
@@ -36,7 +36,7 @@ returns c =
     touch-found (pre .4) _ _ (l .j) (l .inv) (search needs) (touches ∙ c .if1 .taken)
 
 loop-again : tie.Need-loop-again Inv-loop μ-loop
-loop-again c = 
+loop-again c =
     let pre = c .before .before .before .before .before .before .before .before .before .before .pre in
     let l = c .before .before .before .before .before .before .before .loop in
     let inside = pre .4 .inside (l .j) (search needs) in

@@ -18,7 +18,7 @@ bit-below-requires : tie.Need-bit-below-requires Inv-loop μ-loop
 bit-below-requires c κs = rw (c .before .before .before .before .loop .inv .1) (set-below _ _ _ _ (c .before .before .before .before .loop .u) (search needs))
 
 loop-again : tie.Need-loop-again Inv-loop μ-loop
-loop-again c = 
+loop-again c =
     let l = c .before .before .before .before .before .loop in
     (search needs, set-turn _ _ _ _ (l .u) _ _ _ (search needs) (search needs) (l .inv .1) (c .before .blocks2 .ensures) (c .bit-below .ensures))
 

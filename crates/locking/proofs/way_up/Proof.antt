@@ -1,6 +1,5 @@
 use borrow.Author.Needs.{needs}
-use native.Mathlib.Omega.{arith}
-use mathlib.Core.Path.{_≡_, refl}
+use mathlib.Core.Path.{refl}
 use lib.ListN.{replicate}
 use Rattle.layout.specs.Layout.{nodes}
 use Rattle.locking.specs.Laws.Way.{Climbing, climbing-hidden, climbing-start, climbing-passed, climbing-deleted, climbing-found, climbing-done}
@@ -26,7 +25,7 @@ returns-2 : tie.Need-returns-2 Inv-loop μ-loop
 returns-2 c = climbing-deleted (search needs) (c .before .before .before .before .before .loop .inv) (search needs) (c .before .before .before .depth2 .ensures) (search needs) _ (c .before .deleter2 .ensures) (c .if3 .taken)
 
 loop-again-2 : tie.Need-loop-again-2 Inv-loop μ-loop
-loop-again-2 c = 
+loop-again-2 c =
     climbing-found (search needs) (c .before .before .before .before .before .loop .inv) (search needs) (c .before .before .before .depth2 .ensures) (search needs) _ (c .before .deleter2 .ensures)
     (search needs) (c .if3 .left)
 

@@ -1,7 +1,6 @@
 use borrow.Author.Needs.{needs}
-use mathlib.Core.Path.{_≡_, refl}
+use mathlib.Core.Path.{refl}
 use Rattle.locks.specs.declared.StepName.the-variants as name
-use Rattle.protocol.specs.Lent.{first-lent, second-lent}
 use Rattle.layout.specs.Laws.Kept.{left-kept}
 use Rattle.edits.specs.Rows.{stepped}
 use Rattle.tree.specs.Steps.{C}
@@ -16,18 +15,18 @@ returns : tie.Need-returns
 returns c = step-stopped name.C (C _ _) refl (c .before .before .before .before .before .admit .ensures) (none-first _) (c .before .before .before .before .needed .ensures) (c .before .before .judge .ensures) (c .if1 .taken) no-room .performed
 
 kth-child-requires : tie.Need-kth-child-requires
-kth-child-requires c κs = 
+kth-child-requires c κs =
     let f = step-free name.C (C _ 0) refl (c .before .before .before .before .before .before .admit .ensures) (none-first _) (c .before .before .before .before .before .needed .ensures) (c .before .before .before .judge .ensures) (c .before .if1 .left) in
     (f .standing .layout, f .standing .inside)
 
 grant-requires : tie.Need-grant-requires
-grant-requires c κs = 
+grant-requires c κs =
     let f = step-free name.C (C _ 0) refl (c .before .before .before .before .before .before .before .before .admit .ensures) (none-first _) (c .before .before .before .before .before .before .before .needed .ensures) (c .before .before .before .before .before .judge .ensures) (c .before .before .before .if1 .left) in
     (f .standing .layout, f .standing .low, f .standing .high, f .standing .climbed .inside)
 
 returns-2 : tie.Need-returns-2
 unfolding stepped
-returns-2 c = 
+returns-2 c =
     let f = step-free name.C (C _ _) refl (c .before .before .before .before .before .before .before .before .before .before .before .admit .ensures) (none-first _) (c .before .before .before .before .before .before .before .before .before .before .needed .ensures) (c .before .before .before .before .before .before .before .before .judge .ensures) (c .before .before .before .before .before .before .if1 .left) in
     let left = left-kept (free-locked f (c .before .before .grant .ensures)) in
     performed-grants (free-granted f no-room (room-left _ no-room (child-fits _ _)) left) _ (c .before .before .before .before .kth-child .ensures)

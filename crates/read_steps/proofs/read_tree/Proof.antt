@@ -1,7 +1,6 @@
 use borrow.Author.Needs.{needs}
-use mathlib.Core.Path.{_≡_, refl}
+use mathlib.Core.Path.{refl}
 use Rattle.locks.specs.declared.StepName.the-variants as name
-use Rattle.protocol.specs.Lent.{first-lent, second-lent}
 use Rattle.layout.specs.Laws.Kept.{left-kept}
 use Rattle.edits.specs.Rows.{stepped}
 use Rattle.tree.specs.Steps.{RR}
@@ -15,12 +14,12 @@ returns : tie.Need-returns
 returns c = stopped-two (step-stopped name.RR (RR _) refl (c .before .before .before .before .before .admit .ensures) (none-first _) (c .before .before .before .before .needed .ensures) (c .before .before .judge .ensures) (c .if1 .taken) (rooms-of (c .before .before .before .before .before .before .before .before .before .before .args .out .now) (c .before .before .before .before .before .before .before .before .before .before .args .cells .now))) _ _
 
 select-requires : tie.Need-select-requires
-select-requires c κs = 
+select-requires c κs =
     let f = step-free name.RR (RR _) refl (c .before .before .before .before .before .before .admit .ensures) (none-first _) (c .before .before .before .before .before .needed .ensures) (c .before .before .before .judge .ensures) (c .before .if1 .left) in
     (f .standing .layout, f .standing .inside)
 
 returns-2 : tie.Need-returns-2
-returns-2 c = 
+returns-2 c =
     let out = c .before .before .before .before .before .before .before .before .before .before .before .before .before .before .args .out .now in
     let cells = c .before .before .before .before .before .before .before .before .before .before .before .before .before .before .args .cells .now in
     let f = step-free name.RR (RR _) refl (c .before .before .before .before .before .before .before .before .before .admit .ensures) (none-first _) (c .before .before .before .before .before .before .before .before .needed .ensures) (c .before .before .before .before .before .before .judge .ensures) (c .before .before .before .before .if1 .left) in
@@ -28,7 +27,7 @@ returns-2 c =
     stopped-two (free-refused f (rooms-of out cells) 13 (room-short _ (rooms-of out cells) short) not-none) _ _
 
 returns-3 : tie.Need-returns-3
-returns-3 c = 
+returns-3 c =
     let out = c .before .before .before .before .before .before .before .before .before .before .before .before .before .before .before .before .args .out .now in
     let cells = c .before .before .before .before .before .before .before .before .before .before .before .before .before .before .before .before .args .cells .now in
     let f = step-free name.RR (RR _) refl (c .before .before .before .before .before .before .before .before .before .before .before .admit .ensures) (none-first _) (c .before .before .before .before .before .before .before .before .before .before .needed .ensures) (c .before .before .before .before .before .before .before .before .judge .ensures) (c .before .before .before .before .before .before .if1 .left) in
@@ -36,23 +35,23 @@ returns-3 c =
     stopped-two (free-refused f (rooms-of out cells) 13 (room-short _ (rooms-of out cells) short) not-none) _ _
 
 numbers-requires : tie.Need-numbers-requires
-numbers-requires c κs = 
+numbers-requires c κs =
     let f = step-free name.RR (RR _) refl (c .before .before .before .before .before .before .before .before .before .before .before .before .before .admit .ensures) (none-first _) (c .before .before .before .before .before .before .before .before .before .before .before .before .needed .ensures) (c .before .before .before .before .before .before .before .before .before .before .judge .ensures) (c .before .before .before .before .before .before .before .before .if1 .left) in
     (f .standing .layout, c .before .before .before .before .before .before .select .ensures .inside, search needs)
 
 cells-requires : tie.Need-cells-requires
-cells-requires c κs = 
+cells-requires c κs =
     let f = step-free name.RR (RR _) refl (c .before .before .before .before .before .before .before .before .before .before .before .before .before .before .before .before .before .before .admit .ensures) (none-first _) (c .before .before .before .before .before .before .before .before .before .before .before .before .before .before .before .before .before .needed .ensures) (c .before .before .before .before .before .before .before .before .before .before .before .before .before .before .before .judge .ensures) (c .before .before .before .before .before .before .before .before .before .before .before .before .before .if1 .left) in
     (f .standing .layout, c .before .before .before .before .before .before .before .before .before .before .before .select .ensures .inside, search needs)
 
 grant-requires : tie.Need-grant-requires
-grant-requires c κs = 
+grant-requires c κs =
     let f = step-free name.RR (RR _) refl (c .before .before .before .before .before .before .before .before .before .before .before .before .before .before .before .before .before .before .before .before .before .before .admit .ensures) (none-first _) (c .before .before .before .before .before .before .before .before .before .before .before .before .before .before .before .before .before .before .before .before .before .needed .ensures) (c .before .before .before .before .before .before .before .before .before .before .before .before .before .before .before .before .before .before .before .judge .ensures) (c .before .before .before .before .before .before .before .before .before .before .before .before .before .before .before .before .before .if1 .left) in
     (f .standing .layout, f .standing .low, f .standing .high, f .standing .climbed .inside)
 
 returns-4 : tie.Need-returns-4
 unfolding stepped
-returns-4 c = 
+returns-4 c =
     let out = c .before .before .before .before .before .before .before .before .before .before .before .before .before .before .before .before .before .before .before .before .before .before .before .before .before .before .before .before .before .before .before .args .out .now in
     let cells = c .before .before .before .before .before .before .before .before .before .before .before .before .before .before .before .before .before .before .before .before .before .before .before .before .before .before .before .before .before .before .before .args .cells .now in
     let f = step-free name.RR (RR _) refl (c .before .before .before .before .before .before .before .before .before .before .before .before .before .before .before .before .before .before .before .before .before .before .before .before .before .before .admit .ensures) (none-first _) (c .before .before .before .before .before .before .before .before .before .before .before .before .before .before .before .before .before .before .before .before .before .before .before .before .before .needed .ensures) (c .before .before .before .before .before .before .before .before .before .before .before .before .before .before .before .before .before .before .before .before .before .before .before .judge .ensures) (c .before .before .before .before .before .before .before .before .before .before .before .before .before .before .before .before .before .before .before .before .before .if1 .left) in

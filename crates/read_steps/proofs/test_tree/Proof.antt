@@ -1,7 +1,6 @@
 use borrow.Author.Needs.{needs}
-use mathlib.Core.Path.{_≡_, refl}
+use mathlib.Core.Path.{refl}
 use Rattle.locks.specs.declared.StepName.the-variants as name
-use Rattle.protocol.specs.Lent.{first-lent, second-lent}
 use Rattle.layout.specs.Laws.Kept.{left-kept}
 use Rattle.edits.specs.Rows.{stepped}
 use Rattle.tree.specs.Steps.{TT}
@@ -15,29 +14,29 @@ returns : tie.Need-returns
 returns c = stopped-one (step-stopped name.TT (TT _) refl (c .before .before .before .before .before .admit .ensures) (none-first _) (c .before .before .before .before .needed .ensures) (c .before .before .judge .ensures) (c .if1 .taken) (room-of (c .before .before .before .before .before .before .before .before .before .args .out .now))) _
 
 select-requires : tie.Need-select-requires
-select-requires c κs = 
+select-requires c κs =
     let f = step-free name.TT (TT _) refl (c .before .before .before .before .before .before .admit .ensures) (none-first _) (c .before .before .before .before .before .needed .ensures) (c .before .before .before .judge .ensures) (c .before .if1 .left) in
     (f .standing .layout, f .standing .inside)
 
 returns-2 : tie.Need-returns-2
-returns-2 c = 
+returns-2 c =
     let out = c .before .before .before .before .before .before .before .before .before .before .before .before .before .args .out .now in
     let f = step-free name.TT (TT _) refl (c .before .before .before .before .before .before .before .before .before .admit .ensures) (none-first _) (c .before .before .before .before .before .before .before .before .needed .ensures) (c .before .before .before .before .before .before .judge .ensures) (c .before .before .before .before .if1 .left) in
     stopped-one (free-refused f (room-of out) 13 (room-short _ (room-of out) (numbers-short _ (c .before .before .select .ensures) out (c .if2 .taken))) not-none) _
 
 numbers-requires : tie.Need-numbers-requires
-numbers-requires c κs = 
+numbers-requires c κs =
     let f = step-free name.TT (TT _) refl (c .before .before .before .before .before .before .before .before .before .before .before .admit .ensures) (none-first _) (c .before .before .before .before .before .before .before .before .before .before .needed .ensures) (c .before .before .before .before .before .before .before .before .judge .ensures) (c .before .before .before .before .before .before .if1 .left) in
     (f .standing .layout, c .before .before .before .before .select .ensures .inside, search needs)
 
 grant-requires : tie.Need-grant-requires
-grant-requires c κs = 
+grant-requires c κs =
     let f = step-free name.TT (TT _) refl (c .before .before .before .before .before .before .before .before .before .before .before .before .before .before .before .admit .ensures) (none-first _) (c .before .before .before .before .before .before .before .before .before .before .before .before .before .before .needed .ensures) (c .before .before .before .before .before .before .before .before .before .before .before .before .judge .ensures) (c .before .before .before .before .before .before .before .before .before .before .if1 .left) in
     (f .standing .layout, f .standing .low, f .standing .high, f .standing .climbed .inside)
 
 returns-3 : tie.Need-returns-3
 unfolding stepped
-returns-3 c = 
+returns-3 c =
     let out = c .before .before .before .before .before .before .before .before .before .before .before .before .before .before .before .before .before .before .before .before .before .before .before .args .out .now in
     let f = step-free name.TT (TT _) refl (c .before .before .before .before .before .before .before .before .before .before .before .before .before .before .before .before .before .before .before .admit .ensures) (none-first _) (c .before .before .before .before .before .before .before .before .before .before .before .before .before .before .before .before .before .before .needed .ensures) (c .before .before .before .before .before .before .before .before .before .before .before .before .before .before .before .before .judge .ensures) (c .before .before .before .before .before .before .before .before .before .before .before .before .before .before .if1 .left) in
     let fits = room-left _ (room-of out) (numbers-fit _ (c .before .before .before .before .before .before .before .before .before .before .before .before .select .ensures) out (c .before .before .before .before .before .before .before .before .before .before .if2 .left)) in

@@ -1,5 +1,5 @@
 use borrow.Author.Needs.{needs}
-use mathlib.Core.Path.{_≡_, refl}
+use mathlib.Core.Path.{refl}
 use Rattle.locks.specs.declared.StepName.the-variants as name
 use Rattle.engine.specs.Contract.{no-room}
 use Rattle.engine.specs.Laws.Outcomes.{performed-grants}
@@ -25,13 +25,13 @@ returns : tie.Need-returns
 returns c = step-stopped name.UU (UU _ _ _) refl (c .before .before .before .before .before .before .admit .ensures) (c .before .before .before .before .before .rename-cause .ensures) (c .before .before .before .before .needed .ensures) (c .before .before .judge .ensures) (c .if1 .taken) no-room .performed
 
 grant-requires : tie.Need-grant-requires
-grant-requires c κs = 
+grant-requires c κs =
     let args = c .before .before .before .before .before .before .before .before .before .before .before .before .args in
     let f = step-free name.UU (UU _ (args .a .now) (args .b .now)) refl (c .before .before .before .before .before .before .before .admit .ensures) (c .before .before .before .before .before .before .rename-cause .ensures) (c .before .before .before .before .before .needed .ensures) (c .before .before .before .judge .ensures) (c .before .if1 .left) in
     (f .standing .layout, f .standing .low, f .standing .high, f .standing .climbed .inside)
 
 rename-below-requires : tie.Need-rename-below-requires
-rename-below-requires c κs = 
+rename-below-requires c κs =
     let args = c .before .before .before .before .before .before .before .before .before .before .before .before .before .before .before .before .args in
     let f = step-free name.UU (UU _ (args .a .now) (args .b .now)) refl (c .before .before .before .before .before .before .before .before .before .before .before .admit .ensures) (c .before .before .before .before .before .before .before .before .before .before .rename-cause .ensures) (c .before .before .before .before .before .before .before .before .before .needed .ensures) (c .before .before .before .before .before .before .before .judge .ensures) (c .before .before .before .before .before .if1 .left) in
     let g = free-locked f (c .before .before .before .grant .ensures) in
@@ -39,7 +39,7 @@ rename-below-requires c κs =
 
 returns-2 : tie.Need-returns-2
 unfolding granted-answer first-lent second-lent stepped
-returns-2 c = 
+returns-2 c =
     let args = c .before .before .before .before .before .before .before .before .before .before .before .before .before .before .before .before .before .before .before .args in
     let f = step-free name.UU (UU _ (args .a .now) (args .b .now)) refl (c .before .before .before .before .before .before .before .before .before .before .before .before .before .before .admit .ensures) (c .before .before .before .before .before .before .before .before .before .before .before .before .before .rename-cause .ensures) (c .before .before .before .before .before .before .before .before .before .before .before .before .needed .ensures) (c .before .before .before .before .before .before .before .before .before .before .judge .ensures) (c .before .before .before .before .before .before .before .before .if1 .left) in
     let below = c .before .before .rename-below .ensures in

@@ -1,5 +1,5 @@
 use borrow.Author.Needs.{needs}
-use mathlib.Core.Path.{_≡_, refl}
+use mathlib.Core.Path.{refl}
 use Rattle.locks.specs.declared.StepName.the-variants as name
 use Rattle.engine.specs.Contract.{no-room}
 use Rattle.engine.specs.Laws.Outcomes.{performed-grants}
@@ -25,19 +25,19 @@ returns : tie.Need-returns
 returns c = step-stopped name.U (U _ _) refl (c .before .before .before .before .before .before .before .admit .ensures) (c .before .before .before .before .before .update-cause .ensures) (c .before .before .before .before .needed .ensures) (c .before .before .judge .ensures) (c .if1 .taken) no-room .performed
 
 grant-requires : tie.Need-grant-requires
-grant-requires c κs = 
+grant-requires c κs =
     let f = step-free name.U (U _ (c .before .before .before .before .before .before .before .before .before .before .before .before .args .b .now)) refl (c .before .before .before .before .before .before .before .before .admit .ensures) (c .before .before .before .before .before .before .update-cause .ensures) (c .before .before .before .before .before .needed .ensures) (c .before .before .before .judge .ensures) (c .before .if1 .left) in
     (f .standing .layout, f .standing .low, f .standing .high, f .standing .climbed .inside)
 
 write-requires : tie.Need-write-requires
-write-requires c κs = 
+write-requires c κs =
     let f = step-free name.U (U _ (c .before .before .before .before .before .before .before .before .before .before .before .before .before .before .before .before .args .b .now)) refl (c .before .before .before .before .before .before .before .before .before .before .before .before .admit .ensures) (c .before .before .before .before .before .before .before .before .before .before .update-cause .ensures) (c .before .before .before .before .before .before .before .before .before .needed .ensures) (c .before .before .before .before .before .before .before .judge .ensures) (c .before .before .before .before .before .if1 .left) in
     let g = free-locked f (c .before .before .before .grant .ensures) in
     (g .layout, omega (arith, g .many, f .standing .inside), allowed-short _ _ (not-false _ (free-fits f .1)), f .standing .low)
 
 returns-2 : tie.Need-returns-2
 unfolding granted-answer first-lent second-lent stepped
-returns-2 c = 
+returns-2 c =
     let f = step-free name.U (U _ (c .before .before .before .before .before .before .before .before .before .before .before .before .before .before .before .before .before .before .before .args .b .now)) refl (c .before .before .before .before .before .before .before .before .before .before .before .before .before .before .before .admit .ensures) (c .before .before .before .before .before .before .before .before .before .before .before .before .before .update-cause .ensures) (c .before .before .before .before .before .before .before .before .before .before .before .before .needed .ensures) (c .before .before .before .before .before .before .before .before .before .before .judge .ensures) (c .before .before .before .before .before .before .before .before .if1 .left) in
     let written = kept-then _ (modify _ (second (written-by _ _))) (free-locked f (c .before .before .before .before .before .before .grant .ensures)) (c .before .before .write .ensures) in
     performed-grants (free-granted f no-room refl (left-kept written)) _ refl

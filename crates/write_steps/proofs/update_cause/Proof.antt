@@ -1,5 +1,5 @@
 use borrow.Author.Needs.{needs}
-use mathlib.Core.Path.{_≡_, sym, _∙_}
+use mathlib.Core.Path.{sym, _∙_}
 use Rattle.engine.specs.Laws.Judgement.{found-first, found-later}
 use borrow.Author.Tests.{eq-eqb, ne-eqb}
 use Rattle.write_steps.proofs.update_cause.Statement.{statement}
