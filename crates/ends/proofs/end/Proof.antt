@@ -14,7 +14,12 @@ end-open-requires : tie.Need-end-open-requires
 end-open-requires c κs = c .before .before .caller .ensures .opened (c .before .if1 .left)
 
 returns-2 : tie.Need-returns-2
-returns-2 c = end-done (c .before .before .before .before .before .before .before .before .args .commits) (c .before .before .before .before .before .caller .ensures .opened (c .before .before .before .before .if1 .left)) (c .before .before .end-open .ensures)
+returns-2 c =
+    let at-end-open = c .before .before in
+    let at-if1 = at-end-open .before .before in
+    let at-caller = at-if1 .before in
+    let start = at-caller .before .before .before in
+    end-done (start .args .commits) (at-caller .caller .ensures .opened (at-if1 .if1 .left)) (at-end-open .end-open .ensures)
 
 pub end-spec : {M : Type 1} → statement M
 end-spec =

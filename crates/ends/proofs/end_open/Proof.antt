@@ -11,12 +11,22 @@ prune-requires c κs =
 
 close-requires : tie.Need-close-requires
 close-requires c κs =
-    let pre = c .before .before .before .before .before .before .before .before .before .before .before .pre in
-    let nodes = c .before .before .before .end-nodes .ensures in
-    (nodes .layout, pre .low, pre .high, kept-open _ nodes (left-open _ (c .before .before .before .before .before .before .before .prune .ensures) (pre .is-open)))
+    let at-end-nodes = c .before .before .before in
+    let at-prune = at-end-nodes .before .before .before .before in
+    let start = at-prune .before .before .before .before in
+    let pre = start .pre in
+    let nodes = at-end-nodes .end-nodes .ensures in
+    (nodes .layout, pre .low, pre .high, kept-open _ nodes (left-open _ (at-prune .prune .ensures) (pre .is-open)))
 
 returns : tie.Need-returns
-returns c = ended (c .before .before .before .before .before .before .before .before .before .before .before .before .before .before .args .commits) _ _ (c .before .before .before .before .before .before .before .before .before .before .before .going .ensures) (c .before .before .before .before .before .before .before .before .before .before .prune .ensures) (c .before .before .before .before .before .before .end-nodes .ensures) (c .before .before .close .ensures)
+returns c =
+    let at-close = c .before .before in
+    let at-end-nodes = at-close .before .before .before .before in
+    let at-prune = at-end-nodes .before .before .before .before in
+    let at-going = at-prune .before in
+    let start = at-going .before .before .before in
+    ended (start .args .commits) _ _ (at-going .going .ensures) (at-prune .prune .ensures) (at-end-nodes .end-nodes .ensures)
+    (at-close .close .ensures)
 
 pub end-open-spec : {M : Type 1} → statement M
 end-open-spec =

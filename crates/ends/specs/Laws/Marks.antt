@@ -24,12 +24,14 @@ use Rattle.ends.specs.Marks.{stays, at-end, without-mark, rewritten, end
 none-kept : (s : List ℕ) (i : ℕ) (g : Marked → Marked) → g (getD (nodes s) i no-entry .1) ≡ getD (nodes s) i no-entry .1 → Layout s
     → Kept s s (modify i (second g) (nodes s))
 none-kept s i g q h =
-    kept-as (nodes s) _ (sym (modify-none i (second g) (nodes s) no-entry (ap (λ (b : Marked). (getD (nodes s) i no-entry .0, b)) q))) (kept-same s h)
+    kept-as (nodes s) _ (sym (modify-none i (second g) (nodes s) no-entry (ap (λ (b : Marked). (getD (nodes s) i no-entry .0, b)) q)))
+    (kept-same s h)
 
 -- and one that is the same there as another
 same-kept : {s s′ : List ℕ} (i : ℕ) (f g : Marked → Marked) → f (getD (nodes s) i no-entry .1) ≡ g (getD (nodes s) i no-entry .1)
     → Kept s s′ (modify i (second f) (nodes s)) → Kept s s′ (modify i (second g) (nodes s))
-same-kept {s} i f g q k = kept-as _ _ (modify-same i (second f) (second g) (nodes s) no-entry (ap (λ (b : Marked). (getD (nodes s) i no-entry .0, b)) q)) k
+same-kept {s} i f g q k = kept-as _ _ (modify-same i (second f) (second g) (nodes s) no-entry
+    (ap (λ (b : Marked). (getD (nodes s) i no-entry .0, b)) q)) k
 
 -- nobody can be stored as every mark
 pub nobody-storable : (o : ℕ) → storable o nobody ≡ true
@@ -67,9 +69,11 @@ not-rewritten s i t r e p h =
     none-kept s i (rewritten t) (rw (ne-eqb (writer-of (a .update)) t (λ x. p (e ∙ x)))) h
 
 -- two changes of one node
-pub both-marks : {s s′ s″ : List ℕ} (i : ℕ) (g h : Marked → Marked) → Kept s s′ (modify i (second g) (nodes s)) → Kept s′ s″ (modify i (second h) (nodes s′))
+pub both-marks : {s s′ s″ : List ℕ} (i : ℕ) (g h : Marked → Marked) → Kept s s′ (modify i (second g) (nodes s))
+    → Kept s′ s″ (modify i (second h) (nodes s′))
     → Kept s s″ (modify i (second (λ a. h (g a))) (nodes s))
-both-marks {s} i g h a b = kept-as _ _ (modify-modify i (second h) (second g) (nodes s)) (kept-then (modify i (second g) (nodes s)) (modify i (second h)) a b)
+both-marks {s} i g h a b = kept-as _ _ (modify-modify i (second h) (second g) (nodes s))
+    (kept-then (modify i (second g) (nodes s)) (modify i (second h)) a b)
 
 -- node after node ---------------------------------------------------------------------------------
 
@@ -114,7 +118,8 @@ kept-open t a e = left-open t (left-kept a) e
 
 -- closed after another change
 module _ {s s₁ s₂ : List ℕ} (t : ℕ) where
-  pub closed-after : (ns : List Entry) (f : List Entry → List Entry) → Left s s₁ (header s) ns → Closed t s₁ s₂ (f (nodes s₁)) → Closed t s s₂ (f ns)
+  pub closed-after : (ns : List Entry) (f : List Entry → List Entry) → Left s s₁ (header s) ns → Closed t s₁ s₂ (f (nodes s₁))
+      → Closed t s s₂ (f ns)
   closed-after ns f a b = record {
     layout = b .layout;
     long = b .long ∙ a .long;
@@ -143,7 +148,8 @@ going-stays true t o e = rw e
 going-stays false t o e = rw e
 
 -- pruned, each mark cleared, the locks released and t closed
-pub ended : {s s₁ s₂ s₃ : List ℕ} (commits : Bool) (t o : ℕ) → o ≡ cond commits 3 2 → Left s s₁ (header s) (prune (not-marked o t) 0 (nodes s))
+pub ended : {s s₁ s₂ s₃ : List ℕ} (commits : Bool) (t o : ℕ) → o ≡ cond commits 3 2
+    → Left s s₁ (header s) (prune (not-marked o t) 0 (nodes s))
     → Kept s₁ s₂ (map (second (ended-marks commits t)) (nodes s₁))
     → Closed t s₂ s₃ (map (second (released t)) (nodes s₂))
     → Ended commits t s s₃

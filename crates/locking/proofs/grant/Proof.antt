@@ -26,13 +26,19 @@ cast-add c =
 
 add-requires : tie.Need-add-requires Inv-loop μ-loop
 add-requires c κs =
-    let l = c .before .before .before .before .loop in
-    (l .inv .1 .kept .layout, search needs, search needs, granting-inside (c .before .before .before .before .before .before .pre .3) (l .inv .1) (search needs))
+    let at-loop = c .before .before .before .before in
+    let start = at-loop .before .before in
+    let l = at-loop .loop in
+    (l .inv .1 .kept .layout, search needs, search needs, granting-inside (start .pre .3) (l .inv .1) (search needs))
 
 loop-again : tie.Need-loop-again Inv-loop μ-loop
 loop-again c =
-    let l = c .before .before .before .before .before .before .before .loop in
-    (search needs, granting-turn (c .before .before .before .before .before .before .before .before .before .pre .3) (l .inv .1) _ (search needs) (c .before .before .before .word-at .ensures) (c .before .before .add .ensures))
+    let at-add = c .before .before in
+    let at-word-at = at-add .before in
+    let at-loop = at-word-at .before .before .before .before in
+    let start = at-loop .before .before in
+    let l = at-loop .loop in
+    (search needs, granting-turn (start .pre .3) (l .inv .1) _ (search needs) (at-word-at .word-at .ensures) (at-add .add .ensures))
 
 returns : tie.Need-returns Inv-loop μ-loop
 returns c = record { kept = granting-done (c .before .before .before .pre .3) (c .before .loop .inv .1) (search needs) }

@@ -23,7 +23,10 @@ returns-2 : tie.Need-returns-2 Inv-loop μ-loop
 returns-2 c = counting-left (c .before .before .before .loop .inv) (search needs) (c .before .depth2 .ensures) (c .if2 .taken)
 
 loop-again : tie.Need-loop-again Inv-loop μ-loop
-loop-again c = counting-passed (c .before .before .before .before .loop .inv) (search needs) (c .before .before .depth2 .ensures) (c .if3 .taken)
+loop-again c =
+    let at-depth2 = c .before .before in
+    let at-loop = at-depth2 .before .before in
+    counting-passed (at-loop .loop .inv) (search needs) (at-depth2 .depth2 .ensures) (c .if3 .taken)
 
 deleter-requires : tie.Need-deleter-requires Inv-loop μ-loop
 deleter-requires c κs = (c .before .before .before .before .before .before .before .before .before .pre .0, search needs)
@@ -36,10 +39,14 @@ loop-again-2 c =
     counting-deleted (l .inv) (search needs) (depth2 .ensures) (search needs) (search needs) (deleter .ensures) (c .if4 .taken)
 
 kind-requires : tie.Need-kind-requires Inv-loop μ-loop
-kind-requires c κs = (c .before .before .before .before .before .before .before .before .before .before .before .before .pre .0, search needs)
+kind-requires c κs =
+    let start = c .before .before .before .before .before .before .before .before .before .before .before .before in
+    (start .pre .0, search needs)
 
 number-requires : tie.Need-number-requires Inv-loop μ-loop
-number-requires c κs = (c .before .before .before .before .before .before .before .before .before .before .before .before .before .pre .0, search needs)
+number-requires c κs =
+    let start = c .before .before .before .before .before .before .before .before .before .before .before .before .before in
+    (start .pre .0, search needs)
 
 returns-3 : tie.Need-returns-3 Inv-loop μ-loop
 returns-3 c =

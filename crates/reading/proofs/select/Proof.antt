@@ -3,7 +3,8 @@ use Prim.Native.Nat.{_-_}
 use mathlib.Core.Path.{refl, sym, _∙_}
 use lib.ListN.{length, replicate}
 use Rattle.layout.specs.Layout.{nodes}
-use Rattle.reading.specs.Laws.Subtree.{Selecting, selecting-start, selecting-end, selecting-left, selecting-hidden, selecting-deleted, selecting-found}
+use Rattle.reading.specs.Laws.Subtree.{Selecting, selecting-start, selecting-end, selecting-left}
+use Rattle.reading.specs.Laws.Subtree.{selecting-hidden, selecting-deleted, selecting-found}
 use Rattle.reading.proofs.select.Statement.{statement}
 use Rattle.reading.proofs.select.Tie as tie
 

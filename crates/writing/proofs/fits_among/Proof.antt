@@ -1,7 +1,8 @@
 use mathlib.Core.Path.{_≡_, sym, _∙_}
 use mathlib.Core.Bool.{Bool, _&&_}
 use borrow.Author.Tests.{not-true, not-false}
-use Rattle.writing.specs.Laws.Tallies.{placed-zero, placed-far, placed-untaken, placed-only, placed-unordered, placed-behind, placed-attribute}
+use Rattle.writing.specs.Laws.Tallies.{placed-zero, placed-far, placed-untaken, placed-only, placed-unordered}
+use Rattle.writing.specs.Laws.Tallies.{placed-behind, placed-attribute}
 use borrow.Author.Needs.{needs}
 use Rattle.writing.proofs.fits_among.Statement.{statement}
 use Rattle.writing.proofs.fits_among.Tie as tie

@@ -24,7 +24,10 @@ returns c =
     (λ e. c .if1 .taken (size .ensures .0 ∙ e)))
 
 content-requires : tie.Need-content-requires Inv-loop μ-loop
-content-requires c κs = (search needs, search needs, search needs, refl, omega (arith, c .before .before .before .size .ensures .0, c .before .before .if1 .left))
+content-requires c κs =
+    let at-if1 = c .before .before in
+    let at-size = at-if1 .before in
+    (search needs, search needs, search needs, refl, omega (arith, at-size .size .ensures .0, at-if1 .if1 .left))
 
 returns-2 : tie.Need-returns-2 Inv-loop μ-loop
 returns-2 c =

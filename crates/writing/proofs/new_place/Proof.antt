@@ -13,7 +13,8 @@ use Rattle.writing.proofs.new_place.Statement.{statement}
 use Rattle.writing.proofs.new_place.Tie as tie
 
 abbrev Inv-loop : tie.InvT-loop
-Inv-loop s p t k m top j₀ i₀ j i = (i ≤ length (nodes s)) × Placing (seen-by t) (depth (nodes s) p) (new-place t k p (nodes s)) (nodes s) i j
+Inv-loop s p t k m top j₀ i₀ j i = (i ≤ length (nodes s)) × Placing (seen-by t) (depth (nodes s) p) (new-place t k p (nodes s))
+    (nodes s) i j
 
 abbrev μ-loop : tie.MeasureT-loop
 μ-loop s p t k m top j₀ i₀ j i = length (nodes s) - i

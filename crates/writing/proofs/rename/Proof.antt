@@ -6,7 +6,9 @@ use Rattle.writing.proofs.rename.Statement.{statement}
 use Rattle.writing.proofs.rename.Tie as tie
 
 returns : tie.Need-returns
-returns c = renamed-none _ _ _ _ (c .before .before .before .before .before .before .pre .0) (sym (c .before .is-named .ensures) ∙ not-true _ (c .if1 .taken))
+returns c =
+    let start = c .before .before .before .before .before .before in
+    renamed-none _ _ _ _ (start .pre .0) (sym (c .before .is-named .ensures) ∙ not-true _ (c .if1 .taken))
 
 returns-2 : tie.Need-returns-2
 returns-2 c =

@@ -5,7 +5,8 @@ use mathlib.Core.Path.{sym, _∙_}
 use lib.ListN.{length}
 use Rattle.layout.specs.Layout.{nodes}
 use Rattle.lookup.specs.Places.{depth}
-use Rattle.writing.specs.Laws.Renaming.{Renaming, renaming-start, renaming-end, renaming-out, renaming-hidden, renaming-unseen, renaming-seen}
+use Rattle.writing.specs.Laws.Renaming.{Renaming, renaming-start, renaming-end, renaming-out, renaming-hidden}
+use Rattle.writing.specs.Laws.Renaming.{renaming-unseen, renaming-seen}
 use Rattle.writing.proofs.rename_rest.Statement.{statement}
 use Rattle.writing.proofs.rename_rest.Tie as tie
 

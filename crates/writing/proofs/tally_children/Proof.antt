@@ -4,7 +4,8 @@ use Prim.Native.Nat.{_-_, _≤_}
 use mathlib.Core.Path.{sym, _∙_}
 use lib.ListN.{length}
 use Rattle.layout.specs.Layout.{nodes}
-use Rattle.writing.specs.Laws.Tallies.{Passing, passing-start, passing-end, passing-out, passing-deeper, passing-deleted, passing-child, counted-count}
+use Rattle.writing.specs.Laws.Tallies.{Passing, passing-start, passing-end, passing-out, passing-deeper}
+use Rattle.writing.specs.Laws.Tallies.{passing-deleted, passing-child, counted-count}
 use Rattle.writing.proofs.tally_children.Statement.{statement}
 use Rattle.writing.proofs.tally_children.Tie as tie
 
