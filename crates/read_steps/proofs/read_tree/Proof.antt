@@ -68,7 +68,7 @@ numbers-requires c κs =
     let at-admit = at-needed .before in
     let f = step-free name.RR (RR _) refl (at-admit .admit .ensures) (none-first _) (at-needed .needed .ensures)
     (at-judge .judge .ensures) (at-if1 .if1 .left) in
-    (f .standing .layout, at-select .select .ensures .inside, search needs)
+    (f .standing .layout, at-select .select .ensures .inside, c .before .before .before .before .if2 .left)
 
 cells-requires : tie.Need-cells-requires
 cells-requires c κs =
@@ -79,7 +79,7 @@ cells-requires c κs =
     let at-admit = at-needed .before in
     let f = step-free name.RR (RR _) refl (at-admit .admit .ensures) (none-first _) (at-needed .needed .ensures)
     (at-judge .judge .ensures) (at-if1 .if1 .left) in
-    (f .standing .layout, at-select .select .ensures .inside, search needs)
+    (f .standing .layout, at-select .select .ensures .inside, c .before .before .before .before .before .before .before .if3 .left)
 
 grant-requires : tie.Need-grant-requires
 grant-requires c κs =
