@@ -41,14 +41,12 @@ first-document s f =
     rw e (r .document)
 
 -- mark 2 is the inserter's, mark 3 the deleter's
-pub unmarked-document : {s : List ℕ} {t : ℕ} → Opened s t → (commits : Bool) (o : ℕ) → o ≡ cond commits 3 2
-    → (o < 4) × (not-marked o t (getD (nodes s) 0 no-entry .1) ≡ true)
-unmarked-document {s} {t} w commits o e = go commits e (first-document s (w .formed)) (ne-eqb nobody t (λ z. omega (arith, w .low)))
-  where
-    go : (b : Bool) → o ≡ cond b 3 2 → FineDocument (getD (nodes s) 0 no-entry .1) → eqb nobody t ≡ false
-        → (o < 4) × (not-marked o t (getD (nodes s) 0 no-entry .1) ≡ true)
-    go true e d n = (omega arith, rw (e, d .deleter, n))
-    go false e d n = (omega arith, rw (e, d .inserter, n))
+pub unmarked-document : {s : List ℕ} {t : ℕ} → Opened s t
+    → (not-marked 2 t (getD (nodes s) 0 no-entry .1) ≡ true) × (not-marked 3 t (getD (nodes s) 0 no-entry .1) ≡ true)
+unmarked-document {s} {t} o =
+    let d = first-document s (o .formed) in
+    let n = ne-eqb nobody t (λ e. omega (arith, o .low)) in
+    (rw (d .inserter, n), rw (d .deleter, n))
 
 -- start ---------------------------------------------------------------------------------------------
 

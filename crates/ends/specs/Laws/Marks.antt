@@ -15,7 +15,6 @@ use Rattle.layout.specs.Layout.{is-open, Entry, nodes, no-entry, Layout, Left, 
 use Rattle.layout.specs.Fields.{field, storable, with-field, has-text, restored}
 use Rattle.layout.specs.Laws.Lists.{modify-modify, modify-same, modify-none}
 use Rattle.layout.specs.Laws.Kept.{kept-same, kept-then, kept-as, left-kept, left-then, left-as}
-use Rattle.outline.specs.Outline.{not-marked}
 use Rattle.ends.specs.Marks.{stays, at-end, without-mark, rewritten, ended-marks, map-first, Closed, Ended}
 
 -- one node -------------------------------------------------------------------------------------
@@ -142,22 +141,19 @@ marks-whole commits t a = go commits (eqb (writer-of (a .update)) t) refl (eqb (
     go false false p y q true r = rw (p, r)
     go false false p y q false r = rw (p, r)
 
--- what has the mark of those that go does not stay
-pub going-stays : (commits : Bool) (t o : ℕ) → o ≡ cond commits 3 2 → not-marked o t ≡ stays commits t
-going-stays true t o e = rw e
-going-stays false t o e = rw e
-
--- pruned, each mark cleared, the locks released and t closed
-pub ended : {s s₁ s₂ s₃ : List ℕ} (commits : Bool) (t o : ℕ) → o ≡ cond commits 3 2
-    → Left s s₁ (header s) (prune (not-marked o t) 0 (nodes s))
-    → Kept s₁ s₂ (map (second (ended-marks commits t)) (nodes s₁))
-    → Closed t s₂ s₃ (map (second (released t)) (nodes s₂))
-    → Ended commits t s s₃
-ended {s} commits t o e a b c =
-    let kept = prune (stays commits t) 0 (nodes s) in
+-- each mark cleared, the locks released and t closed
+pub finished : {s s₁ s₂ : List ℕ} (commits : Bool) (t : ℕ) → Kept s s₁ (map (second (ended-marks commits t)) (nodes s))
+    → Closed t s₁ s₂ (map (second (released t)) (nodes s₁))
+    → Closed t s s₂ (map (second (at-end commits t)) (nodes s))
+finished {s} commits t b c =
     let f = ended-marks commits t in
     let g = at-end commits t in
-    left-as _ (map (second g) kept)
-    (map-map (second (released t)) (second f) (second g) kept (λ x i. ap (λ (y : Marked). (x .0, y)) (marks-whole commits t (x .1))))
-    (closed-after t _ (map (second (released t)))
-    (left-then kept (map (second f)) (left-as _ _ (ap (λ (q : Marked → Bool). prune q 0 (nodes s)) (going-stays commits t o e)) a) b) c)
+    left-as _ (map (second g) (nodes s))
+    (map-map (second (released t)) (second f) (second g) (nodes s) (λ x i. ap (λ (y : Marked). (x .0, y)) (marks-whole commits t (x .1))))
+    (closed-after t _ (map (second (released t))) (left-kept b) c)
+
+-- behind what goes
+pub ended : {s s₁ s₂ : List ℕ} (commits : Bool) (t : ℕ) → Left s s₁ (header s) (prune (stays commits t) 0 (nodes s))
+    → Closed t s₁ s₂ (map (second (at-end commits t)) (nodes s₁))
+    → Ended commits t s s₂
+ended commits t a c = closed-after t _ (map (second (at-end commits t))) a c
