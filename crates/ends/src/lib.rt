@@ -1,7 +1,8 @@
 // Start, begin, commit and abort.
-use protocol::{Answer, causes};
+use protocol::Answer;
+use protocol::causes;
 ghost use mathlib.Core.Path.{_≡_};
-ghost use mathlib.Core.Bool.{true, cond};
+ghost use mathlib.Core.Bool.{true};
 ghost use mathlib.Core.List.{map};
 ghost use Prim.Native.Nat.{_<_, _≤_};
 ghost use lib.ListN.{length};
@@ -11,9 +12,8 @@ ghost use Rattle.layout.specs.Lists.{modify};
 ghost use Rattle.layout.specs.Flat.{second};
 ghost use Rattle.layout.specs.Layout.{is-open, nodes, Layout, Kept};
 ghost use Rattle.engine.specs.Contract.{Performed};
-ghost use Rattle.engine.specs.Admission.{Opened};
 ghost use Rattle.ends.specs.Ends.{Restarted};
-ghost use Rattle.ends.specs.Marks.{end-call, without-mark, rewritten, ended-marks, Closed, Ended};
+ghost use Rattle.ends.specs.Marks.{without-mark, rewritten, ended-marks, at-end, Closed};
 
 const WRITER: usize = 1;
 
@@ -108,48 +108,39 @@ fn close(s: &mut [u8], t: u8)
     transactions::close(s, t as usize);
 }
 
-// The mark of the nodes that go: a commit takes out what was deleted, an abort what was inserted.
-fn going(commits: bool) -> usize
-    ensures { λ r. ⌜ r ≡ cond commits 3 2 ⌝ }
+// The rest of an end of t, behind what goes: the nodes are lasting or as before, the locks go, and t is closed.
+fn finish(s: &mut [u8], t: u8, commits: bool)
+    requires { ⌜ (Layout (now s)) × (1 ≤ t) × (t ≤ 16) × (is-open (now s) t ≡ true) ⌝ }
+    ensures { λ r. ⌜ Closed t (now (s .entry)) (now (s .exit)) (map (second (at-end commits t)) (nodes (now (s .entry)))) ⌝ }
 {
-    if commits {
-        return DELETER;
-    }
-    INSERTER
-}
-
-// An end of t, which is open: what goes is taken out with all below it, the other nodes are lasting or as before, and the locks go.
-fn end_open(s: &mut [u8], t: u8, commits: bool)
-    requires { ⌜ Opened (now s) t ⌝ }
-    ensures { λ r. ⌜ Ended commits t (now (s .entry)) (now (s .exit)) ⌝ }
-{
-    outline::prune(s, going(commits), t);
     end_nodes(s, t, commits);
     close(s, t);
 }
 
-// An end of t: a commit or an abort.
-fn end(s: &mut [u8], t: u32, commits: bool) -> Answer
-    ensures { λ r. ⌜ Performed (now (s .entry)) (now (s .exit)) r (end-call commits t) ⌝ }
+// Commit of t: "commit makes changes lasting". What t deleted goes, with all below it.
+pub fn commit(s: &mut [u8], t: u32) -> Answer
+    ensures { λ r. ⌜ Performed (now (s .entry)) (now (s .exit)) r (commit t) ⌝ }
 {
     let cause = engine::caller(s, t);
     if cause != 0 {
         return Answer::Refused(cause);
     }
-    end_open(s, t as u8, commits);
+    let u = t as u8;
+    outline::prune(s, DELETER, u);
+    finish(s, u, true);
     Answer::Done
 }
 
-// Commit of t: "commit makes changes lasting".
-pub fn commit(s: &mut [u8], t: u32) -> Answer
-    ensures { λ r. ⌜ Performed (now (s .entry)) (now (s .exit)) r (commit t) ⌝ }
-{
-    end(s, t, true)
-}
-
-// Abort of t: "abort removes them".
+// Abort of t: "abort removes them". What t inserted goes, with all below it.
 pub fn abort(s: &mut [u8], t: u32) -> Answer
     ensures { λ r. ⌜ Performed (now (s .entry)) (now (s .exit)) r (abort t) ⌝ }
 {
-    end(s, t, false)
+    let cause = engine::caller(s, t);
+    if cause != 0 {
+        return Answer::Refused(cause);
+    }
+    let u = t as u8;
+    outline::prune(s, INSERTER, u);
+    finish(s, u, false);
+    Answer::Done
 }

@@ -1,8 +1,10 @@
 // What all steps share: the caller and the node are judged, then the step's own causes and the wait, then the locks are granted; and T, the
 // first step.
 use layout::Places;
-use locks::{NeedWords, StepName};
-use protocol::{Answer, causes};
+use locks::NeedWords;
+use locks::StepName;
+use protocol::Answer;
+use protocol::causes;
 ghost use mathlib.Core.Path.{_≡_};
 ghost use mathlib.Core.Bool.{cond};
 ghost use Prim.Native.Nat.{_<_, _≤_};
@@ -113,13 +115,18 @@ pub fn judge(s: &[u8], at: Admission, cause: u8, w: NeedWords) -> Verdict
 {
     if cause != 0 {
         let answer = Answer::Refused(cause);
-        return Verdict { free: false, answer };
+        return Verdict {
+            free: false,
+            answer,
+        };
     }
-    let way = at.way;
-    let set = locking::waits(s, at.t as usize, w, way);
+    let set = locking::waits(s, at.t as usize, w, at.way);
     if set != 0 {
         let answer = Answer::Waits(set);
-        return Verdict { free: false, answer };
+        return Verdict {
+            free: false,
+            answer,
+        };
     }
     let answer = Answer::Done;
     Verdict { free: true, answer }
@@ -130,8 +137,7 @@ pub fn grant(s: &mut [u8], at: Admission, w: NeedWords)
     requires { ⌜ (Layout (now s)) × (1 ≤ at .t) × (at .t ≤ 16) × Inside (nodes (now s)) (at .way) ⌝ }
     ensures { λ r. ⌜ Granted (now (s .entry)) (now (s .exit)) (at .t) w (at .way) ⌝ }
 {
-    let way = at.way;
-    locking::grant(s, at.t as usize, w, way);
+    locking::grant(s, at.t as usize, w, at.way);
 }
 
 // The number of the node's parent, the second on the way up, or 0 for the document.

@@ -101,7 +101,14 @@ fn touches(s: &[u8], u: usize, masks: NeedWords, places: &[u16; 1024], count: us
 }
 
 // Whether a step of t waits for u.
-fn blocks(s: &[u8], t: usize, u: usize, masks: NeedWords, places: &[u16; 1024], count: usize) -> bool
+fn blocks(
+    s: &[u8],
+    t: usize,
+    u: usize,
+    masks: NeedWords,
+    places: &[u16; 1024],
+    count: usize,
+) -> bool
     requires { ⌜ (Layout (now s)) × (1 ≤ u) × (u ≤ 16) × SmallWords masks
         × Inside (nodes (now s)) (record { places = now places; count = count }) ⌝ }
     ensures { λ r. ⌜ r ≡ blocks-by t masks (is-open (now (s .entry)))

@@ -1,9 +1,9 @@
 // The table of lock modes, sets of modes as 16-bit words, and what each step needs.
 ghost use mathlib.Core.Path.{_≡_};
-ghost use mathlib.Core.Bool.{cond, _&&_};
+ghost use mathlib.Core.Bool.{cond};
 ghost use Prim.Native.Nat.{_+_, _*_, _^_, _<_};
 ghost use lib.Bits.{bitOr};
-ghost use Rattle.locks.specs.Words.{clash-at, in-common, meets, mask-of, need-words};
+ghost use Rattle.locks.specs.Words.{clash-at, word, in-common, mask-of, need-words};
 ghost use Rattle.locks.specs.Modes.{bit};
 
 // The signs of the table: a clash or none.
@@ -26,14 +26,6 @@ const CLASH: [[bool; 12]; 12] = [
     [NO, NO, NO, NO, YES, YES, YES, YES, NO, NO, NO, NO],
     [NO, YES, NO, NO, YES, YES, YES, YES, NO, NO, NO, NO],
 ];
-
-// Whether the modes at two places of the table clash.
-pub fn clash(a: usize, b: usize) -> bool
-    requires { ⌜ (a < 12) × (b < 12) ⌝ }
-    ensures { λ r. ⌜ r ≡ clash-at a b ⌝ }
-{
-    CLASH[a][b]
-}
 
 // Whether a set has the mode at a place.
 pub fn has(w: u16, m: u16) -> bool
@@ -65,32 +57,6 @@ pub fn share(v: u16, w: u16) -> bool
     v & w != 0
 }
 
-// Whether a set has the mode at a place, and that one clashes with another.
-fn has_clashing(w: u16, a: usize, b: u16) -> bool
-    requires { ⌜ (a < 12) × (b < 12) ⌝ }
-    ensures { λ r. ⌜ r ≡ (bit w b && clash-at a b) ⌝ }
-{
-    if has(w, b) {
-        return clash(a, b as usize);
-    }
-    false
-}
-
-// Whether some mode of a set clashes with the mode at a place.
-fn clashes_with(w: u16, a: usize) -> bool
-    requires { ⌜ a < 12 ⌝ }
-    ensures { λ r. ⌜ r ≡ meets w a ⌝ }
-{
-    let mut b: u16 = 0;
-    while b < 12 {
-        if has_clashing(w, a, b) {
-            return true;
-        }
-        b += 1;
-    }
-    false
-}
-
 // A word moved up by one bit, with this bit below it.
 pub fn bit_below(m: u16, b: bool) -> u16
     requires { ⌜ m < 32768 ⌝ }
@@ -102,15 +68,33 @@ pub fn bit_below(m: u16, b: bool) -> u16
     2 * m
 }
 
+// The modes that clash with the mode at a place. The table is a local, so that it is laid out once and not at each lookup.
+fn clashing(b: usize) -> u16
+    requires { ⌜ b < 12 ⌝ }
+    ensures { λ r. ⌜ r ≡ word (λ a. clash-at a b) 12 0 ⌝ }
+{
+    let table = CLASH;
+    let mut m: u16 = 0;
+    let mut a: usize = 12;
+    while a > 0 {
+        a -= 1;
+        m = bit_below(m, table[a][b]);
+    }
+    m
+}
+
 // The modes that clash with some mode of a set.
 pub fn mask(w: u16) -> u16
     ensures { λ r. ⌜ r ≡ mask-of w ⌝ }
 {
     let mut m: u16 = 0;
-    let mut a: usize = 12;
-    while a > 0 {
-        a -= 1;
-        m = bit_below(m, clashes_with(w, a));
+    let mut b: u16 = 12;
+    while b > 0 {
+        b -= 1;
+        if !has(w, b) {
+            continue;
+        }
+        m = union(clashing(b as usize), m);
     }
     m
 }

@@ -21,7 +21,8 @@ pub fn child(state: &mut [u8], t: u32, n: u16, k: u32) -> u64
 
 // R(n): the content of node n, into out.
 pub fn read(state: &mut [u8], t: u32, n: u16, out: &mut [u8]) -> u64
-    ensures { λ r. ⌜ Contract (with-one (Request.step t (R n)) (now (state .entry)) (now (state .exit)) (now (out .entry)) (now (out .exit)) r) ⌝ }
+    ensures { λ r. ⌜ Contract (with-one (Request.step t (R n)) (now (state .entry)) (now (state .exit))
+        (now (out .entry)) (now (out .exit)) r) ⌝ }
 {
     let answer = read_steps::read(state, t, n, out);
     protocol::code(answer)
@@ -29,7 +30,8 @@ pub fn read(state: &mut [u8], t: u32, n: u16, out: &mut [u8]) -> u64
 
 // TT(n): the numbers of node n and all below it, in document order.
 pub fn test_tree(state: &mut [u8], t: u32, n: u16, numbers: &mut [u8]) -> u64
-    ensures { λ r. ⌜ Contract (with-one (Request.step t (TT n)) (now (state .entry)) (now (state .exit)) (now (numbers .entry)) (now (numbers .exit)) r) ⌝ }
+    ensures { λ r. ⌜ Contract (with-one (Request.step t (TT n)) (now (state .entry)) (now (state .exit))
+        (now (numbers .entry)) (now (numbers .exit)) r) ⌝ }
 {
     let answer = read_steps::test_tree(state, t, n, numbers);
     protocol::code(answer)

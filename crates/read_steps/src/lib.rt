@@ -1,6 +1,7 @@
 // The steps that only read: C, R, TT and RR.
 use locks::StepName;
-use protocol::{Answer, causes};
+use protocol::Answer;
+use protocol::causes;
 ghost use Rattle.tree.specs.Steps.{C, R, TT, RR};
 ghost use Rattle.protocol.specs.Calls.{step};
 ghost use Rattle.protocol.specs.Lent.{first-lent, second-lent};
@@ -53,13 +54,13 @@ pub fn test_tree(s: &mut [u8], t: u32, n: u16, out: &mut [u8]) -> Answer
     if !verdict.free {
         return verdict.answer;
     }
-    let tree = reading::select(s, at.t, at.place);
-    if out.len() < 2 * tree.count {
+    let nodes = reading::select(s, at.t, at.place);
+    if out.len() < 2 * nodes.count {
         return Answer::Refused(causes::SHORT_BUFFER);
     }
-    reading::numbers(s, tree, out);
+    reading::numbers(s, nodes, out);
     engine::grant(s, at, need);
-    Answer::Count(tree.count as u32)
+    Answer::Count(nodes.count as u32)
 }
 
 // RR(n): as TT, and a 33-byte cell each to a second lent buffer.

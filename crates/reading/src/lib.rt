@@ -96,7 +96,8 @@ pub fn select(s: &[u8], t: u8, p: usize) -> Places
 
 // The content of the node at i, n bytes, to the bytes from k on.
 fn copy(s: &[u8], i: usize, n: usize, out: &mut [u8], k: usize)
-    requires { ⌜ (Layout (now s)) × (i < length (nodes (now s))) × (n ≡ length (item (nodes (now s)) i .now .content)) × (k + n ≤ length (now out)) ⌝ }
+    requires { ⌜ (Layout (now s)) × (i < length (nodes (now s))) × (n ≡ length (item (nodes (now s)) i .now .content))
+        × (k + n ≤ length (now out)) ⌝ }
     ensures { λ r. ⌜ Stored k (item (nodes (now (s .entry))) i .now .content) (now (out .entry)) (now (out .exit)) ⌝ }
 {
     let mut j: usize = 0;
@@ -108,7 +109,8 @@ fn copy(s: &[u8], i: usize, n: usize, out: &mut [u8], k: usize)
 
 // The content of the node at i, n bytes, to a lent buffer.
 pub fn content(s: &[u8], i: usize, n: usize, out: &mut [u8])
-    requires { ⌜ (Layout (now s)) × (i < length (nodes (now s))) × (n ≡ length (item (nodes (now s)) i .now .content)) × (n ≤ length (now out)) ⌝ }
+    requires { ⌜ (Layout (now s)) × (i < length (nodes (now s))) × (n ≡ length (item (nodes (now s)) i .now .content))
+        × (n ≤ length (now out)) ⌝ }
     ensures { λ r. ⌜ now (out .exit) ≡ filled (item (nodes (now (s .entry))) i .now .content) (now (out .entry)) ⌝ }
 {
     copy(s, i, n, out, 0);
@@ -117,7 +119,8 @@ pub fn content(s: &[u8], i: usize, n: usize, out: &mut [u8])
 // The cell of the node at i to the bytes from k on: length, content, zeros.
 fn put_cell(s: &[u8], i: usize, out: &mut [u8], k: usize)
     requires { ⌜ (Layout (now s)) × (i < length (nodes (now s))) × (k + 33 ≤ length (now out)) ⌝ }
-    ensures { λ r. ⌜ (Stored k (cell (item (nodes (now (s .entry))) i .now .content)) (now (out .entry)) (now (out .exit))) × (length (cell (item (nodes (now (s .entry))) i .now .content)) ≡ 33) ⌝ }
+    ensures { λ r. ⌜ (Stored k (cell (item (nodes (now (s .entry))) i .now .content)) (now (out .entry)) (now (out .exit)))
+        × (length (cell (item (nodes (now (s .entry))) i .now .content)) ≡ 33) ⌝ }
 {
     let n = table::size(s, i, 0);
     out[k] = n as u8;
@@ -142,7 +145,8 @@ pub fn numbers(s: &[u8], tree: Places, out: &mut [u8])
 // The cells of a subtree to a lent buffer, 33 bytes each.
 pub fn cells(s: &[u8], tree: Places, out: &mut [u8])
     requires { ⌜ (Layout (now s)) × Inside (nodes (now s)) tree × (33 * (tree .count) ≤ length (now out)) ⌝ }
-    ensures { λ r. ⌜ now (out .exit) ≡ filled (cells (map (λ a. (number-of a, a .now .content)) (nodes-of (nodes (now (s .entry))) tree))) (now (out .entry)) ⌝ }
+    ensures { λ r. ⌜ now (out .exit) ≡ filled (cells (map (λ a. (number-of a, a .now .content)) (nodes-of (nodes (now (s .entry))) tree)))
+        (now (out .entry)) ⌝ }
 {
     let count = tree.count;
     let mut j: usize = 0;

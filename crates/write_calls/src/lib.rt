@@ -29,7 +29,8 @@ pub fn insert(state: &mut [u8], t: u32, m: u16, kind: u32, bytes: &[u8], n: u16,
 
 // UU(n, from, to): each element in the subtree of node n that is named so gets the other name.
 pub fn rename_tree(state: &mut [u8], t: u32, n: u16, from: &[u8], to: &[u8]) -> u64
-    ensures { λ r. ⌜ Contract (with-none (Request.step t (UU n (now (from .entry)) (now (to .entry)))) (now (state .entry)) (now (state .exit)) r) ⌝ }
+    ensures { λ r. ⌜ Contract (with-none (Request.step t (UU n (now (from .entry)) (now (to .entry))))
+        (now (state .entry)) (now (state .exit)) r) ⌝ }
 {
     let answer = write_steps::rename_tree(state, t, n, from, to);
     protocol::code(answer)

@@ -1,6 +1,7 @@
 // The steps that change the tree: U, D, I and UU.
 use locks::StepName;
-use protocol::{Answer, causes};
+use protocol::Answer;
+use protocol::causes;
 ghost use mathlib.Core.Path.{_≡_};
 ghost use mathlib.Core.Bool.{cond};
 ghost use Prim.Native.Nat.{_<_};

@@ -8,13 +8,16 @@ use lib.Dec.{eqb}
 use Rattle.tree.specs.Lists.{every, keep}
 use Rattle.tree.specs.Content.{attribute-kind, takes, attributes-first}
 use Rattle.tree.specs.Steps.{is-named}
-use Rattle.protocol.specs.State.{seen-by}
+use Rattle.locks.specs.Needs.{need}
+use Rattle.locks.specs.Words.{step-named}
+use Rattle.locks.specs.declared.StepName.the-variants as name
+use Rattle.protocol.specs.State.{Marked, seen-by, inserted-by}
 use Rattle.layout.specs.Lists.{modify}
 use Rattle.layout.specs.Flat.{second}
 use Rattle.layout.specs.Layout.{Entry, nodes, Kept}
 use Rattle.lookup.specs.Places.{depth, item, seen-from, subtree}
 use Rattle.lookup.specs.Placing.{attributes}
-use Rattle.edits.specs.Rows.{changed-below, renamed-by, renamed-rows}
+use Rattle.edits.specs.Rows.{changed-below, granted-modes, renamed-by, renamed-rows}
 use Rattle.writing.specs.declared.Tally.{Tally}
 
 -- one node, renamed if it is an element named a; r is 1 if it was
@@ -40,6 +43,11 @@ pub record RenamedBelow (s s′ : List ℕ) (r p t : ℕ) (a b : List ℕ) : Typ
   pub kept : Kept s s′ (renamed-rows t a b p (nodes s))
   pub hits : r ≡ length (keep (λ x. is-named a (x .now)) (subtree t (nodes s) p))
   pub few : r ≤ 1025
+
+-- a node inserted by t, with the locks of t on it
+abbrev pub new-node : ℕ → ℕ → ℕ → List ℕ → Marked
+new-node t m kind b =
+    granted-modes t (need (step-named name.I) .new) (inserted-by t (record { number = m; kind = kind; content = b }))
 
 -- one more child, of a kind
 unfoldable pub counted : ℕ → ℕ → Tally → Tally

@@ -6,17 +6,16 @@ ghost use Prim.Native.Nat.{_+_, _<_, _≤_};
 ghost use lib.ListN.{length};
 ghost use Rattle.tree.specs.Lists.{same};
 ghost use Rattle.tree.specs.Steps.{is-named, placed};
-ghost use Rattle.locks.specs.Needs.{need};
-ghost use Rattle.locks.specs.Words.{step-named, need-words};
+ghost use Rattle.locks.specs.Words.{need-words};
 ghost use Rattle.locks.specs.declared.StepName.the-variants as name;
-ghost use Rattle.protocol.specs.State.{written-by, inserted-by};
+ghost use Rattle.protocol.specs.State.{written-by};
 ghost use Rattle.layout.specs.Lists.{modify, insert};
 ghost use Rattle.layout.specs.Flat.{second};
 ghost use Rattle.layout.specs.Layout.{is-open, nodes, Layout, Left, Kept, header};
 ghost use Rattle.lookup.specs.Places.{item, children, subtree};
 ghost use Rattle.lookup.specs.Placing.{placed-by};
-ghost use Rattle.edits.specs.Rows.{left-out, granted-modes, new-place};
-ghost use Rattle.writing.specs.Writing.{counted, Counted, Renamed, RenamedRest, RenamedBelow};
+ghost use Rattle.edits.specs.Rows.{left-out, new-place};
+ghost use Rattle.writing.specs.Writing.{new-node, counted, Counted, Renamed, RenamedRest, RenamedBelow};
 
 // Contents ---------------------------------------------------------------------------
 
@@ -225,7 +224,8 @@ fn fits_among(parent: u32, kind: u32, k: u32, c: Tally) -> bool
 // Whether a new child of a kind may be the k-th of the node at p, of the children that t sees.
 pub fn fits(s: &[u8], p: usize, t: u8, kind: u32, k: u32) -> bool
     requires { ⌜ (Layout (now s)) × (p < length (nodes (now s))) ⌝ }
-    ensures { λ r. ⌜ r ≡ placed (item (nodes (now (s .entry))) p .now .kind) kind k (map (λ c. c .now .kind) (children t (nodes (now (s .entry))) p)) ⌝ }
+    ensures { λ r. ⌜ r ≡ placed (item (nodes (now (s .entry))) p .now .kind) kind k
+        (map (λ c. c .now .kind) (children t (nodes (now (s .entry))) p)) ⌝ }
 {
     let parent = table::kind(s, p) as u32;
     let c = tally_children(s, p, t, parent);
@@ -265,11 +265,10 @@ pub fn new_place(s: &[u8], p: usize, t: u8, k: u32) -> usize
 
 // A node put in by t at place q and depth d, with the locks of t on it.
 pub fn put(s: &mut [u8], q: usize, d: u16, m: u16, kind: u8, t: u8, b: &[u8], fresh: u16)
-    requires { ⌜ (Layout (now s)) × (length (nodes (now s)) < 1024) × (q ≤ length (nodes (now s))) × (length (now b) ≤ 32) × (1 ≤ t) × (t ≤ 16)
-        × (fresh ≡ need-words name.I .fresh) ⌝ }
+    requires { ⌜ (Layout (now s)) × (length (nodes (now s)) < 1024) × (q ≤ length (nodes (now s))) × (length (now b) ≤ 32)
+        × (1 ≤ t) × (t ≤ 16) × (fresh ≡ need-words name.I .fresh) ⌝ }
     ensures { λ r. ⌜ Left (now (s .entry)) (now (s .exit)) (header (now (s .entry)))
-        (insert q (d, granted-modes t (need (step-named name.I) .new) (inserted-by t (record { number = m; kind = kind; content = now (b .entry) })))
-        (nodes (now (s .entry)))) ⌝ }
+        (insert q (d, new-node t m kind (now (b .entry))) (nodes (now (s .entry)))) ⌝ }
 {
     outline::insert(s, q, d, m, kind, t, b);
     transactions::set_lock(s, t as usize, q, fresh);

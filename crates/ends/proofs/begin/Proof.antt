@@ -1,6 +1,6 @@
 use borrow.Author.Needs.{needs}
 use native.Mathlib.Omega.{arith}
-use mathlib.Core.Path.{_≡_, refl, sym, ap, _∙_}
+use mathlib.Core.Path.{sym, _∙_}
 use borrow.Author.Tests.{not-true, not-false}
 use Rattle.form.specs.Laws.Holds.{form-layout}
 use Rattle.ends.specs.Laws.Calls.{begin-zero, begin-high, begin-open, begin-done}
@@ -8,23 +8,11 @@ use Rattle.engine.specs.Laws.Outcomes.{performed-unformed}
 use Rattle.ends.proofs.begin.Statement.{statement}
 use Rattle.ends.proofs.begin.Tie as tie
 
-formed-requires : tie.Need-formed-requires
-formed-requires c κs = search needs
-
-same-length : tie.Need-same-length
-same-length c = search needs
-
 returns : tie.Need-returns
 returns c = performed-unformed (sym (c .before .formed .ensures) ∙ not-true _ (c .if1 .taken)) _
 
-same-length-2 : tie.Need-same-length-2
-same-length-2 c = search needs
-
 returns-2 : tie.Need-returns-2
 returns-2 c = begin-zero (sym (c .before .before .formed .ensures) ∙ not-false _ (c .before .if1 .left)) (c .if2 .taken)
-
-same-length-3 : tie.Need-same-length-3
-same-length-3 c = search needs
 
 returns-3 : tie.Need-returns-3
 returns-3 c = begin-high (sym (c .before .before .before .formed .ensures) ∙ not-false _ (c .before .before .if1 .left)) (c .if3 .taken)
@@ -36,9 +24,6 @@ is-open-requires c κs =
     let if2 = c .before .before .if2 in
     let good = sym (formed .ensures) ∙ not-false _ (if1 .left) in
     (form-layout good, omega (arith, if2 .left), search needs)
-
-same-length-4 : tie.Need-same-length-4
-same-length-4 c = search needs
 
 returns-4 : tie.Need-returns-4
 returns-4 c =
@@ -62,9 +47,6 @@ open-requires c κs =
       sym (is-open .ensures) ∙ if4 .left,
     )
 
-same-length-5 : tie.Need-same-length-5
-same-length-5 c = search needs
-
 returns-5 : tie.Need-returns-5
 returns-5 c =
     let c8 = c .before .before .before .before .before .before .before .before in
@@ -82,16 +64,16 @@ pub begin-spec : {M : Type 1} → statement M
 begin-spec =
     tie.close
     (tie.spec
-    formed-requires
-    same-length
+    (λ c κs. search needs)
+    (λ c. search needs)
     returns
-    same-length-2
+    (λ c. search needs)
     returns-2
-    same-length-3
+    (λ c. search needs)
     returns-3
     is-open-requires
-    same-length-4
+    (λ c. search needs)
     returns-4
     open-requires
-    same-length-5
+    (λ c. search needs)
     returns-5)

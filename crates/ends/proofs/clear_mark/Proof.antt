@@ -1,19 +1,12 @@
 use borrow.Author.Needs.{needs}
-use native.Mathlib.Omega.{arith}
 use Rattle.ends.specs.Laws.Marks.{nobody-storable, cleared, not-cleared}
 use Rattle.ends.proofs.clear_mark.Statement.{statement}
 use Rattle.ends.proofs.clear_mark.Tie as tie
-
-field-requires : tie.Need-field-requires
-field-requires c κs = search needs
 
 set-field-requires : tie.Need-set-field-requires
 set-field-requires c κs =
     let begin = c .before .before .before .before .before in
     (begin .pre .0, begin .pre .1, begin .pre .2, nobody-storable (begin .args .o))
-
-same-length : tie.Need-same-length
-same-length c = search needs
 
 returns : tie.Need-returns
 returns c =
@@ -22,9 +15,6 @@ returns c =
     let if1 = c .before .before .before .before .if1 in
     let set-field = c .before .before .set-field in
     cleared (a .i) (a .o) (a .t) _ (field .ensures) (if1 .taken) (set-field .ensures)
-
-same-length-2 : tie.Need-same-length-2
-same-length-2 c = search needs
 
 returns-2 : tie.Need-returns-2
 returns-2 c =
@@ -37,9 +27,9 @@ pub clear-mark-spec : {M : Type 1} → statement M
 clear-mark-spec =
     tie.close
     (tie.spec
-    field-requires
+    (λ c κs. search needs)
     set-field-requires
-    same-length
+    (λ c. search needs)
     returns
-    same-length-2
+    (λ c. search needs)
     returns-2)

@@ -1,5 +1,4 @@
 use borrow.Author.Needs.{needs}
-use native.Mathlib.Omega.{arith}
 use mathlib.Core.List.{map}
 use Rattle.protocol.specs.State.{released}
 use Rattle.layout.specs.Flat.{second}
@@ -9,17 +8,11 @@ use Rattle.ends.specs.Laws.Marks.{kept-open, closed-after}
 use Rattle.ends.proofs.close.Statement.{statement}
 use Rattle.ends.proofs.close.Tie as tie
 
-release-requires : tie.Need-release-requires
-release-requires c κs = search needs
-
 close-requires : tie.Need-close-requires
 close-requires c κs =
     let pre = c .before .before .before .before .before .before .pre in
     let release = c .before .before .before .release in
     (release .ensures .layout, pre .1, pre .2, kept-open _ (release .ensures) (pre .3))
-
-same-length : tie.Need-same-length
-same-length c = search needs
 
 returns : tie.Need-returns
 returns c =
@@ -33,7 +26,7 @@ pub close-spec : {M : Type 1} → statement M
 close-spec =
     tie.close
     (tie.spec
-    release-requires
+    (λ c κs. search needs)
     close-requires
-    same-length
+    (λ c. search needs)
     returns)

@@ -1,11 +1,7 @@
 use borrow.Author.Needs.{needs}
-use native.Mathlib.Omega.{arith}
 use Rattle.ends.specs.Laws.Marks.{own-saved, rewritten-own, not-rewritten}
 use Rattle.ends.proofs.rewrite.Statement.{statement}
 use Rattle.ends.proofs.rewrite.Tie as tie
-
-writer-requires : tie.Need-writer-requires
-writer-requires c κs = search needs
 
 restore-content-requires : tie.Need-restore-content-requires
 restore-content-requires c κs =
@@ -14,18 +10,12 @@ restore-content-requires c κs =
     let saved = own-saved (begin .args .s .now) (begin .args .i) _ _ (writer .ensures) (c .before .if1 .taken) (begin .pre .2) in
     (search needs, search needs, saved)
 
-same-length : tie.Need-same-length
-same-length c = search needs
-
 returns : tie.Need-returns
 returns c =
     let writer = c .before .before .before .before .before .writer in
     let if1 = c .before .before .before .before .if1 in
     let restore-content = c .before .before .restore-content in
     rewritten-own _ _ _ (writer .ensures) (if1 .taken) (restore-content .ensures)
-
-same-length-2 : tie.Need-same-length-2
-same-length-2 c = search needs
 
 returns-2 : tie.Need-returns-2
 returns-2 c = not-rewritten _ _ _ _ (c .before .writer .ensures) (c .if1 .left) (search needs)
@@ -34,9 +24,9 @@ pub rewrite-spec : {M : Type 1} → statement M
 rewrite-spec =
     tie.close
     (tie.spec
-    writer-requires
+    (λ c κs. search needs)
     restore-content-requires
-    same-length
+    (λ c. search needs)
     returns
-    same-length-2
+    (λ c. search needs)
     returns-2)

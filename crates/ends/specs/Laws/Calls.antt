@@ -41,14 +41,12 @@ first-document s f =
     rw e (r .document)
 
 -- mark 2 is the inserter's, mark 3 the deleter's
-pub unmarked-document : {s : List ℕ} {t : ℕ} → Opened s t → (commits : Bool) (o : ℕ) → o ≡ cond commits 3 2
-    → (o < 4) × (not-marked o t (getD (nodes s) 0 no-entry .1) ≡ true)
-unmarked-document {s} {t} w commits o e = go commits e (first-document s (w .formed)) (ne-eqb nobody t (λ z. omega (arith, w .low)))
-  where
-    go : (b : Bool) → o ≡ cond b 3 2 → FineDocument (getD (nodes s) 0 no-entry .1) → eqb nobody t ≡ false
-        → (o < 4) × (not-marked o t (getD (nodes s) 0 no-entry .1) ≡ true)
-    go true e d n = (omega arith, rw (e, d .deleter, n))
-    go false e d n = (omega arith, rw (e, d .inserter, n))
+pub unmarked-document : {s : List ℕ} {t : ℕ} → Opened s t
+    → (not-marked 2 t (getD (nodes s) 0 no-entry .1) ≡ true) × (not-marked 3 t (getD (nodes s) 0 no-entry .1) ≡ true)
+unmarked-document {s} {t} o =
+    let d = first-document s (o .formed) in
+    let n = ne-eqb nobody t (λ e. omega (arith, o .low)) in
+    (rw (d .inserter, n), rw (d .deleter, n))
 
 -- start ---------------------------------------------------------------------------------------------
 
@@ -96,7 +94,8 @@ module _ {s : List ℕ} {t : ℕ} (f : form s ≡ true) where
   begin-high k = refusal 1 f (λ M h. rw (lt-leb t 16 k) (go (leb 1 t) M))
     where
       go : (b : Bool) (M : State)
-          → cond (not (b && false)) (unchanged (refused 1) M) (cond (M .header .is-open t) (unchanged (refused 2) M) (becomes done (opened t M)))
+          → cond (not (b && false)) (unchanged (refused 1) M)
+          (cond (M .header .is-open t) (unchanged (refused 2) M) (becomes done (opened t M)))
           ≡ unchanged (refused 1) M
       go true M = refl
       go false M = refl
@@ -110,7 +109,8 @@ module _ {s : List ℕ} {t : ℕ} (f : form s ≡ true) where
     unfolding next
     begins e M h = let o : M .header .is-open t ≡ false = rw (← h .header) e in rw (le-leb 1 t low, le-leb t 16 high, o)
 
-    pub begin-done : {s′ : List ℕ} → is-open s t ≡ false → Left s s′ (with-open (λ u. eqb u t || is-open s u) (header s)) (nodes s) → Performed s s′ Done (begin t)
+    pub begin-done : {s′ : List ℕ} → is-open s t ≡ false → Left s s′ (with-open (λ u. eqb u t || is-open s u) (header s)) (nodes s)
+        → Performed s s′ Done (begin t)
     unfolding granted-answer
     begin-done {s′} e k = performed-grants
         (record {
@@ -136,7 +136,8 @@ unfolding next
 next-end true t M = refl
 next-end false t M = refl
 
-end-rows : (commits : Bool) (t : ℕ) (f : Tree) → flat 0 (end-tree commits t f) ≡ map (second (at-end commits t)) (prune (stays commits t) 0 (flat 0 f))
+end-rows : (commits : Bool) (t : ℕ) (f : Tree)
+    → flat 0 (end-tree commits t f) ≡ map (second (at-end commits t)) (prune (stays commits t) 0 (flat 0 f))
 end-rows true t f = commit-rows t f
 end-rows false t f = abort-rows t f
 
@@ -152,7 +153,8 @@ end-valid false t f = valid-abort t f
 pub end-barred : {s : List ℕ} {t : ℕ} (commits : Bool) (cause : ℕ) → Barred s t cause → Performed s s (Refused cause) (end-call commits t)
 unfolding answer-of
 end-barred {s} {t} commits cause b =
-    stopped-stays {o = refused cause} (λ u. ap Refused (b .unformed u)) (λ M h. next-end commits t M ∙ b .formed M h _) refl (λ writing. refl)
+    stopped-stays {o = refused cause} (λ u. ap Refused (b .unformed u)) (λ M h. next-end commits t M
+    ∙ b .formed M h _) refl (λ writing. refl)
     .performed
 
 pub end-done : {s s′ : List ℕ} {t : ℕ} (commits : Bool) → Opened s t → Ended commits t s s′ → Performed s s′ Done (end-call commits t)

@@ -15,7 +15,6 @@ use Rattle.layout.specs.Layout.{is-open, Entry, nodes, no-entry, Layout, Left, 
 use Rattle.layout.specs.Fields.{field, storable, with-field, has-text, restored}
 use Rattle.layout.specs.Laws.Lists.{modify-modify, modify-same, modify-none}
 use Rattle.layout.specs.Laws.Kept.{kept-same, kept-then, kept-as, left-kept, left-then, left-as}
-use Rattle.outline.specs.Outline.{not-marked}
 use Rattle.ends.specs.Marks.{stays, at-end, without-mark, rewritten, ended-marks, map-first, Closed, Ended}
 
 -- one node -------------------------------------------------------------------------------------
@@ -24,12 +23,14 @@ use Rattle.ends.specs.Marks.{stays, at-end, without-mark, rewritten, end
 none-kept : (s : List ℕ) (i : ℕ) (g : Marked → Marked) → g (getD (nodes s) i no-entry .1) ≡ getD (nodes s) i no-entry .1 → Layout s
     → Kept s s (modify i (second g) (nodes s))
 none-kept s i g q h =
-    kept-as (nodes s) _ (sym (modify-none i (second g) (nodes s) no-entry (ap (λ (b : Marked). (getD (nodes s) i no-entry .0, b)) q))) (kept-same s h)
+    kept-as (nodes s) _ (sym (modify-none i (second g) (nodes s) no-entry (ap (λ (b : Marked). (getD (nodes s) i no-entry .0, b)) q)))
+    (kept-same s h)
 
 -- and one that is the same there as another
 same-kept : {s s′ : List ℕ} (i : ℕ) (f g : Marked → Marked) → f (getD (nodes s) i no-entry .1) ≡ g (getD (nodes s) i no-entry .1)
     → Kept s s′ (modify i (second f) (nodes s)) → Kept s s′ (modify i (second g) (nodes s))
-same-kept {s} i f g q k = kept-as _ _ (modify-same i (second f) (second g) (nodes s) no-entry (ap (λ (b : Marked). (getD (nodes s) i no-entry .0, b)) q)) k
+same-kept {s} i f g q k = kept-as _ _ (modify-same i (second f) (second g) (nodes s) no-entry
+    (ap (λ (b : Marked). (getD (nodes s) i no-entry .0, b)) q)) k
 
 -- nobody can be stored as every mark
 pub nobody-storable : (o : ℕ) → storable o nobody ≡ true
@@ -67,9 +68,11 @@ not-rewritten s i t r e p h =
     none-kept s i (rewritten t) (rw (ne-eqb (writer-of (a .update)) t (λ x. p (e ∙ x)))) h
 
 -- two changes of one node
-pub both-marks : {s s′ s″ : List ℕ} (i : ℕ) (g h : Marked → Marked) → Kept s s′ (modify i (second g) (nodes s)) → Kept s′ s″ (modify i (second h) (nodes s′))
+pub both-marks : {s s′ s″ : List ℕ} (i : ℕ) (g h : Marked → Marked) → Kept s s′ (modify i (second g) (nodes s))
+    → Kept s′ s″ (modify i (second h) (nodes s′))
     → Kept s s″ (modify i (second (λ a. h (g a))) (nodes s))
-both-marks {s} i g h a b = kept-as _ _ (modify-modify i (second h) (second g) (nodes s)) (kept-then (modify i (second g) (nodes s)) (modify i (second h)) a b)
+both-marks {s} i g h a b = kept-as _ _ (modify-modify i (second h) (second g) (nodes s))
+    (kept-then (modify i (second g) (nodes s)) (modify i (second h)) a b)
 
 -- node after node ---------------------------------------------------------------------------------
 
@@ -114,7 +117,8 @@ kept-open t a e = left-open t (left-kept a) e
 
 -- closed after another change
 module _ {s s₁ s₂ : List ℕ} (t : ℕ) where
-  pub closed-after : (ns : List Entry) (f : List Entry → List Entry) → Left s s₁ (header s) ns → Closed t s₁ s₂ (f (nodes s₁)) → Closed t s s₂ (f ns)
+  pub closed-after : (ns : List Entry) (f : List Entry → List Entry) → Left s s₁ (header s) ns → Closed t s₁ s₂ (f (nodes s₁))
+      → Closed t s s₂ (f ns)
   closed-after ns f a b = record {
     layout = b .layout;
     long = b .long ∙ a .long;
@@ -137,21 +141,19 @@ marks-whole commits t a = go commits (eqb (writer-of (a .update)) t) refl (eqb (
     go false false p y q true r = rw (p, r)
     go false false p y q false r = rw (p, r)
 
--- what has the mark of those that go does not stay
-pub going-stays : (commits : Bool) (t o : ℕ) → o ≡ cond commits 3 2 → not-marked o t ≡ stays commits t
-going-stays true t o e = rw e
-going-stays false t o e = rw e
-
--- pruned, each mark cleared, the locks released and t closed
-pub ended : {s s₁ s₂ s₃ : List ℕ} (commits : Bool) (t o : ℕ) → o ≡ cond commits 3 2 → Left s s₁ (header s) (prune (not-marked o t) 0 (nodes s))
-    → Kept s₁ s₂ (map (second (ended-marks commits t)) (nodes s₁))
-    → Closed t s₂ s₃ (map (second (released t)) (nodes s₂))
-    → Ended commits t s s₃
-ended {s} commits t o e a b c =
-    let kept = prune (stays commits t) 0 (nodes s) in
+-- each mark cleared, the locks released and t closed
+pub finished : {s s₁ s₂ : List ℕ} (commits : Bool) (t : ℕ) → Kept s s₁ (map (second (ended-marks commits t)) (nodes s))
+    → Closed t s₁ s₂ (map (second (released t)) (nodes s₁))
+    → Closed t s s₂ (map (second (at-end commits t)) (nodes s))
+finished {s} commits t b c =
     let f = ended-marks commits t in
     let g = at-end commits t in
-    left-as _ (map (second g) kept)
-    (map-map (second (released t)) (second f) (second g) kept (λ x i. ap (λ (y : Marked). (x .0, y)) (marks-whole commits t (x .1))))
-    (closed-after t _ (map (second (released t)))
-        (left-then kept (map (second f)) (left-as _ _ (ap (λ (q : Marked → Bool). prune q 0 (nodes s)) (going-stays commits t o e)) a) b) c)
+    left-as _ (map (second g) (nodes s))
+    (map-map (second (released t)) (second f) (second g) (nodes s) (λ x i. ap (λ (y : Marked). (x .0, y)) (marks-whole commits t (x .1))))
+    (closed-after t _ (map (second (released t))) (left-kept b) c)
+
+-- behind what goes
+pub ended : {s s₁ s₂ : List ℕ} (commits : Bool) (t : ℕ) → Left s s₁ (header s) (prune (stays commits t) 0 (nodes s))
+    → Closed t s₁ s₂ (map (second (at-end commits t)) (nodes s₁))
+    → Ended commits t s s₂
+ended commits t a c = closed-after t _ (map (second (at-end commits t))) a c

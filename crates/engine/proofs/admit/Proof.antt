@@ -1,6 +1,5 @@
 use borrow.Author.Needs.{needs}
 use native.Mathlib.Omega.{arith}
-use mathlib.Core.Path.{_≡_}
 use Rattle.engine.specs.Laws.Admission.{admit-barred, admit-missing, admit-deleted, admit-found}
 use Rattle.engine.proofs.admit.Statement.{statement}
 use Rattle.engine.proofs.admit.Tie as tie
@@ -12,24 +11,46 @@ count-requires : tie.Need-count-requires
 count-requires c κs = c .before .before .caller .ensures .opened (c .before .if1 .left) .layout
 
 returns-2 : tie.Need-returns-2
-returns-2 c = 
-    admit-missing (c .before .before .before .before .before .caller .ensures .opened (c .before .before .before .before .if1 .left)) _ (c .before .before .before .find .ensures) (c .rejected2 .ensures) (omega (arith, c .before .before .count .ensures))
+returns-2 c =
+    let at-count = c .before .before in
+    let at-find = at-count .before in
+    let at-if1 = at-find .before in
+    let at-caller = at-if1 .before in
+    admit-missing (at-caller .caller .ensures .opened (at-if1 .if1 .left)) _ (at-find .find .ensures) (c .rejected2 .ensures)
+    (omega (arith, at-count .count .ensures))
 
 cast-u : tie.Need-cast-u
-cast-u c = record { fits = omega (arith, c .before .before .before .before .caller .ensures .opened (c .before .before .before .if1 .left) .high) }
+cast-u c =
+    let at-if1 = c .before .before .before in
+    let at-caller = at-if1 .before in
+    record { fits = omega (arith, at-caller .caller .ensures .opened (at-if1 .if1 .left) .high) }
 
 way-up-requires : tie.Need-way-up-requires
-way-up-requires c κs = (c .before .before .before .before .caller .ensures .opened (c .before .before .before .if1 .left) .layout, omega (arith, c .before .count .ensures))
+way-up-requires c κs =
+    let at-if1 = c .before .before .before in
+    let at-caller = at-if1 .before in
+    (at-caller .caller .ensures .opened (at-if1 .if1 .left) .layout, omega (arith, c .before .count .ensures))
 
 returns-3 : tie.Need-returns-3
-returns-3 c = 
-    admit-deleted (c .before .before .before .before .before .before .before .before .caller .ensures .opened (c .before .before .before .before .before .before .before .if1 .left)) _ (c .before .before .before .before .before .before .find .ensures) (c .rejected3 .ensures) _
-    (omega (arith, c .before .before .before .before .before .count .ensures)) (c .before .before .before .way-up .ensures) (c .before .if3 .taken)
+returns-3 c =
+    let at-way-up = c .before .before .before in
+    let at-count = at-way-up .before .before in
+    let at-find = at-count .before in
+    let at-if1 = at-find .before in
+    let at-caller = at-if1 .before in
+    admit-deleted (at-caller .caller .ensures .opened (at-if1 .if1 .left)) _ (at-find .find .ensures) (c .rejected3 .ensures) _
+    (omega (arith, at-count .count .ensures)) (at-way-up .way-up .ensures) (c .before .if3 .taken)
 
 returns-4 : tie.Need-returns-4
-returns-4 c = 
-    admit-found (c .before .before .before .before .before .before .before .caller .ensures .opened (c .before .before .before .before .before .before .if1 .left)) _ (c .before .before .before .before .before .find .ensures) _ (omega (arith, c .before .before .before .before .count .ensures))
-    (c .before .before .way-up .ensures) (c .if3 .left)
+returns-4 c =
+    let at-way-up = c .before .before in
+    let at-count = at-way-up .before .before in
+    let at-find = at-count .before in
+    let at-if1 = at-find .before in
+    let at-caller = at-if1 .before in
+    admit-found (at-caller .caller .ensures .opened (at-if1 .if1 .left)) _ (at-find .find .ensures) _
+    (omega (arith, at-count .count .ensures))
+    (at-way-up .way-up .ensures) (c .if3 .left)
 
 pub admit-spec : {M : Type 1} → statement M
 admit-spec =

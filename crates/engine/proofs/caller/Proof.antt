@@ -1,34 +1,21 @@
 use native.Mathlib.Omega.{arith}
-use mathlib.Core.Path.{_≡_, refl, sym, ap, _∙_}
-use native.Mathlib.Omega.{arith}
+use mathlib.Core.Path.{sym, _∙_}
 use borrow.Author.Tests.{not-true, not-false}
 use Rattle.form.specs.Laws.Holds.{form-layout}
 use Rattle.engine.specs.Laws.Admission.{caller-unformed, caller-zero, caller-high, caller-shut, caller-open}
 use borrow.Author.Needs.{needs}
 use Rattle.engine.proofs.caller.Statement.{statement}
 use Rattle.engine.proofs.caller.Tie as tie
-use Rattle.engine.proofs.caller.Reads as reads
-use Rattle.engine.proofs.caller.Lts as lts
-use Rattle.form.proofs.formed.Reads as formed-reads
-use Rattle.transactions.proofs.is_open.Reads as is-open-reads
 
--- src/lib.rt:28:9
-formed-requires : tie.Need-formed-requires
-formed-requires c κs = search needs
-
--- src/lib.rt:29:9
 returns : tie.Need-returns
 returns c = caller-unformed (sym (c .before .formed .ensures) ∙ not-true _ (c .if1 .taken))
 
--- src/lib.rt:32:9
 returns-2 : tie.Need-returns-2
 returns-2 c = caller-zero (sym (c .before .before .formed .ensures) ∙ not-false _ (c .before .if1 .left)) (c .if2 .taken)
 
--- src/lib.rt:35:9
 returns-3 : tie.Need-returns-3
 returns-3 c = caller-high (sym (c .before .before .before .formed .ensures) ∙ not-false _ (c .before .before .if1 .left)) (c .if3 .taken)
 
--- src/lib.rt:37:9
 is-open-requires : tie.Need-is-open-requires
 is-open-requires c κs =
     let formed = c .before .before .before .formed in
@@ -37,7 +24,6 @@ is-open-requires c κs =
     let good = sym (formed .ensures) ∙ not-false _ (if1 .left) in
     (form-layout good, omega (arith, if2 .left), search needs)
 
--- src/lib.rt:38:9
 returns-4 : tie.Need-returns-4
 returns-4 c =
     let formed = c .before .before .before .before .before .formed in
@@ -47,7 +33,6 @@ returns-4 c =
     let good = sym (formed .ensures) ∙ not-false _ (if1 .left) in
     caller-shut good (if2 .left) (search needs) (sym (is-open .ensures) ∙ not-true _ (c .if4 .taken))
 
--- src/lib.rt:25:1
 returns-5 : tie.Need-returns-5
 returns-5 c =
     let formed = c .before .before .before .before .before .formed in
@@ -60,4 +45,4 @@ returns-5 c =
 pub caller-spec : {M : Type 1} → statement M
 caller-spec =
     tie.close
-    (tie.spec formed-requires returns returns-2 returns-3 is-open-requires returns-4 returns-5)
+    (tie.spec (λ c κs. search needs) returns returns-2 returns-3 is-open-requires returns-4 returns-5)

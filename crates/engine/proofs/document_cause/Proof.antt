@@ -1,6 +1,5 @@
-use borrow.Author.Needs.{needs}
 use borrow.Author.Tests.{eq-eqb, ne-eqb}
-use mathlib.Core.Path.{_≡_, sym, _∙_}
+use mathlib.Core.Path.{sym, _∙_}
 use Rattle.engine.specs.Laws.Judgement.{found-first, found-later}
 use Rattle.engine.proofs.document_cause.Statement.{statement}
 use Rattle.engine.proofs.document_cause.Tie as tie

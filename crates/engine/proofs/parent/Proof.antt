@@ -1,6 +1,6 @@
 use borrow.Author.Needs.{needs}
 use native.Mathlib.Omega.{arith}
-use mathlib.Core.Path.{_≡_, sym, _∙_}
+use mathlib.Core.Path.{sym, _∙_}
 use Rattle.locking.specs.Laws.Way.{climbed-top, climbed-parent}
 use Rattle.engine.proofs.parent.Statement.{statement}
 use Rattle.engine.proofs.parent.Tie as tie

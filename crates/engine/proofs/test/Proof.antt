@@ -1,5 +1,5 @@
 use borrow.Author.Needs.{needs}
-use mathlib.Core.Path.{_≡_, refl}
+use mathlib.Core.Path.{refl}
 use Rattle.tree.specs.Steps.{T}
 use Rattle.locks.specs.declared.StepName.the-variants as name
 use Rattle.protocol.specs.Lent.{first-lent, second-lent}
@@ -13,30 +13,57 @@ use Rattle.engine.proofs.test.Statement.{statement}
 use Rattle.engine.proofs.test.Tie as tie
 
 returns : tie.Need-returns
-returns c = 
-    step-stopped name.T (T _) refl (c .before .before .before .before .before .admit .ensures) (none-first _) (c .before .before .before .before .needed .ensures) (c .before .before .judge .ensures) (c .if1 .taken) no-room
+returns c =
+    let at-judge = c .before .before in
+    let at-needed = at-judge .before .before in
+    let at-admit = at-needed .before in
+    step-stopped name.T (T _) refl (at-admit .admit .ensures) (none-first _) (at-needed .needed .ensures) (at-judge .judge .ensures)
+    (c .if1 .taken) no-room
     .performed
 
 kind-requires : tie.Need-kind-requires
-kind-requires c κs = 
-    let f = step-free name.T (T _) refl (c .before .before .before .before .before .before .admit .ensures) (none-first _) (c .before .before .before .before .before .needed .ensures) (c .before .before .before .judge .ensures) (c .before .if1 .left) in
+kind-requires c κs =
+    let at-judge = c .before .before .before in
+    let at-needed = at-judge .before .before in
+    let at-admit = at-needed .before in
+    let f = step-free name.T (T _) refl (at-admit .admit .ensures) (none-first _) (at-needed .needed .ensures) (at-judge .judge .ensures)
+    (c .before .if1 .left) in
     (f .standing .layout, f .standing .inside)
 
 parent-requires : tie.Need-parent-requires
-parent-requires c κs = 
-    let f = step-free name.T (T _) refl (c .before .before .before .before .before .before .before .before .admit .ensures) (none-first _) (c .before .before .before .before .before .before .before .needed .ensures) (c .before .before .before .before .before .judge .ensures) (c .before .before .before .if1 .left) in
+parent-requires c κs =
+    let at-if1 = c .before .before .before in
+    let at-judge = at-if1 .before .before in
+    let at-needed = at-judge .before .before in
+    let at-admit = at-needed .before in
+    let f = step-free name.T (T _) refl (at-admit .admit .ensures) (none-first _) (at-needed .needed .ensures) (at-judge .judge .ensures)
+    (at-if1 .if1 .left) in
     (f .standing .layout, f .standing .climbed)
 
 grant-requires : tie.Need-grant-requires
-grant-requires c κs = 
-    let f = step-free name.T (T _) refl (c .before .before .before .before .before .before .before .before .before .before .admit .ensures) (none-first _) (c .before .before .before .before .before .before .before .before .before .needed .ensures) (c .before .before .before .before .before .before .before .judge .ensures) (c .before .before .before .before .before .if1 .left) in
+grant-requires c κs =
+    let at-if1 = c .before .before .before .before .before in
+    let at-judge = at-if1 .before .before in
+    let at-needed = at-judge .before .before in
+    let at-admit = at-needed .before in
+    let f = step-free name.T (T _) refl (at-admit .admit .ensures) (none-first _) (at-needed .needed .ensures) (at-judge .judge .ensures)
+    (at-if1 .if1 .left) in
     (f .standing .layout, f .standing .low, f .standing .high, f .standing .climbed .inside)
 
 returns-2 : tie.Need-returns-2
 unfolding granted-answer first-lent second-lent stepped
-returns-2 c = 
-    let f = step-free name.T (T _) refl (c .before .before .before .before .before .before .before .before .before .before .before .before .before .admit .ensures) (none-first _) (c .before .before .before .before .before .before .before .before .before .before .before .before .needed .ensures) (c .before .before .before .before .before .before .before .before .before .before .judge .ensures) (c .before .before .before .before .before .before .before .before .if1 .left) in
-    performed-grants (free-granted f no-room refl (left-kept (free-locked f (c .before .before .grant .ensures)))) _ (rw (c .before .before .before .before .before .before .kind .ensures, c .before .before .before .before .parent .ensures))
+returns-2 c =
+    let at-grant = c .before .before in
+    let at-parent = at-grant .before .before in
+    let at-kind = at-parent .before .before in
+    let at-if1 = at-kind .before .before in
+    let at-judge = at-if1 .before .before in
+    let at-needed = at-judge .before .before in
+    let at-admit = at-needed .before in
+    let f = step-free name.T (T _) refl (at-admit .admit .ensures) (none-first _) (at-needed .needed .ensures) (at-judge .judge .ensures)
+    (at-if1 .if1 .left) in
+    performed-grants (free-granted f no-room refl (left-kept (free-locked f (at-grant .grant .ensures)))) _
+    (rw (at-kind .kind .ensures, at-parent .parent .ensures))
 
 pub test-spec : {M : Type 1} → statement M
 test-spec =

@@ -61,7 +61,8 @@ module _ {s : List ℕ} {t : ℕ} where
       pub caller-shut : is-open s t ≡ false → Caller s t 3
       caller-shut e = barring (λ e. omega arith) (record {
         unformed = λ x. not-both f x;
-        formed = λ M h x. let o : M .header .is-open t ≡ false = rw (← h .header) e in rw (le-leb 1 t (positive t low), le-leb t 16 high, o);
+        formed = λ M h x. let o : M .header .is-open t ≡ false = rw (← h .header) e in rw
+            (le-leb 1 t (positive t low), le-leb t 16 high, o);
       })
 
       pub caller-open : is-open s t ≡ true → Caller s t 0
@@ -90,7 +91,8 @@ module _ {s : List ℕ} {t n : ℕ} {a : Admission} where
 
   module _ (o : Opened s t) (p : ℕ) (e : p ≡ place-of n (nodes s)) (seven : a .cause ≡ 7) where
     -- the caller sees no node n
-    unseen : ((M : State) → Holds s M → (st : Step) → target st ≡ n → here (target st) (callers-document t (M .tree)) ≡ false) → Admitted s t n a
+    unseen : ((M : State) → Holds s M → (st : Step) → target st ≡ n → here (target st) (callers-document t (M .tree)) ≡ false)
+        → Admitted s t n a
     unseen f =
         rejecting seven (λ (z : 7 ≡ 0). omega arith)
         (record {

@@ -146,7 +146,8 @@ module _ {s : List ℕ} {t : ℕ} {a : Admission} {cause : ℕ} {w : NeedWords} 
           let z = eqb-true (a .cause) 0 e in
           let at = q .admitted .standing z in
           stopped-stays {o = refused cause} (λ x. not-both (at .formed) x)
-          (λ M h. at .next M h st refl room ∙ at-own (a .t) st room M (nodes s) (a .place) cause (q .causes .second z) n) refl (λ writing. refl)
+          (λ M h. at .next M h st refl room
+          ∙ at-own (a .t) st room M (nodes s) (a .place) cause (q .causes .second z) n) refl (λ writing. refl)
 
   module _ (z : cause ≡ 0) (set : ℕ) (v : WaitsFor s (a .t) w (a .way) set) where
     fitting : own-cause st (nodes s) (a .place) ≡ 0
@@ -164,7 +165,7 @@ module _ {s : List ℕ} {t : ℕ} {a : Admission} {cause : ℕ} {w : NeedWords} 
     asked-waits n room =
         stopped-stays {o = waits set} (λ x. not-both (standing z .formed) x)
         (λ M h. let e : set ≡ set-at (a .t) st M (nodes s) (a .place) = set-is ∙ rw (← h .header) in
-            standing z .next M h st refl room ∙ behind-own (a .t) st room M (nodes s) (a .place) fitting ∙ rw (← e, ne-eqb set 0 n)) refl
+        standing z .next M h st refl room ∙ behind-own (a .t) st room M (nodes s) (a .place) fitting ∙ rw (← e, ne-eqb set 0 n)) refl
         (λ writing. refl)
 
     asked-free : set ≡ 0 → Free s t a w st
@@ -192,7 +193,8 @@ module _ {s : List ℕ} {a : Admission} {cause : ℕ} {w : NeedWords} where
 
 -- a step by its name, with the answers of `admit`, of the step's own causes, of `needed` and of `judge`
 module _ {s : List ℕ} {t : ℕ} {a : Admission} {cause : ℕ} {w : NeedWords} {v : Verdict} (k : StepName) (st : Step)
-    (same : need (step-named k) ≡ need st) (d : Admitted s t (target st) a) (f : FirstOf (a .cause) (own-cause st (nodes s) (a .place)) cause)
+    (same : need (step-named k) ≡ need st) (d : Admitted s t (target st) a)
+    (f : FirstOf (a .cause) (own-cause st (nodes s) (a .place)) cause)
     (e : w ≡ need-words k) (j : Judged s a cause w v) where
   asked : Asked s t a cause w st
   unfolding need-words
@@ -208,10 +210,12 @@ module _ {s : List ℕ} {t : ℕ} {a : Admission} {cause : ℕ} {w : NeedWords} 
 
 -- none of 8, 9 and 10
 pub free-fits : {s : List ℕ} {t : ℕ} {a : Admission} {w : NeedWords} {st : Step} → Free s t a w st
-    → (wrong-kind-on st (item (nodes s) (a .place) .now .kind) ≡ false) × (wrong-content-on st (item (nodes s) (a .place) .now .kind) ≡ false)
+    → (wrong-kind-on st (item (nodes s) (a .place) .now .kind) ≡ false) ×
+    (wrong-content-on st (item (nodes s) (a .place) .now .kind) ≡ false)
     × (taken-in st (nodes s) ≡ false)
 free-fits {s} {a = a} {st = st} f =
-    go (wrong-kind-on st (item (nodes s) (a .place) .now .kind)) (wrong-content-on st (item (nodes s) (a .place) .now .kind)) (taken-in st (nodes s))
+    go (wrong-kind-on st (item (nodes s) (a .place) .now .kind)) (wrong-content-on st (item (nodes s) (a .place) .now .kind))
+    (taken-in st (nodes s))
     (f .fits)
   where
     go : (x y z : Bool) → _≡_ {A = ℕ} (cond x 8 (cond y 9 (cond z 10 0))) 0 → (x ≡ false) × (y ≡ false) × (z ≡ false)
@@ -233,7 +237,7 @@ module _ {s : List ℕ} {t : ℕ} {a : Admission} {w : NeedWords} {st : Step} (f
   free-refused c e n =
       stopped-stays {o = refused c} (λ x. not-both (f .standing .formed) x)
       (λ M h. to-late M h
-          ∙ first-applies M [] (granting (a .t) st M (nodes s) (a .place)) (late-causes (a .t) st room (nodes s) (a .place)) c e n) refl
+      ∙ first-applies M [] (granting (a .t) st M (nodes s) (a .place)) (late-causes (a .t) st room (nodes s) (a .place)) c e n) refl
       (λ writing. refl)
 
   pub free-granted : {s′ : List ℕ} → first-cause (late-causes (a .t) st room (nodes s) (a .place)) ≡ 0
@@ -249,7 +253,8 @@ module _ {s : List ℕ} {t : ℕ} {a : Admission} {w : NeedWords} {st : Step} (f
     where
       done : (M : State) → Holds s M → next (step t st room) M ≡ granting (a .t) st M (nodes s) (a .place)
       done M h =
-          to-late M h ∙ none-applies M [] (granting (a .t) st M (nodes s) (a .place)) (late-causes (a .t) st room (nodes s) (a .place)) refl e
+          to-late M h ∙ none-applies M [] (granting (a .t) st M (nodes s) (a .place))
+          (late-causes (a .t) st room (nodes s) (a .place)) refl e
 
       none-held : (M : State) → Holds s M → any (λ m. number-held m (M .tree)) (inserts st) ≡ false
       none-held M h =

@@ -22,27 +22,6 @@ use Rattle.engine.specs.Judgement.{Stopped}
 pub not-both : {X : Type 0} {b : Bool} → b ≡ true → b ≡ false → X
 not-both p q = absurd (false≢true (sym q ∙ p))
 
--- bytes that are not of the form: 13
-module _ {s : List ℕ} (u : form s ≡ false) (call : Call) where
-  pub performed-unformed : Performed s s (Refused 13) call
-  performed-unformed = record {
-    unformed = λ x. (refl, refl);
-    answer = λ M h writing. not-both (holds-form h) u;
-    state = λ M h. not-both (holds-form h) u;
-    still = λ M h x. refl;
-    long = refl;
-    behind = refl;
-  }
-
-  pub lent-unformed : (lent : Value → List ℕ) (b : List ℕ) → Lent lent s b b call
-  lent-unformed lent b = record { unformed = λ x. refl; filled = λ M h. not-both (holds-form h) u }
-
--- a wait or a refusal: the definition leaves the state as it was
-pub record Stays (s : List ℕ) (o : Outcome) (call : Call) : Type 0 where
-  pub formed : form s ≡ true
-  pub next : (M : State) → Holds s M → next call M ≡ unchanged o M
-  pub quiet : is-granted o ≡ false
-
 lent-quiet : (lent : Value → List ℕ) (o : Outcome) (b : List ℕ) → is-granted o ≡ false → b ≡ lent-after lent o b
 unfolding lent-after
 lent-quiet lent (granted v) b h = absurd (false≢true (sym h))
@@ -51,21 +30,7 @@ lent-quiet lent (waits w) b h = refl
 lent-quiet lent (refused c) b h = refl
 lent-quiet lent (refused-at c o) b h = refl
 
-module _ {s : List ℕ} {o : Outcome} {call : Call} (c : Stays s o call) where
-  pub performed-stays : (r : Answer) → ((writing : Document → Answer) → r ≡ answer-of writing o) → Performed s s r call
-  performed-stays r e = record {
-    unformed = λ x. not-both (c .formed) x;
-    answer = λ M h writing. rw (c .next M h) (e writing);
-    state = λ M h. rw (c .next M h) h;
-    still = λ M h x. refl;
-    long = refl;
-    behind = refl;
-  }
-
-  pub lent-stays : (lent : Value → List ℕ) (b : List ℕ) → Lent lent s b b call
-  lent-stays lent b = record { unformed = λ x. refl; filled = λ M h. rw (c .next M h) (lent-quiet lent o b (c .quiet)) }
-
--- both contracts at once; where the bytes are not of the form the answer is 13
+-- a wait or a refusal: the definition leaves the state as it was; where the bytes are not of the form the answer is 13
 pub stopped-stays : {s : List ℕ} {o : Outcome} {call : Call} {r : Answer} → (form s ≡ false → r ≡ Refused 13)
     → ((M : State) → Holds s M → next call M ≡ unchanged o M)
     → is-granted o ≡ false
@@ -81,6 +46,28 @@ stopped-stays {o = o} u n q e = record {
     behind = refl;
   };
   lent = λ lent b. record { unformed = λ x. refl; filled = λ M h. rw (n M h) (lent-quiet lent o b q) };
+}
+
+-- bytes of the form
+pub record Stays (s : List ℕ) (o : Outcome) (call : Call) : Type 0 where
+  pub formed : form s ≡ true
+  pub next : (M : State) → Holds s M → next call M ≡ unchanged o M
+  pub quiet : is-granted o ≡ false
+
+pub performed-stays : {s : List ℕ} {o : Outcome} {call : Call} → Stays s o call → (r : Answer)
+    → ((writing : Document → Answer) → r ≡ answer-of writing o)
+    → Performed s s r call
+performed-stays c r e = stopped-stays (λ x. not-both (c .formed) x) (c .next) (c .quiet) e .performed
+
+-- bytes that are not of the form: 13
+pub performed-unformed : {s : List ℕ} → form s ≡ false → (call : Call) → Performed s s (Refused 13) call
+performed-unformed u call = record {
+  unformed = λ x. (refl, refl);
+  answer = λ M h writing. not-both (holds-form h) u;
+  state = λ M h. not-both (holds-form h) u;
+  still = λ M h x. refl;
+  long = refl;
+  behind = refl;
 }
 
 -- granted: the bytes left hold the definition's next state

@@ -1,5 +1,5 @@
 use borrow.Author.Needs.{needs}
-use mathlib.Core.Path.{_≡_, sym, _∙_}
+use mathlib.Core.Path.{sym, _∙_}
 use borrow.Author.Tests.{not-true, not-false}
 use Rattle.locking.specs.Laws.Waits.{blocks-shut, blocks-self, blocks-other}
 use Rattle.locking.proofs.blocks.Statement.{statement}
@@ -9,7 +9,11 @@ returns : tie.Need-returns
 returns c = blocks-shut _ _ _ _ _ (sym (c .before .is-open .ensures) ∙ not-true _ (c .if1 .taken))
 
 returns-3 : tie.Need-returns-3
-returns-3 c = c .touches .ensures ∙ blocks-other _ _ _ _ _ (sym (c .before .before .before .is-open .ensures) ∙ not-false _ (c .before .before .if1 .left)) (c .before .if2 .left)
+returns-3 c =
+    let at-if1 = c .before .before in
+    let at-is-open = at-if1 .before in
+    c .touches .ensures ∙ blocks-other _ _ _ _ _ (sym (at-is-open .is-open .ensures)
+    ∙ not-false _ (at-if1 .if1 .left)) (c .before .if2 .left)
 
 pub blocks-spec : {M : Type 1} → statement M
 blocks-spec =

@@ -18,21 +18,27 @@ element-copy-out-add : tie.Need-element-copy-out-add Inv-loop μ-loop
 element-copy-out-add c = omega (arith, c .before .before .before .before .pre .3 .room)
 
 cast-add : tie.Need-cast-add Inv-loop μ-loop
-cast-add c = 
+cast-add c =
     let l = c .before .before .before .loop in
     let inside = granting-inside (c .before .before .before .before .before .pre .3) (l .inv .1) (search needs) in
     let layout = l .inv .1 .kept .layout in
     record { fits = omega (arith, inside, layout .room, layout .many) }
 
 add-requires : tie.Need-add-requires Inv-loop μ-loop
-add-requires c κs = 
-    let l = c .before .before .before .before .loop in
-    (l .inv .1 .kept .layout, search needs, search needs, granting-inside (c .before .before .before .before .before .before .pre .3) (l .inv .1) (search needs))
+add-requires c κs =
+    let at-loop = c .before .before .before .before in
+    let start = at-loop .before .before in
+    let l = at-loop .loop in
+    (l .inv .1 .kept .layout, search needs, search needs, granting-inside (start .pre .3) (l .inv .1) (search needs))
 
 loop-again : tie.Need-loop-again Inv-loop μ-loop
-loop-again c = 
-    let l = c .before .before .before .before .before .before .before .loop in
-    (search needs, granting-turn (c .before .before .before .before .before .before .before .before .before .pre .3) (l .inv .1) _ (search needs) (c .before .before .before .word-at .ensures) (c .before .before .add .ensures))
+loop-again c =
+    let at-add = c .before .before in
+    let at-word-at = at-add .before in
+    let at-loop = at-word-at .before .before .before .before in
+    let start = at-loop .before .before in
+    let l = at-loop .loop in
+    (search needs, granting-turn (start .pre .3) (l .inv .1) _ (search needs) (at-word-at .word-at .ensures) (at-add .add .ensures))
 
 returns : tie.Need-returns Inv-loop μ-loop
 returns c = record { kept = granting-done (c .before .before .before .pre .3) (c .before .loop .inv .1) (search needs) }

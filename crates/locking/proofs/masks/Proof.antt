@@ -1,11 +1,10 @@
 use borrow.Author.Needs.{needs}
-use mathlib.Core.Path.{_≡_}
 use Rattle.locks.specs.Laws.Common.{mask-small}
 use Rattle.locking.proofs.masks.Statement.{statement}
 use Rattle.locking.proofs.masks.Tie as tie
 
 returns : tie.Need-returns
-returns c = 
+returns c =
     let mask = c .before .before .mask in
     let mask2 = c .before .mask2 in (
       rw (mask .ensures, mask2 .ensures, c .parent-mask .ensures),

@@ -1,5 +1,5 @@
 use borrow.Author.Needs.{needs}
-use mathlib.Core.Path.{_≡_, sym, ap, _∙_}
+use mathlib.Core.Path.{sym, ap, _∙_}
 use Rattle.locks.specs.Words.{mask-of}
 use Rattle.locking.proofs.parent_mask.Statement.{statement}
 use Rattle.locking.proofs.parent_mask.Tie as tie

@@ -11,7 +11,7 @@ use Rattle.locking.proofs.touches.Statement.{statement}
 use Rattle.locking.proofs.touches.Tie as tie
 
 abbrev Inv-loop : tie.InvT-loop
-Inv-loop s u masks places count held j₀ j = 
+Inv-loop s u masks places count held j₀ j =
     let way = nodes-of (nodes s) (record { places = places; count = count }) in
     touches-from masks 0 u way ≡ touches-from masks j u (drop j way)
 
@@ -19,28 +19,49 @@ abbrev μ-loop : tie.MeasureT-loop
 μ-loop s u masks places count held j₀ j = count - j
 
 cast-slot : tie.Need-cast-slot Inv-loop μ-loop
-cast-slot c = record { fits = omega (arith, c .before .before .before .before .before .pre .4 .inside (c .before .before .loop .j) (search needs), c .before .before .before .before .before .pre .0 .room, c .before .before .before .before .before .pre .0 .many) }
+cast-slot c =
+    let at-loop = c .before .before in
+    let start = at-loop .before .before .before in
+    record { fits = omega (arith, start .pre .4 .inside (at-loop .loop .j) (search needs), start .pre .0 .room, start .pre .0 .many) }
 
 slot-requires : tie.Need-slot-requires Inv-loop μ-loop
-slot-requires c κs = (search needs, omega (arith, c .before .before .before .before .before .pre .4 .inside (c .before .before .loop .j) (search needs), c .before .before .before .before .before .pre .0 .room, c .before .before .before .before .before .pre .0 .many))
+slot-requires c κs =
+    let at-loop = c .before .before in
+    let start = at-loop .before .before .before in
+    (search needs, omega (arith, start .pre .4 .inside (at-loop .loop .j) (search needs), start .pre .0 .room, start .pre .0 .many))
 
 share-requires : tie.Need-share-requires Inv-loop μ-loop
-share-requires c κs = rw (c .word-at .ensures) (words-small _ (c .before .before .before .before .before .before .before .before .pre .3) (c .before .before .before .before .before .loop .j))
+share-requires c κs =
+    let at-loop = c .before .before .before .before .before in
+    let start = at-loop .before .before .before in
+    rw (c .word-at .ensures) (words-small _ (start .pre .3) (at-loop .loop .j))
 
 returns : tie.Need-returns Inv-loop μ-loop
-returns c = 
-    let pre = c .before .before .before .before .before .before .before .before .before .before .pre in
-    let l = c .before .before .before .before .before .before .before .loop in
+returns c =
+    let at-word-at = c .before .before in
+    let at-slot = at-word-at .before .before in
+    let at-loop = at-slot .before .before .before in
+    let at-load = at-loop .before in
+    let start = at-load .before .before in
+    let pre = start .pre in
+    let l = at-loop .loop in
     let inside = pre .4 .inside (l .j) (search needs) in
-    let touches = touches-word (c .before .before .before .before .before .before .before .before .load .ensures) _ _ _ _ _ inside (c .before .before .before .before .slot .ensures .0) (c .before .before .word-at .ensures) (c .before .share .ensures) in
+    let touches = touches-word (at-load .load .ensures) _ _ _ _ _ inside (at-slot .slot .ensures .0) (at-word-at .word-at .ensures)
+    (c .before .share .ensures) in
     touch-found (pre .4) _ _ (l .j) (l .inv) (search needs) (touches ∙ c .if1 .taken)
 
 loop-again : tie.Need-loop-again Inv-loop μ-loop
-loop-again c = 
-    let pre = c .before .before .before .before .before .before .before .before .before .before .pre in
-    let l = c .before .before .before .before .before .before .before .loop in
+loop-again c =
+    let at-word-at = c .before .before in
+    let at-slot = at-word-at .before .before in
+    let at-loop = at-slot .before .before .before in
+    let at-load = at-loop .before in
+    let start = at-load .before .before in
+    let pre = start .pre in
+    let l = at-loop .loop in
     let inside = pre .4 .inside (l .j) (search needs) in
-    let touches = touches-word (c .before .before .before .before .before .before .before .before .load .ensures) _ _ _ _ _ inside (c .before .before .before .before .slot .ensures .0) (c .before .before .word-at .ensures) (c .before .share .ensures) in
+    let touches = touches-word (at-load .load .ensures) _ _ _ _ _ inside (at-slot .slot .ensures .0) (at-word-at .word-at .ensures)
+    (c .before .share .ensures) in
     touch-passed (pre .4) _ _ (l .j) (l .inv) (search needs) (touches ∙ c .if1 .left)
 
 returns-2 : tie.Need-returns-2 Inv-loop μ-loop

@@ -15,15 +15,23 @@ abbrev μ-loop : tie.MeasureT-loop
 μ-loop s t way masks count set₀ u₀ set u = u
 
 bit-below-requires : tie.Need-bit-below-requires Inv-loop μ-loop
-bit-below-requires c κs = rw (c .before .before .before .before .loop .inv .1) (set-below _ _ _ _ (c .before .before .before .before .loop .u) (search needs))
+bit-below-requires c κs =
+    let at-loop = c .before .before .before .before in
+    rw (at-loop .loop .inv .1) (set-below _ _ _ _ (at-loop .loop .u) (search needs))
 
 loop-again : tie.Need-loop-again Inv-loop μ-loop
-loop-again c = 
-    let l = c .before .before .before .before .before .loop in
-    (search needs, set-turn _ _ _ _ (l .u) _ _ _ (search needs) (search needs) (l .inv .1) (c .before .blocks2 .ensures) (c .bit-below .ensures))
+loop-again c =
+    let at-loop = c .before .before .before .before .before in
+    let l = at-loop .loop in (
+      search needs,
+      set-turn _ _ _ _ (l .u) _ _ _ (search needs) (search needs) (l .inv .1) (c .before .blocks2 .ensures)
+          (c .bit-below .ensures),
+    )
 
 returns : tie.Need-returns Inv-loop μ-loop
-returns c = record { is = set-whole _ _ _ _ _ (c .before .before .masks .ensures .0) (c .before .loop .u) _ (search needs) (c .before .loop .inv .1) }
+returns c =
+    let at-masks = c .before .before in
+    record { is = set-whole _ _ _ _ _ (at-masks .masks .ensures .0) (c .before .loop .u) _ (search needs) (c .before .loop .inv .1) }
 
 pub waits-spec : {M : Type 1} → statement M
 waits-spec =

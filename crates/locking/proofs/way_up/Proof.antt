@@ -1,9 +1,9 @@
 use borrow.Author.Needs.{needs}
-use native.Mathlib.Omega.{arith}
-use mathlib.Core.Path.{_≡_, refl}
+use mathlib.Core.Path.{refl}
 use lib.ListN.{replicate}
 use Rattle.layout.specs.Layout.{nodes}
-use Rattle.locking.specs.Laws.Way.{Climbing, climbing-hidden, climbing-start, climbing-passed, climbing-deleted, climbing-found, climbing-done}
+use Rattle.locking.specs.Laws.Way.{Climbing, climbing-hidden, climbing-start, climbing-passed, climbing-deleted}
+use Rattle.locking.specs.Laws.Way.{climbing-found, climbing-done}
 use Rattle.locking.proofs.way_up.Statement.{statement}
 use Rattle.locking.proofs.way_up.Tie as tie
 
@@ -17,17 +17,28 @@ returns : tie.Need-returns Inv-loop μ-loop
 returns c = climbing-hidden (search needs) _ (c .before .deleter .ensures) (replicate 1024 0) (c .if1 .taken)
 
 loop-holds : tie.Need-loop-holds Inv-loop μ-loop
-loop-holds c = climbing-start (search needs) _ (c .before .before .deleter .ensures) _ (replicate 1024 0) (c .before .if1 .left) (c .depth .ensures) refl
+loop-holds c =
+    let at-deleter = c .before .before in
+    climbing-start (search needs) _ (at-deleter .deleter .ensures) _ (replicate 1024 0) (c .before .if1 .left) (c .depth .ensures) refl
 
 loop-again : tie.Need-loop-again Inv-loop μ-loop
-loop-again c = climbing-passed (search needs) (c .before .before .before .loop .inv) (search needs) (c .before .depth2 .ensures) (c .if2 .taken)
+loop-again c =
+    let at-loop = c .before .before .before in
+    climbing-passed (search needs) (at-loop .loop .inv) (search needs) (c .before .depth2 .ensures) (c .if2 .taken)
 
 returns-2 : tie.Need-returns-2 Inv-loop μ-loop
-returns-2 c = climbing-deleted (search needs) (c .before .before .before .before .before .loop .inv) (search needs) (c .before .before .before .depth2 .ensures) (search needs) _ (c .before .deleter2 .ensures) (c .if3 .taken)
+returns-2 c =
+    let at-depth2 = c .before .before .before in
+    let at-loop = at-depth2 .before .before in
+    climbing-deleted (search needs) (at-loop .loop .inv) (search needs) (at-depth2 .depth2 .ensures) (search needs) _
+    (c .before .deleter2 .ensures) (c .if3 .taken)
 
 loop-again-2 : tie.Need-loop-again-2 Inv-loop μ-loop
-loop-again-2 c = 
-    climbing-found (search needs) (c .before .before .before .before .before .loop .inv) (search needs) (c .before .before .before .depth2 .ensures) (search needs) _ (c .before .deleter2 .ensures)
+loop-again-2 c =
+    let at-depth2 = c .before .before .before in
+    let at-loop = at-depth2 .before .before in
+    climbing-found (search needs) (at-loop .loop .inv) (search needs) (at-depth2 .depth2 .ensures) (search needs) _
+    (c .before .deleter2 .ensures)
     (search needs) (c .if3 .left)
 
 returns-3 : tie.Need-returns-3 Inv-loop μ-loop

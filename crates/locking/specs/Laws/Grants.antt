@@ -40,7 +40,8 @@ more-modes t v w a e = ap (λ (f : ℕ → ModeSet). with-held f a) (fun-ext (λ
     go u true i = let f : in-word (bitOr v w) ≡ union (in-word v) (in-word w) = fun-ext (in-union v w) in f ∙ rw (e, eqb-true u t i)
     go u false i = refl
 
-pub add-kept : {s s′ : List ℕ} (t i v w x : ℕ) → in-word v ≡ item (nodes s) i .held t → x ≡ bitOr v w → Kept s s′ (modify i (second (with-modes t x)) (nodes s))
+pub add-kept : {s s′ : List ℕ} (t i v w x : ℕ) → in-word v ≡ item (nodes s) i .held t → x ≡ bitOr v w
+    → Kept s s′ (modify i (second (with-modes t x)) (nodes s))
     → Kept s s′ (modify i (second (with-more t w)) (nodes s))
 add-kept {s} t i v w x e f k =
     kept-as _ _ (modify-same i (second (with-modes t x)) (second (with-more t w)) (nodes s) no-entry
@@ -54,10 +55,12 @@ module _ (t : ℕ) (w : Need) (e : SameSets w) where
       let g : ModeSet → Marked → Marked = λ p a. with-held (λ u. cond (eqb u t) (union (a .held u) p) (a .held u)) a in
       ap g f
 
-  above-words : (j : ℕ) (is : List ℕ) (l : List Entry) → granted-from t (words w) (suc (suc j)) is l ≡ granted-along t (w .above) (w .above) (w .above) is l
+  above-words : (j : ℕ) (is : List ℕ) (l : List Entry)
+      → granted-from t (words w) (suc (suc j)) is l ≡ granted-along t (w .above) (w .above) (w .above) is l
   unfolding granted-from granted-along
   above-words j [] l = refl
-  above-words j (i ∷ is) l = rw (same-modes (w .above) (e .above)) (above-words (suc j) is (modify i (second (granted-modes t (w .above))) l))
+  above-words j (i ∷ is) l = rw (same-modes (w .above) (e .above))
+      (above-words (suc j) is (modify i (second (granted-modes t (w .above))) l))
 
   up-words : (is : List ℕ) (l : List Entry) → granted-from t (words w) 1 is l ≡ granted-along t (w .parent) (w .above) (w .above) is l
   unfolding granted-from granted-along
@@ -86,7 +89,8 @@ module _ {s s′ : List ℕ} {t : ℕ} {m : NeedWords} {w : Places} {j : ℕ} (h
 
   places-cons : j < w .count → drop j (places-of w) ≡ getD (w .places) j 0 ∷ drop (j + 1) (places-of w)
   unfolding places-of
-  places-cons k = drop-cons (take (w .count) (w .places)) j 0 (omega (arith, length-places)) ∙ rw (add-one, getD-take (w .count) (w .places) j 0 k)
+  places-cons k = drop-cons (take (w .count) (w .places)) j 0 (omega (arith, length-places))
+      ∙ rw (add-one, getD-take (w .count) (w .places) j 0 k)
 
   pub granting-inside : j < w .count → getD (w .places) j 0 < length (nodes s′)
   granting-inside k = omega (arith, h .inside j k, c .kept .many)
@@ -96,7 +100,8 @@ module _ {s s′ : List ℕ} {t : ℕ} {m : NeedWords} {w : Places} {j : ℕ} (h
   unfolding granted-from
   granting-turn {s″} v k e a =
       let i = getD (w .places) j 0 in
-      let n : Kept s s″ (modify i (second (with-more t v)) (nodes s′)) = kept-then (nodes s′) (modify i (second (with-more t v))) (c .kept) a in
+      let n : Kept s s″ (modify i (second (with-more t v)) (nodes s′)) = kept-then (nodes s′) (modify i (second (with-more t v)))
+      (c .kept) a in
       record { kept = kept-as _ _ (sym (a .nodes)) n; rest = c .rest ∙ rw (places-cons k, add-one j, a .nodes, e) }
 
   pub granting-done : w .count ≤ j → (st : Step) → m ≡ words (need st) → Kept s s′ (granted-on t (need st) (places-of w) (nodes s))

@@ -1,11 +1,13 @@
--- A mask looked up once says what the table says of each mode: a node's modes touch the mask of a set exactly if one clashes with one of the set.
+-- A mask looked up once says what the table says of each mode: a node's modes touch the mask of a set exactly if one clashes with one of
+-- the set.
 use mathlib.Core.Path.{_≡_, refl, sym, ap, _∙_, fun-ext}
 use Prim.Native.Nat.{ℕ, zero, suc}
 use mathlib.Core.Bool.{Bool, true, false, _&&_, _||_, or-false}
 use mathlib.Core.List.{List, [], _∷_}
 use Rattle.tree.specs.Lists.{any}
 use Rattle.tree.specs.Laws.Lists.{any-same}
-use Rattle.locks.specs.Modes.{Mode, LT, LC, LR, LU, LW, LTT, LRR, LUU, LIR, LIU, LIW, LICW, modes, ModeSet, same-mode, among, clash, against, in-word}
+use Rattle.locks.specs.Modes.{Mode, LT, LC, LR, LU, LW, LTT, LRR, LUU, LIR, LIU, LIW, LICW, modes, ModeSet, same-mode}
+use Rattle.locks.specs.Modes.{among, clash, against, in-word}
 use Rattle.locks.specs.Needs.{Need}
 use Rattle.locks.specs.Words.{mask-of, word-of, words}
 use Rattle.locks.specs.Laws.Clash.{clash-symmetric}
@@ -88,7 +90,8 @@ touches-mask ms e u a =
 
 -- along the way
 module _ (w : Need) (e : SameSets w) (u : ℕ) where
-  above-mask : (j : ℕ) (way : List Marked) → touches-from (masks-of (words w)) (suc (suc j)) u way ≡ blocks-way (w .above) (w .above) (w .above) u way
+  above-mask : (j : ℕ) (way : List Marked)
+      → touches-from (masks-of (words w)) (suc (suc j)) u way ≡ blocks-way (w .above) (w .above) (w .above) u way
   unfolding touches-from blocks-way
   above-mask j [] = refl
   above-mask j (a ∷ way) = rw (touches-mask (w .above) (e .above) u a, above-mask (suc j) way)

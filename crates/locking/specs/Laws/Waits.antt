@@ -58,7 +58,8 @@ module _ {l : List Entry} {w : Places} (h : Inside l w) where
     unfolding touches-from
     turn k = v ∙ rw (way-cons j k, add-one j)
 
-    pub touch-found : j < w .count → touches (word-at m j) u (item l (getD (w .places) j 0)) ≡ true → true ≡ touches-from m 0 u (nodes-of l w)
+    pub touch-found : j < w .count → touches (word-at m j) u (item l (getD (w .places) j 0)) ≡ true
+        → true ≡ touches-from m 0 u (nodes-of l w)
     touch-found k e = sym (turn k ∙ rw e)
 
     pub touch-passed : j < w .count → touches (word-at m j) u (item l (getD (w .places) j 0)) ≡ false
@@ -70,7 +71,8 @@ module _ {l : List Entry} {w : Places} (h : Inside l w) where
     touch-none k = sym (v ∙ rw (way-end j k))
 
 -- the test of one node, by the word of its slot
-pub touches-word : {s : List ℕ} {u : ℕ} {ws : List ℕ} → Loaded s u ws → (i k m v : ℕ) (r : Bool) → i < length (nodes s) → k ≡ slot s i → v ≡ m
+pub touches-word : {s : List ℕ} {u : ℕ} {ws : List ℕ} → Loaded s u ws → (i k m v : ℕ) (r : Bool) → i < length (nodes s) → k ≡ slot s i
+    → v ≡ m
     → r ≡ in-common (getD ws k 0) v
     → touches m u (item (nodes s) i) ≡ r
 unfolding in-common touches
@@ -115,13 +117,15 @@ module _ (t : ℕ) (m : NeedWords) (is-open : ℕ → Bool) (way : List Marked) 
   pub set-below : (u : ℕ) → 0 < u → set-of t m is-open way u < 32768
   set-below u h = lt-of-lt-of-le (word-small (λ i. blocks-by t m is-open way (suc i)) (16 - u) u) (pow-mono {j = 15} (omega arith))
 
-  pub set-turn : (u set set′ : ℕ) (b : Bool) → 0 < u → u ≤ 16 → set ≡ set-of t m is-open way u → b ≡ blocks-by t m is-open way u → set′ ≡ cond b 1 0 + 2 * set
+  pub set-turn : (u set set′ : ℕ) (b : Bool) → 0 < u → u ≤ 16 → set ≡ set-of t m is-open way u → b ≡ blocks-by t m is-open way u
+      → set′ ≡ cond b 1 0 + 2 * set
       → set′ ≡ set-of t m is-open way (u - 1)
   set-turn u set set′ b h k e f g =
       let z : suc (u - 1) ≡ u = omega arith in
       g ∙ rw (f, e, word-turn (λ i. blocks-by t m is-open way (suc i)) 16 u h k, z)
 
-  pub set-whole : (w : NeedWords) → m ≡ masks-of w → (u set : ℕ) → u ≡ 0 → set ≡ set-of t m is-open way u → (st : Step) → w ≡ words (need st)
+  pub set-whole : (w : NeedWords) → m ≡ masks-of w → (u set : ℕ) → u ≡ 0 → set ≡ set-of t m is-open way u → (st : Step)
+      → w ≡ words (need st)
       → set ≡ wait-word t (need st) is-open way
   unfolding wait-word
   set-whole w v u set z e st f =

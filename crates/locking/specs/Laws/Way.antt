@@ -56,7 +56,8 @@ module _ {l : List Entry} {t p : ℕ} (h : p < length l) where
     pub climbing-hidden : (places : List ℕ) → x ≡ t → Climb l t p (record { places = places; count = 0 })
     climbing-hidden places f = hidden-way places (rw (deleted-it t x (item l p) d f))
 
-    pub climbing-start : (e : ℕ) (places : List ℕ) → (x ≡ t → ⊥) → e ≡ depth l p → length places ≡ 1024 → Climbing l t p e p 1 (set places 0 p)
+    pub climbing-start : (e : ℕ) (places : List ℕ) → (x ≡ t → ⊥) → e ≡ depth l p → length places ≡ 1024
+        → Climbing l t p e p 1 (set places 0 p)
     unfolding way-up above-places
     climbing-start e places f v n = record {
       long = length-set places 0 p ∙ n;
@@ -142,4 +143,5 @@ module _ {l : List Entry} {p : ℕ} {w : Places} (c : Climbed l p w) where
       go : (is : List ℕ) → w .count ≡ suc (length is) → take (w .count) (w .places) ≡ p ∷ is
           → parent (map number-of (map (item l) is)) ≡ number-of (item l (getD (w .places) 1 0))
       go [] e f = absurd (omega arith)
-      go (i ∷ is) e f = ap (λ (z : ℕ). number-of (item l z)) (ap (λ (z : List ℕ). getD z 1 0) (sym f) ∙ getD-take (w .count) (w .places) 1 0 k)
+      go (i ∷ is) e f = ap (λ (z : ℕ). number-of (item l z)) (ap (λ (z : List ℕ). getD z 1 0) (sym f)
+          ∙ getD-take (w .count) (w .places) 1 0 k)

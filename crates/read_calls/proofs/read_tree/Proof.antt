@@ -20,7 +20,8 @@ same-length-3 : tie.Need-same-length-3
 same-length-3 c = search needs
 
 returns : tie.Need-returns
-returns c = let h = c .before .before .before .before .before .before .before .read-tree .ensures in two-contract (c .code .ensures) makes-step (h .0) (h .1) (h .2)
+returns c = let h = c .before .before .before .before .before .before .before .read-tree .ensures in two-contract
+    (c .code .ensures) makes-step (h .0) (h .1) (h .2)
 
 pub read-tree-spec : {M : Type 1} → statement M
 read-tree-spec = tie.close (tie.spec read-tree-requires code-requires same-length same-length-2 same-length-3 returns)

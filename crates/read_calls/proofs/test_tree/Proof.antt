@@ -17,7 +17,8 @@ same-length-2 : tie.Need-same-length-2
 same-length-2 c = search needs
 
 returns : tie.Need-returns
-returns c = let h = c .before .before .before .before .before .test-tree .ensures in one-contract (c .code .ensures) makes-step (h .0) (h .1)
+returns c = let h = c .before .before .before .before .before .test-tree .ensures in one-contract (c .code .ensures) makes-step
+    (h .0) (h .1)
 
 pub test-tree-spec : {M : Type 1} → statement M
 test-tree-spec = tie.close (tie.spec test-tree-requires code-requires same-length same-length-2 returns)

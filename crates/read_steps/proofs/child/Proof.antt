@@ -1,7 +1,6 @@
 use borrow.Author.Needs.{needs}
-use mathlib.Core.Path.{_≡_, refl}
+use mathlib.Core.Path.{refl}
 use Rattle.locks.specs.declared.StepName.the-variants as name
-use Rattle.protocol.specs.Lent.{first-lent, second-lent}
 use Rattle.layout.specs.Laws.Kept.{left-kept}
 use Rattle.edits.specs.Rows.{stepped}
 use Rattle.tree.specs.Steps.{C}
@@ -13,24 +12,45 @@ use Rattle.read_steps.proofs.child.Statement.{statement}
 use Rattle.read_steps.proofs.child.Tie as tie
 
 returns : tie.Need-returns
-returns c = step-stopped name.C (C _ _) refl (c .before .before .before .before .before .admit .ensures) (none-first _) (c .before .before .before .before .needed .ensures) (c .before .before .judge .ensures) (c .if1 .taken) no-room .performed
+returns c =
+    let at-judge = c .before .before in
+    let at-needed = at-judge .before .before in
+    let at-admit = at-needed .before in
+    step-stopped name.C (C _ _) refl (at-admit .admit .ensures) (none-first _) (at-needed .needed .ensures) (at-judge .judge .ensures)
+    (c .if1 .taken) no-room .performed
 
 kth-child-requires : tie.Need-kth-child-requires
-kth-child-requires c κs = 
-    let f = step-free name.C (C _ 0) refl (c .before .before .before .before .before .before .admit .ensures) (none-first _) (c .before .before .before .before .before .needed .ensures) (c .before .before .before .judge .ensures) (c .before .if1 .left) in
+kth-child-requires c κs =
+    let at-judge = c .before .before .before in
+    let at-needed = at-judge .before .before in
+    let at-admit = at-needed .before in
+    let f = step-free name.C (C _ 0) refl (at-admit .admit .ensures) (none-first _) (at-needed .needed .ensures)
+    (at-judge .judge .ensures) (c .before .if1 .left) in
     (f .standing .layout, f .standing .inside)
 
 grant-requires : tie.Need-grant-requires
-grant-requires c κs = 
-    let f = step-free name.C (C _ 0) refl (c .before .before .before .before .before .before .before .before .admit .ensures) (none-first _) (c .before .before .before .before .before .before .before .needed .ensures) (c .before .before .before .before .before .judge .ensures) (c .before .before .before .if1 .left) in
+grant-requires c κs =
+    let at-if1 = c .before .before .before in
+    let at-judge = at-if1 .before .before in
+    let at-needed = at-judge .before .before in
+    let at-admit = at-needed .before in
+    let f = step-free name.C (C _ 0) refl (at-admit .admit .ensures) (none-first _) (at-needed .needed .ensures)
+    (at-judge .judge .ensures) (at-if1 .if1 .left) in
     (f .standing .layout, f .standing .low, f .standing .high, f .standing .climbed .inside)
 
 returns-2 : tie.Need-returns-2
 unfolding stepped
-returns-2 c = 
-    let f = step-free name.C (C _ _) refl (c .before .before .before .before .before .before .before .before .before .before .before .admit .ensures) (none-first _) (c .before .before .before .before .before .before .before .before .before .before .needed .ensures) (c .before .before .before .before .before .before .before .before .judge .ensures) (c .before .before .before .before .before .before .if1 .left) in
-    let left = left-kept (free-locked f (c .before .before .grant .ensures)) in
-    performed-grants (free-granted f no-room (room-left _ no-room (child-fits _ _)) left) _ (c .before .before .before .before .kth-child .ensures)
+returns-2 c =
+    let at-grant = c .before .before in
+    let at-kth-child = at-grant .before .before in
+    let at-if1 = at-kth-child .before .before in
+    let at-judge = at-if1 .before .before in
+    let at-needed = at-judge .before .before in
+    let at-admit = at-needed .before in
+    let f = step-free name.C (C _ _) refl (at-admit .admit .ensures) (none-first _) (at-needed .needed .ensures)
+    (at-judge .judge .ensures) (at-if1 .if1 .left) in
+    let left = left-kept (free-locked f (at-grant .grant .ensures)) in
+    performed-grants (free-granted f no-room (room-left _ no-room (child-fits _ _)) left) _ (at-kth-child .kth-child .ensures)
 
 pub child-spec : {M : Type 1} → statement M
 child-spec =

@@ -1,7 +1,6 @@
 use borrow.Author.Needs.{needs}
-use mathlib.Core.Path.{_≡_, refl}
+use mathlib.Core.Path.{refl}
 use Rattle.locks.specs.declared.StepName.the-variants as name
-use Rattle.protocol.specs.Lent.{first-lent, second-lent}
 use Rattle.layout.specs.Laws.Kept.{left-kept}
 use Rattle.edits.specs.Rows.{stepped}
 use Rattle.tree.specs.Steps.{TT}
@@ -12,37 +11,76 @@ use Rattle.read_steps.proofs.test_tree.Statement.{statement}
 use Rattle.read_steps.proofs.test_tree.Tie as tie
 
 returns : tie.Need-returns
-returns c = stopped-one (step-stopped name.TT (TT _) refl (c .before .before .before .before .before .admit .ensures) (none-first _) (c .before .before .before .before .needed .ensures) (c .before .before .judge .ensures) (c .if1 .taken) (room-of (c .before .before .before .before .before .before .before .before .before .args .out .now))) _
+returns c =
+    let at-judge = c .before .before in
+    let at-needed = at-judge .before .before in
+    let at-admit = at-needed .before in
+    let start = at-admit .before .before .before .before in
+    stopped-one (step-stopped name.TT (TT _) refl (at-admit .admit .ensures) (none-first _) (at-needed .needed .ensures)
+    (at-judge .judge .ensures) (c .if1 .taken) (room-of (start .args .out .now))) _
 
 select-requires : tie.Need-select-requires
-select-requires c κs = 
-    let f = step-free name.TT (TT _) refl (c .before .before .before .before .before .before .admit .ensures) (none-first _) (c .before .before .before .before .before .needed .ensures) (c .before .before .before .judge .ensures) (c .before .if1 .left) in
+select-requires c κs =
+    let at-judge = c .before .before .before in
+    let at-needed = at-judge .before .before in
+    let at-admit = at-needed .before in
+    let f = step-free name.TT (TT _) refl (at-admit .admit .ensures) (none-first _) (at-needed .needed .ensures)
+    (at-judge .judge .ensures) (c .before .if1 .left) in
     (f .standing .layout, f .standing .inside)
 
 returns-2 : tie.Need-returns-2
-returns-2 c = 
-    let out = c .before .before .before .before .before .before .before .before .before .before .before .before .before .args .out .now in
-    let f = step-free name.TT (TT _) refl (c .before .before .before .before .before .before .before .before .before .admit .ensures) (none-first _) (c .before .before .before .before .before .before .before .before .needed .ensures) (c .before .before .before .before .before .before .judge .ensures) (c .before .before .before .before .if1 .left) in
-    stopped-one (free-refused f (room-of out) 13 (room-short _ (room-of out) (numbers-short _ (c .before .before .select .ensures) out (c .if2 .taken))) not-none) _
+returns-2 c =
+    let at-select = c .before .before in
+    let at-if1 = at-select .before .before in
+    let at-judge = at-if1 .before .before in
+    let at-needed = at-judge .before .before in
+    let at-admit = at-needed .before in
+    let start = at-admit .before .before .before .before in
+    let out = start .args .out .now in
+    let f = step-free name.TT (TT _) refl (at-admit .admit .ensures) (none-first _) (at-needed .needed .ensures)
+    (at-judge .judge .ensures) (at-if1 .if1 .left) in
+    stopped-one (free-refused f (room-of out) 13 (room-short _ (room-of out)
+    (numbers-short _ (at-select .select .ensures) out (c .if2 .taken))) not-none) _
 
 numbers-requires : tie.Need-numbers-requires
-numbers-requires c κs = 
-    let f = step-free name.TT (TT _) refl (c .before .before .before .before .before .before .before .before .before .before .before .admit .ensures) (none-first _) (c .before .before .before .before .before .before .before .before .before .before .needed .ensures) (c .before .before .before .before .before .before .before .before .judge .ensures) (c .before .before .before .before .before .before .if1 .left) in
-    (f .standing .layout, c .before .before .before .before .select .ensures .inside, search needs)
+numbers-requires c κs =
+    let at-select = c .before .before .before .before in
+    let at-if1 = at-select .before .before in
+    let at-judge = at-if1 .before .before in
+    let at-needed = at-judge .before .before in
+    let at-admit = at-needed .before in
+    let f = step-free name.TT (TT _) refl (at-admit .admit .ensures) (none-first _) (at-needed .needed .ensures)
+    (at-judge .judge .ensures) (at-if1 .if1 .left) in
+    (f .standing .layout, at-select .select .ensures .inside, search needs)
 
 grant-requires : tie.Need-grant-requires
-grant-requires c κs = 
-    let f = step-free name.TT (TT _) refl (c .before .before .before .before .before .before .before .before .before .before .before .before .before .before .before .admit .ensures) (none-first _) (c .before .before .before .before .before .before .before .before .before .before .before .before .before .before .needed .ensures) (c .before .before .before .before .before .before .before .before .before .before .before .before .judge .ensures) (c .before .before .before .before .before .before .before .before .before .before .if1 .left) in
+grant-requires c κs =
+    let at-if1 = c .before .before .before .before .before .before .before .before .before .before in
+    let at-judge = at-if1 .before .before in
+    let at-needed = at-judge .before .before in
+    let at-admit = at-needed .before in
+    let f = step-free name.TT (TT _) refl (at-admit .admit .ensures) (none-first _) (at-needed .needed .ensures)
+    (at-judge .judge .ensures) (at-if1 .if1 .left) in
     (f .standing .layout, f .standing .low, f .standing .high, f .standing .climbed .inside)
 
 returns-3 : tie.Need-returns-3
 unfolding stepped
-returns-3 c = 
-    let out = c .before .before .before .before .before .before .before .before .before .before .before .before .before .before .before .before .before .before .before .before .before .before .before .args .out .now in
-    let f = step-free name.TT (TT _) refl (c .before .before .before .before .before .before .before .before .before .before .before .before .before .before .before .before .before .before .before .admit .ensures) (none-first _) (c .before .before .before .before .before .before .before .before .before .before .before .before .before .before .before .before .before .before .needed .ensures) (c .before .before .before .before .before .before .before .before .before .before .before .before .before .before .before .before .judge .ensures) (c .before .before .before .before .before .before .before .before .before .before .before .before .before .before .if1 .left) in
-    let fits = room-left _ (room-of out) (numbers-fit _ (c .before .before .before .before .before .before .before .before .before .before .before .before .select .ensures) out (c .before .before .before .before .before .before .before .before .before .before .if2 .left)) in
-    let granted = free-granted f (room-of out) fits (left-kept (free-locked f (c .before .before .before .grant .ensures))) in
-    numbers-granted _ (c .before .before .before .before .before .before .before .before .before .before .before .before .select .ensures) (c .before .before .before .before .before .before .before .numbers .ensures) granted
+returns-3 c =
+    let at-grant = c .before .before .before in
+    let at-numbers = at-grant .before .before .before .before in
+    let at-if2 = at-numbers .before .before .before in
+    let at-select = at-if2 .before .before in
+    let at-if1 = at-select .before .before in
+    let at-judge = at-if1 .before .before in
+    let at-needed = at-judge .before .before in
+    let at-admit = at-needed .before in
+    let start = at-admit .before .before .before .before in
+    let out = start .args .out .now in
+    let f = step-free name.TT (TT _) refl (at-admit .admit .ensures) (none-first _) (at-needed .needed .ensures)
+    (at-judge .judge .ensures) (at-if1 .if1 .left) in
+    let fits = room-left _ (room-of out) (numbers-fit _ (at-select .select .ensures) out (at-if2 .if2 .left)) in
+    let granted = free-granted f (room-of out) fits (left-kept (free-locked f (at-grant .grant .ensures))) in
+    numbers-granted _ (at-select .select .ensures) (at-numbers .numbers .ensures) granted
 
 pub test-tree-spec : {M : Type 1} → statement M
 test-tree-spec =

@@ -105,7 +105,8 @@ module _ (s : List ℕ) {t p : ℕ} {w : Places} (c : Selected (nodes s) t p w) 
     cells-long : length (cells (map numbered (seen s t p))) ≡ 33 * (w .count)
     cells-long = sym (ap (λ l. length (cells (map numbered l))) (c .nodes)) ∙ length-cells w h (c .inside)
 
-    pub cells-fit : 2 * (w .count) ≤ length o → 33 * (w .count) ≤ length q → has-room (cells-are (map numbered (seen s t p))) (rooms-of o q) ≡ true
+    pub cells-fit : 2 * (w .count) ≤ length o → 33 * (w .count) ≤ length q
+        → has-room (cells-are (map numbered (seen s t p))) (rooms-of o q) ≡ true
     unfolding first-lent second-lent
     cells-fit i j = fitting _ (length o) _ (length q) (omega (arith, firsts-long)) (omega (arith, cells-long))
 
@@ -117,19 +118,22 @@ module _ (s : List ℕ) {t p : ℕ} {w : Places} (c : Selected (nodes s) t p w) 
     unfolding first-lent second-lent
     cells-short-second j = short-second _ (length o) _ (length q) (omega (arith, cells-long))
 
-  numbers-filled : (o o′ : List ℕ) → o′ ≡ filled (list-bytes (map number-of (nodes-of (nodes s) w))) o → o′ ≡ filled (list-bytes (map number-of (seen s t p))) o
+  numbers-filled : (o o′ : List ℕ) → o′ ≡ filled (list-bytes (map number-of (nodes-of (nodes s) w))) o
+      → o′ ≡ filled (list-bytes (map number-of (seen s t p))) o
   numbers-filled o o′ e = e ∙ ap (λ l. filled (list-bytes (map number-of l)) o) (c .nodes)
 
   -- granted: the count, and the lent buffers
   module _ {s′ : List ℕ} {call : Call} {o o′ : List ℕ} (e : o′ ≡ filled (list-bytes (map number-of (nodes-of (nodes s) w))) o) where
-    pub numbers-granted : Grants s s′ (numbers-are (map number-of (seen s t p))) call → Performed s s′ (Count (w .count)) call × Lent first-lent s o o′ call
+    pub numbers-granted : Grants s s′ (numbers-are (map number-of (seen s t p))) call
+        → Performed s s′ (Count (w .count)) call × Lent first-lent s o o′ call
     unfolding granted-answer first-lent
     numbers-granted g = (
       performed-grants g (Count (w .count)) (ap Count (c .many ∙ sym (length-map (seen s t p) number-of))),
       lent-grants g first-lent o o′ (numbers-filled o o′ e),
     )
 
-    pub cells-granted : {q q′ : List ℕ} → q′ ≡ filled (cells (map numbered (nodes-of (nodes s) w))) q → Grants s s′ (cells-are (map numbered (seen s t p))) call
+    pub cells-granted : {q q′ : List ℕ} → q′ ≡ filled (cells (map numbered (nodes-of (nodes s) w))) q
+        → Grants s s′ (cells-are (map numbered (seen s t p))) call
         → Performed s s′ (Count (w .count)) call × Lent first-lent s o o′ call × Lent second-lent s q q′ call
     unfolding granted-answer first-lent second-lent
     cells-granted {q} {q′} i g = (
@@ -138,7 +142,8 @@ module _ (s : List ℕ) {t p : ℕ} {w : Places} (c : Selected (nodes s) t p w) 
       lent-grants g second-lent q q′ (i ∙ ap (λ l. filled (cells (map numbered l)) q) (c .nodes)),
     )
 
-pub content-granted : {s s′ : List ℕ} {call : Call} {n : ℕ} {b o o′ : List ℕ} → Grants s s′ (content-is b) call → n ≡ length b → o′ ≡ filled b o
+pub content-granted : {s s′ : List ℕ} {call : Call} {n : ℕ} {b o o′ : List ℕ} → Grants s s′ (content-is b) call → n ≡ length b
+    → o′ ≡ filled b o
     → Performed s s′ (Count n) call × Lent first-lent s o o′ call
 unfolding granted-answer first-lent
 content-granted {n = n} {o = o} {o′ = o′} g e i = (performed-grants g (Count n) (ap Count e), lent-grants g first-lent o o′ i)

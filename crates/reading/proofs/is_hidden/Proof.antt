@@ -1,17 +1,11 @@
-use borrow.Author.Needs.{needs}
 use native.Mathlib.Omega.{arith}
 use borrow.Author.Tests.{lt-ltb}
-use Prim.Native.Nat.{_<_}
 use Rattle.reading.proofs.is_hidden.Statement.{statement}
 use Rattle.reading.proofs.is_hidden.Tie as tie
-use Rattle.reading.proofs.is_hidden.Reads as reads
-use Rattle.reading.proofs.is_hidden.Lts as lts
 
--- src/lib.rt:64:9
 returns : tie.Need-returns
 returns c = rw (c .if1 .taken)
 
--- src/lib.rt:60:1
 returns-2 : tie.Need-returns-2
 returns-2 c = rw (lt-ltb 0 (c .before .args .hidden) (omega (arith, c .if1 .left)))
 

@@ -55,7 +55,8 @@ written-start f w l places o = record { long = refl; size = omega arith; bytes =
 
 module _ {f : Marked → List ℕ} {w : ℕ} {l : List Entry} {places : List ℕ} {j : ℕ} {o out : List ℕ} (c : Written f w l places j o out) where
   -- the next piece
-  pub written-more : {out′ : List ℕ} (i : ℕ) → i ≡ getD places j 0 → j < length places → length (f (item l i)) ≡ w → out′ ≡ sets out (w * j) (f (item l i))
+  pub written-more : {out′ : List ℕ} (i : ℕ) → i ≡ getD places j 0 → j < length places → length (f (item l i)) ≡ w
+      → out′ ≡ sets out (w * j) (f (item l i))
       → Written f w l places (j + 1) o out′
   unfolding pieces
   written-more {out′} i v h n q =

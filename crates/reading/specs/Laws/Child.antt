@@ -16,7 +16,8 @@ use Rattle.protocol.specs.declared.Answer.the-variants.{Child, NoChild}
 use Rattle.layout.specs.Layout.{Entry}
 use Rattle.lookup.specs.Places.{depth, item, children-from, children}
 use Rattle.lookup.specs.Found.{kth-child}
-use Rattle.lookup.specs.Laws.Children.{child-found, child-deleted, child-passed, child-left, child-end, kth-zero, kth-none, kth-first, kth-later}
+use Rattle.lookup.specs.Laws.Children.{child-found, child-deleted, child-passed, child-left, child-end, kth-zero}
+use Rattle.lookup.specs.Laws.Children.{kth-none, kth-first, kth-later}
 
 -- the rows from i on are still to be looked at, and the left-th child among them is the k-th of all
 pub record Counting (t : ℕ) (l : List Entry) (p k e left i : ℕ) : Type 0 where
@@ -48,7 +49,12 @@ module _ {t : ℕ} {l : List Entry} {p k e left i : ℕ} (c : Counting t l p k e
 
     -- below a child
     pub counting-passed : 1 < d - e → Counting t l p k e left (i + 1)
-    counting-passed q = record { some = c .some; behind = omega arith; rest = c .rest ∙ ap (kth-child left) (child-passed t l e i h (omega (arith, v))) }
+    counting-passed q = record {
+      some = c .some;
+      behind = omega arith;
+      rest = c .rest
+          ∙ ap (kth-child left) (child-passed t l e i h (omega (arith, v)));
+    }
 
     -- a child; x is who deleted it
     module _ {x : ℕ} (b : e < d) (a : d - e ≤ 1) (w : x ≡ item l i .deleter) where
@@ -56,7 +62,8 @@ module _ {t : ℕ} {l : List Entry} {p k e left i : ℕ} (c : Counting t l p k e
       counting-deleted q = record {
         some = c .some;
         behind = omega arith;
-        rest = c .rest ∙ ap (kth-child left) (child-deleted t l e i h (omega (arith, v)) (ap not (eq-eqb (item l i .deleter) t (sym w ∙ q))));
+        rest = c .rest ∙ ap (kth-child left) (child-deleted t l e i h (omega (arith, v)) (ap not (eq-eqb (item l i .deleter) t (sym w
+            ∙ q))));
       }
 
       seen-child : (x ≡ t → ⊥) → children-from t e (drop i l) ≡ item l i ∷ children-from t e (drop (i + 1) l)
@@ -65,7 +72,15 @@ module _ {t : ℕ} {l : List Entry} {p k e left i : ℕ} (c : Counting t l p k e
       pub counting-found : (x ≡ t → ⊥) → left ≡ 1 → {kind number : ℕ} → kind ≡ item l i .now .kind → number ≡ item l i .now .number
           → Child kind number ≡ granted-answer (kth-child k (children t l p))
       unfolding granted-answer
-      counting-found q z {kind} {number} f g = rw (c .rest, seen-child q, z, kth-first (item l i) (children-from t e (drop (i + 1) l)), f, g)
+      counting-found q z {kind} {number} f g = rw (
+        c .rest,
+        seen-child q,
+        z,
+        kth-first (item l i)
+            (children-from t e (drop (i + 1) l)),
+        f,
+        g,
+      )
 
       pub counting-later : (x ≡ t → ⊥) → (left ≡ 1 → ⊥) → Counting t l p k e (left - 1) (i + 1)
       counting-later q z = record {

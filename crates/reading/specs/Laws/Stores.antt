@@ -44,16 +44,19 @@ sets-at o k (x ∷ b) (suc j) h n =
     rw e (sets-at (set o k x) (suc k) b j (omega arith) (rw length-set (omega arith)))
 
 -- what a loop over bytes leaves
-pub filled-sets : {k n : ℕ} {v : ℕ → ℕ} {o o′ : List ℕ} (b : List ℕ) → Filled k n v o o′ → length b ≡ n → ((j : ℕ) → j < n → getD b j 0 ≡ v j)
+pub filled-sets : {k n : ℕ} {v : ℕ → ℕ} {o o′ : List ℕ} (b : List ℕ) → Filled k n v o o′ → length b ≡ n
+    → ((j : ℕ) → j < n → getD b j 0 ≡ v j)
     → k + n ≤ length o → o′ ≡ sets o k b
-filled-sets {k} {n} {v} {o} {o′} b f e h m = ext-getD 0 o′ (sets o k b) (f .only .long ∙ sym (length-sets o k b)) (λ i l. go i (ltb i k) refl)
+filled-sets {k} {n} {v} {o} {o′} b f e h m = ext-getD 0 o′ (sets o k b) (f .only .long
+    ∙ sym (length-sets o k b)) (λ i l. go i (ltb i k) refl)
   where
     middle : (i : ℕ) → k ≤ i → (t : Bool) → leb (k + n) i ≡ t → getD o′ i 0 ≡ getD (sets o k b) i 0
     middle i q true p = let z = leb-true (k + n) i p in f .only .high i z ∙ sym (sets-high o k b i (omega (arith, e)))
     middle i q false p =
         let z = leb-false (k + n) i p in
         let y : i ≡ k + (i - k) = omega arith in
-        rw y (f .bytes (i - k) (omega arith) ∙ sym (h (i - k) (omega arith)) ∙ sym (sets-at o k b (i - k) (omega (arith, e)) (omega (arith, e))))
+        rw y (f .bytes (i - k) (omega arith) ∙ sym (h (i - k) (omega arith))
+        ∙ sym (sets-at o k b (i - k) (omega (arith, e)) (omega (arith, e))))
 
     go : (i : ℕ) (t : Bool) → ltb i k ≡ t → getD o′ i 0 ≡ getD (sets o k b) i 0
     go i true p = let z = ltb-true i k p in f .only .low i z ∙ sym (sets-low o k b i z)
@@ -66,7 +69,8 @@ pub stored-front : {b o o′ : List ℕ} → Stored 0 b o o′ → length b ≤ 
 stored-front {b} {o} c h = c .bytes ∙ sets-front o b h
 
 -- a cell: the length, the content, then zeros
-cell-sets : (o : List ℕ) (k : ℕ) (b : List ℕ) → sets (sets (set o k (length b)) (k + 1) b) (k + 1 + length b) (replicate (32 - length b) 0) ≡ sets o k (cell b)
+cell-sets : (o : List ℕ) (k : ℕ) (b : List ℕ)
+    → sets (sets (set o k (length b)) (k + 1) b) (k + 1 + length b) (replicate (32 - length b) 0) ≡ sets o k (cell b)
 cell-sets o k b = rw (add-one k) (sym (sets-append (set o k (length b)) (suc k) b (replicate (32 - length b) 0)))
 
 length-cell : {n : ℕ} (b : List ℕ) → n ≡ length b → n ≤ 32 → length (cell b) ≡ 33

@@ -75,7 +75,8 @@ module _ {l : List Entry} {t p e hidden i count : ℕ} {places : List ℕ} (c : 
       where
         go : (x : Bool) → ltb 0 hidden ≡ x → (x && leb hidden d) ≡ true → Selecting l t p e hidden (i + 1) count places
         go true z y =
-            selecting-on hidden h (seen-hidden l e i t hidden h (omega (arith, v)) (ltb-true 0 hidden z) (omega (arith, v, leb-true hidden d y)))
+            selecting-on hidden h (seen-hidden l e i t hidden h (omega (arith, v)) (ltb-true 0 hidden z)
+            (omega (arith, v, leb-true hidden d y)))
         go false z y = absurd (let w : _≡_ {A = ℕ} 0 1 = cc in omega arith)
 
     -- x is who deleted it

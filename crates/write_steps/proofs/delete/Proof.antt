@@ -1,5 +1,5 @@
 use borrow.Author.Needs.{needs}
-use mathlib.Core.Path.{_≡_, refl}
+use mathlib.Core.Path.{refl}
 use Rattle.locks.specs.declared.StepName.the-variants as name
 use Rattle.engine.specs.Contract.{no-room}
 use Rattle.engine.specs.Laws.Outcomes.{performed-grants}
@@ -20,24 +20,51 @@ judge-requires : tie.Need-judge-requires
 judge-requires c κs = ready (c .before .before .before .before .admit .ensures) (c .before .before .document-cause .ensures)
 
 returns : tie.Need-returns
-returns c = step-stopped name.D (D _) refl (c .before .before .before .before .before .before .before .admit .ensures) (c .before .before .before .before .before .document-cause .ensures) (c .before .before .before .before .needed .ensures) (c .before .before .judge .ensures) (c .if1 .taken) no-room .performed
+returns c =
+    let at-judge = c .before .before in
+    let at-needed = at-judge .before .before in
+    let at-document-cause = at-needed .before in
+    let at-admit = at-document-cause .before .before in
+    step-stopped name.D (D _) refl (at-admit .admit .ensures) (at-document-cause .document-cause .ensures) (at-needed .needed .ensures)
+    (at-judge .judge .ensures) (c .if1 .taken) no-room .performed
 
 grant-requires : tie.Need-grant-requires
-grant-requires c κs = 
-    let f = step-free name.D (D _) refl (c .before .before .before .before .before .before .before .before .admit .ensures) (c .before .before .before .before .before .before .document-cause .ensures) (c .before .before .before .before .before .needed .ensures) (c .before .before .before .judge .ensures) (c .before .if1 .left) in
+grant-requires c κs =
+    let at-judge = c .before .before .before in
+    let at-needed = at-judge .before .before in
+    let at-document-cause = at-needed .before in
+    let at-admit = at-document-cause .before .before in
+    let f = step-free name.D (D _) refl (at-admit .admit .ensures) (at-document-cause .document-cause .ensures)
+    (at-needed .needed .ensures) (at-judge .judge .ensures) (c .before .if1 .left) in
     (f .standing .layout, f .standing .low, f .standing .high, f .standing .climbed .inside)
 
 set-deleter-requires : tie.Need-set-deleter-requires
-set-deleter-requires c κs = 
-    let f = step-free name.D (D _) refl (c .before .before .before .before .before .before .before .before .before .before .before .before .admit .ensures) (c .before .before .before .before .before .before .before .before .before .before .document-cause .ensures) (c .before .before .before .before .before .before .before .before .before .needed .ensures) (c .before .before .before .before .before .before .before .judge .ensures) (c .before .before .before .before .before .if1 .left) in
-    let g = free-locked f (c .before .before .before .grant .ensures) in
+set-deleter-requires c κs =
+    let at-grant = c .before .before .before in
+    let at-if1 = at-grant .before .before in
+    let at-judge = at-if1 .before .before in
+    let at-needed = at-judge .before .before in
+    let at-document-cause = at-needed .before in
+    let at-admit = at-document-cause .before .before in
+    let f = step-free name.D (D _) refl (at-admit .admit .ensures) (at-document-cause .document-cause .ensures)
+    (at-needed .needed .ensures) (at-judge .judge .ensures) (at-if1 .if1 .left) in
+    let g = free-locked f (at-grant .grant .ensures) in
     (g .layout, omega (arith, g .many, f .standing .inside))
 
 returns-2 : tie.Need-returns-2
 unfolding granted-answer first-lent second-lent stepped
-returns-2 c = 
-    let f = step-free name.D (D _) refl (c .before .before .before .before .before .before .before .before .before .before .before .before .before .before .before .admit .ensures) (c .before .before .before .before .before .before .before .before .before .before .before .before .before .document-cause .ensures) (c .before .before .before .before .before .before .before .before .before .before .before .before .needed .ensures) (c .before .before .before .before .before .before .before .before .before .before .judge .ensures) (c .before .before .before .before .before .before .before .before .if1 .left) in
-    let marked = kept-then _ (modify _ (second (deleted-by _))) (free-locked f (c .before .before .before .before .before .before .grant .ensures)) (c .before .before .set-deleter .ensures) in
+returns-2 c =
+    let at-set-deleter = c .before .before in
+    let at-grant = at-set-deleter .before .before .before .before in
+    let at-if1 = at-grant .before .before in
+    let at-judge = at-if1 .before .before in
+    let at-needed = at-judge .before .before in
+    let at-document-cause = at-needed .before in
+    let at-admit = at-document-cause .before .before in
+    let f = step-free name.D (D _) refl (at-admit .admit .ensures) (at-document-cause .document-cause .ensures)
+    (at-needed .needed .ensures) (at-judge .judge .ensures) (at-if1 .if1 .left) in
+    let marked = kept-then _ (modify _ (second (deleted-by _))) (free-locked f (at-grant .grant .ensures))
+    (at-set-deleter .set-deleter .ensures) in
     performed-grants (free-granted f no-room refl (left-kept marked)) _ refl
 
 pub delete-spec : {M : Type 1} → statement M

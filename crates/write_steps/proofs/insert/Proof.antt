@@ -1,5 +1,5 @@
 use borrow.Author.Needs.{needs}
-use mathlib.Core.Path.{_≡_, refl, ap}
+use mathlib.Core.Path.{refl, ap}
 use Rattle.locks.specs.Words.{need-words}
 use Rattle.locks.specs.declared.StepName.the-variants as name
 use Rattle.engine.specs.Contract.{no-room}
@@ -18,68 +18,192 @@ judge-requires : tie.Need-judge-requires
 judge-requires c κs = ready (c .before .before .before .before .admit .ensures) (c .before .before .insert-cause .ensures)
 
 returns : tie.Need-returns
-returns c = step-stopped name.I (I _ _ _ _ _) refl (c .before .before .before .before .before .before .before .admit .ensures) (c .before .before .before .before .before .insert-cause .ensures) (c .before .before .before .before .needed .ensures) (c .before .before .judge .ensures) (c .if1 .taken) no-room .performed
+returns c =
+    let at-judge = c .before .before in
+    let at-needed = at-judge .before .before in
+    let at-insert-cause = at-needed .before in
+    let at-admit = at-insert-cause .before .before in
+    step-stopped name.I (I _ _ _ _ _) refl (at-admit .admit .ensures) (at-insert-cause .insert-cause .ensures)
+    (at-needed .needed .ensures) (at-judge .judge .ensures) (c .if1 .taken) no-room .performed
 
 fits-requires : tie.Need-fits-requires
-fits-requires c κs = 
-    let f = step-free name.I (I (c .before .before .before .before .before .before .before .before .before .before .before .before .args .m) (c .before .before .before .before .before .before .before .before .before .before .before .before .args .kind) (c .before .before .before .before .before .before .before .before .before .before .before .before .args .b .now) _ (c .before .before .before .before .before .before .before .before .before .before .before .before .args .k)) refl (c .before .before .before .before .before .before .before .before .admit .ensures) (c .before .before .before .before .before .before .insert-cause .ensures) (c .before .before .before .before .before .needed .ensures) (c .before .before .before .judge .ensures) (c .before .if1 .left) in
+fits-requires c κs =
+    let at-judge = c .before .before .before in
+    let at-needed = at-judge .before .before in
+    let at-insert-cause = at-needed .before in
+    let at-admit = at-insert-cause .before .before in
+    let start = at-admit .before .before .before .before in
+    let f = step-free name.I (I (start .args .m) (start .args .kind) (start .args .b .now) _ (start .args .k)) refl
+    (at-admit .admit .ensures) (at-insert-cause .insert-cause .ensures) (at-needed .needed .ensures) (at-judge .judge .ensures)
+    (c .before .if1 .left) in
     (f .standing .layout, f .standing .inside)
 
 returns-2 : tie.Need-returns-2
-returns-2 c = 
-    let f = step-free name.I (I (c .before .before .before .before .before .before .before .before .before .before .before .before .before .before .args .m) (c .before .before .before .before .before .before .before .before .before .before .before .before .before .before .args .kind) (c .before .before .before .before .before .before .before .before .before .before .before .before .before .before .args .b .now) _ (c .before .before .before .before .before .before .before .before .before .before .before .before .before .before .args .k)) refl (c .before .before .before .before .before .before .before .before .before .before .admit .ensures) (c .before .before .before .before .before .before .before .before .insert-cause .ensures) (c .before .before .before .before .before .before .before .needed .ensures) (c .before .before .before .before .before .judge .ensures) (c .before .before .before .if1 .left) in
+returns-2 c =
+    let at-if1 = c .before .before .before in
+    let at-judge = at-if1 .before .before in
+    let at-needed = at-judge .before .before in
+    let at-insert-cause = at-needed .before in
+    let at-admit = at-insert-cause .before .before in
+    let start = at-admit .before .before .before .before in
+    let f = step-free name.I (I (start .args .m) (start .args .kind) (start .args .b .now) _ (start .args .k)) refl
+    (at-admit .admit .ensures) (at-insert-cause .insert-cause .ensures) (at-needed .needed .ensures) (at-judge .judge .ensures)
+    (at-if1 .if1 .left) in
     free-refused f no-room 11 (insert-misplaced f (c .before .fits2 .ensures) (not-true _ (c .if2 .taken))) (λ z. omega arith) .performed
 
 count-requires : tie.Need-count-requires
-count-requires c κs = step-free name.I (I (c .before .before .before .before .before .before .before .before .before .before .before .before .before .before .before .args .m) (c .before .before .before .before .before .before .before .before .before .before .before .before .before .before .before .args .kind) (c .before .before .before .before .before .before .before .before .before .before .before .before .before .before .before .args .b .now) _ (c .before .before .before .before .before .before .before .before .before .before .before .before .before .before .before .args .k)) refl (c .before .before .before .before .before .before .before .before .before .before .before .admit .ensures) (c .before .before .before .before .before .before .before .before .before .insert-cause .ensures) (c .before .before .before .before .before .before .before .before .needed .ensures) (c .before .before .before .before .before .before .judge .ensures) (c .before .before .before .before .if1 .left) .standing .layout
+count-requires c κs =
+    let at-if1 = c .before .before .before .before in
+    let at-judge = at-if1 .before .before in
+    let at-needed = at-judge .before .before in
+    let at-insert-cause = at-needed .before in
+    let at-admit = at-insert-cause .before .before in
+    let start = at-admit .before .before .before .before in
+    step-free name.I (I (start .args .m) (start .args .kind) (start .args .b .now) _ (start .args .k)) refl (at-admit .admit .ensures)
+    (at-insert-cause .insert-cause .ensures) (at-needed .needed .ensures) (at-judge .judge .ensures)
+    (at-if1 .if1 .left) .standing .layout
 
 returns-3 : tie.Need-returns-3
-returns-3 c = 
-    let f = step-free name.I (I (c .before .before .before .before .before .before .before .before .before .before .before .before .before .before .before .before .before .args .m) (c .before .before .before .before .before .before .before .before .before .before .before .before .before .before .before .before .before .args .kind) (c .before .before .before .before .before .before .before .before .before .before .before .before .before .before .before .before .before .args .b .now) _ (c .before .before .before .before .before .before .before .before .before .before .before .before .before .before .before .before .before .args .k)) refl (c .before .before .before .before .before .before .before .before .before .before .before .before .before .admit .ensures) (c .before .before .before .before .before .before .before .before .before .before .before .insert-cause .ensures) (c .before .before .before .before .before .before .before .before .before .before .needed .ensures) (c .before .before .before .before .before .before .before .before .judge .ensures) (c .before .before .before .before .before .before .if1 .left) in
-    let full = insert-full f (c .before .before .before .before .fits2 .ensures) (not-false _ (c .before .before .before .if2 .left)) (rw (← c .before .count .ensures) (c .if3 .taken)) in
+returns-3 c =
+    let at-if2 = c .before .before .before in
+    let at-fits2 = at-if2 .before in
+    let at-if1 = at-fits2 .before .before in
+    let at-judge = at-if1 .before .before in
+    let at-needed = at-judge .before .before in
+    let at-insert-cause = at-needed .before in
+    let at-admit = at-insert-cause .before .before in
+    let start = at-admit .before .before .before .before in
+    let f = step-free name.I (I (start .args .m) (start .args .kind) (start .args .b .now) _ (start .args .k)) refl
+    (at-admit .admit .ensures) (at-insert-cause .insert-cause .ensures) (at-needed .needed .ensures) (at-judge .judge .ensures)
+    (at-if1 .if1 .left) in
+    let full = insert-full f (at-fits2 .fits2 .ensures) (not-false _ (at-if2 .if2 .left))
+    (rw (← c .before .count .ensures) (c .if3 .taken)) in
     free-refused f no-room 12 full (λ z. omega arith) .performed
 
 new-place-requires : tie.Need-new-place-requires
-new-place-requires c κs = 
-    let f = step-free name.I (I (c .before .before .before .before .before .before .before .before .before .before .before .before .before .before .before .before .before .before .args .m) (c .before .before .before .before .before .before .before .before .before .before .before .before .before .before .before .before .before .before .args .kind) (c .before .before .before .before .before .before .before .before .before .before .before .before .before .before .before .before .before .before .args .b .now) _ (c .before .before .before .before .before .before .before .before .before .before .before .before .before .before .before .before .before .before .args .k)) refl (c .before .before .before .before .before .before .before .before .before .before .before .before .before .before .admit .ensures) (c .before .before .before .before .before .before .before .before .before .before .before .before .insert-cause .ensures) (c .before .before .before .before .before .before .before .before .before .before .before .needed .ensures) (c .before .before .before .before .before .before .before .before .before .judge .ensures) (c .before .before .before .before .before .before .before .if1 .left) in
-    (f .standing .layout, f .standing .inside, insert-counted f (c .before .before .before .before .before .fits2 .ensures) (not-false _ (c .before .before .before .before .if2 .left)))
+new-place-requires c κs =
+    let at-if2 = c .before .before .before .before in
+    let at-fits2 = at-if2 .before in
+    let at-if1 = at-fits2 .before .before in
+    let at-judge = at-if1 .before .before in
+    let at-needed = at-judge .before .before in
+    let at-insert-cause = at-needed .before in
+    let at-admit = at-insert-cause .before .before in
+    let start = at-admit .before .before .before .before in
+    let f = step-free name.I (I (start .args .m) (start .args .kind) (start .args .b .now) _ (start .args .k)) refl
+    (at-admit .admit .ensures) (at-insert-cause .insert-cause .ensures) (at-needed .needed .ensures) (at-judge .judge .ensures)
+    (at-if1 .if1 .left) in
+    (f .standing .layout, f .standing .inside, insert-counted f (at-fits2 .fits2 .ensures) (not-false _ (at-if2 .if2 .left)))
 
 depth-requires : tie.Need-depth-requires
-depth-requires c κs = 
-    let f = step-free name.I (I (c .before .before .before .before .before .before .before .before .before .before .before .before .before .before .before .before .before .before .before .before .args .m) (c .before .before .before .before .before .before .before .before .before .before .before .before .before .before .before .before .before .before .before .before .args .kind) (c .before .before .before .before .before .before .before .before .before .before .before .before .before .before .before .before .before .before .before .before .args .b .now) _ (c .before .before .before .before .before .before .before .before .before .before .before .before .before .before .before .before .before .before .before .before .args .k)) refl (c .before .before .before .before .before .before .before .before .before .before .before .before .before .before .before .before .admit .ensures) (c .before .before .before .before .before .before .before .before .before .before .before .before .before .before .insert-cause .ensures) (c .before .before .before .before .before .before .before .before .before .before .before .before .before .needed .ensures) (c .before .before .before .before .before .before .before .before .before .before .before .judge .ensures) (c .before .before .before .before .before .before .before .before .before .if1 .left) in
+depth-requires c κs =
+    let at-if1 = c .before .before .before .before .before .before .before .before .before in
+    let at-judge = at-if1 .before .before in
+    let at-needed = at-judge .before .before in
+    let at-insert-cause = at-needed .before in
+    let at-admit = at-insert-cause .before .before in
+    let start = at-admit .before .before .before .before in
+    let f = step-free name.I (I (start .args .m) (start .args .kind) (start .args .b .now) _ (start .args .k)) refl
+    (at-admit .admit .ensures) (at-insert-cause .insert-cause .ensures) (at-needed .needed .ensures) (at-judge .judge .ensures)
+    (at-if1 .if1 .left) in
     (f .standing .layout, f .standing .inside)
 
 grant-requires : tie.Need-grant-requires
-grant-requires c κs = 
-    let f = step-free name.I (I (c .before .before .before .before .before .before .before .before .before .before .before .before .before .before .before .before .before .before .before .before .before .before .args .m) (c .before .before .before .before .before .before .before .before .before .before .before .before .before .before .before .before .before .before .before .before .before .before .args .kind) (c .before .before .before .before .before .before .before .before .before .before .before .before .before .before .before .before .before .before .before .before .before .before .args .b .now) _ (c .before .before .before .before .before .before .before .before .before .before .before .before .before .before .before .before .before .before .before .before .before .before .args .k)) refl (c .before .before .before .before .before .before .before .before .before .before .before .before .before .before .before .before .before .before .admit .ensures) (c .before .before .before .before .before .before .before .before .before .before .before .before .before .before .before .before .insert-cause .ensures) (c .before .before .before .before .before .before .before .before .before .before .before .before .before .before .before .needed .ensures) (c .before .before .before .before .before .before .before .before .before .before .before .before .before .judge .ensures) (c .before .before .before .before .before .before .before .before .before .before .before .if1 .left) in
+grant-requires c κs =
+    let at-if1 = c .before .before .before .before .before .before .before .before .before .before .before in
+    let at-judge = at-if1 .before .before in
+    let at-needed = at-judge .before .before in
+    let at-insert-cause = at-needed .before in
+    let at-admit = at-insert-cause .before .before in
+    let start = at-admit .before .before .before .before in
+    let f = step-free name.I (I (start .args .m) (start .args .kind) (start .args .b .now) _ (start .args .k)) refl
+    (at-admit .admit .ensures) (at-insert-cause .insert-cause .ensures) (at-needed .needed .ensures) (at-judge .judge .ensures)
+    (at-if1 .if1 .left) in
     (f .standing .layout, f .standing .low, f .standing .high, f .standing .climbed .inside)
 
 add-put : tie.Need-add-put
-add-put c = omega (arith, c .before .before .before .before .before .depth .ensures, standing-depth (step-free name.I (I (c .before .before .before .before .before .before .before .before .before .before .before .before .before .before .before .before .before .before .before .before .before .before .before .before .before .before .args .m) (c .before .before .before .before .before .before .before .before .before .before .before .before .before .before .before .before .before .before .before .before .before .before .before .before .before .before .args .kind) (c .before .before .before .before .before .before .before .before .before .before .before .before .before .before .before .before .before .before .before .before .before .before .before .before .before .before .args .b .now) _ (c .before .before .before .before .before .before .before .before .before .before .before .before .before .before .before .before .before .before .before .before .before .before .before .before .before .before .args .k)) refl (c .before .before .before .before .before .before .before .before .before .before .before .before .before .before .before .before .before .before .before .before .before .before .admit .ensures) (c .before .before .before .before .before .before .before .before .before .before .before .before .before .before .before .before .before .before .before .before .insert-cause .ensures) (c .before .before .before .before .before .before .before .before .before .before .before .before .before .before .before .before .before .before .before .needed .ensures) (c .before .before .before .before .before .before .before .before .before .before .before .before .before .before .before .before .before .judge .ensures) (c .before .before .before .before .before .before .before .before .before .before .before .before .before .before .before .if1 .left) .standing))
+add-put c =
+    let at-depth = c .before .before .before .before .before in
+    let at-if1 = at-depth .before .before .before .before .before .before .before .before .before .before in
+    let at-judge = at-if1 .before .before in
+    let at-needed = at-judge .before .before in
+    let at-insert-cause = at-needed .before in
+    let at-admit = at-insert-cause .before .before in
+    let start = at-admit .before .before .before .before in
+    omega (
+      arith,
+      at-depth .depth .ensures,
+      standing-depth (step-free name.I
+          (I (start .args .m) (start .args .kind) (start .args .b .now) _ (start .args .k)) refl (at-admit .admit .ensures)
+          (at-insert-cause .insert-cause .ensures) (at-needed .needed .ensures) (at-judge .judge .ensures) (at-if1 .if1 .left) .standing),
+    )
 
 cast-put : tie.Need-cast-put
-cast-put c = omega (arith, kind-small _ _ (not-false _ (free-fits (step-free name.I (I (c .before .before .before .before .before .before .before .before .before .before .before .before .before .before .before .before .before .before .before .before .before .before .before .before .before .before .args .m) (c .before .before .before .before .before .before .before .before .before .before .before .before .before .before .before .before .before .before .before .before .before .before .before .before .before .before .args .kind) (c .before .before .before .before .before .before .before .before .before .before .before .before .before .before .before .before .before .before .before .before .before .before .before .before .before .before .args .b .now) _ (c .before .before .before .before .before .before .before .before .before .before .before .before .before .before .before .before .before .before .before .before .before .before .before .before .before .before .args .k)) refl (c .before .before .before .before .before .before .before .before .before .before .before .before .before .before .before .before .before .before .before .before .before .before .admit .ensures) (c .before .before .before .before .before .before .before .before .before .before .before .before .before .before .before .before .before .before .before .before .insert-cause .ensures) (c .before .before .before .before .before .before .before .before .before .before .before .before .before .before .before .before .before .before .before .needed .ensures) (c .before .before .before .before .before .before .before .before .before .before .before .before .before .before .before .before .before .judge .ensures) (c .before .before .before .before .before .before .before .before .before .before .before .before .before .before .before .if1 .left)) .1)))
+cast-put c =
+    let at-if1 = c .before .before .before .before .before .before .before .before .before .before .before .before .before .before .before
+    in
+    let at-judge = at-if1 .before .before in
+    let at-needed = at-judge .before .before in
+    let at-insert-cause = at-needed .before in
+    let at-admit = at-insert-cause .before .before in
+    let start = at-admit .before .before .before .before in
+    omega (
+      arith,
+      kind-small _ _ (not-false _ (free-fits (step-free name.I
+          (I (start .args .m) (start .args .kind) (start .args .b .now) _ (start .args .k)) refl (at-admit .admit .ensures)
+          (at-insert-cause .insert-cause .ensures) (at-needed .needed .ensures) (at-judge .judge .ensures) (at-if1 .if1 .left)) .1)),
+    )
 
 put-requires : tie.Need-put-requires
 unfolding need-words
-put-requires c κs = 
-    let f = step-free name.I (I (c .before .before .before .before .before .before .before .before .before .before .before .before .before .before .before .before .before .before .before .before .before .before .before .before .before .before .args .m) (c .before .before .before .before .before .before .before .before .before .before .before .before .before .before .before .before .before .before .before .before .before .before .before .before .before .before .args .kind) (c .before .before .before .before .before .before .before .before .before .before .before .before .before .before .before .before .before .before .before .before .before .before .before .before .before .before .args .b .now) _ (c .before .before .before .before .before .before .before .before .before .before .before .before .before .before .before .before .before .before .before .before .before .before .before .before .before .before .args .k)) refl (c .before .before .before .before .before .before .before .before .before .before .before .before .before .before .before .before .before .before .before .before .before .before .admit .ensures) (c .before .before .before .before .before .before .before .before .before .before .before .before .before .before .before .before .before .before .before .before .insert-cause .ensures) (c .before .before .before .before .before .before .before .before .before .before .before .before .before .before .before .before .before .before .before .needed .ensures) (c .before .before .before .before .before .before .before .before .before .before .before .before .before .before .before .before .before .judge .ensures) (c .before .before .before .before .before .before .before .before .before .before .before .before .before .before .before .if1 .left) in
-    let g = free-locked f (c .before .before .before .grant .ensures) in (
+put-requires c κs =
+    let at-grant = c .before .before .before in
+    let at-new-place = at-grant .before .before .before .before in
+    let at-if3 = at-new-place .before .before in
+    let at-count = at-if3 .before in
+    let at-if1 = at-count .before .before .before .before .before in
+    let at-judge = at-if1 .before .before in
+    let at-needed = at-judge .before .before in
+    let at-insert-cause = at-needed .before in
+    let at-admit = at-insert-cause .before .before in
+    let start = at-admit .before .before .before .before in
+    let f = step-free name.I (I (start .args .m) (start .args .kind) (start .args .b .now) _ (start .args .k)) refl
+    (at-admit .admit .ensures) (at-insert-cause .insert-cause .ensures) (at-needed .needed .ensures) (at-judge .judge .ensures)
+    (at-if1 .if1 .left) in
+    let g = free-locked f (at-grant .grant .ensures) in (
       g .layout,
-      omega (arith, g .many, c .before .before .before .before .before .before .before .before .before .before .count .ensures, c .before .before .before .before .before .before .before .before .before .if3 .left),
-      omega (arith, g .many, c .before .before .before .before .before .before .before .new-place .ensures .1),
+      omega (arith, g .many, at-count .count .ensures, at-if3 .if3 .left),
+      omega (arith, g .many, at-new-place .new-place .ensures .1),
       allowed-short _ _ (not-false _ (free-fits f .1)),
       f .standing .low,
       f .standing .high,
-      ap (λ z. z .fresh) (c .before .before .before .before .before .before .before .before .before .before .before .before .before .before .before .before .before .before .before .needed .ensures),
+      ap (λ z. z .fresh) (at-needed .needed .ensures),
     )
 
 returns-4 : tie.Need-returns-4
 unfolding granted-answer
-returns-4 c = 
-    let f = step-free name.I (I (c .before .before .before .before .before .before .before .before .before .before .before .before .before .before .before .before .before .before .before .before .before .before .before .before .before .before .before .before .before .args .m) (c .before .before .before .before .before .before .before .before .before .before .before .before .before .before .before .before .before .before .before .before .before .before .before .before .before .before .before .before .before .args .kind) (c .before .before .before .before .before .before .before .before .before .before .before .before .before .before .before .before .before .before .before .before .before .before .before .before .before .before .before .before .before .args .b .now) _ (c .before .before .before .before .before .before .before .before .before .before .before .before .before .before .before .before .before .before .before .before .before .before .before .before .before .before .before .before .before .args .k)) refl (c .before .before .before .before .before .before .before .before .before .before .before .before .before .before .before .before .before .before .before .before .before .before .before .before .before .admit .ensures) (c .before .before .before .before .before .before .before .before .before .before .before .before .before .before .before .before .before .before .before .before .before .before .before .insert-cause .ensures) (c .before .before .before .before .before .before .before .before .before .before .before .before .before .before .before .before .before .before .before .before .before .before .needed .ensures) (c .before .before .before .before .before .before .before .before .before .before .before .before .before .before .before .before .before .before .before .before .judge .ensures) (c .before .before .before .before .before .before .before .before .before .before .before .before .before .before .before .before .before .before .if1 .left) in
-    let spare = insert-spare f (c .before .before .before .before .before .before .before .before .before .before .before .before .before .before .before .before .fits2 .ensures) (not-false _ (c .before .before .before .before .before .before .before .before .before .before .before .before .before .before .before .if2 .left)) (rw (← c .before .before .before .before .before .before .before .before .before .before .before .before .before .count .ensures) (c .before .before .before .before .before .before .before .before .before .before .before .before .if3 .left)) in
-    let left = insert-left f _ _ (c .before .before .before .before .before .before .before .before .before .before .new-place .ensures .0) (c .before .before .before .before .before .before .before .before .depth .ensures) (c .before .before .before .before .before .before .grant .ensures) (c .before .before .put .ensures) in
+returns-4 c =
+    let at-put = c .before .before in
+    let at-grant = at-put .before .before .before .before in
+    let at-depth = at-grant .before .before in
+    let at-new-place = at-depth .before .before in
+    let at-if3 = at-new-place .before .before in
+    let at-count = at-if3 .before in
+    let at-if2 = at-count .before .before in
+    let at-fits2 = at-if2 .before in
+    let at-if1 = at-fits2 .before .before in
+    let at-judge = at-if1 .before .before in
+    let at-needed = at-judge .before .before in
+    let at-insert-cause = at-needed .before in
+    let at-admit = at-insert-cause .before .before in
+    let start = at-admit .before .before .before .before in
+    let f = step-free name.I (I (start .args .m) (start .args .kind) (start .args .b .now) _ (start .args .k)) refl
+    (at-admit .admit .ensures) (at-insert-cause .insert-cause .ensures) (at-needed .needed .ensures) (at-judge .judge .ensures)
+    (at-if1 .if1 .left) in
+    let spare = insert-spare f (at-fits2 .fits2 .ensures) (not-false _ (at-if2 .if2 .left))
+    (rw (← at-count .count .ensures) (at-if3 .if3 .left)) in
+    let left = insert-left f _ _ (at-new-place .new-place .ensures .0) (at-depth .depth .ensures) (at-grant .grant .ensures)
+    (at-put .put .ensures) in
     performed-grants (free-granted f no-room spare left) _ refl
 
 pub insert-spec : {M : Type 1} → statement M

@@ -1,5 +1,5 @@
 use borrow.Author.Needs.{needs}
-use mathlib.Core.Path.{_≡_, refl}
+use mathlib.Core.Path.{refl}
 use Rattle.locks.specs.declared.StepName.the-variants as name
 use Rattle.engine.specs.Contract.{no-room}
 use Rattle.engine.specs.Laws.Outcomes.{performed-grants}
@@ -22,29 +22,63 @@ judge-requires : tie.Need-judge-requires
 judge-requires c κs = ready (c .before .before .before .admit .ensures) (c .before .before .rename-cause .ensures)
 
 returns : tie.Need-returns
-returns c = step-stopped name.UU (UU _ _ _) refl (c .before .before .before .before .before .before .admit .ensures) (c .before .before .before .before .before .rename-cause .ensures) (c .before .before .before .before .needed .ensures) (c .before .before .judge .ensures) (c .if1 .taken) no-room .performed
+returns c =
+    let at-judge = c .before .before in
+    let at-needed = at-judge .before .before in
+    let at-rename-cause = at-needed .before in
+    let at-admit = at-rename-cause .before in
+    step-stopped name.UU (UU _ _ _) refl (at-admit .admit .ensures) (at-rename-cause .rename-cause .ensures) (at-needed .needed .ensures)
+    (at-judge .judge .ensures) (c .if1 .taken) no-room .performed
 
 grant-requires : tie.Need-grant-requires
-grant-requires c κs = 
-    let args = c .before .before .before .before .before .before .before .before .before .before .before .before .args in
-    let f = step-free name.UU (UU _ (args .a .now) (args .b .now)) refl (c .before .before .before .before .before .before .before .admit .ensures) (c .before .before .before .before .before .before .rename-cause .ensures) (c .before .before .before .before .before .needed .ensures) (c .before .before .before .judge .ensures) (c .before .if1 .left) in
+grant-requires c κs =
+    let at-judge = c .before .before .before in
+    let at-needed = at-judge .before .before in
+    let at-rename-cause = at-needed .before in
+    let at-admit = at-rename-cause .before in
+    let start = at-admit .before .before .before .before .before in
+    let args = start .args in
+    let f = step-free name.UU (UU _ (args .a .now) (args .b .now)) refl (at-admit .admit .ensures)
+    (at-rename-cause .rename-cause .ensures) (at-needed .needed .ensures) (at-judge .judge .ensures) (c .before .if1 .left) in
     (f .standing .layout, f .standing .low, f .standing .high, f .standing .climbed .inside)
 
 rename-below-requires : tie.Need-rename-below-requires
-rename-below-requires c κs = 
-    let args = c .before .before .before .before .before .before .before .before .before .before .before .before .before .before .before .before .args in
-    let f = step-free name.UU (UU _ (args .a .now) (args .b .now)) refl (c .before .before .before .before .before .before .before .before .before .before .before .admit .ensures) (c .before .before .before .before .before .before .before .before .before .before .rename-cause .ensures) (c .before .before .before .before .before .before .before .before .before .needed .ensures) (c .before .before .before .before .before .before .before .judge .ensures) (c .before .before .before .before .before .if1 .left) in
-    let g = free-locked f (c .before .before .before .grant .ensures) in
-    (g .layout, omega (arith, g .many, f .standing .inside), name-short (args .b .now) (and-right (is-name (args .a .now)) (is-name (args .b .now)) (not-false _ (free-fits f .1))), f .standing .low)
+rename-below-requires c κs =
+    let at-grant = c .before .before .before in
+    let at-if1 = at-grant .before .before in
+    let at-judge = at-if1 .before .before in
+    let at-needed = at-judge .before .before in
+    let at-rename-cause = at-needed .before in
+    let at-admit = at-rename-cause .before in
+    let start = at-admit .before .before .before .before .before in
+    let args = start .args in
+    let f = step-free name.UU (UU _ (args .a .now) (args .b .now)) refl (at-admit .admit .ensures)
+    (at-rename-cause .rename-cause .ensures) (at-needed .needed .ensures) (at-judge .judge .ensures) (at-if1 .if1 .left) in
+    let g = free-locked f (at-grant .grant .ensures) in (
+      g .layout,
+      omega (arith, g .many, f .standing .inside),
+      name-short (args .b .now)
+          (and-right (is-name (args .a .now)) (is-name (args .b .now)) (not-false _ (free-fits f .1))),
+      f .standing .low,
+    )
 
 returns-2 : tie.Need-returns-2
 unfolding granted-answer first-lent second-lent stepped
-returns-2 c = 
-    let args = c .before .before .before .before .before .before .before .before .before .before .before .before .before .before .before .before .before .before .before .args in
-    let f = step-free name.UU (UU _ (args .a .now) (args .b .now)) refl (c .before .before .before .before .before .before .before .before .before .before .before .before .before .before .admit .ensures) (c .before .before .before .before .before .before .before .before .before .before .before .before .before .rename-cause .ensures) (c .before .before .before .before .before .before .before .before .before .before .before .before .needed .ensures) (c .before .before .before .before .before .before .before .before .before .before .judge .ensures) (c .before .before .before .before .before .before .before .before .if1 .left) in
-    let below = c .before .before .rename-below .ensures in
-    let renamed = kept-then _ (renamed-rows _ _ _ _) (free-locked f (c .before .before .before .before .before .before .grant .ensures)) (below .kept) in
-    performed-grants (free-granted f no-room refl (left-kept renamed)) _ (rw (named-locked f (c .before .before .before .before .before .before .grant .ensures) (below .hits)))
+returns-2 c =
+    let at-rename-below = c .before .before in
+    let at-grant = at-rename-below .before .before .before .before in
+    let at-if1 = at-grant .before .before in
+    let at-judge = at-if1 .before .before in
+    let at-needed = at-judge .before .before in
+    let at-rename-cause = at-needed .before in
+    let at-admit = at-rename-cause .before in
+    let start = at-admit .before .before .before .before .before in
+    let args = start .args in
+    let f = step-free name.UU (UU _ (args .a .now) (args .b .now)) refl (at-admit .admit .ensures)
+    (at-rename-cause .rename-cause .ensures) (at-needed .needed .ensures) (at-judge .judge .ensures) (at-if1 .if1 .left) in
+    let below = at-rename-below .rename-below .ensures in
+    let renamed = kept-then _ (renamed-rows _ _ _ _) (free-locked f (at-grant .grant .ensures)) (below .kept) in
+    performed-grants (free-granted f no-room refl (left-kept renamed)) _ (rw (named-locked f (at-grant .grant .ensures) (below .hits)))
 
 pub rename-tree-spec : {M : Type 1} → statement M
 rename-tree-spec =

@@ -11,18 +11,15 @@ use borrow.Author.Tests.{le-leb, lt-leb, leb-true, eqb-true}
 use Rattle.tree.specs.Content.{between}
 use Rattle.tree.specs.Steps.{I, placed}
 use Rattle.tree.specs.Laws.Tests.{and-left, and-right}
-use Rattle.locks.specs.Needs.{need}
-use Rattle.locks.specs.Words.{step-named}
 use Rattle.locks.specs.declared.NeedWords.{NeedWords}
-use Rattle.locks.specs.declared.StepName.the-variants as name
-use Rattle.protocol.specs.State.{inserted-by}
 use Rattle.protocol.specs.Lent.{first-lent, second-lent}
 use Rattle.layout.specs.Lists.{insert}
-use Rattle.layout.specs.Layout.{Entry, nodes, Left, Kept, header}
+use Rattle.layout.specs.Layout.{Entry, nodes, Left, header}
 use Rattle.layout.specs.Laws.Kept.{left-kept, left-as, then-left}
 use Rattle.lookup.specs.Places.{depth, item, children}
 use Rattle.lookup.specs.Found.{kind-of}
-use Rattle.edits.specs.Rows.{granted-modes, granted-up, new-place, stepped}
+use Rattle.edits.specs.Rows.{new-place, stepped}
+use Rattle.writing.specs.Writing.{new-node}
 use Rattle.form.specs.Form.{valid, valid-document, valid-below, valid-rows}
 use Rattle.form.specs.Laws.Rows.{between-high}
 use Rattle.form.specs.Laws.Holds.{form-parts}
@@ -47,7 +44,11 @@ depth-below before (x ∷ l) (suc i) h k =
 depth-small : (l : List Entry) (i : ℕ) → valid-rows l ≡ true → i < length l → depth l i ≤ i
 unfolding valid-rows
 depth-small [] i h k = absurd (omega arith)
-depth-small (x ∷ l) zero h k = omega (arith, eqb-true (x .0) 0 (and-left (eqb (x .0) 0) _ (and-left (eqb (x .0) 0 && valid-document (x .1)) _ h)))
+depth-small (x ∷ l) zero h k = omega (
+  arith,
+  eqb-true (x .0) 0
+      (and-left (eqb (x .0) 0) _ (and-left (eqb (x .0) 0 && valid-document (x .1)) _ h)),
+)
 depth-small (x ∷ l) (suc i) h k = omega (arith, depth-below 0 l i (and-right (eqb (x .0) 0 && valid-document (x .1)) _ h) (omega arith))
 
 pub standing-depth : {s : List ℕ} {t n : ℕ} {a : Admission} → Standing s t n a → depth (nodes s) (a .place) < 1024
@@ -77,12 +78,9 @@ module _ {s : List ℕ} {t : ℕ} {a : Admission} {w : NeedWords} {m kind n k : 
   -- the rows
   pub insert-left : {s₁ s₂ : List ℕ} (q d : ℕ) → q ≡ new-place (a .t) k (a .place) (nodes s) → d ≡ depth (nodes s) (a .place)
       → Granted s s₁ (a .t) w (a .way)
-      → Left s₁ s₂ (header s₁)
-      (insert q (d + 1, granted-modes (a .t) (need (step-named name.I) .new) (inserted-by (a .t) (record { number = m; kind = kind; content = b })))
-      (nodes s₁))
+      → Left s₁ s₂ (header s₁) (insert q (d + 1, new-node (a .t) m kind b) (nodes s₁))
       → Left s s₂ (header s) (stepped (a .t) (I m kind b n k) (a .place) (nodes s))
   unfolding stepped
   insert-left q d x y g l =
-      let new : Entry =
-      (d + 1, granted-modes (a .t) (need (step-named name.I) .new) (inserted-by (a .t) (record { number = m; kind = kind; content = b }))) in
-      left-as _ _ (rw (x, y, add-one (depth (nodes s) (a .place)))) (then-left _ (insert q new) (left-kept (free-locked f g)) l)
+      left-as _ _ (rw (x, y, add-one (depth (nodes s) (a .place))))
+      (then-left _ (insert q (d + 1, new-node (a .t) m kind b)) (left-kept (free-locked f g)) l)

@@ -82,7 +82,8 @@ named-bare t p a l =
 
 named-granted : (t : ℕ) (st : Step) (p : ℕ) (a : List ℕ) (l : List Entry) → named-in t a p (granted-up t (need st) p l) ≡ named-in t a p l
 named-granted t st p a l =
-    sym (named-bare t p a (granted-up t (need st) p l)) ∙ ap (named-in t a p) (bare-granted t (need st .node) (need st .parent) (need st .above) _ l)
+    sym (named-bare t p a (granted-up t (need st) p l))
+    ∙ ap (named-in t a p) (bare-granted t (need st .node) (need st .parent) (need st .above) _ l)
     ∙ named-bare t p a l
 
 -- what was counted with the locks granted is what there was before

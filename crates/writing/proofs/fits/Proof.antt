@@ -5,15 +5,6 @@ use borrow.Author.Needs.{needs}
 use Rattle.writing.proofs.fits.Statement.{statement}
 use Rattle.writing.proofs.fits.Tie as tie
 
-kind-requires : tie.Need-kind-requires
-kind-requires c κs = search needs
-
-cast-parent : tie.Need-cast-parent
-cast-parent c = search needs
-
-tally-children-requires : tie.Need-tally-children-requires
-tally-children-requires c κs = search needs
-
 fits-among-requires : tie.Need-fits-among-requires
 fits-among-requires c κs = (c .tally-children .ensures .1, omega (arith, c .tally-children .ensures .1, c .tally-children .ensures .0 .few))
 
@@ -23,4 +14,4 @@ returns c = c .fits-among .ensures ∙ placed-counted _ _ (c .before .tally-chil
 pub fits-spec : {M : Type 1} → statement M
 fits-spec =
     tie.close
-    (tie.spec kind-requires cast-parent tally-children-requires fits-among-requires returns)
+    (tie.spec (λ c κs. search needs) (λ c. search needs) (λ c κs. search needs) fits-among-requires returns)

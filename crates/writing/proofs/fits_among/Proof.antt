@@ -1,7 +1,8 @@
 use mathlib.Core.Path.{_≡_, sym, _∙_}
 use mathlib.Core.Bool.{Bool, _&&_}
 use borrow.Author.Tests.{not-true, not-false}
-use Rattle.writing.specs.Laws.Tallies.{placed-zero, placed-far, placed-untaken, placed-only, placed-unordered, placed-behind, placed-attribute}
+use Rattle.writing.specs.Laws.Tallies.{placed-zero, placed-far, placed-untaken, placed-only, placed-unordered}
+use Rattle.writing.specs.Laws.Tallies.{placed-behind, placed-attribute}
 use borrow.Author.Needs.{needs}
 use Rattle.writing.proofs.fits_among.Statement.{statement}
 use Rattle.writing.proofs.fits_among.Tie as tie
@@ -13,17 +14,8 @@ answered t u a b e f = sym (f ∙ rw e)
 returns : tie.Need-returns
 returns c = sym (placed-zero _ _ _ _ _ _ _ (c .if1 .taken))
 
-add-if2 : tie.Need-add-if2
-add-if2 c = search needs
-
 returns-2 : tie.Need-returns-2
 returns-2 c = sym (placed-far _ _ _ _ _ _ _ (search needs))
-
-takes-requires : tie.Need-takes-requires
-takes-requires c κs = search needs
-
-both-requires : tie.Need-both-requires
-both-requires c κs = search needs
 
 returns-3 : tie.Need-returns-3
 returns-3 c =
@@ -66,9 +58,6 @@ returns-6 c =
     let allowed = answered _ _ _ _ (takes .ensures) (both .ensures) ∙ not-false _ (if3 .left) in
     sym (placed-behind _ _ _ _ _ _ _ (if1 .left) (search needs) allowed (if4 .left) (not-false _ (if5 .left)) (if6 .taken))
 
-add-result : tie.Need-add-result
-add-result c = search needs
-
 returns-7 : tie.Need-returns-7
 returns-7 c =
     let c8 = c .before .before .before .before .before .before .before .before in
@@ -87,13 +76,13 @@ fits-among-spec =
     tie.close
     (tie.spec
     returns
-    add-if2
+    (λ c. search needs)
     returns-2
-    takes-requires
-    both-requires
+    (λ c κs. search needs)
+    (λ c κs. search needs)
     returns-3
     returns-4
     returns-5
     returns-6
-    add-result
+    (λ c. search needs)
     returns-7)

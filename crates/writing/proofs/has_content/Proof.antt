@@ -16,9 +16,6 @@ Inv-loop s p a n j₀ j = same a (item (nodes s) p .now .content) ≡ same (drop
 abbrev μ-loop : tie.MeasureT-loop
 μ-loop s p a n j₀ j = length a - j
 
-size-requires : tie.Need-size-requires Inv-loop μ-loop
-size-requires c κs = search needs
-
 returns : tie.Need-returns Inv-loop μ-loop
 returns c =
     let args = c .before .before .before .before .args in
@@ -26,14 +23,11 @@ returns c =
     sym (same-long (args .a .now) (item (nodes (args .s .now)) (args .p) .now .content)
     (λ e. c .if1 .taken (size .ensures .0 ∙ e)))
 
-loop-holds : tie.Need-loop-holds Inv-loop μ-loop
-loop-holds c = refl
-
 content-requires : tie.Need-content-requires Inv-loop μ-loop
-content-requires c κs = (search needs, search needs, search needs, refl, omega (arith, c .before .before .before .size .ensures .0, c .before .before .if1 .left))
-
-shared-slice-read-if2 : tie.Need-shared-slice-read-if2 Inv-loop μ-loop
-shared-slice-read-if2 c = search needs
+content-requires c κs =
+    let at-if1 = c .before .before in
+    let at-size = at-if1 .before in
+    (search needs, search needs, search needs, refl, omega (arith, at-size .size .ensures .0, at-if1 .if1 .left))
 
 returns-2 : tie.Need-returns-2 Inv-loop μ-loop
 returns-2 c =
@@ -43,12 +37,6 @@ returns-2 c =
     let content = c .before .before .content in
     sym (same-differs _ _ (l .j) (l .inv) (sym (size .ensures .0) ∙ if1 .left) (search needs)
     (λ z. c .if2 .taken (content .ensures ∙ z)))
-
-add-j : tie.Need-add-j Inv-loop μ-loop
-add-j c = search needs
-
-loop-less : tie.Need-loop-less Inv-loop μ-loop
-loop-less c = search needs
 
 loop-again : tie.Need-loop-again Inv-loop μ-loop
 loop-again c =
@@ -71,13 +59,13 @@ has-content-spec =
     (tie.spec
     Inv-loop
     μ-loop
-    size-requires
+    (λ c κs. search needs)
     returns
-    loop-holds
+    (λ c. refl)
     content-requires
-    shared-slice-read-if2
+    (λ c. search needs)
     returns-2
-    add-j
-    loop-less
+    (λ c. search needs)
+    (λ c. search needs)
     loop-again
     returns-3)

@@ -6,17 +6,11 @@ use borrow.Author.Needs.{needs}
 use Rattle.writing.proofs.is_named.Statement.{statement}
 use Rattle.writing.proofs.is_named.Tie as tie
 
-kind-requires : tie.Need-kind-requires
-kind-requires c κs = search needs
-
 returns : tie.Need-returns
 returns c =
     let args = c .before .before .before .before .args in
     let kind = c .before .kind in
     sym (named-other (args .a .now) (item (nodes (args .s .now)) (args .p)) (λ e. c .if1 .taken (kind .ensures ∙ e)))
-
-has-content-requires : tie.Need-has-content-requires
-has-content-requires c κs = search needs
 
 returns-2 : tie.Need-returns-2
 returns-2 c =
@@ -27,4 +21,4 @@ returns-2 c =
     (named-element (args .a .now) (item (nodes (args .s .now)) (args .p)) (sym (kind .ensures) ∙ if1 .left))
 
 pub is-named-spec : {M : Type 1} → statement M
-is-named-spec = tie.close (tie.spec kind-requires returns has-content-requires returns-2)
+is-named-spec = tie.close (tie.spec (λ c κs. search needs) returns (λ c κs. search needs) returns-2)

@@ -13,34 +13,14 @@ use Rattle.writing.proofs.new_place.Statement.{statement}
 use Rattle.writing.proofs.new_place.Tie as tie
 
 abbrev Inv-loop : tie.InvT-loop
-Inv-loop s p t k m top j₀ i₀ j i = (i ≤ length (nodes s)) × Placing (seen-by t) (depth (nodes s) p) (new-place t k p (nodes s)) (nodes s) i j
+Inv-loop s p t k m top j₀ i₀ j i = (i ≤ length (nodes s)) × Placing (seen-by t) (depth (nodes s) p) (new-place t k p (nodes s))
+    (nodes s) i j
 
 abbrev μ-loop : tie.MeasureT-loop
 μ-loop s p t k m top j₀ i₀ j i = length (nodes s) - i
 
-count-requires : tie.Need-count-requires Inv-loop μ-loop
-count-requires c κs = search needs
-
-depth-requires : tie.Need-depth-requires Inv-loop μ-loop
-depth-requires c κs = search needs
-
-cast-top : tie.Need-cast-top Inv-loop μ-loop
-cast-top c = search needs
-
-sub-j : tie.Need-sub-j Inv-loop μ-loop
-sub-j c = search needs
-
-add-i : tie.Need-add-i Inv-loop μ-loop
-add-i c = search needs
-
 loop-holds : tie.Need-loop-holds Inv-loop μ-loop
 loop-holds c = (search needs, placed-start _ _ _ _)
-
-depth-requires-2 : tie.Need-depth-requires-2 Inv-loop μ-loop
-depth-requires-2 c κs = search needs
-
-cast-d : tie.Need-cast-d Inv-loop μ-loop
-cast-d c = search needs
 
 returns : tie.Need-returns Inv-loop μ-loop
 returns c =
@@ -51,15 +31,6 @@ returns c =
           (omega (arith, depth2 .ensures, depth .ensures, c .if1 .taken))),
       l .inv .0,
     )
-
-add-if2 : tie.Need-add-if2 Inv-loop μ-loop
-add-if2 c = search needs
-
-add-i-2 : tie.Need-add-i-2 Inv-loop μ-loop
-add-i-2 c = search needs
-
-loop-less : tie.Need-loop-less Inv-loop μ-loop
-loop-less c = search needs
 
 loop-again : tie.Need-loop-again Inv-loop μ-loop
 loop-again c =
@@ -83,18 +54,12 @@ returns-2 c =
       l .inv .0,
     )
 
-add-i-3 : tie.Need-add-i-3 Inv-loop μ-loop
-add-i-3 c = search needs
-
 deleter-requires : tie.Need-deleter-requires Inv-loop μ-loop
 deleter-requires c κs =
     let pre = c .before .before .before .before .before .before .before .before .before .pre in
     let count = c .before .before .before .before .before .before .before .count in
     let test = c .before .before .before .before .loop-test in
     (pre .0, omega (arith, test .taken, count .ensures))
-
-loop-less-2 : tie.Need-loop-less-2 Inv-loop μ-loop
-loop-less-2 c = search needs
 
 loop-again-2 : tie.Need-loop-again-2 Inv-loop μ-loop
 loop-again-2 c =
@@ -109,12 +74,6 @@ loop-again-2 c =
           (omega (arith, depth2 .ensures, depth .ensures, if2 .left)) (omega (arith, if3 .left))
           (rw (eq-eqb _ _ (sym (deleter .ensures) ∙ c .if4 .taken))),
     )
-
-sub-j-2 : tie.Need-sub-j-2 Inv-loop μ-loop
-sub-j-2 c = search needs
-
-loop-less-3 : tie.Need-loop-less-3 Inv-loop μ-loop
-loop-less-3 c = search needs
 
 loop-again-3 : tie.Need-loop-again-3 Inv-loop μ-loop
 loop-again-3 c =
@@ -139,25 +98,25 @@ new-place-spec =
     (tie.spec
     Inv-loop
     μ-loop
-    count-requires
-    depth-requires
-    cast-top
-    sub-j
-    add-i
+    (λ c κs. search needs)
+    (λ c κs. search needs)
+    (λ c. search needs)
+    (λ c. search needs)
+    (λ c. search needs)
     loop-holds
-    depth-requires-2
-    cast-d
+    (λ c κs. search needs)
+    (λ c. search needs)
     returns
-    add-if2
-    add-i-2
-    loop-less
+    (λ c. search needs)
+    (λ c. search needs)
+    (λ c. search needs)
     loop-again
     returns-2
-    add-i-3
+    (λ c. search needs)
     deleter-requires
-    loop-less-2
+    (λ c. search needs)
     loop-again-2
-    sub-j-2
-    loop-less-3
+    (λ c. search needs)
+    (λ c. search needs)
     loop-again-3
     returns-3)

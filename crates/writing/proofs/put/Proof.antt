@@ -9,12 +9,14 @@ use Rattle.writing.proofs.put.Statement.{statement}
 use Rattle.writing.proofs.put.Tie as tie
 
 set-lock-requires : tie.Need-set-lock-requires
-set-lock-requires c κs = (
-  c .before .before .before .insert .ensures .layout,
-  search needs,
-  search needs,
-  omega (arith, put-long _ _ (c .before .before .before .insert .ensures), c .before .before .before .before .before .before .before .pre .2),
-)
+set-lock-requires c κs =
+    let at-insert = c .before .before .before in
+    let start = at-insert .before .before .before .before in (
+      at-insert .insert .ensures .layout,
+      search needs,
+      search needs,
+      omega (arith, put-long _ _ (at-insert .insert .ensures), start .pre .2),
+    )
 
 returns : tie.Need-returns
 unfolding need-words

@@ -5,20 +5,10 @@ use borrow.Author.Needs.{needs}
 use Rattle.writing.proofs.rename.Statement.{statement}
 use Rattle.writing.proofs.rename.Tie as tie
 
-is-named-requires : tie.Need-is-named-requires
-is-named-requires c κs = search needs
-
-same-length : tie.Need-same-length
-same-length c = search needs
-
 returns : tie.Need-returns
-returns c = renamed-none _ _ _ _ (c .before .before .before .before .before .before .pre .0) (sym (c .before .is-named .ensures) ∙ not-true _ (c .if1 .taken))
-
-write-requires : tie.Need-write-requires
-write-requires c κs = search needs
-
-same-length-2 : tie.Need-same-length-2
-same-length-2 c = search needs
+returns c =
+    let start = c .before .before .before .before .before .before in
+    renamed-none _ _ _ _ (start .pre .0) (sym (c .before .is-named .ensures) ∙ not-true _ (c .if1 .taken))
 
 returns-2 : tie.Need-returns-2
 returns-2 c =
@@ -30,4 +20,4 @@ returns-2 c =
 pub rename-spec : {M : Type 1} → statement M
 rename-spec =
     tie.close
-    (tie.spec is-named-requires same-length returns write-requires same-length-2 returns-2)
+    (tie.spec (λ c κs. search needs) (λ c. search needs) returns (λ c κs. search needs) (λ c. search needs) returns-2)

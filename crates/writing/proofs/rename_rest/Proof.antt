@@ -5,7 +5,8 @@ use mathlib.Core.Path.{sym, _∙_}
 use lib.ListN.{length}
 use Rattle.layout.specs.Layout.{nodes}
 use Rattle.lookup.specs.Places.{depth}
-use Rattle.writing.specs.Laws.Renaming.{Renaming, renaming-start, renaming-end, renaming-out, renaming-hidden, renaming-unseen, renaming-seen}
+use Rattle.writing.specs.Laws.Renaming.{Renaming, renaming-start, renaming-end, renaming-out, renaming-hidden}
+use Rattle.writing.specs.Laws.Renaming.{renaming-unseen, renaming-seen}
 use Rattle.writing.proofs.rename_rest.Statement.{statement}
 use Rattle.writing.proofs.rename_rest.Tie as tie
 
@@ -14,15 +15,6 @@ Inv-loop s₀ p t a b m top hits₀ hidden₀ i₀ s hits hidden i = (i ≤ leng
 
 abbrev μ-loop : tie.MeasureT-loop
 μ-loop s₀ p t a b m top hits₀ hidden₀ i₀ s hits hidden i = length (nodes s₀) - i
-
-count-requires : tie.Need-count-requires Inv-loop μ-loop
-count-requires c κs = search needs
-
-depth-requires : tie.Need-depth-requires Inv-loop μ-loop
-depth-requires c κs = search needs
-
-add-i : tie.Need-add-i Inv-loop μ-loop
-add-i c = search needs
 
 loop-holds : tie.Need-loop-holds Inv-loop μ-loop
 loop-holds c =
@@ -36,9 +28,6 @@ depth-requires-2 c κs =
     let test = c .before .loop-test in
     (l .inv .1 .kept .layout, omega (arith, test .taken, count .ensures, l .inv .1 .kept .many))
 
-same-length : tie.Need-same-length Inv-loop μ-loop
-same-length c = search needs
-
 returns : tie.Need-returns Inv-loop μ-loop
 returns c =
     let count = c .before .before .before .before .before .before .before .count in
@@ -48,18 +37,6 @@ returns c =
     let depth2 = c .before .depth2 in
     renaming-out (l .inv .1) (omega (arith, test .taken, count .ensures, l .inv .1 .kept .many))
     (omega (arith, depth2 .ensures, depth .ensures, c .if1 .taken))
-
-add-i-2 : tie.Need-add-i-2 Inv-loop μ-loop
-add-i-2 c = search needs
-
-cast-left-out : tie.Need-cast-left-out Inv-loop μ-loop
-cast-left-out c = search needs
-
-left-out-requires : tie.Need-left-out-requires Inv-loop μ-loop
-left-out-requires c κs = search needs
-
-loop-less : tie.Need-loop-less Inv-loop μ-loop
-loop-less c = search needs
 
 loop-again : tie.Need-loop-again Inv-loop μ-loop
 loop-again c =
@@ -83,15 +60,6 @@ deleter-requires c κs =
     let l = c .before .before .before .before .before .before .before .loop in
     let test = c .before .before .before .before .before .before .loop-test in
     (l .inv .1 .kept .layout, omega (arith, test .taken, count .ensures, l .inv .1 .kept .many))
-
-cast-hidden : tie.Need-cast-hidden Inv-loop μ-loop
-cast-hidden c = search needs
-
-add-hidden : tie.Need-add-hidden Inv-loop μ-loop
-add-hidden c = search needs
-
-loop-less-2 : tie.Need-loop-less-2 Inv-loop μ-loop
-loop-less-2 c = search needs
 
 loop-again-2 : tie.Need-loop-again-2 Inv-loop μ-loop
 loop-again-2 c =
@@ -133,9 +101,6 @@ add-hits c =
     let rename = c .before .before .rename in
     omega (arith, l .inv .1 .few, rename .ensures .few, test .taken, count .ensures, pre .0 .room, pre .0 .many)
 
-loop-less-3 : tie.Need-loop-less-3 Inv-loop μ-loop
-loop-less-3 c = search needs
-
 loop-again-3 : tie.Need-loop-again-3 Inv-loop μ-loop
 loop-again-3 c =
     let c8 = c .before .before .before .before .before .before .before .before in
@@ -158,9 +123,6 @@ loop-again-3 c =
           (rename .ensures),
     )
 
-same-length-2 : tie.Need-same-length-2 Inv-loop μ-loop
-same-length-2 c = search needs
-
 returns-2 : tie.Need-returns-2 Inv-loop μ-loop
 returns-2 c =
     let count = c .before .before .before .before .count in
@@ -174,26 +136,26 @@ rename-rest-spec =
     (tie.spec
     Inv-loop
     μ-loop
-    count-requires
-    depth-requires
-    add-i
+    (λ c κs. search needs)
+    (λ c κs. search needs)
+    (λ c. search needs)
     loop-holds
     depth-requires-2
-    same-length
+    (λ c. search needs)
     returns
-    add-i-2
-    cast-left-out
-    left-out-requires
-    loop-less
+    (λ c. search needs)
+    (λ c. search needs)
+    (λ c κs. search needs)
+    (λ c. search needs)
     loop-again
     deleter-requires
-    cast-hidden
-    add-hidden
-    loop-less-2
+    (λ c. search needs)
+    (λ c. search needs)
+    (λ c. search needs)
     loop-again-2
     rename-requires
     add-hits
-    loop-less-3
+    (λ c. search needs)
     loop-again-3
-    same-length-2
+    (λ c. search needs)
     returns-2)

@@ -4,7 +4,8 @@ use Prim.Native.Nat.{_-_, _≤_}
 use mathlib.Core.Path.{sym, _∙_}
 use lib.ListN.{length}
 use Rattle.layout.specs.Layout.{nodes}
-use Rattle.writing.specs.Laws.Tallies.{Passing, passing-start, passing-end, passing-out, passing-deeper, passing-deleted, passing-child, counted-count}
+use Rattle.writing.specs.Laws.Tallies.{Passing, passing-start, passing-end, passing-out, passing-deeper}
+use Rattle.writing.specs.Laws.Tallies.{passing-deleted, passing-child, counted-count}
 use Rattle.writing.proofs.tally_children.Statement.{statement}
 use Rattle.writing.proofs.tally_children.Tie as tie
 
@@ -14,26 +15,8 @@ Inv-loop s p t parent m top c₀ i₀ c i = (i ≤ length (nodes s)) × (c .coun
 abbrev μ-loop : tie.MeasureT-loop
 μ-loop s p t parent m top c₀ i₀ c i = length (nodes s) - i
 
-count-requires : tie.Need-count-requires Inv-loop μ-loop
-count-requires c κs = search needs
-
-depth-requires : tie.Need-depth-requires Inv-loop μ-loop
-depth-requires c κs = search needs
-
-cast-top : tie.Need-cast-top Inv-loop μ-loop
-cast-top c = search needs
-
-add-i : tie.Need-add-i Inv-loop μ-loop
-add-i c = search needs
-
 loop-holds : tie.Need-loop-holds Inv-loop μ-loop
 loop-holds c = (search needs, search needs, passing-start _ _ _ _)
-
-depth-requires-2 : tie.Need-depth-requires-2 Inv-loop μ-loop
-depth-requires-2 c κs = search needs
-
-cast-d : tie.Need-cast-d Inv-loop μ-loop
-cast-d c = search needs
 
 returns : tie.Need-returns Inv-loop μ-loop
 returns c =
@@ -45,15 +28,6 @@ returns c =
           (omega (arith, depth2 .ensures, depth .ensures, c .if1 .taken)),
       omega (arith, l .inv .0, l .inv .1, pre .0 .room, pre .0 .many),
     )
-
-add-i-2 : tie.Need-add-i-2 Inv-loop μ-loop
-add-i-2 c = search needs
-
-add-if2 : tie.Need-add-if2 Inv-loop μ-loop
-add-if2 c = search needs
-
-loop-less : tie.Need-loop-less Inv-loop μ-loop
-loop-less c = search needs
 
 loop-again : tie.Need-loop-again Inv-loop μ-loop
 loop-again c =
@@ -73,9 +47,6 @@ deleter-requires c κs =
     let count = c .before .before .before .before .before .before .count in
     let test = c .before .before .before .loop-test in
     (pre .0, omega (arith, test .taken, count .ensures))
-
-loop-less-2 : tie.Need-loop-less-2 Inv-loop μ-loop
-loop-less-2 c = search needs
 
 loop-again-2 : tie.Need-loop-again-2 Inv-loop μ-loop
 loop-again-2 c =
@@ -98,9 +69,6 @@ kind-requires c κs =
     let test = c .before .before .before .before .before .loop-test in
     (pre .0, omega (arith, test .taken, count .ensures))
 
-cast-counted : tie.Need-cast-counted Inv-loop μ-loop
-cast-counted c = search needs
-
 counted-requires : tie.Need-counted-requires Inv-loop μ-loop
 counted-requires c κs =
     let c8 = c .before .before .before .before .before .before .before .before in
@@ -111,9 +79,6 @@ counted-requires c κs =
       omega (arith, l .inv .1, test .taken, count .ensures, pre .0 .room, pre .0 .many),
       omega (arith, l .inv .1, l .inv .2 .tallying .few, test .taken, count .ensures, pre .0 .room, pre .0 .many),
     )
-
-loop-less-3 : tie.Need-loop-less-3 Inv-loop μ-loop
-loop-less-3 c = search needs
 
 loop-again-3 : tie.Need-loop-again-3 Inv-loop μ-loop
 loop-again-3 c =
@@ -145,24 +110,24 @@ tally-children-spec =
     (tie.spec
     Inv-loop
     μ-loop
-    count-requires
-    depth-requires
-    cast-top
-    add-i
+    (λ c κs. search needs)
+    (λ c κs. search needs)
+    (λ c. search needs)
+    (λ c. search needs)
     loop-holds
-    depth-requires-2
-    cast-d
+    (λ c κs. search needs)
+    (λ c. search needs)
     returns
-    add-i-2
-    add-if2
-    loop-less
+    (λ c. search needs)
+    (λ c. search needs)
+    (λ c. search needs)
     loop-again
     deleter-requires
-    loop-less-2
+    (λ c. search needs)
     loop-again-2
     kind-requires
-    cast-counted
+    (λ c. search needs)
     counted-requires
-    loop-less-3
+    (λ c. search needs)
     loop-again-3
     returns-2)

@@ -19,7 +19,8 @@ use Rattle.lookup.specs.Places.{depth, item}
 use Rattle.edits.specs.Rows.{left-out, renamed-by}
 use Rattle.edits.specs.Laws.Lists.{drop-modify}
 use Rattle.edits.specs.Laws.Loops.{Changing, changed-end, changed-out, changed-hidden, changed-unseen, changed-row, changed-start}
-use Rattle.edits.specs.Laws.Loops.{Counting, counted-end, counted-out, counted-hidden, counted-unseen, counted-other, counted-hit, counted-start}
+use Rattle.edits.specs.Laws.Loops.{Counting, counted-end, counted-out, counted-hidden, counted-unseen, counted-other}
+use Rattle.edits.specs.Laws.Loops.{counted-hit, counted-start}
 use Rattle.writing.specs.Writing.{rest-renamed, rest-named, Renamed, RenamedRest, RenamedBelow}
 
 -- s₀ are the bytes before the loop; the rows before i are done, with these hits
@@ -89,7 +90,8 @@ module _ {s₀ s : List ℕ} {p t : ℕ} {a b : List ℕ} {i hidden hits : ℕ} 
             rw (add-zero hits, add-one i, drop-modify i (second g) (nodes s), ← add-one i)
             (counted-other t a top total (nodes s) i hidden hits (v .counting) h k e n c)
 
-        pub renaming-seen : {s′ : List ℕ} {r : ℕ} → (item (nodes s) i .deleter ≡ t → ⊥) → Renamed s s′ r i t a b → Renaming s₀ s′ p t a b (i + 1) 0 (hits + r)
+        pub renaming-seen : {s′ : List ℕ} {r : ℕ} → (item (nodes s) i .deleter ≡ t → ⊥) → Renamed s s′ r i t a b
+            → Renaming s₀ s′ p t a b (i + 1) 0 (hits + r)
         renaming-seen {s′} {r} d m =
             let n : seen-by t (item (nodes s) i) ≡ true = rw (ne-eqb (item (nodes s) i .deleter) t d) in
             record {
@@ -100,7 +102,8 @@ module _ {s₀ s : List ℕ} {p t : ℕ} {a b : List ℕ} {i hidden hits : ℕ} 
             }
 
 -- the node itself, then those below it
-pub renamed-whole : {s s₁ s₂ : List ℕ} {q r p t : ℕ} {a b : List ℕ} → p < length (nodes s) → Renamed s s₁ q p t a b → RenamedRest s₁ s₂ r p t a b
+pub renamed-whole : {s s₁ s₂ : List ℕ} {q r p t : ℕ} {a b : List ℕ} → p < length (nodes s) → Renamed s s₁ q p t a b
+    → RenamedRest s₁ s₂ r p t a b
     → RenamedBelow s s₂ (q + r) p t a b
 unfolding rest-renamed rest-named
 renamed-whole {s} {s₁} {s₂} {q} {r} {p} {t} {a} {b} h m n =

@@ -28,8 +28,15 @@ pub record Tallying (parent : ℕ) (kinds rest : List ℕ) (c : Tally) : Type 0 
   pub ordered : attributes-first kinds ≡ (c .ordered && ordered-behind (c .attributes) (c .count) rest)
   pub allowed : every (takes parent) kinds ≡ (c .allowed && every (takes parent) rest)
 
-pub tallying-start : (parent : ℕ) (kinds : List ℕ) → Tallying parent kinds kinds (record { count = 0; attributes = 0; ordered = true; allowed = true })
-tallying-start parent kinds = record { few = omega arith; count = omega arith; attributes = omega arith; ordered = ordered-start 0 kinds; allowed = refl }
+pub tallying-start : (parent : ℕ) (kinds : List ℕ)
+    → Tallying parent kinds kinds (record { count = 0; attributes = 0; ordered = true; allowed = true })
+tallying-start parent kinds = record {
+  few = omega arith;
+  count = omega arith;
+  attributes = omega arith;
+  ordered = ordered-start 0 kinds;
+  allowed = refl;
+}
 
 pub tallying-done : {parent : ℕ} {kinds : List ℕ} {c : Tally} → Tallying parent kinds [] c → Counted parent kinds c
 unfolding attributes keep ordered-behind
@@ -56,7 +63,8 @@ tallying-turn {parent} {kinds} {c} x rest v = record {
     few true = omega (arith, v .few)
     few false = omega (arith, v .few)
 
-    more : (b : Bool) → eqb x attribute-kind ≡ b → c .attributes + attributes (x ∷ rest) ≡ cond b (c .attributes + 1) (c .attributes) + attributes rest
+    more : (b : Bool) → eqb x attribute-kind ≡ b
+        → c .attributes + attributes (x ∷ rest) ≡ cond b (c .attributes + 1) (c .attributes) + attributes rest
     more true e = rw (attributes-one x rest (eqb-true x attribute-kind e)) (omega arith)
     more false e = rw (attributes-other x rest (eqb-false x attribute-kind e))
 
@@ -99,9 +107,13 @@ module _ (t : ℕ) (l : List Entry) (p parent : ℕ) where
 
       module _ (k : depth l i ≡ depth l p + 1) where
         pub passing-deleted : item l i .deleter ≡ t → Passing t l p parent (i + 1) c
-        passing-deleted d = record { tallying = as-rest _ (child-deleted t l (depth l p) i h (omega arith) (rw (eq-eqb (item l i .deleter) t d))) }
+        passing-deleted d = record {
+          tallying = as-rest _ (child-deleted t l (depth l p) i h (omega arith)
+              (rw (eq-eqb (item l i .deleter) t d)));
+        }
 
-        pub passing-child : (item l i .deleter ≡ t → ⊥) → (x : ℕ) → x ≡ item l i .now .kind → Passing t l p parent (i + 1) (counted parent x c)
+        pub passing-child : (item l i .deleter ≡ t → ⊥) → (x : ℕ) → x ≡ item l i .now .kind
+            → Passing t l p parent (i + 1) (counted parent x c)
         passing-child d x e =
             let found = child-found t l (depth l p) i h (omega arith) (rw (ne-eqb (item l i .deleter) t d)) in
             record { tallying = rw e (tallying-turn (item l i .now .kind) _ (as-rest _ found)) }
@@ -123,7 +135,8 @@ module _ (parent kind k n a : ℕ) (ordered allowed : Bool) where
 
   module _ (low : (k ≡ 0 → ⊥)) (near : k ≤ n + 1) where
     inner : placed-by parent kind k n a ordered allowed
-        ≡ (takes parent kind && allowed && cond (eqb parent element-kind) (ordered && cond (eqb kind attribute-kind) (leb k (suc a)) (ltb a k)) (eqb n 0))
+        ≡ (takes parent kind && allowed && cond (eqb parent element-kind)
+        (ordered && cond (eqb kind attribute-kind) (leb k (suc a)) (ltb a k)) (eqb n 0))
     unfolding placed-by
     inner = rw (le-leb 1 k (omega arith), le-leb k (suc n) (omega arith))
 
