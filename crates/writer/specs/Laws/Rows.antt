@@ -1,5 +1,5 @@
 -- The loops over open nodes and over rows.
-use mathlib.Core.Path.{_≡_, sym, ap, _∙_}
+use mathlib.Core.Path.{_≡_, sym, ap, _∙_, refl}
 use Prim.Native.Nat.{ℕ, zero, suc, _+_, _-_, _≤_, _<_}
 use mathlib.Core.List.{List, [], _∷_, _++_, append-nil}
 use native.Mathlib.Omega.{arith}
@@ -163,3 +163,28 @@ module _ {l : List Entry} {places path kinds : List ℕ} {count top i : ℕ} (c 
         → length text ≤ length o₀
         → Next (ends (suc top - 0) (open-labels l path (suc top)) 0) text [] o₀ o at
     last-ends h q k = next (ends (suc top - 0) (open-labels l path (suc top)) 0) [] (from-end h) q k
+
+-- the same, fact by fact: the row at place p of depth d
+module _ {l : List Entry} {places path kinds : List ℕ} {count top i d : ℕ} (c : Listed l places count) (w : Walk l places path kinds top i)
+    (h : i < count)
+    (e : d ≡ depth l (getD places i 0)) where
+  pub row-deep : d < 1024
+  row-deep = omega (arith, e, walk-deep c w h)
+
+  module _ {text o₀ o : List ℕ} {at : ℕ} (q : Partly text (from l places count path top i) o₀ o at) (k : length text ≤ length o₀) where
+    pub next-inside : at ≤ length o
+    next-inside = next-row c w h refl e q k .inside
+
+    pub next-fits : (x y : List ℕ) (m : ℕ) → Wrote (row-text l path top d (getD places i 0)) x y m → Fits w64 (length o₀)
+        → Fits w64 (at + m)
+    next-fits x y m v f = omega (arith, next-row c w h refl e q k .small, v .count, f)
+
+module _ {l : List Entry} {places path kinds : List ℕ} {count top i : ℕ} (c : Listed l places count) (w : Walk l places path kinds top i)
+    (h : count ≤ i)
+    {text o₀ o : List ℕ} {at : ℕ} (q : Partly text (from l places count path top i) o₀ o at) (k : length text ≤ length o₀) where
+  pub last-inside : at ≤ length o
+  last-inside = last-ends c w h q k .inside
+
+  pub last-fits : (x y : List ℕ) (m : ℕ) → Wrote (ends (suc top - 0) (open-labels l path (suc top)) 0) x y m → Fits w64 (length o₀)
+      → Fits w64 (at + m)
+  last-fits x y m v f = omega (arith, last-ends c w h q k .small, v .count, f)
