@@ -7,6 +7,8 @@ use native.Mathlib.Omega.{arith}
 use lib.ListN.{length, getD, take, drop, set, length-append, length-drop, drop-of-length-le}
 use lib.Seq.{take-suc, drop-cons, set-at, length-take-le, take-at, drop-at, drop-drop, take-all}
 use borrow.Rule.Slice.PartMut.{putMid}
+use mir.Syntax.{w64}
+use mir.Val.{Fits}
 
 -- the lent bytes began with the piece, whose length was answered, and the bytes behind it kept their values
 pub record Wrote (piece old new : List ℕ) (r : ℕ) : Type 0 where
@@ -64,6 +66,15 @@ module _ (a b o₀ o : List ℕ) (r : ℕ) (w : Wrote a o₀ o r) (h : length (a
             rw (t, z) (rw (v .bytes, lent)
             (simp (append-nil, append-assoc, length-append) (ap (λ (l : List ℕ). a ++ (b ++ l)) (drop-drop (length b) (length a) o₀))));
       }
+
+-- room for two pieces is room for the first
+pub front : (a b o : List ℕ) → length (a ++ b) ≤ length o → length a ≤ length o
+front a b o h = omega (arith, length-append a b)
+
+-- the length of two pieces that are written
+pub sum-fits : {a b o₀ o x y : List ℕ} {r q : ℕ} → Wrote a o₀ o r → Wrote b x y q → length (a ++ b) ≤ length o₀ → Fits w64 (length o₀)
+    → Fits w64 (r + q)
+sum-fits {a} {b} w v h f = omega (arith, w .count, v .count, length-append a b, f)
 
 -- a text of many pieces: `rest` is still to be written, and the pieces before it stand in the lent bytes
 pub record Partly (text rest old new : List ℕ) (at : ℕ) : Type 0 where

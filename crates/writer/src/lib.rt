@@ -208,11 +208,12 @@ fn put_body(out: &mut [u8], s: &[u8], places: &[u16; 1024], count: usize) -> usi
     let mut at: usize = 0;
     let mut i: usize = 1;
     while i < count {
-        let p = places[i];
-        let d = table::depth(s, p as usize) as usize;
-        let kind = table::kind(s, p as usize);
-        at = at + put_row(&mut out[at..], s, &path, &kinds, top, d, p as usize, kind);
-        path[d] = p;
+        let here = places[i];
+        let p = here as usize;
+        let d = table::depth(s, p) as usize;
+        let kind = table::kind(s, p);
+        at = at + put_row(&mut out[at..], s, &path, &kinds, top, d, p, kind);
+        path[d] = here;
         kinds[d] = kind;
         top = d;
         i += 1;

@@ -17,12 +17,6 @@ Inv-loop s names₀ spare i₀ depth₀ n₀ names i depth n = (i ≤ length s) 
 abbrev μ-loop : tie.MeasureT-loop
 μ-loop s names₀ spare i₀ depth₀ n₀ names i depth n = length s - i
 
-child-requires : tie.Need-child-requires Inv-loop μ-loop
-child-requires c κs =
-    let l = c .before .before .loop in
-    let test = c .before .loop-test in
-    (l .inv .1 .begins-here, content-deep _ _ _ _ _ _ _ _ (l .inv .1) (test .taken))
-
 returns : tie.Need-returns Inv-loop μ-loop
 returns c =
     let a = c .before .before .before .before .before .before .before .before .args in
@@ -65,7 +59,7 @@ root-content-spec =
     Inv-loop
     μ-loop
     (λ c. (c .before .pre .0 .inside, content-start _ _ _ _ (c .before .pre .0) (c .before .pre .1)))
-    child-requires
+    (λ c κs. search (content-deep, needs))
     (λ c. search needs)
     returns
     (λ c. search needs)

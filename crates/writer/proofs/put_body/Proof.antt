@@ -1,4 +1,4 @@
-use Rattle.writer.specs.Laws.Rows.{from, from-start, next-row, last-ends}
+use Rattle.writer.specs.Laws.Rows.{from, from-start, next-row, last-ends, row-deep, next-inside, next-fits, last-inside, last-fits}
 use Rattle.measuring.specs.Laws.Walk.{walk-start, walk-below, walk-steps, walk-deep, walk-on}
 use Rattle.measuring.specs.Walk.{Walk}
 use Rattle.markup.specs.Rows.{body}
@@ -37,8 +37,8 @@ loop-holds c =
       partly-as (from-start (replicate 1024 0) (c4 .pre .1) refl) (partly-start _ _),
     )
 
-cast-depth : tie.Need-cast-depth Inv-loop μ-loop
-cast-depth c =
+cast-p : tie.Need-cast-p Inv-loop μ-loop
+cast-p c =
     let c2 = c .before .before in
     let c7 = c2 .before .before .before .before .before in
     omega (arith, (c7 .pre .1 .inside (c2 .loop .i) (omega arith)), c7 .pre .0 .many, c7 .pre .0 .room)
@@ -49,35 +49,11 @@ depth-requires c κs =
     let c7 = c2 .before .before .before .before .before in
     (c7 .pre .0, c7 .pre .1 .inside (c2 .loop .i) (omega arith))
 
-cast-kind-2 : tie.Need-cast-kind-2 Inv-loop μ-loop
-cast-kind-2 c =
-    let c3 = c .before .before .before in
-    let c8 = c3 .before .before .before .before .before in
-    omega (arith, (c8 .pre .1 .inside (c3 .loop .i) (omega arith)), c8 .pre .0 .many, c8 .pre .0 .room)
-
 kind-requires-2 : tie.Need-kind-requires-2 Inv-loop μ-loop
 kind-requires-2 c κs =
     let c3 = c .before .before .before in
     let c8 = c3 .before .before .before .before .before in
     (c8 .pre .0, c8 .pre .1 .inside (c3 .loop .i) (omega arith))
-
-sub-put-row : tie.Need-sub-put-row Inv-loop μ-loop
-sub-put-row c =
-    let c4 = c .before .before .before .before in
-    let c9 = c4 .before .before .before .before .before in
-    (next-row (c9 .pre .1) (c4 .loop .inv .2) (omega arith) refl (c .before .depth .ensures) (c4 .loop .inv .3) (c9 .pre .2)) .inside
-
-part-put-row-start : tie.Need-part-put-row-start Inv-loop μ-loop
-part-put-row-start c =
-    let c4 = c .before .before .before .before in
-    let c9 = c4 .before .before .before .before .before in
-    (next-row (c9 .pre .1) (c4 .loop .inv .2) (omega arith) refl (c .before .depth .ensures) (c4 .loop .inv .3) (c9 .pre .2)) .inside
-
-cast-put-row : tie.Need-cast-put-row Inv-loop μ-loop
-cast-put-row c =
-    let c7 = c .before .before .before .before .before .before .before in
-    let c12 = c7 .before .before .before .before .before in
-    omega (arith, (c12 .pre .1 .inside (c7 .loop .i) (omega arith)), c12 .pre .0 .many, c12 .pre .0 .room)
 
 put-row-requires : tie.Need-put-row-requires Inv-loop μ-loop
 put-row-requires c κs =
@@ -95,34 +71,8 @@ put-row-requires c κs =
       (next-row (c12 .pre .1) (c7 .loop .inv .2) (omega arith) refl (c4 .depth .ensures) (c7 .loop .inv .3) (c12 .pre .2)) .room,
     )
 
-add-at : tie.Need-add-at Inv-loop μ-loop
-add-at c =
-    let c2 = c .before .before in
-    let c7 = c2 .before .before .before .before .before in
-    let c10 = c7 .before .before .before in
-    let c15 = c10 .before .before .before .before .before in
-    omega (
-      arith,
-      (next-row (c15 .pre .1) (c10 .loop .inv .2) (omega arith) refl (c7 .depth .ensures) (c10 .loop .inv .3) (c15 .pre .2)) .small,
-      c2 .put-row .ensures .count,
-    )
-
 mul-path : tie.Need-mul-path Inv-loop μ-loop
 mul-path c =
-    let c7 = c .before .before .before .before .before .before .before in
-    let c10 = c7 .before .before .before in
-    let c15 = c10 .before .before .before .before .before in
-    omega (arith, c7 .depth .ensures, (walk-deep (c15 .pre .1) (c10 .loop .inv .2) (omega arith)))
-
-array-write-path-2 : tie.Need-array-write-path-2 Inv-loop μ-loop
-array-write-path-2 c =
-    let c7 = c .before .before .before .before .before .before .before in
-    let c10 = c7 .before .before .before in
-    let c15 = c10 .before .before .before .before .before in
-    omega (arith, c7 .depth .ensures, (walk-deep (c15 .pre .1) (c10 .loop .inv .2) (omega arith)))
-
-array-write-kinds-2 : tie.Need-array-write-kinds-2 Inv-loop μ-loop
-array-write-kinds-2 c =
     let c7 = c .before .before .before .before .before .before .before in
     let c10 = c7 .before .before .before in
     let c15 = c10 .before .before .before .before .before in
@@ -142,16 +92,6 @@ loop-again c =
           (c2 .put-row .ensures),
     )
 
-sub-put-last-ends : tie.Need-sub-put-last-ends Inv-loop μ-loop
-sub-put-last-ends c =
-    let c6 = c .before .before .before .before .before .before in
-    (last-ends (c6 .pre .1) (c .before .loop .inv .2) (omega arith) (c .before .loop .inv .3) (c6 .pre .2)) .inside
-
-part-put-last-ends-start : tie.Need-part-put-last-ends-start Inv-loop μ-loop
-part-put-last-ends-start c =
-    let c6 = c .before .before .before .before .before .before in
-    (last-ends (c6 .pre .1) (c .before .loop .inv .2) (omega arith) (c .before .loop .inv .3) (c6 .pre .2)) .inside
-
 put-last-ends-requires : tie.Need-put-last-ends-requires Inv-loop μ-loop
 put-last-ends-requires c κs =
     let c4 = c .before .before .before .before in
@@ -160,18 +100,6 @@ put-last-ends-requires c κs =
       c4 .loop .inv .2 .on-path,
       c4 .loop .inv .2 .of-kinds,
       (last-ends (c9 .pre .1) (c4 .loop .inv .2) (omega arith) (c4 .loop .inv .3) (c9 .pre .2)) .room,
-    )
-
-add-result : tie.Need-add-result Inv-loop μ-loop
-add-result c =
-    let c2 = c .before .before in
-    let c7 = c2 .before .before .before .before .before in
-    let c12 = c7 .before .before .before .before .before in
-    omega (
-      arith,
-      (last-ends (c12 .pre .1) (c7 .loop .inv .2) (omega arith) (c7 .loop .inv .3) (c12 .pre .2)) .small,
-      c2 .put-last-ends
-          .ensures .count,
     )
 
 returns : tie.Need-returns Inv-loop μ-loop
@@ -195,27 +123,25 @@ put-body-spec =
     loop-holds
     (λ c. omega (arith, c .before .before .before .before .before .before .pre .1 .room))
     (λ c. omega (arith, c .before .before .before .before .before .before .pre .1 .room))
-    cast-depth
+    cast-p
     depth-requires
     (λ c. search needs)
-    cast-kind-2
     kind-requires-2
-    sub-put-row
-    part-put-row-start
+    (λ c. search (next-inside, needs))
+    (λ c. search (next-inside, needs))
     (λ c. search needs)
-    cast-put-row
     put-row-requires
-    add-at
+    (λ c. search (next-fits, needs))
     mul-path
-    array-write-path-2
-    array-write-kinds-2
+    (λ c. search (row-deep, needs))
+    (λ c. search (row-deep, needs))
     (λ c. search needs)
     (λ c. search needs)
     loop-again
-    sub-put-last-ends
-    part-put-last-ends-start
+    (λ c. search (last-inside, needs))
+    (λ c. search (last-inside, needs))
     (λ c. search needs)
     put-last-ends-requires
-    add-result
+    (λ c. search (last-fits, needs))
     (λ c. search needs)
     returns)

@@ -1,8 +1,10 @@
 -- The pieces by the kind of a node.
-use mathlib.Core.Path.{_≡_, refl, ap}
-use Prim.Native.Nat.{ℕ, _≤_}
-use native.Mathlib.Omega.{arith}
-use lib.ListN.{length, length-append}
+use mathlib.Core.Path.{_≡_, refl, sym, _∙_}
+use Prim.Native.Nat.{ℕ, _+_, _-_, _≤_}
+use lib.ListN.{length, take, drop}
+use borrow.Rule.Slice.PartMut.{putMid}
+use mir.Syntax.{w64}
+use mir.Val.{Fits}
 use mathlib.Core.Bool.{true, false, and-false}
 use mathlib.Core.List.{List, [], _++_}
 use lib.Dec.{eqb}
@@ -11,9 +13,8 @@ use Rattle.tree.specs.Text.{bytes}
 use Rattle.xml.specs.Shape.{Label}
 use Rattle.xml.specs.Writing.{escaped}
 use Rattle.markup.specs.Rows.{in-start-tag, tag-end, begin, end}
-use Rattle.markup.specs.Lending.{Wrote}
+use Rattle.markup.specs.Lending.{Wrote, wrote-as, front, inside, room, sum-fits, behind}
 use Rattle.writer.specs.Texts.{of-kind, opening}
-use Rattle.markup.specs.Laws.Next.{Next, second}
 
 module _ (parent : Label) (previous : ℕ) where
   pub tag-end-other : (parent .kind ≡ 2 → ⊥) → tag-end parent previous ≡ []
@@ -41,17 +42,28 @@ unfolding begin tag-end
 begin-kind parent previous a = refl
 
 -- the end of the parent's start tag, and then a node that is no attribute
-pub next-opening : (parent : Label) (previous : ℕ) (a : Label) {o₀ o : List ℕ} {r : ℕ} → (a .kind ≡ 3 → ⊥)
-    → Wrote (tag-end parent previous) o₀ o r
-    → length (begin parent previous a) ≤ length o₀ → Next (opening a) (begin parent previous a) [] o₀ o r
-next-opening parent previous a n w h =
-    let e = begin-other parent previous a n in
-    rw e (second (tag-end parent previous) (opening a) w (rw e at h))
+module _ (parent : Label) (previous : ℕ) (a : Label) {kind : ℕ} (k : kind ≡ a .kind) (n : kind ≡ 3 → ⊥) where
+  as-two : begin parent previous a ≡ tag-end parent previous ++ opening a
+  as-two = begin-other parent previous a (λ e. n (k ∙ e))
 
-pub begin-room : (parent : Label) (previous : ℕ) (a : Label) {n : ℕ} → (a .kind ≡ 3 → ⊥) → length (begin parent previous a) ≤ n
-    → length (tag-end parent previous) ≤ n
-begin-room parent previous a k h =
-    omega (arith, length-append (tag-end parent previous) (opening a), ap length (begin-other parent previous a k))
+  module _ (o₀ : List ℕ) (h : length (begin parent previous a) ≤ length o₀) where
+    pub tag-end-room : length (tag-end parent previous) ≤ length o₀
+    tag-end-room = front (tag-end parent previous) (opening a) o₀ (rw as-two at h)
+
+    module _ {o : List ℕ} {r : ℕ} (w : Wrote (tag-end parent previous) o₀ o r) where
+      pub opening-inside : r ≤ length o
+      opening-inside = inside (tag-end parent previous) (opening a) o₀ o r w (rw as-two at h)
+
+      pub opening-room : length (opening a) ≤ length (take (length o - r) (drop r o))
+      opening-room = room (tag-end parent previous) (opening a) o₀ o r w (rw as-two at h)
+
+      module _ (x y : List ℕ) (q : ℕ) where
+        pub opening-fits : Wrote (opening a) x y q → Fits w64 (length o₀) → Fits w64 (r + q)
+        opening-fits v f = sum-fits w v (rw as-two at h) f
+
+      pub opening-behind : (y : List ℕ) (q : ℕ) → Wrote (opening a) (take (length o - r) (drop r o)) y q
+          → Wrote (begin parent previous a) o₀ (putMid r (length o - r) o y) (r + q)
+      opening-behind y q v = wrote-as (sym as-two) (behind (tag-end parent previous) (opening a) o₀ o r w (rw as-two at h) y q v)
 
 module _ (a : Label) where
   pub opening-element : a .kind ≡ 2 → opening a ≡ bytes "<" ++ a .content

@@ -1,11 +1,13 @@
 -- The loops over open nodes and over rows.
-use mathlib.Core.Path.{_≡_, sym, ap, _∙_}
+use mathlib.Core.Path.{_≡_, sym, ap, _∙_, refl}
 use Prim.Native.Nat.{ℕ, zero, suc, _+_, _-_, _≤_, _<_}
 use mathlib.Core.List.{List, [], _∷_, _++_, append-nil}
 use native.Mathlib.Omega.{arith}
 use native.Mathlib.Numerals.{add-one}
-use lib.ListN.{length, getD, take, drop, set, drop-of-length-le, length-append}
+use lib.ListN.{length, getD, take, drop, set, drop-of-length-le}
 use borrow.Rule.Slice.PartMut.{putMid}
+use mir.Syntax.{w64}
+use mir.Val.{Fits}
 use lib.Seq.{getD-set-same}
 use Rattle.layout.specs.Layout.{Entry, Layout, nodes}
 use Rattle.lookup.specs.Places.{depth}
@@ -13,11 +15,11 @@ use Rattle.xml.specs.Shape.{Label}
 use Rattle.markup.specs.Rows.{begin, end, ends, previous-of, emit, body}
 use Rattle.committed.specs.Lines.{label-at, line-at, lines, Listed}
 use Rattle.committed.specs.Laws.Lines.{length-lines, lines-from}
-use Rattle.measuring.specs.Walk.{open-labels, OnPath, OfKinds, Walk}
-use Rattle.measuring.specs.Laws.Walk.{length-open, parent-is, opened-is, walk-below, walk-steps, walk-deep}
-use Rattle.markup.specs.Lending.{Wrote, Partly, partly-start, partly-as, partly-end}
+use Rattle.measuring.specs.Walk.{open-labels, OnPath, OfKinds, previous-kind, Walk}
+use Rattle.measuring.specs.Laws.Walk.{previous-is, length-open, parent-is, opened-is, walk-below, walk-steps, walk-deep}
+use Rattle.markup.specs.Lending.{Wrote, wrote-as, front, inside, room, sum-fits, behind, Partly, partly-start, partly-as, partly-end}
 use Rattle.writer.specs.Texts.{of-kind, row-text}
-use Rattle.markup.specs.Laws.Next.{Next, next, second}
+use Rattle.markup.specs.Laws.Next.{Next, next}
 use Rattle.writer.specs.Laws.Pieces.{begin-kind}
 
 -- one open node more ends
@@ -78,24 +80,35 @@ module _ {s path kinds o₀ : List ℕ} {top d : ℕ} (p : Layout s × OnPath (n
       → EndsTo (nodes s) path top d o₀ (putMid at (length o - at) o new) (at + q) (getD kinds (e - 1) 0) (e - 1)
   ends-turn new q w = record { most = omega (arith, x .most); partly = ends-on .piece .on new q w }
 
--- the ends before a row, and then the row
-module _ (l : List Entry) (path : List ℕ) (top d p : ℕ) where
-  pub row-room : {n : ℕ} → length (row-text l path top d p) ≤ n → length (ends (suc top - d) (open-labels l path (suc top)) 0) ≤ n
+-- the ends before a row, and then the row; q is the kind of its previous sibling
+module _ {l : List Entry} {path kinds : List ℕ} {top : ℕ} (k : OfKinds l path kinds top) (d p q : ℕ) (f : q ≡ previous-kind kinds top d)
+    (low : 1 ≤ d) (high : d ≤ suc top) where
+  as-two : row-text l path top d p
+      ≡ ends (suc top - d) (open-labels l path (suc top)) 0 ++ begin (of-kind (getD kinds (d - 1) 0)) q (label-at l p)
   unfolding row-text
-  row-room h = omega (arith, simp length-append at h)
+  as-two = rw (k .same (d - 1) (omega arith), f ∙ previous-is l path d k)
+      (ap (λ (x : List ℕ). ends (suc top - d) (open-labels l path (suc top)) 0 ++ x)
+      (begin-kind (label-at l (getD path (d - 1) 0)) (previous-of (open-labels l path (suc top)) 0 d) (label-at l p)))
 
-  -- k is the kind of its parent, q that of its previous sibling
-  pub next-begin : {k q r : ℕ} {o₀ o : List ℕ} → Wrote (ends (suc top - d) (open-labels l path (suc top)) 0) o₀ o r
-      → length (row-text l path top d p) ≤ length o₀ → k ≡ label-at l (getD path (d - 1) 0) .kind
-      → q ≡ previous-of (open-labels l path (suc top)) 0 d
-      → Next (begin (of-kind k) q (label-at l p)) (row-text l path top d p) [] o₀ o r
-  unfolding row-text
-  next-begin {k} {q} w h e f =
-      let g : begin (label-at l (getD path (d - 1) 0)) (previous-of (open-labels l path (suc top)) 0 d) (label-at l p)
-      ≡ begin (of-kind k) q (label-at l p)
-      = rw (e, f) (begin-kind (label-at l (getD path (d - 1) 0)) (previous-of (open-labels l path (suc top)) 0 d) (label-at l p)) in
-      rw (← g) (second (ends (suc top - d) (open-labels l path (suc top)) 0)
-      (begin (label-at l (getD path (d - 1) 0)) (previous-of (open-labels l path (suc top)) 0 d) (label-at l p)) w h)
+  module _ (o₀ : List ℕ) (h : length (row-text l path top d p) ≤ length o₀) where
+    pub ends-room : length (ends (suc top - d) (open-labels l path (suc top)) 0) ≤ length o₀
+    ends-room = front (ends (suc top - d) (open-labels l path (suc top)) 0) _ o₀ (rw as-two at h)
+
+    module _ {o : List ℕ} {r : ℕ} (w : Wrote (ends (suc top - d) (open-labels l path (suc top)) 0) o₀ o r) where
+      pub row-inside : r ≤ length o
+      row-inside = inside _ (begin (of-kind (getD kinds (d - 1) 0)) q (label-at l p)) o₀ o r w (rw as-two at h)
+
+      pub row-room : length (begin (of-kind (getD kinds (d - 1) 0)) q (label-at l p)) ≤ length (take (length o - r) (drop r o))
+      row-room = room _ (begin (of-kind (getD kinds (d - 1) 0)) q (label-at l p)) o₀ o r w (rw as-two at h)
+
+      pub row-fits : (x y : List ℕ) (m : ℕ) → Wrote (begin (of-kind (getD kinds (d - 1) 0)) q (label-at l p)) x y m → Fits w64 (length o₀)
+          → Fits w64 (r + m)
+      row-fits x y m v g = sum-fits w v (rw as-two at h) g
+
+      pub row-behind : (y : List ℕ) (m : ℕ)
+          → Wrote (begin (of-kind (getD kinds (d - 1) 0)) q (label-at l p)) (take (length o - r) (drop r o)) y m
+          → Wrote (row-text l path top d p) o₀ (putMid r (length o - r) o y) (r + m)
+      row-behind y m v = wrote-as (sym as-two) (behind _ _ o₀ o r w (rw as-two at h) y m v)
 
 -- what stands for the rows from i on
 abbrev pub from : List Entry → List ℕ → ℕ → List ℕ → ℕ → ℕ → List ℕ
@@ -116,7 +129,11 @@ module _ {l : List Entry} {places path kinds : List ℕ} {count top i : ℕ} (c 
     from-end h =
         let n : count ≤ length places = omega (arith, c .long, c .room) in
         let z : suc top - 0 ≡ suc top = omega arith in
-        rw (drop-of-length-le (lines l places count) {i = i} (omega (arith, length-lines l places count n)), length-open l path (suc top), z)
+        rw (
+          drop-of-length-le (lines l places count) {i = i} (omega (arith, length-lines l places count n)),
+          length-open l path (suc top),
+          z,
+        )
         (sym (append-nil _))
 
     -- p is the place of the i-th row, d its depth
@@ -142,6 +159,32 @@ module _ {l : List Entry} {places path kinds : List ℕ} {count top i : ℕ} (c 
         → Next (row-text l path top d p) text (from l places count (set path d p) d (i + 1)) o₀ o at
     next-row h {d} {p} ep ed q k = next (row-text l path top d p) (from l places count (set path d p) d (i + 1)) (from-on h ep ed) q k
 
-    pub last-ends : count ≤ i → {text o₀ o : List ℕ} {at : ℕ} → Partly text (from l places count path top i) o₀ o at → length text ≤ length o₀
+    pub last-ends : count ≤ i → {text o₀ o : List ℕ} {at : ℕ} → Partly text (from l places count path top i) o₀ o at
+        → length text ≤ length o₀
         → Next (ends (suc top - 0) (open-labels l path (suc top)) 0) text [] o₀ o at
     last-ends h q k = next (ends (suc top - 0) (open-labels l path (suc top)) 0) [] (from-end h) q k
+
+-- the same, fact by fact: the row at place p of depth d
+module _ {l : List Entry} {places path kinds : List ℕ} {count top i d : ℕ} (c : Listed l places count) (w : Walk l places path kinds top i)
+    (h : i < count)
+    (e : d ≡ depth l (getD places i 0)) where
+  pub row-deep : d < 1024
+  row-deep = omega (arith, e, walk-deep c w h)
+
+  module _ {text o₀ o : List ℕ} {at : ℕ} (q : Partly text (from l places count path top i) o₀ o at) (k : length text ≤ length o₀) where
+    pub next-inside : at ≤ length o
+    next-inside = next-row c w h refl e q k .inside
+
+    pub next-fits : (x y : List ℕ) (m : ℕ) → Wrote (row-text l path top d (getD places i 0)) x y m → Fits w64 (length o₀)
+        → Fits w64 (at + m)
+    next-fits x y m v f = omega (arith, next-row c w h refl e q k .small, v .count, f)
+
+module _ {l : List Entry} {places path kinds : List ℕ} {count top i : ℕ} (c : Listed l places count) (w : Walk l places path kinds top i)
+    (h : count ≤ i)
+    {text o₀ o : List ℕ} {at : ℕ} (q : Partly text (from l places count path top i) o₀ o at) (k : length text ≤ length o₀) where
+  pub last-inside : at ≤ length o
+  last-inside = last-ends c w h q k .inside
+
+  pub last-fits : (x y : List ℕ) (m : ℕ) → Wrote (ends (suc top - 0) (open-labels l path (suc top)) 0) x y m → Fits w64 (length o₀)
+      → Fits w64 (at + m)
+  last-fits x y m v f = omega (arith, last-ends c w h q k .small, v .count, f)

@@ -78,18 +78,6 @@ attribute-requires c κs =
       loop .inv .7,
     )
 
-returns-4 : tie.Need-returns-4 Inv-loop μ-loop
-returns-4 c =
-    let c3 = c .before .before .before in
-    let c6 = c3 .before .before .before in
-    let c8 = c6 .before .before in
-    let inv = c8 .before .loop .inv in
-    let read = c3 .attribute .ensures in (
-      attributes-bad _ _ _ _ _ _ _ _ (inv .6) (inv .0) (inv .2) (c8 .item .ensures)
-          (c6 .c3 .given .1) read (c .before .x .given .1),
-      kept-less _ _ _ _ _ (inv .5) (read .kept) (omega arith),
-    )
-
 loop-less : tie.Need-loop-less Inv-loop μ-loop
 loop-less c =
     let c3 = c .before .before .before in
@@ -140,7 +128,7 @@ attributes-spec =
     (λ c. search needs)
     attribute-requires
     (λ c. search needs)
-    returns-4
+    (λ c. search (attributes-bad, kept-less, needs))
     (λ c. search needs)
     (λ c. search needs)
     loop-less

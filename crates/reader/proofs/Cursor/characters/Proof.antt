@@ -18,11 +18,6 @@ Inv-loop s stop spare i₀ count₀ k₀ i count k = (i₀ ≤ i) × (i ≤ leng
 abbrev μ-loop : tie.MeasureT-loop
 μ-loop s stop spare i₀ count₀ k₀ i count k = length s - i
 
-returns : tie.Need-returns Inv-loop μ-loop
-returns c =
-    let loop = c .before .before .before .loop in
-    characters-stop _ _ _ _ _ _ _ (loop .inv .3) (search needs) _ (loop .inv .0) (c .if1 .taken) (loop .inv .2) refl
-
 returns-2 : tie.Need-returns-2 Inv-loop μ-loop
 returns-2 c =
     let loop = c .before .before .before .before .before .loop in
@@ -112,7 +107,7 @@ characters-spec =
     (λ c. (search needs, search needs, search needs, characters-start _ _ _ _))
     (λ c. search needs)
     (λ c. search needs)
-    returns
+    (λ c. search (characters-stop, needs))
     (λ c κs. search needs)
     returns-2
     returns-3

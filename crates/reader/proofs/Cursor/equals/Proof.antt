@@ -5,13 +5,6 @@ use borrow.Author.Needs.{needs}
 use Rattle.reader.proofs.Cursor.equals.Statement.{statement}
 use Rattle.reader.proofs.Cursor.equals.Tie as tie
 
-returns-3 : tie.Need-returns-3
-returns-3 c =
-    let blanks = c .before .before .before .before .before .blanks in
-    let if1 = c .before .before .before .before .if1 in
-    let if2 = c .before .before .if2 in
-    quote-end _ _ _ (blanks .ensures) (if1 .left) (if2 .left) _ (c .before .blanks2 .ensures) (c .if3 .taken)
-
 returns-4 : tie.Need-returns-4
 returns-4 c =
     let blanks = c .before .before .before .before .before .before .before .blanks in
@@ -30,15 +23,6 @@ returns-5 c =
     let if3 = c .before .before .before .if3 in
     quote-read _ _ _ (blanks .ensures) (if1 .left) (if2 .left) _ (blanks2 .ensures) (if3 .left) single _ (c .if5 .taken) refl
 
-returns-6 : tie.Need-returns-6
-returns-6 c =
-    let blanks = c .before .before .before .before .before .before .before .before .blanks in
-    let if1 = c .before .before .before .before .before .before .before .if1 in
-    let if2 = c .before .before .before .before .before .if2 in
-    let blanks2 = c .before .before .before .before .blanks2 in
-    let if3 = c .before .before .before .if3 in
-    quote-wrong _ _ _ (blanks .ensures) (if1 .left) (if2 .left) _ (blanks2 .ensures) (if3 .left) (c .before .if4 .left) (c .if5 .left)
-
 pub equals-spec : {M : Type 1} → statement M
 equals-spec =
     tie.close
@@ -49,10 +33,10 @@ equals-spec =
     (λ c. sign-wrong _ _ _ (c .before .before .before .blanks .ensures) (c .before .before .if1 .left) (c .if2 .taken))
     (λ c. search needs)
     (λ c κs. search needs)
-    returns-3
+    (λ c. search (quote-end, needs))
     (λ c. search needs)
     (λ c. search needs)
     returns-4
     (λ c. search needs)
     returns-5
-    returns-6)
+    (λ c. search (quote-wrong, needs)))

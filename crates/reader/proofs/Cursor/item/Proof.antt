@@ -4,19 +4,6 @@ use borrow.Author.Needs.{needs}
 use Rattle.reader.proofs.Cursor.item.Statement.{statement}
 use Rattle.reader.proofs.Cursor.item.Tie as tie
 
-returns-2 : tie.Need-returns-2
-returns-2 c =
-    let blanks = c .before .before .before .blanks in
-    let if1 = c .before .before .if1 in
-    part-any _ _ _ (blanks .ensures) (record { reads = λ F p. place-close _ _ F p (if1 .left) _ (c .if2 .taken) refl })
-
-returns-4 : tie.Need-returns-4
-returns-4 c =
-    let blanks = c .before .before .before .before .before .blanks in
-    let if1 = c .before .before .before .before .if1 in
-    let if2 = c .before .before .if2 in
-    part-joined _ _ _ (blanks .ensures) (if1 .left) (c .if4 .taken) (c .before .if3 .left) (if2 .left)
-
 returns-5 : tie.Need-returns-5
 returns-5 c =
     let blanks = c .before .before .before .before .before .before .before .blanks in
@@ -41,10 +28,10 @@ item-spec =
     (λ c. part-any _ _ _ (c .before .blanks .ensures) (record { reads = λ F p. place-end _ _ F p (c .if1 .taken) }))
     (λ c. search needs)
     (λ c. search needs)
-    returns-2
+    (λ c. search (part-any, place-close, needs))
     (λ c κs. search needs)
     (λ c. part-any _ _ _ (c .before .before .before .before .before .blanks .ensures) (c .slash .ensures))
-    returns-4
+    (λ c. search (part-joined, needs))
     (λ c κs. search needs)
     returns-5
     returns-6)

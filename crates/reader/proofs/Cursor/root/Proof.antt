@@ -4,11 +4,6 @@ use borrow.Author.Needs.{needs}
 use Rattle.reader.proofs.Cursor.root.Statement.{statement}
 use Rattle.reader.proofs.Cursor.root.Tie as tie
 
-returns-3 : tie.Need-returns-3
-returns-3 c =
-    name-over _ _ _ (c .before .before .before .before .blanks .ensures) (c .before .before .before .if1 .left) (c .before .if2 .left)
-    (c .if3 .taken)
-
 returns-4 : tie.Need-returns-4
 returns-4 c =
     let blanks = c .before .before .before .before .before .before .before .blanks in
@@ -34,7 +29,7 @@ root-spec =
     (λ c. search needs)
     (λ c. root-wrong _ _ _ (c .before .before .before .blanks .ensures) (c .before .before .if1 .left) (c .if2 .taken))
     (λ c. search needs)
-    returns-3
+    (λ c. search (name-over, needs))
     (λ c. search needs)
     (λ c κs. search needs)
     returns-4

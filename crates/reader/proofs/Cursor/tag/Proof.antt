@@ -9,12 +9,6 @@ use borrow.Author.Needs.{needs}
 use Rattle.reader.proofs.Cursor.tag.Statement.{statement}
 use Rattle.reader.proofs.Cursor.tag.Tie as tie
 
-returns : tie.Need-returns
-returns c =
-    let a = c .before .before .args in
-    let pre = c .before .before .pre in
-    tag-end (a .s .now) (a .names .now) (a .depth) (a .spare) (a .self .at) (pre .1) (c .if1 .taken)
-
 returns-3 : tie.Need-returns-3
 returns-3 c =
     let a = c .before .before .before .before .before .before .args in
@@ -95,7 +89,7 @@ pub tag-spec : {M : Type 1} → statement M
 tag-spec =
     tie.close
     (tie.spec
-    returns
+    (λ c. search (tag-end, needs))
     (λ c. search needs)
     (λ c κs. search needs)
     (λ c. search needs)
