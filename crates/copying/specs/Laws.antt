@@ -60,3 +60,9 @@ module _ (p o₀ o : List ℕ) (W r : ℕ) (w : Wrote (take W p) o₀ o r) (low 
         let x = wrote-as all (behind (take (length p - W) p) (drop (length p - W) p) o o (length p - W) fronted enough rest q
         (wrote-as last v)) in
         record { count = x .count; bytes = rw (← kept) (x .bytes) }
+
+-- the windows are the arrays a and b
+pub copied : {p a b o₀ o y : List ℕ} {r q : ℕ} (W : ℕ) → a ≡ take W p → b ≡ take W (ending (length p - W) p) → Wrote a o₀ o r
+    → Wrote b (take (length o - (length p - W)) (drop (length p - W) o)) y q → W ≤ length p → length p ≤ W + W → length p ≤ length o₀
+    → Wrote p o₀ (putMid (length p - W) (length o - (length p - W)) o y) ((length p - W) + q)
+copied {p} {o₀ = o₀} {o = o} {y = y} {r = r} {q = q} W e f w v low high h = windows p o₀ o W r (wrote-as e w) low high h y q (wrote-as f v)
