@@ -1,4 +1,6 @@
 // Load and write, answered by the number of 64 bits. Every contract is `Contract` of traces/specs/Contract.antt.
+use xml_load::loading;
+use xml_write::writer;
 ghost use Rattle.traces.specs.Exchange.{Request, with-none, with-one};
 ghost use Rattle.traces.specs.Contract.{Contract};
 

@@ -9,7 +9,7 @@ use Rattle.protocol.specs.Calls.{start, next}
 use Rattle.protocol.specs.Answers.{answer-of}
 use Rattle.protocol.specs.declared.Answer.{Answer}
 use Rattle.protocol.specs.declared.Answer.the-variants.{Refused}
-use Rattle.layout.specs.Layout.{state-size}
+use Rattle.table.specs.Layout.{state-size}
 use Rattle.form.specs.Form.{Holds}
 use Rattle.form.specs.Start.{start-byte}
 

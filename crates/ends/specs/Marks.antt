@@ -5,10 +5,10 @@ use mathlib.Core.List.{List, [], _∷_, map}
 use lib.Dec.{eqb}
 use Rattle.protocol.specs.State.{nobody, writer-of, saved-of, Marked, Tree, seen-by, lasting, undone, commit-tree, abort-tree, with-open}
 use Rattle.protocol.specs.Calls.{Call, commit, abort}
-use Rattle.layout.specs.Fields.{field, with-field, with-bytes}
-use Rattle.layout.specs.Flat.{second, prune}
-use Rattle.layout.specs.Layout.{is-open, Entry, nodes, Left, header}
-use Rattle.edits.specs.Rows.{not-inserted-by}
+use Rattle.table.specs.Fields.{field, with-field, with-bytes}
+use Rattle.table.specs.Flat.{second, prune}
+use Rattle.table.specs.Layout.{is-open, Entry, nodes, Left, header}
+use Rattle.rows.specs.Rows.{not-inserted-by}
 
 -- the call, what it keeps, what it leaves of that, and the tree
 abbrev pub end-call : Bool → ℕ → Call

@@ -1,6 +1,8 @@
 // Start, begin, commit and abort.
 use protocol::Answer;
 use protocol::causes;
+use table::outline;
+use table::transactions;
 ghost use mathlib.Core.Path.{_≡_};
 ghost use mathlib.Core.Bool.{true};
 ghost use mathlib.Core.List.{map};
@@ -8,9 +10,9 @@ ghost use Prim.Native.Nat.{_<_, _≤_};
 ghost use lib.ListN.{length};
 ghost use Rattle.protocol.specs.State.{released};
 ghost use Rattle.protocol.specs.Calls.{begin, commit, abort};
-ghost use Rattle.layout.specs.Lists.{modify};
-ghost use Rattle.layout.specs.Flat.{second};
-ghost use Rattle.layout.specs.Layout.{is-open, nodes, Layout, Kept};
+ghost use Rattle.table.specs.Lists.{modify};
+ghost use Rattle.table.specs.Flat.{second};
+ghost use Rattle.table.specs.Layout.{is-open, nodes, Layout, Kept};
 ghost use Rattle.engine.specs.Contract.{Performed};
 ghost use Rattle.ends.specs.Ends.{Restarted};
 ghost use Rattle.ends.specs.Marks.{without-mark, rewritten, ended-marks, at-end, Closed};

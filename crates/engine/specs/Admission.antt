@@ -8,10 +8,10 @@ use Rattle.tree.specs.Steps.{Step, target}
 use Rattle.protocol.specs.State.{State}
 use Rattle.protocol.specs.Lent.{Room}
 use Rattle.protocol.specs.Calls.{step, Next, unchanged, refused, if-open, next}
-use Rattle.layout.specs.Layout.{nodes, is-open, Layout}
-use Rattle.lookup.specs.Places.{item, number-of, seen-at}
-use Rattle.lookup.specs.Found.{judged-at}
-use Rattle.locking.specs.Way.{Climbed}
+use Rattle.table.specs.Layout.{nodes, is-open, Layout}
+use Rattle.rows.specs.Places.{item, number-of, seen-at}
+use Rattle.rows.specs.Found.{judged-at}
+use Rattle.engine.specs.Way.{Climbed}
 use Rattle.form.specs.Form.{form, Holds}
 use Rattle.engine.specs.declared.Admission.{Admission}
 

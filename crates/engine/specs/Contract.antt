@@ -13,7 +13,7 @@ use Rattle.protocol.specs.Answers.{answer-of, lent-after}
 use Rattle.protocol.specs.History.{is-granted}
 use Rattle.protocol.specs.declared.Answer.{Answer}
 use Rattle.protocol.specs.declared.Answer.the-variants.{Refused}
-use Rattle.layout.specs.Layout.{state-size}
+use Rattle.table.specs.Layout.{state-size}
 use Rattle.form.specs.Form.{form, Holds}
 
 -- the places of the state, offset and length, that a call which is not granted may change: none

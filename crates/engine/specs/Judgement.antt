@@ -11,9 +11,9 @@ use Rattle.protocol.specs.Lent.{Room, has-room}
 use Rattle.protocol.specs.Causes.{unfit-kind, unfit-content, held-number, unfit-place, full-table, short-buffer}
 use Rattle.protocol.specs.Calls.{Call, step}
 use Rattle.protocol.specs.declared.Answer.{Answer}
-use Rattle.layout.specs.Layout.{Entry, nodes, is-open}
-use Rattle.lookup.specs.Places.{item, ups, children}
-use Rattle.lookup.specs.Found.{kind-of, taken-in, full-in, answer-at, wait-word}
+use Rattle.table.specs.Layout.{Entry, nodes, is-open}
+use Rattle.rows.specs.Places.{item, ups, children}
+use Rattle.rows.specs.Found.{kind-of, taken-in, full-in, answer-at, wait-word}
 use Rattle.engine.specs.Contract.{Performed, Lent}
 use Rattle.engine.specs.Admission.{Standing, Admitted}
 use Rattle.engine.specs.declared.Admission.{Admission}

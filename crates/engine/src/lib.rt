@@ -1,10 +1,13 @@
 // What all steps share: the caller and the node are judged, then the step's own causes and the wait, then the locks are granted; and T, the
 // first step.
-use layout::Places;
+pub mod locking;
+
 use locks::NeedWords;
 use locks::StepName;
 use protocol::Answer;
 use protocol::causes;
+use table::layout::Places;
+use table::transactions;
 ghost use mathlib.Core.Path.{_≡_};
 ghost use mathlib.Core.Bool.{cond};
 ghost use Prim.Native.Nat.{_<_, _≤_};
@@ -14,10 +17,10 @@ ghost use Rattle.tree.specs.Content.{document-kind};
 ghost use Rattle.tree.specs.Steps.{T, parent};
 ghost use Rattle.protocol.specs.Causes.{unfit-kind};
 ghost use Rattle.protocol.specs.Calls.{step};
-ghost use Rattle.layout.specs.Layout.{nodes, Layout};
-ghost use Rattle.lookup.specs.Places.{item, numbers-above};
-ghost use Rattle.locking.specs.Way.{Climbed, Inside};
-ghost use Rattle.locking.specs.Grants.{Granted};
+ghost use Rattle.table.specs.Layout.{nodes, Layout};
+ghost use Rattle.rows.specs.Places.{item, numbers-above};
+ghost use Rattle.engine.specs.Way.{Climbed, Inside};
+ghost use Rattle.engine.specs.Grants.{Granted};
 ghost use Rattle.engine.specs.Contract.{Performed, no-room};
 ghost use Rattle.engine.specs.Admission.{Caller, Admitted};
 ghost use Rattle.engine.specs.Judgement.{FirstOf, Judged};

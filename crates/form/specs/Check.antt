@@ -9,7 +9,7 @@ use Rattle.tree.specs.Content.{document-kind, between}
 use Rattle.locks.specs.Modes.{no-mode, bit}
 use Rattle.protocol.specs.State.{nobody}
 use Rattle.protocol.specs.Calls.{node-limit}
-use Rattle.layout.specs.Encoding.{tabulate, state-size, format-mark, entry-at, word, part, count, slot, depth, number, cell, decode, nodes}
+use Rattle.table.specs.Encoding.{tabulate, state-size, format-mark, entry-at, word, part, count, slot, depth, number, cell, decode, nodes}
 use Rattle.form.specs.Form.{in-range, valid-rows, cells, sizes-in-range}
 
 -- the first sixteen bytes: length, mark and count

@@ -9,8 +9,8 @@ use Rattle.tree.specs.Lists.{every, distinct, same}
 use Rattle.tree.specs.Content.{document-kind, element-kind, text-kind, content-limit, between}
 use Rattle.protocol.specs.State.{nobody, Marked, Tree, State, writer-of}
 use Rattle.protocol.specs.Calls.{node-limit}
-use Rattle.layout.specs.Encoding.{tabulate, state-size, format-mark, part, count, slot, cell, Entry, nodes, unique, Layout, header}
-use Rattle.layout.specs.Flat.{flat}
+use Rattle.table.specs.Encoding.{tabulate, state-size, format-mark, part, count, slot, cell, Entry, nodes, unique, Layout, header}
+use Rattle.table.specs.Flat.{flat}
 
 -- nodes --------------------------------------------------------------------------------
 

@@ -7,7 +7,7 @@ use lib.ListN.{length, getD, drop}
 use lib.Dec.{eqb, leb, ltb}
 use Rattle.tree.specs.Content.{document-kind}
 use Rattle.protocol.specs.State.{start-state}
-use Rattle.layout.specs.Encoding.{state-size, format-mark}
+use Rattle.table.specs.Encoding.{state-size, format-mark}
 use Rattle.form.specs.Form.{Holds}
 
 -- byte j of the outline: the entry of each place has the slot of its own number, and zeros

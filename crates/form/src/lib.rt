@@ -1,12 +1,13 @@
 // The form of the lent bytes (docs/STATE.md): its check, and the bytes of the beginning.
+use table::layout;
 ghost use mathlib.Core.Path.{_≡_};
 ghost use Prim.Native.Nat.{_+_, _^_, _<_, _≤_};
 ghost use lib.ListN.{length};
 ghost use Rattle.tree.specs.Lists.{same};
 ghost use Rattle.locks.specs.Modes.{bit};
-ghost use Rattle.layout.specs.Layout.{state-size, count, cell, part};
+ghost use Rattle.table.specs.Layout.{state-size, count, cell, part};
 ghost use Rattle.form.specs.Form.{sizes-in-range, apart, form};
-ghost use Rattle.layout.specs.Laws.Bytes.{Filled};
+ghost use Rattle.table.specs.Laws.Bytes.{Filled};
 ghost use Rattle.form.specs.Start.{outline-byte, start-byte, Started};
 ghost use Rattle.form.specs.Check.{valid-header, column, cell-in-range, valid-first, valid-nodes, Outlined};
 

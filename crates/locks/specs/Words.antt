@@ -1,9 +1,8 @@
 -- Sets of modes as 16-bit words, the table by places, and the locks of a step as words.
-use Prim.Native.Nat.{ℕ, zero, suc, _+_, _*_, _/_, _%_, _^_}
-use mathlib.Core.Bool.{Bool, true, false, cond, _&&_, _||_}
+use Prim.Native.Nat.{ℕ, zero, suc, _+_, _*_, _^_}
+use mathlib.Core.Bool.{Bool, false, cond, _&&_, _||_}
 use mathlib.Core.List.{List, [], _∷_, map}
 use lib.ListN.{getD}
-use lib.Dec.{eqb}
 use Rattle.tree.specs.Lists.{any}
 use Rattle.tree.specs.Steps.{Step, T, C, R, U, D, I, TT, RR, UU}
 use Rattle.locks.specs.Modes.{Mode, modes, index, clash, bit, in-word}

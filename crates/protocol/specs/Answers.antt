@@ -4,7 +4,7 @@ use mathlib.Core.List.{List}
 use lib.ListN.{length}
 use Rattle.tree.specs.Document.{Document}
 use Rattle.tree.specs.Steps.{Value, done, kind-parent, child-is, none, content-is, numbers-are, cells-are, how-many}
-use Rattle.protocol.specs.Lent.{filled, first-lent, second-lent}
+use Rattle.protocol.specs.Lent.{filled}
 use Rattle.protocol.specs.Calls.{Outcome, granted, written, waits, refused, refused-at}
 use Rattle.protocol.specs.declared.Answer.{Answer}
 use Rattle.protocol.specs.declared.Answer.the-variants.{Done, Node, Child, NoChild, Count, Waits, Refused, RefusedAt}

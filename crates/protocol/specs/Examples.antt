@@ -5,16 +5,19 @@ use mathlib.Core.Bool.{Bool, true, false}
 use mathlib.Core.List.{List, [], _∷_, _++_, map}
 use Rattle.tree.specs.Text.{bytes}
 use Rattle.tree.specs.Lists.{keep}
-use Rattle.tree.specs.Forest.{nil, node, rows, amend, view, place, put}
-use Rattle.tree.specs.Content.{name-start, name-byte, text-byte, is-name, is-text, allowed, takes, attributes-first, children-rule, insert-at}
+use Rattle.tree.specs.Forest.{rows, amend, view, place, put}
+use Rattle.tree.specs.Content.{name-start, name-byte, text-byte, is-name, is-text, allowed, takes, attributes-first, children-rule}
+use Rattle.tree.specs.Content.{insert-at}
 use Rattle.tree.specs.Document.{Document, node-0-alone, lines, select, ruled, legal}
-use Rattle.tree.specs.Steps.{Step, T, C, R, U, D, I, TT, RR, placed, done, kind-parent, child-is, content-is, numbers-are, cells-are, plain-document}
+use Rattle.tree.specs.Steps.{Step, T, C, R, U, D, I, TT, RR, placed, done, kind-parent, child-is, content-is, numbers-are, cells-are}
+use Rattle.tree.specs.Steps.{plain-document}
 use Rattle.tree.specs.Examples.{tree-E}
 use Rattle.locks.specs.Modes.{clash}
 use Rattle.locks.specs.Needs.{locks}
 use Rattle.protocol.specs.State.{State, start-state, nodes, callers-document, document-of, grant, commit-tree, abort-tree, tree-of}
 use Rattle.protocol.specs.Lent.{first-lent, second-lent}
-use Rattle.protocol.specs.Calls.{node-limit, loadable, stands-for, Call, start, load, begin, abort, step, Outcome, granted, waits, refused, wait-set, judged, next}
+use Rattle.protocol.specs.Calls.{node-limit, loadable, stands-for, Call, start, load, begin, abort, step, Outcome, granted, waits}
+use Rattle.protocol.specs.Calls.{refused, wait-set, judged, next}
 use Rattle.protocol.specs.Answers.{lent-after}
 use Rattle.protocol.specs.History.{Event, event, history, state-after, log-after, plain, pending}
 

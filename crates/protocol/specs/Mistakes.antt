@@ -1,12 +1,12 @@
 -- Examples that shut out known mistakes: document 01, "What a reviewer will try" and "Mistakes to shut out". One table, one theorem.
-use Prim.Native.Nat.{ℕ}
 use mathlib.Core.Path.{_≡_, refl}
 use mathlib.Core.Bool.{true, false}
 use mathlib.Core.List.{List, [], _∷_, map}
 use Rattle.tree.specs.Text.{bytes}
 use Rattle.tree.specs.Lists.{keep}
 use Rattle.tree.specs.Forest.{rows, amend, view, place, put}
-use Rattle.tree.specs.Content.{name-start, name-byte, text-byte, is-name, is-text, allowed, takes, attributes-first, children-rule, insert-at}
+use Rattle.tree.specs.Content.{name-start, name-byte, text-byte, is-name, is-text, allowed, takes, attributes-first, children-rule}
+use Rattle.tree.specs.Content.{insert-at}
 use Rattle.tree.specs.Document.{node-0-alone, lines, select, ruled, legal}
 use Rattle.tree.specs.Steps.{C, R, U, D, I, TT, UU, placed, done, child-is, none, content-is, numbers-are, how-many, plain-document}
 use Rattle.tree.specs.Examples.{tree-E}

@@ -11,8 +11,7 @@ use Rattle.tree.specs.Forest.{nil, node, rows, amend, view, place, put}
 use Rattle.tree.specs.Content.{name-start, name-byte, text-byte, is-name, is-text, allowed, takes, attributes-first, children-rule}
 use Rattle.tree.specs.Content.{insert-at}
 use Rattle.tree.specs.Document.{Document, node-0-alone, lines, select, ruled, legal}
-use Rattle.tree.specs.Steps.{Step, T, C, R, U, D, I, TT, RR, UU, placed}
-use Rattle.tree.specs.Steps.{done, child-is, none, content-is, numbers-are, cells-are, how-many}
+use Rattle.tree.specs.Steps.{Step, T, C, R, U, D, I, TT, RR, UU, placed, done, child-is, none, content-is, numbers-are, cells-are, how-many}
 use Rattle.tree.specs.Examples.{tree-E}
 use Rattle.locks.specs.Modes.{clash}
 use Rattle.locks.specs.Needs.{locks}

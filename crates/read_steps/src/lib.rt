@@ -1,4 +1,6 @@
 // The steps that only read: C, R, TT and RR.
+pub mod reading;
+
 use locks::StepName;
 use protocol::Answer;
 use protocol::causes;

@@ -8,7 +8,8 @@ use lib.Dec.{eqb}
 use Rattle.tree.specs.Text.{bytes}
 use Rattle.tree.specs.Lists.{keep}
 use Rattle.tree.specs.Forest.{rows, amend, view, place, put}
-use Rattle.tree.specs.Content.{name-start, name-byte, text-byte, is-name, is-text, allowed, takes, attributes-first, children-rule, insert-at}
+use Rattle.tree.specs.Content.{name-start, name-byte, text-byte, is-name, is-text, allowed, takes, attributes-first, children-rule}
+use Rattle.tree.specs.Content.{insert-at}
 use Rattle.tree.specs.Document.{node-0-alone, lines, select, ruled, legal}
 use Rattle.tree.specs.Steps.{Step, T, C, R, U, D, I, TT, RR, UU, placed}
 use Rattle.tree.specs.Examples.{tree-E}
@@ -45,20 +46,20 @@ columns = T 4 ∷ C 1 1 ∷ C 4 1 ∷ R 1 ∷ R 4 ∷ R 5 ∷ U 1 (bytes "up") �
 
 abbrev table : List (Step × String)
 table =
-    (T 5,                     "+++++++++---++++++++++") ∷
-    (C 1 1,                   "+++++++++--+--++++++++") ∷
-    (C 4 1,                   "+++++++++---++-+++++++") ∷
-    (R 4,                     "+++++++-+--++++++++--+") ∷
-    (U 4 (bytes "pace"),      "++++-++-+--++++++----+") ∷
-    (D 4,                     "---+--+-----+---------") ∷
-    (I 9 2 (bytes "x") 1 4,   "+-+++++++--+--+-+-+-++") ∷
-    (I 9 2 (bytes "x") 4 1,   "++-++++++---++-------+") ∷
-    (TT 4,                    "+++++++++---++-+++++++") ∷
-    (RR 4,                    "+++++++-----++-++++---") ∷
-    (uu 4,                    "++++--+-----++-++-----") ∷
-    (RR 0,                    "++++++---------++++---") ∷
-    (TT 0,                    "+++++++++------+++++++") ∷
-    (uu 0,                    "+++------------++-----") ∷ []
+    (T 5, "+++++++++---++++++++++") ∷
+    (C 1 1, "+++++++++--+--++++++++") ∷
+    (C 4 1, "+++++++++---++-+++++++") ∷
+    (R 4, "+++++++-+--++++++++--+") ∷
+    (U 4 (bytes "pace"), "++++-++-+--++++++----+") ∷
+    (D 4, "---+--+-----+---------") ∷
+    (I 9 2 (bytes "x") 1 4, "+-+++++++--+--+-+-+-++") ∷
+    (I 9 2 (bytes "x") 4 1, "++-++++++---++-------+") ∷
+    (TT 4, "+++++++++---++-+++++++") ∷
+    (RR 4, "+++++++-----++-++++---") ∷
+    (uu 4, "++++--+-----++-++-----") ∷
+    (RR 0, "++++++---------++++---") ∷
+    (TT 0, "+++++++++------+++++++") ∷
+    (uu 0, "+++------------++-----") ∷ []
 
 pub beside-holds : map (λ r. map (beside (state-after start-state opening) (r .0)) columns) table ≡ map (λ r. bytes (r .1)) table
 unfolding tree-E state-after next judged wait-set loadable first-lent second-lent

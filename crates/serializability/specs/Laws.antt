@@ -17,3 +17,15 @@ pub mod Held
 pub mod Pending
 pub mod Main
 pub mod Reached
+pub mod Tests
+pub mod Lines
+pub mod Views
+pub mod Classes
+pub mod Kept
+pub mod Diamond
+pub mod Uniqueness
+pub mod Runs
+pub mod Orders
+pub mod Serial
+pub mod Rules
+pub mod Legal

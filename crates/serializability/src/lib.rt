@@ -1,1 +1,1 @@
-// The theorem on lists of calls; there is no code here.
+// Steps whose locks do not clash commute; the theorem on lists of calls. Definitions and theorems only, in specs/.

@@ -1,16 +1,20 @@
 // The lent bytes: where they hold the nodes, the locks and the open transactions (docs/STATE.md). The contracts of
 // public functions speak of `nodes` alone.
+pub mod layout;
+pub mod outline;
+pub mod transactions;
+
 ghost use mathlib.Core.Path.{_≡_};
 ghost use mathlib.Core.Bool.{true};
 ghost use Prim.Native.Nat.{_<_, _≤_};
 ghost use lib.ListN.{length, getD};
 ghost use lib.Dec.{eqb};
 ghost use Rattle.protocol.specs.State.{unwritten, wrote, writer-of, deleted-by, with-inserter, with-update};
-ghost use Rattle.layout.specs.Lists.{modify, first};
-ghost use Rattle.layout.specs.Flat.{second};
-ghost use Rattle.layout.specs.Layout.{slot, nodes, no-entry, Layout, Kept};
-ghost use Rattle.layout.specs.Fields.{field, storable, with-field, with-kind};
-ghost use Rattle.layout.specs.Fields.{has-text, text, with-bytes, restored, saved-bytes, saved-size, Stored, marked-written};
+ghost use Rattle.table.specs.Lists.{modify, first};
+ghost use Rattle.table.specs.Flat.{second};
+ghost use Rattle.table.specs.Layout.{slot, nodes, no-entry, Layout, Kept};
+ghost use Rattle.table.specs.Fields.{field, storable, with-field, with-kind};
+ghost use Rattle.table.specs.Fields.{has-text, text, with-bytes, restored, saved-bytes, saved-size, Stored, marked-written};
 
 // How many nodes are held.
 pub fn count(s: &[u8]) -> usize

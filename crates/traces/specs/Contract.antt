@@ -9,13 +9,13 @@ use Rattle.protocol.specs.Lent.{Room, first-lent, second-lent}
 use Rattle.protocol.specs.Calls.{Input, Call, start, load, begin, commit, abort, step, write}
 use Rattle.protocol.specs.Answers.{code-of}
 use Rattle.protocol.specs.declared.Answer.{Answer}
-use Rattle.layout.specs.Layout.{state-size}
+use Rattle.table.specs.Layout.{state-size}
 use Rattle.form.specs.Form.{Holds}
 use Rattle.engine.specs.Contract.{Performed, Lent, rooms-of}
 use Rattle.ends.specs.Ends.{Restarted}
 use Rattle.xml.specs.Reading.{ReadsAs}
 use Rattle.traces.specs.Exchange.{Request, Exchange}
-use Rattle.writer.specs.Contract.{Written}
+use Rattle.xml_write.specs.Contract.{Written}
 
 -- the call of protocol that a request makes, with this room in its buffers; load's input is what its bytes read as
 pub data Makes (room : Room) : Request → Call → Type 0 where

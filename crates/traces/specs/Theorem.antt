@@ -13,18 +13,19 @@ use Rattle.locks.specs.Needs.{needs}
 use Rattle.protocol.specs.State.{State, start-state, callers-document, committed-document}
 use Rattle.protocol.specs.Lent.{Room, filled, first-lent, second-lent}
 use Rattle.protocol.specs.Causes.{causes}
-use Rattle.protocol.specs.Calls.{Call, start, load, begin, commit, abort, step, write, Outcome, granted, written, waits, refused, refused-at, next}
+use Rattle.protocol.specs.Calls.{Call, start, load, begin, commit, abort, step, write, Outcome, granted, written, waits, refused}
+use Rattle.protocol.specs.Calls.{refused-at, next}
 use Rattle.protocol.specs.History.{Event, is-granted, Log, new-log, logged, fed, plain}
 use Rattle.protocol.specs.Answers.{granted-answer, code-of, answer-of, lent-after}
 use Rattle.protocol.specs.declared.Answer.{Answer}
 use Rattle.protocol.specs.declared.Answer.the-variants.{Count, Refused}
-use Rattle.layout.specs.Layout.{state-size}
+use Rattle.table.specs.Layout.{state-size}
 use Rattle.form.specs.Form.{form, Holds}
 use Rattle.engine.specs.Contract.{outside}
 use Rattle.serializability.specs.Theorem.{since-start, reached, WaitSet, Demand3}
 use Rattle.xml.specs.Writing as xml
 use Rattle.xml.specs.Writing.{ReadBack}
-use Rattle.writer.specs.Contract.{writing, text-after, write-answer, write-buffer}
+use Rattle.xml_write.specs.Contract.{writing, text-after, write-answer, write-buffer}
 use Rattle.traces.specs.Exchange.{Request, Exchange, Memory, outcome, cause, value, told-granted}
 use Rattle.traces.specs.Contract.{MakesCall, Contract}
 

@@ -6,10 +6,11 @@ use mathlib.Core.List.{List, [], _∷_, map}
 use Rattle.tree.specs.Text.{bytes}
 use Rattle.tree.specs.Lists.{keep}
 use Rattle.tree.specs.Forest.{nil, node, rows, amend, view, place, put}
-use Rattle.tree.specs.Content.{name-start, name-byte, text-byte, is-name, is-text, allowed, takes, attributes-first, children-rule, insert-at}
+use Rattle.tree.specs.Content.{name-start, name-byte, text-byte, is-name, is-text, allowed, takes, attributes-first, children-rule}
+use Rattle.tree.specs.Content.{insert-at}
 use Rattle.tree.specs.Document.{Document, lines, select}
-use Rattle.tree.specs.Steps.{Step, T, C, R, U, D, I, TT, RR, UU, placed, Value, done, kind-parent, child-is, none, content-is, numbers-are}
-use Rattle.tree.specs.Steps.{cells-are, how-many, PlainAnswer, plain-value, unfit, plain-answers}
+use Rattle.tree.specs.Steps.{Step, T, C, R, U, D, I, TT, RR, UU, placed, Value, done, kind-parent, child-is, none, content-is}
+use Rattle.tree.specs.Steps.{numbers-are, cells-are, how-many, PlainAnswer, plain-value, unfit, plain-answers}
 
 -- a node, what is below it, and what follows it
 abbrev pub a-node : ℕ → ℕ → String → Document → Document → Document

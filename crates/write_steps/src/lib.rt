@@ -1,4 +1,6 @@
 // The steps that change the tree: U, D, I and UU.
+pub mod writing;
+
 use locks::StepName;
 use protocol::Answer;
 use protocol::causes;
@@ -9,7 +11,7 @@ ghost use lib.ListN.{length};
 ghost use Rattle.tree.specs.Steps.{U, D, I, UU, wrong-content-on};
 ghost use Rattle.protocol.specs.Causes.{unfit-content};
 ghost use Rattle.protocol.specs.Calls.{step};
-ghost use Rattle.layout.specs.Layout.{nodes, Layout};
+ghost use Rattle.table.specs.Layout.{nodes, Layout};
 ghost use Rattle.engine.specs.Contract.{Performed, no-room};
 ghost use Rattle.engine.specs.Judgement.{own-cause, FirstOf};
 

@@ -2,7 +2,7 @@
 -- XML 1.0.
 use Prim.Native.Nat.{ℕ, zero, suc}
 use mathlib.Core.Bool.{Bool, cond, not, _&&_, _||_}
-use mathlib.Core.List.{List, []}
+use mathlib.Core.List.{List}
 use lib.Dec.{eqb}
 use Rattle.tree.specs.Text.{bytes}
 use Rattle.tree.specs.Lists.{any, same}

@@ -9,9 +9,6 @@ use Rattle.ends.proofs.abort.Tie as tie
 returns : tie.Need-returns
 returns c = end-barred false _ (c .before .caller .ensures .barred (c .if1 .taken))
 
-cast-u : tie.Need-cast-u
-cast-u c = omega (arith, c .before .caller .ensures .opened (c .if1 .left) .high)
-
 prune-requires : tie.Need-prune-requires
 prune-requires c κs =
     let opened = c .before .before .caller .ensures .opened (c .before .if1 .left) in
@@ -36,14 +33,6 @@ returns-2 c =
     end-done false opened (ended false _ (at-prune .prune .ensures) (at-finish .finish .ensures))
 
 pub abort-spec : {M : Type 1} → statement M
-abort-spec =
-    tie.close
-    (tie.spec
-    (λ c κs. search needs)
-    (λ c. search needs)
-    returns
-    cast-u
-    prune-requires
-    finish-requires
-    (λ c. search needs)
+abort-spec = tie.close (tie.spec (λ c κs. search needs) (λ c. search needs) returns
+    (λ c. omega (arith, c .before .caller .ensures .opened (c .if1 .left) .high)) prune-requires finish-requires (λ c. search needs)
     returns-2)

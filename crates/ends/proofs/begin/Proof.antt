@@ -61,19 +61,5 @@ returns-5 c =
     begin-done good (omega (arith, if2 .left)) (search needs) shut (opening .ensures)
 
 pub begin-spec : {M : Type 1} → statement M
-begin-spec =
-    tie.close
-    (tie.spec
-    (λ c κs. search needs)
-    (λ c. search needs)
-    returns
-    (λ c. search needs)
-    returns-2
-    (λ c. search needs)
-    returns-3
-    is-open-requires
-    (λ c. search needs)
-    returns-4
-    open-requires
-    (λ c. search needs)
-    returns-5)
+begin-spec = tie.close (tie.spec (λ c κs. search needs) (λ c. search needs) returns (λ c. search needs) returns-2 (λ c. search needs)
+    returns-3 is-open-requires (λ c. search needs) returns-4 open-requires (λ c. search needs) returns-5)

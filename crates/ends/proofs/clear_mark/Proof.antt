@@ -24,12 +24,4 @@ returns-2 c =
     not-cleared _ (a .i) (a .o) (a .t) _ (field .ensures) (c .if1 .left) (pre .0)
 
 pub clear-mark-spec : {M : Type 1} → statement M
-clear-mark-spec =
-    tie.close
-    (tie.spec
-    (λ c κs. search needs)
-    set-field-requires
-    (λ c. search needs)
-    returns
-    (λ c. search needs)
-    returns-2)
+clear-mark-spec = tie.close (tie.spec (λ c κs. search needs) set-field-requires (λ c. search needs) returns (λ c. search needs) returns-2)

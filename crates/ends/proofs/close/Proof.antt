@@ -1,9 +1,9 @@
 use borrow.Author.Needs.{needs}
 use mathlib.Core.List.{map}
 use Rattle.protocol.specs.State.{released}
-use Rattle.layout.specs.Flat.{second}
-use Rattle.layout.specs.Layout.{nodes}
-use Rattle.layout.specs.Laws.Kept.{left-kept}
+use Rattle.table.specs.Flat.{second}
+use Rattle.table.specs.Layout.{nodes}
+use Rattle.table.specs.Laws.Kept.{left-kept}
 use Rattle.ends.specs.Laws.Marks.{kept-open, closed-after}
 use Rattle.ends.proofs.close.Statement.{statement}
 use Rattle.ends.proofs.close.Tie as tie
@@ -23,10 +23,4 @@ returns c =
     closed-after (args .t) rows (λ l. l) (left-kept (release .ensures)) (close .ensures)
 
 pub close-spec : {M : Type 1} → statement M
-close-spec =
-    tie.close
-    (tie.spec
-    (λ c κs. search needs)
-    close-requires
-    (λ c. search needs)
-    returns)
+close-spec = tie.close (tie.spec (λ c κs. search needs) close-requires (λ c. search needs) returns)

@@ -38,15 +38,5 @@ returns-2 c =
     (at-clear-mark4 .clear-mark4 .ensures))
 
 pub end-node-spec : {M : Type 1} → statement M
-end-node-spec =
-    tie.close
-    (tie.spec
-    (λ c κs. search needs)
-    (λ c κs. search needs)
-    (λ c. search needs)
-    returns
-    (λ c κs. search needs)
-    (λ c κs. search needs)
-    clear-mark-requires-4
-    (λ c. search needs)
-    returns-2)
+end-node-spec = tie.close (tie.spec (λ c κs. search needs) (λ c κs. search needs) (λ c. search needs) returns (λ c κs. search needs)
+    (λ c κs. search needs) clear-mark-requires-4 (λ c. search needs) returns-2)

@@ -3,8 +3,8 @@ use native.Mathlib.Omega.{arith}
 use Prim.Native.Nat.{_-_}
 use mathlib.Core.Path.{_≡_, _∙_}
 use lib.ListN.{length}
-use Rattle.layout.specs.Flat.{second}
-use Rattle.layout.specs.Layout.{nodes, Kept}
+use Rattle.table.specs.Flat.{second}
+use Rattle.table.specs.Layout.{nodes, Kept}
 use Rattle.ends.specs.Marks.{ended-marks, map-first}
 use Rattle.ends.specs.Laws.Marks.{first-none, first-next, first-done}
 use Rattle.ends.proofs.end_nodes.Statement.{statement}
@@ -26,16 +26,5 @@ returns : tie.Need-returns Inv-loop μ-loop
 returns c = first-done _ _ (omega (arith, c .loop-test .left, c .before .before .count .ensures)) (c .before .loop .inv .1)
 
 pub end-nodes-spec : {M : Type 1} → statement M
-end-nodes-spec =
-    tie.close
-    (tie.spec
-    Inv-loop
-    μ-loop
-    (λ c κs. search needs)
-    (λ c. (search needs, first-none _ _ (search needs)))
-    (λ c κs. search needs)
-    (λ c. search needs)
-    (λ c. search needs)
-    loop-again
-    (λ c. search needs)
-    returns)
+end-nodes-spec = tie.close (tie.spec Inv-loop μ-loop (λ c κs. search needs) (λ c. (search needs, first-none _ _ (search needs)))
+    (λ c κs. search needs) (λ c. search needs) (λ c. search needs) loop-again (λ c. search needs) returns)

@@ -21,12 +21,5 @@ returns-2 : tie.Need-returns-2
 returns-2 c = not-rewritten _ _ _ _ (c .before .writer .ensures) (c .if1 .left) (search needs)
 
 pub rewrite-spec : {M : Type 1} → statement M
-rewrite-spec =
-    tie.close
-    (tie.spec
-    (λ c κs. search needs)
-    restore-content-requires
-    (λ c. search needs)
-    returns
-    (λ c. search needs)
+rewrite-spec = tie.close (tie.spec (λ c κs. search needs) restore-content-requires (λ c. search needs) returns (λ c. search needs)
     returns-2)

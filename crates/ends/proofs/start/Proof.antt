@@ -10,6 +10,4 @@ returns-2 : tie.Need-returns-2
 returns-2 c = start-short (c .before .before .before .start .ensures) (c .if1 .left)
 
 pub start-spec : {M : Type 1} → statement M
-start-spec =
-    tie.close
-    (tie.spec (λ c κs. search needs) (λ c. search needs) returns (λ c. search needs) returns-2)
+start-spec = tie.close (tie.spec (λ c κs. search needs) (λ c. search needs) returns (λ c. search needs) returns-2)

@@ -4,30 +4,30 @@ use Prim.Native.Nat.{ℕ, _≤_, _<_}
 use mathlib.Core.Bool.{Bool, true, false, cond, not, _&&_, _||_}
 use mathlib.Core.List.{List, map}
 use native.Mathlib.Omega.{arith}
-use lib.ListN.{length, getD, drop}
+use lib.ListN.{length, getD}
 use lib.Dec.{eqb, leb}
 use borrow.Author.Tests.{le-leb, lt-leb, leb-true, leb-false, ne-eqb}
 use Rattle.tree.specs.Steps.{done}
-use Rattle.protocol.specs.State.{nobody, Header, State, Tree, commit-tree, abort-tree, opened, closed, with-open}
-use Rattle.protocol.specs.Calls.{Call, begin, commit, abort, refused, Next, unchanged, becomes, if-open, next}
+use Rattle.protocol.specs.State.{nobody, Header, State, Tree, opened, closed, with-open}
+use Rattle.protocol.specs.Calls.{Call, begin, refused, Next, unchanged, becomes, if-open, next}
 use Rattle.protocol.specs.Answers.{answer-of, granted-answer}
 use Rattle.protocol.specs.declared.Answer.the-variants.{Done, Refused}
-use Rattle.layout.specs.Flat.{flat, second, prune}
-use Rattle.layout.specs.Layout.{state-size, is-open, Entry, nodes, no-entry, Left, header}
-use Rattle.lookup.specs.Places.{unique}
+use Rattle.table.specs.Flat.{flat, second, prune}
+use Rattle.table.specs.Layout.{state-size, is-open, Entry, nodes, no-entry, Left, header}
+use Rattle.rows.specs.Places.{unique}
 use Rattle.form.specs.Form.{form, valid-tree, Holds}
 use Rattle.form.specs.Start.{Started}
 use Rattle.form.specs.Laws.Holds.{form-holds}
-use Rattle.form.specs.Laws.Valid.{FineDocument, Root, root-of}
+use Rattle.form.specs.Laws.Valid.{FineDocument, root-of}
 use Rattle.form.specs.Laws.Steps.{holds-left, holds-unique, valid-commit, valid-abort}
-use Rattle.outline.specs.Outline.{not-marked}
-use Rattle.edits.specs.Laws.Ends.{commit-rows, abort-rows}
-use Rattle.edits.specs.Laws.Kept.{unique-commit, unique-abort}
+use Rattle.table.specs.Outline.{not-marked}
+use Rattle.rows.specs.Laws.Ends.{commit-rows, abort-rows}
+use Rattle.rows.specs.Laws.Kept.{unique-commit, unique-abort}
 use Rattle.engine.specs.Contract.{Performed}
 use Rattle.engine.specs.Admission.{Opened, Barred}
 use Rattle.ends.specs.Ends.{Restarted}
 use Rattle.ends.specs.Marks.{end-call, stays, at-end, end-tree, Ended}
-use Rattle.engine.specs.Laws.Outcomes.{Grants, performed-stays, performed-grants, stopped-stays}
+use Rattle.engine.specs.Laws.Outcomes.{performed-stays, performed-grants, stopped-stays}
 use Rattle.engine.specs.Laws.Admission.{open-next}
 
 -- the document is nobody's insertion or deletion, so that no end takes it out -------------------

@@ -1,7 +1,7 @@
 -- The marks of a node cleared one by one, the nodes one after the other, and what an end leaves in all.
 use mathlib.Core.Path.{_≡_, refl, sym, ap, _∙_}
 use Prim.Native.Nat.{ℕ, zero, suc, _+_, _≤_}
-use mathlib.Core.Bool.{Bool, true, false, cond, not, _&&_}
+use mathlib.Core.Bool.{Bool, true, false, not, _&&_}
 use mathlib.Core.List.{List, [], _∷_, map}
 use native.Mathlib.Omega.{arith}
 use lib.ListN.{length, getD}
@@ -9,12 +9,12 @@ use lib.Dec.{eqb}
 use borrow.Author.Tests.{eq-eqb, ne-eqb}
 use Rattle.tree.specs.Laws.Lists.{map-map}
 use Rattle.protocol.specs.State.{nobody, writer-of, Marked, Header, released, with-open}
-use Rattle.layout.specs.Lists.{modify}
-use Rattle.layout.specs.Flat.{second, prune}
-use Rattle.layout.specs.Layout.{is-open, Entry, nodes, no-entry, Layout, Left, Kept, header}
-use Rattle.layout.specs.Fields.{field, storable, with-field, has-text, restored}
-use Rattle.layout.specs.Laws.Lists.{modify-modify, modify-same, modify-none}
-use Rattle.layout.specs.Laws.Kept.{kept-same, kept-then, kept-as, left-kept, left-then, left-as}
+use Rattle.table.specs.Lists.{modify}
+use Rattle.table.specs.Flat.{second, prune}
+use Rattle.table.specs.Layout.{is-open, Entry, nodes, no-entry, Layout, Left, Kept, header}
+use Rattle.table.specs.Fields.{field, storable, with-field, has-text, restored}
+use Rattle.table.specs.Laws.Lists.{modify-modify, modify-same, modify-none}
+use Rattle.table.specs.Laws.Kept.{kept-same, kept-then, kept-as, left-kept, left-as}
 use Rattle.ends.specs.Marks.{stays, at-end, without-mark, rewritten, ended-marks, map-first, Closed, Ended}
 
 -- one node -------------------------------------------------------------------------------------

@@ -53,18 +53,6 @@ returns-4 c =
     (at-way-up .way-up .ensures) (c .if3 .left)
 
 pub admit-spec : {M : Type 1} → statement M
-admit-spec =
-    tie.close
-    (tie.spec
-    (λ c κs. search needs)
-    (λ c κs. search needs)
-    returns
-    (λ c κs. c .before .caller .ensures .opened (c .if1 .left) .layout)
-    count-requires
-    (λ c κs. search needs)
-    returns-2
-    cast-u
-    way-up-requires
-    (λ c κs. search needs)
-    returns-3
-    returns-4)
+admit-spec = tie.close (tie.spec (λ c κs. search needs) (λ c κs. search needs) returns
+    (λ c κs. c .before .caller .ensures .opened (c .if1 .left) .layout) count-requires (λ c κs. search needs) returns-2 cast-u
+    way-up-requires (λ c κs. search needs) returns-3 returns-4)

@@ -43,6 +43,4 @@ returns-5 c =
     caller-open good (if2 .left) (search needs) (sym (is-open .ensures) ∙ not-false _ (c .if4 .left))
 
 pub caller-spec : {M : Type 1} → statement M
-caller-spec =
-    tie.close
-    (tie.spec (λ c κs. search needs) returns returns-2 returns-3 is-open-requires returns-4 returns-5)
+caller-spec = tie.close (tie.spec (λ c κs. search needs) returns returns-2 returns-3 is-open-requires returns-4 returns-5)

@@ -11,5 +11,5 @@ returns-3 : tie.Need-returns-3
 returns-3 c = found-later (c .before .before .if1 .left) (rw (ne-eqb _ 1 (λ z. c .if2 .left (c .before .kind .ensures ∙ z))))
 
 pub document-cause-spec : {M : Type 1} → statement M
-document-cause-spec =
-    tie.close (tie.spec (λ c. found-first (c .if1 .taken)) (λ c κs. c .before .before .pre (c .if1 .left)) returns-2 returns-3)
+document-cause-spec = tie.close (tie.spec (λ c. found-first (c .if1 .taken)) (λ c κs. c .before .before .pre (c .if1 .left)) returns-2
+    returns-3)

@@ -10,11 +10,5 @@ returns-3 : tie.Need-returns-3
 returns-3 c = judged-free (c .before .before .before .if1 .left) _ (c .before .waits .ensures) (c .if2 .left) _
 
 pub judge-spec : {M : Type 1} → statement M
-judge-spec =
-    tie.close
-    (tie.spec
-    (λ c. judged-refused (c .if1 .taken))
-    (λ c. search needs)
-    (λ c κs. c .before .before .before .pre (c .before .if1 .left))
-    returns-2
-    returns-3)
+judge-spec = tie.close (tie.spec (λ c. judged-refused (c .if1 .taken)) (λ c. search needs)
+    (λ c κs. c .before .before .before .pre (c .before .if1 .left)) returns-2 returns-3)

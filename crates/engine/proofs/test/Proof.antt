@@ -4,8 +4,8 @@ use Rattle.tree.specs.Steps.{T}
 use Rattle.locks.specs.declared.StepName.the-variants as name
 use Rattle.protocol.specs.Lent.{first-lent, second-lent}
 use Rattle.protocol.specs.Answers.{granted-answer}
-use Rattle.layout.specs.Laws.Kept.{left-kept}
-use Rattle.edits.specs.Rows.{stepped}
+use Rattle.table.specs.Laws.Kept.{left-kept}
+use Rattle.rows.specs.Rows.{stepped}
 use Rattle.engine.specs.Contract.{no-room}
 use Rattle.engine.specs.Laws.Outcomes.{performed-grants}
 use Rattle.engine.specs.Laws.Judgement.{none-first, ready, step-stopped, step-free, free-granted, free-locked}
@@ -66,16 +66,6 @@ returns-2 c =
     (rw (at-kind .kind .ensures, at-parent .parent .ensures))
 
 pub test-spec : {M : Type 1} → statement M
-test-spec =
-    tie.close
-    (tie.spec
-    (λ c κs. search needs)
-    (λ c κs. search needs)
-    (λ c κs. ready (c .before .before .admit .ensures) (none-first _))
-    (λ c. search needs)
-    returns
-    kind-requires
-    parent-requires
-    grant-requires
-    (λ c. search needs)
-    returns-2)
+test-spec = tie.close (tie.spec (λ c κs. search needs) (λ c κs. search needs)
+    (λ c κs. ready (c .before .before .admit .ensures) (none-first _)) (λ c. search needs) returns kind-requires parent-requires
+    grant-requires (λ c. search needs) returns-2)

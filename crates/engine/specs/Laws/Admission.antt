@@ -1,5 +1,5 @@
 -- What the caller and the node are judged by, way by way.
-use mathlib.Core.Path.{_≡_, refl, sym, ap, _∙_}
+use mathlib.Core.Path.{_≡_, refl, sym, _∙_}
 use Prim.Native.Nat.{ℕ, _≤_, _<_}
 use mathlib.Core.Bool.{Bool, true, false, _&&_}
 use mathlib.Core.List.{List}
@@ -12,15 +12,15 @@ use Rattle.tree.specs.Steps.{Step, target}
 use Rattle.protocol.specs.State.{State, is-transaction, callers-document}
 use Rattle.protocol.specs.Lent.{Room}
 use Rattle.protocol.specs.Calls.{step, Next, if-open, judged, next}
-use Rattle.layout.specs.Layout.{nodes, is-open}
-use Rattle.layout.specs.declared.Places.{Places}
-use Rattle.lookup.specs.Places.{item, number-of, place-of, seen-at}
-use Rattle.lookup.specs.Laws.Find.{found-number}
-use Rattle.lookup.specs.Laws.Judgement.{missing, deleted, found, judged-missing, judged-found}
-use Rattle.locking.specs.Way.{Climb}
+use Rattle.table.specs.Layout.{nodes, is-open}
+use Rattle.table.specs.declared.layout.Places.{Places}
+use Rattle.rows.specs.Places.{item, number-of, place-of}
+use Rattle.rows.specs.Laws.Find.{found-number}
+use Rattle.rows.specs.Laws.Judgement.{missing, deleted, found, judged-missing, judged-found}
+use Rattle.engine.specs.Way.{Climb}
 use Rattle.form.specs.Form.{form, Holds}
 use Rattle.form.specs.Laws.Holds.{form-layout, holds-form}
-use Rattle.engine.specs.Admission.{Opened, Barred, Caller, Rejected, Standing, Admitted}
+use Rattle.engine.specs.Admission.{Opened, Barred, Caller, Rejected, Admitted}
 use Rattle.engine.specs.declared.Admission.{Admission}
 use Rattle.engine.specs.Laws.Outcomes.{not-both}
 

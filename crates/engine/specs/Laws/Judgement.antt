@@ -1,7 +1,7 @@
 -- How far a step that was admitted is judged, and where it ends: 8, 9, 10, wait, 11, 12, 13, granted.
 use mathlib.Core.Path.{_≡_, refl, sym, ap, _∙_}
 use Prim.Native.Nat.{ℕ, _<_}
-use mathlib.Core.Bool.{Bool, true, false, cond, not, _&&_, false≢true}
+use mathlib.Core.Bool.{Bool, true, false, cond, not, false≢true}
 use mathlib.Core.List.{List, [], _∷_, _++_, map}
 use native.Mathlib.Omega.{arith}
 use lib.ListN.{length}
@@ -17,30 +17,30 @@ use Rattle.locks.specs.declared.StepName.{StepName}
 use Rattle.locks.specs.declared.NeedWords.{NeedWords}
 use Rattle.protocol.specs.State.{State, Tree, act, grant, number-held, with-tree}
 use Rattle.protocol.specs.Lent.{Room}
-use Rattle.protocol.specs.Calls.{step, Check, checked, waits, refused, unchanged, takes-step, Outcome, Next, next}
+use Rattle.protocol.specs.Calls.{step, Check, checked, waits, refused, unchanged, takes-step, Next, next}
 use Rattle.protocol.specs.Answers.{answer-of}
 use Rattle.protocol.specs.declared.Answer.{Answer}
-use Rattle.protocol.specs.declared.Answer.the-variants.{Done, Waits, Refused}
-use Rattle.layout.specs.Flat.{flat}
-use Rattle.layout.specs.Layout.{Entry, nodes, is-open, Layout, Left, Kept, header}
-use Rattle.layout.specs.Laws.Kept.{kept-as}
-use Rattle.lookup.specs.Places.{item, number-of, place-of, ups, numbers-above}
-use Rattle.lookup.specs.Found.{answer-at, taken-in, wait-word, judged-at}
-use Rattle.lookup.specs.Laws.Find.{held-place}
-use Rattle.edits.specs.Rows.{granted-up, stepped}
-use Rattle.edits.specs.Laws.Granted.{step-rows}
-use Rattle.edits.specs.Laws.Kept.{unique-grant, unique-act}
-use Rattle.form.specs.Form.{form, Holds}
+use Rattle.protocol.specs.declared.Answer.the-variants.{Waits, Refused}
+use Rattle.table.specs.Flat.{flat}
+use Rattle.table.specs.Layout.{Entry, nodes, is-open, Layout, Left, Kept, header}
+use Rattle.table.specs.Laws.Kept.{kept-as}
+use Rattle.rows.specs.Places.{item, number-of, place-of, ups, numbers-above}
+use Rattle.rows.specs.Found.{answer-at, taken-in, wait-word, judged-at}
+use Rattle.rows.specs.Laws.Find.{held-place}
+use Rattle.rows.specs.Rows.{granted-up, stepped}
+use Rattle.rows.specs.Laws.Granted.{step-rows}
+use Rattle.rows.specs.Laws.Kept.{unique-grant, unique-act}
+use Rattle.form.specs.Form.{Holds}
 use Rattle.form.specs.Laws.Steps.{holds-unique, valid-grant, valid-act}
-use Rattle.locking.specs.Way.{Inside}
-use Rattle.locking.specs.Waits.{WaitsFor}
-use Rattle.locking.specs.Grants.{Granted}
-use Rattle.locking.specs.Laws.Way.{climbed-nodes, climbed-grants}
+use Rattle.engine.specs.Way.{Inside}
+use Rattle.engine.specs.Waits.{WaitsFor}
+use Rattle.engine.specs.Grants.{Granted}
+use Rattle.engine.specs.Laws.Way.{climbed-nodes, climbed-grants}
 use Rattle.engine.specs.Admission.{Rejected, Standing, Admitted}
 use Rattle.engine.specs.Judgement.{Cause, first-cause, own-causes, own-cause, late-causes, FirstOf, Stopped, Asked, Free, Judged}
 use Rattle.engine.specs.declared.Admission.{Admission}
 use Rattle.engine.specs.declared.Verdict.{Verdict}
-use Rattle.engine.specs.Laws.Outcomes.{not-both, Stays, Grants, stopped-stays}
+use Rattle.engine.specs.Laws.Outcomes.{not-both, Grants, stopped-stays}
 
 -- lists of causes ------------------------------------------------------------------------
 

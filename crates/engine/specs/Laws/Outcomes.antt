@@ -8,12 +8,12 @@ use Rattle.tree.specs.Document.{Document}
 use Rattle.tree.specs.Steps.{Value}
 use Rattle.protocol.specs.State.{State}
 use Rattle.protocol.specs.Lent.{filled}
-use Rattle.protocol.specs.Calls.{Call, Outcome, granted, written, waits, refused, refused-at, Next, unchanged, next}
+use Rattle.protocol.specs.Calls.{Call, Outcome, granted, written, waits, refused, refused-at, unchanged, next}
 use Rattle.protocol.specs.Answers.{answer-of, granted-answer, lent-after}
 use Rattle.protocol.specs.History.{is-granted}
 use Rattle.protocol.specs.declared.Answer.{Answer}
 use Rattle.protocol.specs.declared.Answer.the-variants.{Refused}
-use Rattle.layout.specs.Layout.{state-size}
+use Rattle.table.specs.Layout.{state-size}
 use Rattle.form.specs.Form.{form, Holds}
 use Rattle.form.specs.Laws.Holds.{holds-form}
 use Rattle.engine.specs.Contract.{Performed, Lent}

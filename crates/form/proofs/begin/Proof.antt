@@ -1,6 +1,6 @@
 use borrow.Author.Needs.{needs}
 use Prim.Native.Nat.{_-_, _≤_}
-use Rattle.layout.specs.Laws.Bytes.{Filled, filled-none, filled-done}
+use Rattle.table.specs.Laws.Bytes.{Filled, filled-none, filled-done}
 use Rattle.form.specs.Start.{start-byte}
 use Rattle.form.specs.Laws.Start.{filled-next}
 use Rattle.form.proofs.begin.Statement.{statement}

@@ -3,7 +3,7 @@ use Prim.Native.Nat.{_-_, _≤_}
 use mathlib.Core.Path.{_≡_}
 use lib.ListN.{length}
 use Rattle.tree.specs.Lists.{same}
-use Rattle.layout.specs.Layout.{part}
+use Rattle.table.specs.Layout.{part}
 use Rattle.form.specs.Laws.Begins.{same-from, begins-start, begins-differs, begins-next, begins-end}
 use Rattle.form.proofs.begins.Statement.{statement}
 use Rattle.form.proofs.begins.Tie as tie

@@ -2,7 +2,7 @@ use borrow.Author.Needs.{needs}
 use native.Mathlib.Omega.{arith}
 use mathlib.Core.Path.{sym, _∙_}
 use borrow.Author.Tests.{not-true, not-false}
-use Rattle.layout.specs.Layout.{count}
+use Rattle.table.specs.Layout.{count}
 use Rattle.form.specs.Laws.Check.{header-size, header-room, outlined, formed-header, formed-slots, formed-nodes, formed-numbers}
 use Rattle.form.proofs.formed.Statement.{statement}
 use Rattle.form.proofs.formed.Tie as tie

@@ -1,6 +1,6 @@
 use mathlib.Core.Path.{sym, _∙_}
 use borrow.Author.Tests.{not-true, not-false}
-use Rattle.layout.specs.Layout.{count}
+use Rattle.table.specs.Layout.{count}
 use Rattle.form.specs.Laws.Check.{header-short, header-mark, header-none, header-many}
 use borrow.Author.Needs.{needs}
 use Rattle.form.proofs.header.Statement.{statement}

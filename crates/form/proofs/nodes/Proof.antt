@@ -3,7 +3,7 @@ use borrow.Author.Needs.{needs}
 use Prim.Native.Nat.{_-_, _≤_}
 use borrow.Author.Tests.{not-true, not-false}
 use lib.ListN.{drop}
-use Rattle.layout.specs.Layout as layout
+use Rattle.table.specs.Layout as layout
 use Rattle.form.specs.Form.{cells}
 use Rattle.form.specs.Check.{valid-nodes}
 use Rattle.form.specs.Laws.Check.{valid-from, slot-small, first-bad, first-good, rows-low, rows-high, rows-bad, rows-next, rows-end}

@@ -8,8 +8,8 @@ use native.Mathlib.Nat.{zero-add}
 use lib.ListN.{length, getD, drop}
 use Rattle.tree.specs.Lists.{same}
 use Rattle.tree.specs.Laws.Compare.{same-differs, same-turn, same-end}
-use Rattle.layout.specs.Layout.{part}
-use Rattle.layout.specs.Laws.Bytes.{length-part, part-at}
+use Rattle.table.specs.Layout.{part}
+use Rattle.table.specs.Laws.Bytes.{length-part, part-at}
 
 -- the first bytes of s against b, from place i on
 unfoldable pub same-from : ℕ → List ℕ → List ℕ → Bool

@@ -8,8 +8,8 @@ use native.Mathlib.Nat.{add-zero}
 use lib.ListN.{getD}
 use lib.Dec.{eqb, leb}
 use borrow.Author.Tests.{le-leb, lt-leb, eq-eqb, ne-eqb}
-use Rattle.layout.specs.Layout.{cell-at, cell, stored, decode}
-use Rattle.layout.specs.Laws.Fields.{cell-byte, writer-update}
+use Rattle.table.specs.Layout.{cell-at, cell, stored, decode}
+use Rattle.table.specs.Laws.Fields.{cell-byte, writer-update}
 use Rattle.form.specs.Form.{in-range, sizes-in-range}
 use Rattle.form.specs.Check.{cell-in-range}
 

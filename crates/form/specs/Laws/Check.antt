@@ -16,11 +16,11 @@ use Rattle.tree.specs.Laws.Tests.{and-left, and-right}
 use Rattle.locks.specs.Modes.{no-mode}
 use Rattle.protocol.specs.State.{nobody}
 use Rattle.protocol.specs.Calls.{node-limit}
-use Rattle.layout.specs.Layout.{state-size, format-mark, entry-at, word, part, count, slot, depth, number, cell, held, decode, Entry, entry}
-use Rattle.layout.specs.Layout.{nodes, no-entry}
-use Rattle.layout.specs.Laws.Lists.{length-tabulate, getD-tabulate, tabulate-same, map-tabulate}
-use Rattle.layout.specs.Laws.Nodes.{length-nodes, node-at}
-use Rattle.lookup.specs.Places.{number-of, unique}
+use Rattle.table.specs.Layout.{state-size, format-mark, entry-at, word, part, count, slot, depth, number, cell, held, decode, Entry, entry}
+use Rattle.table.specs.Layout.{nodes, no-entry}
+use Rattle.table.specs.Laws.Lists.{length-tabulate, getD-tabulate, tabulate-same, map-tabulate}
+use Rattle.table.specs.Laws.Nodes.{length-nodes, node-at}
+use Rattle.rows.specs.Places.{number-of, unique}
 use Rattle.form.specs.Form.{in-range, valid, valid-document, valid-below, valid-rows, slots, cells, sizes-in-range, apart, form}
 use Rattle.form.specs.Check.{valid-header, column, cell-in-range, valid-first, valid-nodes, Outlined}
 use Rattle.form.specs.Laws.Rows.{between-of, between-low, between-high}

@@ -5,13 +5,13 @@ use mathlib.Core.List.{List}
 use native.Mathlib.Omega.{arith}
 use lib.ListN.{length, getD, take, drop}
 use Rattle.protocol.specs.State.{nobody, State}
-use Rattle.layout.specs.Flat.{second}
-use Rattle.layout.specs.Layout.{cell-at, part, slot, cell, decode, nodes, no-entry, Layout, Kept}
-use Rattle.layout.specs.Laws.Lists.{modify-none}
-use Rattle.layout.specs.Laws.Bytes.{Only, part-same}
-use Rattle.layout.specs.Laws.Nodes.{length-nodes, length-cell, cell-kept}
-use Rattle.layout.specs.Laws.Fields.{cell-byte}
-use Rattle.layout.specs.Laws.Kept.{kept-as}
+use Rattle.table.specs.Flat.{second}
+use Rattle.table.specs.Layout.{cell-at, part, slot, cell, decode, nodes, no-entry, Layout, Kept}
+use Rattle.table.specs.Laws.Lists.{modify-none}
+use Rattle.table.specs.Laws.Bytes.{Only, part-same}
+use Rattle.table.specs.Laws.Nodes.{length-nodes, length-cell, cell-kept}
+use Rattle.table.specs.Laws.Fields.{cell-byte}
+use Rattle.table.specs.Laws.Kept.{kept-as}
 use Rattle.form.specs.Form.{Holds}
 
 -- only the saved content in the cell of slot k and its size may differ

@@ -14,9 +14,9 @@ use borrow.Author.Tests.{eqb-true, eqb-false, eq-eqb, ne-eqb, lt-ltb, le-ltb}
 use Rattle.tree.specs.Lists.{every, has, distinct}
 use Rattle.tree.specs.Laws.Tests.{and-left, and-right}
 use Rattle.locks.specs.Modes.{bit}
-use Rattle.layout.specs.Layout.{entry-at, word}
-use Rattle.layout.specs.Laws.Lists.{length-tabulate, getD-tabulate}
-use Rattle.layout.specs.Laws.Bits.{bit-xor}
+use Rattle.table.specs.Layout.{entry-at, word}
+use Rattle.table.specs.Laws.Lists.{length-tabulate, getD-tabulate}
+use Rattle.table.specs.Laws.Bits.{bit-xor}
 use Rattle.form.specs.Form.{apart}
 use Rattle.form.specs.Check.{column, met, fresh}
 

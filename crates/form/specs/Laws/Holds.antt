@@ -15,10 +15,10 @@ use Rattle.tree.specs.Laws.Distinct.{distinct-one}
 use Rattle.tree.specs.Laws.Compare.{same-equal, same-self}
 use Rattle.protocol.specs.State.{nobody, State}
 use Rattle.protocol.specs.Calls.{node-limit}
-use Rattle.layout.specs.Layout.{tabulate, state-size, format-mark, part, count, slot, cell, header, nodes, Sized, Layout}
-use Rattle.layout.specs.Laws.Lists.{map-tabulate}
-use Rattle.layout.specs.Laws.Nodes.{length-nodes}
-use Rattle.lookup.specs.Places.{unique}
+use Rattle.table.specs.Layout.{tabulate, state-size, format-mark, part, count, slot, cell, header, nodes, Sized, Layout}
+use Rattle.table.specs.Laws.Lists.{map-tabulate}
+use Rattle.table.specs.Laws.Nodes.{length-nodes}
+use Rattle.rows.specs.Places.{unique}
 use Rattle.form.specs.Form.{valid-rows, valid-tree, slots, cells, sizes-in-range, apart, form, Holds}
 use Rattle.form.specs.Laws.Rows.{and-of, between-of, between-low, between-high, valid-forest}
 

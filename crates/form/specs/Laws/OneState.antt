@@ -6,9 +6,9 @@ use native.Mathlib.Omega.{arith}
 use lib.ListN.{length, getD}
 use Rattle.tree.specs.Forest.{Forest, nil, node}
 use Rattle.protocol.specs.State.{Header, Tree, State}
-use Rattle.layout.specs.Flat.{flat}
-use Rattle.lookup.specs.Places.{below}
-use Rattle.lookup.specs.Laws.NodeAt.{below-flat, below-none}
+use Rattle.table.specs.Flat.{flat}
+use Rattle.rows.specs.Places.{below}
+use Rattle.rows.specs.Laws.NodeAt.{below-flat, below-none}
 use Rattle.form.specs.Form.{Holds}
 
 module _ {A : Type 0} where

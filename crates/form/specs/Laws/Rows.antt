@@ -12,8 +12,8 @@ use Rattle.tree.specs.Forest.{nil, node}
 use Rattle.tree.specs.Content.{between}
 use Rattle.tree.specs.Laws.Tests.{and-left, and-right}
 use Rattle.protocol.specs.State.{Marked, Tree}
-use Rattle.layout.specs.Flat.{flat}
-use Rattle.layout.specs.Layout.{Entry}
+use Rattle.table.specs.Flat.{flat}
+use Rattle.table.specs.Layout.{Entry}
 use Rattle.form.specs.Form.{valid, valid-document, valid-below, valid-rows, valid-tree}
 
 pub and-of : {a b : Bool} → a ≡ true → b ≡ true → (a && b) ≡ true

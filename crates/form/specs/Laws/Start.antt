@@ -13,14 +13,14 @@ use Rattle.tree.specs.Forest.{view}
 use Rattle.tree.specs.Document.{Node, node-0-alone}
 use Rattle.locks.specs.Modes.{no-mode, in-word}
 use Rattle.protocol.specs.State.{is-transaction, unmarked, tree-of, with-open, start-header, start-state}
-use Rattle.layout.specs.Layout.{tabulate, state-size, format-mark, entry-at, lock-at, word, part, count, slot, depth, number, cell, is-open}
-use Rattle.layout.specs.Layout.{held, decode, entry, nodes, Layout}
-use Rattle.layout.specs.Flat.{flat}
-use Rattle.layout.specs.Laws.Bytes.{Filled, filled-more, length-part, part-at, drop-high}
-use Rattle.layout.specs.Laws.Nodes.{length-nodes}
-use Rattle.layout.specs.Laws.Fields.{cell-byte}
-use Rattle.layout.specs.Laws.Locks.{no-modes, transaction-low, transaction-high}
-use Rattle.lookup.specs.Places.{unique}
+use Rattle.table.specs.Layout.{tabulate, state-size, format-mark, entry-at, lock-at, word, part, count, slot, depth, number, cell, is-open}
+use Rattle.table.specs.Layout.{held, decode, entry, nodes, Layout}
+use Rattle.table.specs.Flat.{flat}
+use Rattle.table.specs.Laws.Bytes.{Filled, filled-more, length-part, part-at, drop-high}
+use Rattle.table.specs.Laws.Nodes.{length-nodes}
+use Rattle.table.specs.Laws.Fields.{cell-byte}
+use Rattle.table.specs.Laws.Locks.{no-modes, transaction-low, transaction-high}
+use Rattle.rows.specs.Places.{unique}
 use Rattle.form.specs.Form.{Holds}
 use Rattle.form.specs.Start.{outline-byte, start-byte, Started}
 use Rattle.form.specs.Laws.Steps.{valid-start}

@@ -16,10 +16,10 @@ use Rattle.tree.specs.Laws.Tests.{and-left, and-right}
 use Rattle.locks.specs.Needs.{Lock}
 use Rattle.protocol.specs.State.{nobody, Marked, Tree, State, numbered, seen-by, written-by, deleted-by, unmarked, inserted-by, granted-to}
 use Rattle.protocol.specs.State.{lasting, undone, mark, renamed, act, grant, commit-tree, abort-tree, tree-of, start-state}
-use Rattle.layout.specs.Flat.{flat}
-use Rattle.layout.specs.Layout.{Entry, Left}
-use Rattle.lookup.specs.Places.{item, number-of, unique}
-use Rattle.lookup.specs.Laws.Find.{unique-head, lacks-at}
+use Rattle.table.specs.Flat.{flat}
+use Rattle.table.specs.Layout.{Entry, Left}
+use Rattle.rows.specs.Places.{item, number-of, unique}
+use Rattle.rows.specs.Laws.Find.{unique-head, lacks-at}
 use Rattle.form.specs.Form.{in-range, valid, valid-document, valid-below, valid-rows, valid-tree, Holds}
 use Rattle.form.specs.Laws.Rows.{and-of, between-low, between-high, all-valid}
 use Rattle.form.specs.Laws.Valid.{Valid, FineDocument, keeps-node, keeps-document, keeps-written, keeps-granted, keeps-lasting}

@@ -7,11 +7,8 @@ use borrow.Author.Needs.{needs}
 use Rattle.locks.proofs.add.Statement.{statement}
 use Rattle.locks.proofs.add.Tie as tie
 
-shl-result : tie.Need-shl-result
-shl-result c = search needs
-
 returns : tie.Need-returns
 returns c = ap (bitOr (c .args .w)) (shl-exact 1 (c .args .m) 16 (lit< tt) (omega arith) ∙ omega arith)
 
 pub add-spec : {M : Type 1} → statement M
-add-spec = tie.close (tie.spec shl-result returns)
+add-spec = tie.close (tie.spec (λ c. search needs) returns)

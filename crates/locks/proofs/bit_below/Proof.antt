@@ -3,20 +3,11 @@ use borrow.Author.Needs.{needs}
 use Rattle.locks.proofs.bit_below.Statement.{statement}
 use Rattle.locks.proofs.bit_below.Tie as tie
 
-mul-result : tie.Need-mul-result
-mul-result c = search needs
-
-add-result : tie.Need-add-result
-add-result c = search needs
-
 returns : tie.Need-returns
 returns c = rw (c .if1 .taken)
-
-mul-result-2 : tie.Need-mul-result-2
-mul-result-2 c = search needs
 
 returns-2 : tie.Need-returns-2
 returns-2 c = rw (c .if1 .left) (omega arith)
 
 pub bit-below-spec : {M : Type 1} → statement M
-bit-below-spec = tie.close (tie.spec mul-result add-result returns mul-result-2 returns-2)
+bit-below-spec = tie.close (tie.spec (λ c. search needs) (λ c. search needs) returns (λ c. search needs) returns-2)

@@ -36,17 +36,5 @@ returns c =
     c .before .loop .inv .1 ∙ ap (λ (i : ℕ). word (λ a. clash-at a (c .before .before .args .b)) (12 - i) i) z
 
 pub clashing-spec : {M : Type 1} → statement M
-clashing-spec =
-    tie.close
-    (tie.spec
-    Inv-loop
-    μ-loop
-    (λ c. (search needs, sym (word-none _ 12)))
-    (λ c. search needs)
-    (λ c. search needs)
-    (λ c. search needs)
-    (λ c. search needs)
-    bit-below-requires
-    (λ c. search needs)
-    loop-again
-    returns)
+clashing-spec = tie.close (tie.spec Inv-loop μ-loop (λ c. (search needs, sym (word-none _ 12))) (λ c. search needs) (λ c. search needs)
+    (λ c. search needs) (λ c. search needs) bit-below-requires (λ c. search needs) loop-again returns)

@@ -31,19 +31,6 @@ returns : tie.Need-returns Inv-loop μ-loop
 returns c = mask-whole _ _ _ (search needs) (c .before .loop .inv .1)
 
 pub mask-spec : {M : Type 1} → statement M
-mask-spec =
-    tie.close
-    (tie.spec
-    Inv-loop
-    μ-loop
-    (λ c. (search needs, mask-none _))
-    (λ c. search needs)
-    (λ c κs. search needs)
-    (λ c. search needs)
-    loop-again
-    (λ c. search needs)
-    (λ c κs. search needs)
-    (λ c κs. search needs)
-    (λ c. search needs)
-    loop-again-2
+mask-spec = tie.close (tie.spec Inv-loop μ-loop (λ c. (search needs, mask-none _)) (λ c. search needs) (λ c κs. search needs)
+    (λ c. search needs) loop-again (λ c. search needs) (λ c κs. search needs) (λ c κs. search needs) (λ c. search needs) loop-again-2
     returns)

@@ -7,60 +7,6 @@ use Rattle.locks.proofs.needed.Tie as tie
 enum-told : tie.Need-enum-told
 enum-told c = search needs
 
-on-above-requires : tie.Need-on-above-requires
-on-above-requires c κs = search needs
-
-enum-told-2 : tie.Need-enum-told-2
-enum-told-2 c = search needs
-
-on-above-requires-2 : tie.Need-on-above-requires-2
-on-above-requires-2 c κs = search needs
-
-enum-told-3 : tie.Need-enum-told-3
-enum-told-3 c = search needs
-
-on-above-requires-3 : tie.Need-on-above-requires-3
-on-above-requires-3 c κs = search needs
-
-enum-told-4 : tie.Need-enum-told-4
-enum-told-4 c = search needs
-
-on-above-requires-4 : tie.Need-on-above-requires-4
-on-above-requires-4 c κs = search needs
-
-enum-told-5 : tie.Need-enum-told-5
-enum-told-5 c = search needs
-
-enum-told-6 : tie.Need-enum-told-6
-enum-told-6 c = search needs
-
-add-t3 : tie.Need-add-t3
-add-t3 c = search needs
-
-add-t4 : tie.Need-add-t4
-add-t4 c = search needs
-
-add-t5 : tie.Need-add-t5
-add-t5 c = search needs
-
-enum-told-7 : tie.Need-enum-told-7
-enum-told-7 c = search needs
-
-on-above-requires-5 : tie.Need-on-above-requires-5
-on-above-requires-5 c κs = search needs
-
-enum-told-8 : tie.Need-enum-told-8
-enum-told-8 c = search needs
-
-on-above-requires-6 : tie.Need-on-above-requires-6
-on-above-requires-6 c κs = search needs
-
-enum-told-9 : tie.Need-enum-told-9
-enum-told-9 c = search needs
-
-on-above-requires-7 : tie.Need-on-above-requires-7
-on-above-requires-7 c κs = search needs
-
 returns : tie.Need-returns
 unfolding need-words word-of
 returns c = c .on-above .ensures ∙ ap need-words (sym (c .before .enum-told .given .1))
@@ -98,34 +44,7 @@ unfolding need-words word-of
 returns-9 c = c .on-above7 .ensures ∙ ap need-words (sym (c .before .enum-told9 .given .1))
 
 pub needed-spec : {M : Type 1} → statement M
-needed-spec =
-    tie.close
-    (tie.spec
-    enum-told
-    on-above-requires
-    enum-told-2
-    on-above-requires-2
-    enum-told-3
-    on-above-requires-3
-    enum-told-4
-    on-above-requires-4
-    enum-told-5
-    enum-told-6
-    add-t3
-    add-t4
-    add-t5
-    enum-told-7
-    on-above-requires-5
-    enum-told-8
-    on-above-requires-6
-    enum-told-9
-    on-above-requires-7
-    returns
-    returns-2
-    returns-3
-    returns-4
-    returns-5
-    returns-6
-    returns-7
-    returns-8
-    returns-9)
+needed-spec = tie.close (tie.spec enum-told (λ c κs. search needs) (λ c. search needs) (λ c κs. search needs) (λ c. search needs)
+    (λ c κs. search needs) (λ c. search needs) (λ c κs. search needs) (λ c. search needs) (λ c. search needs) (λ c. search needs)
+    (λ c. search needs) (λ c. search needs) (λ c. search needs) (λ c κs. search needs) (λ c. search needs) (λ c κs. search needs)
+    (λ c. search needs) (λ c κs. search needs) returns returns-2 returns-3 returns-4 returns-5 returns-6 returns-7 returns-8 returns-9)

@@ -1,13 +1,12 @@
 -- Two sets of modes as words have a mode in common exactly if the bits of both do. Assumes nothing.
-use Prim.Native.Nat.{ℕ, zero, suc, _+_, _*_, _-_, _/_, _%_, _^_, _≤_, _<_, min}
-use mathlib.Core.Path.{_≡_, refl, sym, ap, ap₂, _∙_}
-use mathlib.Core.Bool.{Bool, true, false, not, cond, _&&_, _||_}
+use Prim.Native.Nat.{ℕ, zero, suc, _+_, _*_, _/_, _%_, _^_, _<_, min}
+use mathlib.Core.Path.{_≡_, refl, ap, _∙_}
+use mathlib.Core.Bool.{Bool, true, false, not, _&&_, _||_}
 use native.Mathlib.Omega.{arith}
 use native.Mathlib.Nat.{pow-succ', div-div-eq-div-mul, lt-of-le-of-lt}
 use lib.Bits.{bitAnd, and-shr, and-step, and-le-r}
 use lib.Dec.{eqb}
 use borrow.Author.Tests.{eqb-true, eqb-false, eq-eqb, ne-eqb}
-use Rattle.locks.specs.Modes.{in-word}
 use Rattle.locks.specs.Words.{some-place, meets, mask-of, in-common}
 use Rattle.locks.specs.Modes.{bit}
 use Rattle.locks.specs.Laws.Words.{word-small}

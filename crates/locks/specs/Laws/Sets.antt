@@ -1,22 +1,22 @@
 -- A word stands for a set of modes: the word of a union, of a mask, and of the locks of a step. Assumes nothing.
-use Prim.Native.Nat.{ℕ, zero, suc, _+_, _*_, _-_, _/_, _%_, _^_, _≤_, _<_, max}
-use mathlib.Core.Path.{_≡_, refl, sym, ap, ap₂, _∙_}
+use Prim.Native.Nat.{ℕ, zero, suc, _+_, _*_, _/_, _%_, _^_, _<_, max}
+use mathlib.Core.Path.{_≡_, refl, ap, _∙_}
 use mathlib.Core.Bool.{Bool, true, false, cond, _&&_, _||_, Bool·beq, false≢true}
-use mathlib.Core.List.{List, [], _∷_, map}
+use mathlib.Core.List.{List, [], map}
 use native.Mathlib.Omega.{arith}
 use native.Mathlib.Nat.{pow-succ', div-div-eq-div-mul}
 use lib.Bits.{bitOr, or-shr, or-step}
 use lib.Dec.{eqb}
 use lib.ListN.{getD}
 use borrow.Author.Tests.{eqb-true, eqb-false, eq-eqb, ne-eqb}
-use Rattle.tree.specs.Lists.{any, every}
+use Rattle.tree.specs.Lists.{every}
 use Rattle.tree.specs.Laws.Tests.{and-left, and-right}
 use Rattle.tree.specs.Steps.{Step, T, C, R, U, D, I, TT, RR, UU}
-use Rattle.locks.specs.Modes.{Mode, LT, LC, LR, LU, LW, LTT, LRR, LUU, LIR, LIU, LIW, LICW, modes, index, clash, ModeSet, among, union, against, in-word}
+use Rattle.locks.specs.Modes.{Mode, LT, LC, LR, LU, LW, LTT, LRR, LUU, LIR, LIU, LIW, LICW, modes, index, clash, among, union}
+use Rattle.locks.specs.Modes.{against, in-word, bit}
 use Rattle.locks.specs.Needs.{Need, need}
 use Rattle.locks.specs.Laws.Clash.{every-mode}
 use Rattle.locks.specs.Words.{clash-table, clash-at, word, some-place, meets, mask-of, word-of}
-use Rattle.locks.specs.Modes.{bit}
 
 -- what holds at each place of the table holds for each mode
 pub at-index : {X : Type 0} (f : Mode → X) (d : X) (a : Mode) → getD (map f modes) (index a) d ≡ f a

@@ -1,13 +1,11 @@
 -- Laws of words: the table by places is the table, a word's bits, the turns of the loops that go through them. Assumes nothing.
 use Prim.Native.Nat.{ℕ, zero, suc, _+_, _*_, _-_, _/_, _%_, _^_, _≤_, _<_, max}
-use mathlib.Core.Path.{_≡_, refl, sym, ap, _∙_, fun-ext}
+use mathlib.Core.Path.{_≡_, refl, sym, _∙_}
 use mathlib.Core.Bool.{Bool, true, false, cond, _&&_, _||_}
 use native.Mathlib.Omega.{arith}
 use native.Mathlib.Nat.{pow-succ', lt-of-lt-of-le}
-use native.Mathlib.Numerals.{add-one}
 use lib.Bits.{bitOr, or-step}
 use lib.Pow.{pow-mono}
-use lib.Dec.{eqb}
 use Rattle.locks.specs.Words.{clash-at, word, some-place, meets, mask-of}
 use Rattle.locks.specs.Modes.{bit}
 

@@ -1,8 +1,8 @@
 use borrow.Author.Needs.{needs}
 use mathlib.Core.Path.{refl}
 use Rattle.locks.specs.declared.StepName.the-variants as name
-use Rattle.layout.specs.Laws.Kept.{left-kept}
-use Rattle.edits.specs.Rows.{stepped}
+use Rattle.table.specs.Laws.Kept.{left-kept}
+use Rattle.rows.specs.Rows.{stepped}
 use Rattle.tree.specs.Steps.{C}
 use Rattle.engine.specs.Contract.{no-room}
 use Rattle.engine.specs.Laws.Outcomes.{performed-grants}
@@ -53,15 +53,6 @@ returns-2 c =
     performed-grants (free-granted f no-room (room-left _ no-room (child-fits _ _)) left) _ (at-kth-child .kth-child .ensures)
 
 pub child-spec : {M : Type 1} → statement M
-child-spec =
-    tie.close
-    (tie.spec
-    (λ c κs. search needs)
-    (λ c κs. search needs)
-    (λ c κs. ready (c .before .before .admit .ensures) (none-first _))
-    (λ c. search needs)
-    returns
-    kth-child-requires
-    grant-requires
-    (λ c. search needs)
-    returns-2)
+child-spec = tie.close (tie.spec (λ c κs. search needs) (λ c κs. search needs)
+    (λ c κs. ready (c .before .before .admit .ensures) (none-first _)) (λ c. search needs) returns kth-child-requires grant-requires
+    (λ c. search needs) returns-2)

@@ -1,8 +1,8 @@
 use borrow.Author.Needs.{needs}
 use mathlib.Core.Path.{refl}
 use Rattle.locks.specs.declared.StepName.the-variants as name
-use Rattle.layout.specs.Laws.Kept.{left-kept}
-use Rattle.edits.specs.Rows.{stepped}
+use Rattle.table.specs.Laws.Kept.{left-kept}
+use Rattle.rows.specs.Rows.{stepped}
 use Rattle.tree.specs.Steps.{R}
 use Rattle.engine.specs.Contract.{room-of}
 use Rattle.engine.specs.Laws.Judgement.{ready, admitted-place, step-stopped, step-free, free-refused, free-granted, free-locked}
@@ -91,21 +91,6 @@ returns-3 c =
     content-granted granted (at-size .size .ensures .0) (at-content .content .ensures)
 
 pub read-spec : {M : Type 1} → statement M
-read-spec =
-    tie.close
-    (tie.spec
-    (λ c κs. search needs)
-    (λ c κs. admitted-place (c .before .admit .ensures))
-    (λ c κs. search needs)
-    judge-requires
-    (λ c. search needs)
-    returns
-    size-requires
-    (λ c. search needs)
-    returns-2
-    content-requires
-    grant-requires
-    (λ c. search needs)
-    (λ c. search needs)
-    (λ c. search needs)
-    returns-3)
+read-spec = tie.close (tie.spec (λ c κs. search needs) (λ c κs. admitted-place (c .before .admit .ensures)) (λ c κs. search needs)
+    judge-requires (λ c. search needs) returns size-requires (λ c. search needs) returns-2 content-requires grant-requires
+    (λ c. search needs) (λ c. search needs) (λ c. search needs) returns-3)

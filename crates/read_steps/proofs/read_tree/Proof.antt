@@ -1,8 +1,8 @@
 use borrow.Author.Needs.{needs}
 use mathlib.Core.Path.{refl}
 use Rattle.locks.specs.declared.StepName.the-variants as name
-use Rattle.layout.specs.Laws.Kept.{left-kept}
-use Rattle.edits.specs.Rows.{stepped}
+use Rattle.table.specs.Laws.Kept.{left-kept}
+use Rattle.rows.specs.Rows.{stepped}
 use Rattle.tree.specs.Steps.{RR}
 use Rattle.engine.specs.Contract.{rooms-of}
 use Rattle.engine.specs.Laws.Judgement.{none-first, ready, step-stopped, step-free, free-refused, free-granted, free-locked}
@@ -116,26 +116,7 @@ returns-4 c =
     cells-granted _ (at-select .select .ensures) (at-numbers .numbers .ensures) (at-cells .cells .ensures) granted
 
 pub read-tree-spec : {M : Type 1} → statement M
-read-tree-spec =
-    tie.close
-    (tie.spec
-    (λ c κs. search needs)
-    (λ c κs. search needs)
-    (λ c κs. ready (c .before .before .admit .ensures) (none-first _))
-    (λ c. search needs)
-    returns
-    select-requires
-    (λ c. search needs)
-    (λ c. search needs)
-    returns-2
-    (λ c. search needs)
-    (λ c. search needs)
-    returns-3
-    numbers-requires
-    cells-requires
-    grant-requires
-    (λ c. search needs)
-    (λ c. search needs)
-    (λ c. search needs)
-    (λ c. search needs)
-    returns-4)
+read-tree-spec = tie.close (tie.spec (λ c κs. search needs) (λ c κs. search needs)
+    (λ c κs. ready (c .before .before .admit .ensures) (none-first _)) (λ c. search needs) returns select-requires (λ c. search needs)
+    (λ c. search needs) returns-2 (λ c. search needs) (λ c. search needs) returns-3 numbers-requires cells-requires grant-requires
+    (λ c. search needs) (λ c. search needs) (λ c. search needs) (λ c. search needs) returns-4)

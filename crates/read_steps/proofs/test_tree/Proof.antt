@@ -1,8 +1,8 @@
 use borrow.Author.Needs.{needs}
 use mathlib.Core.Path.{refl}
 use Rattle.locks.specs.declared.StepName.the-variants as name
-use Rattle.layout.specs.Laws.Kept.{left-kept}
-use Rattle.edits.specs.Rows.{stepped}
+use Rattle.table.specs.Laws.Kept.{left-kept}
+use Rattle.rows.specs.Rows.{stepped}
 use Rattle.tree.specs.Steps.{TT}
 use Rattle.engine.specs.Contract.{room-of}
 use Rattle.engine.specs.Laws.Judgement.{none-first, ready, step-stopped, step-free, free-refused, free-granted, free-locked}
@@ -83,21 +83,6 @@ returns-3 c =
     numbers-granted _ (at-select .select .ensures) (at-numbers .numbers .ensures) granted
 
 pub test-tree-spec : {M : Type 1} → statement M
-test-tree-spec =
-    tie.close
-    (tie.spec
-    (λ c κs. search needs)
-    (λ c κs. search needs)
-    (λ c κs. ready (c .before .before .admit .ensures) (none-first _))
-    (λ c. search needs)
-    returns
-    select-requires
-    (λ c. search needs)
-    (λ c. search needs)
-    returns-2
-    numbers-requires
-    grant-requires
-    (λ c. search needs)
-    (λ c. search needs)
-    (λ c. search needs)
-    returns-3)
+test-tree-spec = tie.close (tie.spec (λ c κs. search needs) (λ c κs. search needs)
+    (λ c κs. ready (c .before .before .admit .ensures) (none-first _)) (λ c. search needs) returns select-requires (λ c. search needs)
+    (λ c. search needs) returns-2 numbers-requires grant-requires (λ c. search needs) (λ c. search needs) (λ c. search needs) returns-3)

@@ -6,11 +6,11 @@ use native.Mathlib.Omega.{arith}
 use lib.ListN.{length, getD, take, length-append, length-replicate}
 use Rattle.protocol.specs.State.{Marked}
 use Rattle.protocol.specs.Lent.{list-bytes, cell, cells}
-use Rattle.layout.specs.Layout.{slot, Entry, nodes, Layout}
-use Rattle.layout.specs.Laws.Texts.{size-small}
-use Rattle.lookup.specs.Places.{item, number-of}
-use Rattle.layout.specs.declared.Places.{Places}
-use Rattle.locking.specs.Way.{places-of, nodes-of, Inside}
+use Rattle.table.specs.Layout.{slot, Entry, nodes, Layout}
+use Rattle.table.specs.Laws.Texts.{size-small}
+use Rattle.rows.specs.Places.{item, number-of}
+use Rattle.table.specs.declared.layout.Places.{Places}
+use Rattle.engine.specs.Way.{places-of, nodes-of, Inside}
 
 -- two bytes for a number
 pub length-numbers : (l : List Marked) → length (list-bytes (map number-of l)) ≡ 2 * length l

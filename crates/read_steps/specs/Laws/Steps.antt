@@ -15,12 +15,12 @@ use Rattle.protocol.specs.Calls.{Call}
 use Rattle.protocol.specs.Answers.{granted-answer}
 use Rattle.protocol.specs.declared.Answer.{Answer}
 use Rattle.protocol.specs.declared.Answer.the-variants.{Count}
-use Rattle.layout.specs.Layout.{nodes, Layout}
-use Rattle.lookup.specs.Places.{item, number-of, subtree}
-use Rattle.lookup.specs.Found.{kth-child}
-use Rattle.layout.specs.declared.Places.{Places}
-use Rattle.locking.specs.Way.{nodes-of}
-use Rattle.reading.specs.Subtree.{Selected}
+use Rattle.table.specs.Layout.{nodes, Layout}
+use Rattle.rows.specs.Places.{number-of, subtree}
+use Rattle.rows.specs.Found.{kth-child}
+use Rattle.table.specs.declared.layout.Places.{Places}
+use Rattle.engine.specs.Way.{nodes-of}
+use Rattle.read_steps.specs.Subtree.{Selected}
 use Rattle.read_steps.specs.Laws.Lengths.{length-numbers, length-cells}
 use Rattle.engine.specs.Contract.{Performed, Lent, no-room, room-of, rooms-of}
 use Rattle.engine.specs.Laws.Outcomes.{Grants, performed-grants, lent-grants}

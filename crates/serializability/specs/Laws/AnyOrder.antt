@@ -4,8 +4,8 @@ use mathlib.Core.Path.{_≡_, refl}
 use mathlib.Core.List.{List, _++_, map}
 use Rattle.tree.specs.Lists.{has, joined}
 use Rattle.tree.specs.Document.{node-0-alone}
-use Rattle.commute.specs.Laws.Runs.{Entry, Run, run-append, run-document, run-answers}
-use Rattle.commute.specs.Laws.Orders.{joined-append}
+use Rattle.serializability.specs.Laws.Runs.{Entry, Run, run-append, run-document, run-answers}
+use Rattle.serializability.specs.Laws.Orders.{joined-append}
 use Rattle.protocol.specs.State.{document-of, start-state}
 use Rattle.protocol.specs.Calls.{Call, next}
 use Rattle.protocol.specs.History.{history, state-after, Log, new-log, log-after, fed, answered}

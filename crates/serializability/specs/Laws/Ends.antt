@@ -16,11 +16,11 @@ use Rattle.tree.specs.Laws.Rows.{Each, each-above}
 use Rattle.locks.specs.Modes.{Mode, LW}
 use Rattle.locks.specs.Laws.Compatible.{Locked, Compatible, node-locked}
 use Rattle.locks.specs.Laws.Excludes.{LW-clashes}
-use Rattle.commute.specs.Laws.Tests.{by-test, affirmed}
-use Rattle.commute.specs.Laws.Runs.{Entry, Run, run-one-end}
-use Rattle.commute.specs.Laws.Orders.{Distinct, permuted-has, permuted-distinct, permutation-back, to-front, distinct-head, distinct-tail}
-use Rattle.commute.specs.Laws.Orders.{distinct-cons}
-use Rattle.commute.specs.Laws.Serial.{Serial, reorder, commit, emptied, in-emptied, forget, idle}
+use Rattle.serializability.specs.Laws.Tests.{by-test, affirmed}
+use Rattle.serializability.specs.Laws.Runs.{Entry, Run, run-one-end}
+use Rattle.serializability.specs.Laws.Orders.{Distinct, permuted-has, permuted-distinct, permutation-back, to-front, distinct-head}
+use Rattle.serializability.specs.Laws.Orders.{distinct-tail, distinct-cons}
+use Rattle.serializability.specs.Laws.Serial.{Serial, reorder, commit, emptied, in-emptied, forget, idle}
 use Rattle.protocol.specs.State.{nobody, State, Marked, Tree, seen-by, document-of, without, none-of, lasting, undone, commit-tree}
 use Rattle.protocol.specs.State.{abort-tree, closed, writer-of}
 use Rattle.serializability.specs.Laws.Shown.{Place, Inside, path, numbers-of, plus, minus, writer-without, commit-shown, abort-shown}

@@ -14,7 +14,7 @@ use Rattle.tree.specs.Laws.Put.{put-in, put-new, in-put}
 use Rattle.locks.specs.Modes.{Mode, index, no-mode, among}
 use Rattle.locks.specs.Needs.{Lock, locks}
 use Rattle.locks.specs.Laws.Places.{lock-place}
-use Rattle.commute.specs.Laws.Tests.{cond-same, by-test}
+use Rattle.serializability.specs.Laws.Tests.{cond-same, by-test}
 use Rattle.protocol.specs.State.{Marked, Tree, numbered, seen-by, written-by, deleted-by, inserted-by, mark, renamed, act, modes-on}
 use Rattle.protocol.specs.State.{granted-to, grant}
 use Rattle.serializability.specs.Laws.Shown.{Place, Inside, path, numbers-of}

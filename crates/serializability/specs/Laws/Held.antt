@@ -14,9 +14,9 @@ use Rattle.tree.specs.Laws.View.{in-view, view-in, view-agree}
 use Rattle.locks.specs.Modes.{LW, LU, LUU}
 use Rattle.locks.specs.Needs.{Lock}
 use Rattle.locks.specs.Laws.Compatible.{Locked, node-locked}
-use Rattle.commute.specs.Laws.Tests.{by-test}
-use Rattle.commute.specs.Laws.Lines.{Of, at-line, line-here}
-use Rattle.commute.specs.Laws.Runs.{Entry}
+use Rattle.serializability.specs.Laws.Tests.{by-test}
+use Rattle.serializability.specs.Laws.Lines.{Of, at-line, line-here}
+use Rattle.serializability.specs.Laws.Runs.{Entry}
 use Rattle.protocol.specs.State.{nobody, State, Tree, deleted-in, done-by, shown, as-shown, document-of, held-document, writer-of}
 use Rattle.serializability.specs.Laws.Shown.{Place, Inside, path, numbers-of}
 use Rattle.serializability.specs.Laws.Numbers.{number-of, Distinct, one-place}

@@ -15,7 +15,7 @@ use Rattle.tree.specs.Laws.Rows.{Each, each-above}
 use Rattle.tree.specs.Laws.Put.{in-put, New}
 use Rattle.locks.specs.Needs.{Lock, locks, needs}
 use Rattle.locks.specs.Laws.Places.{insertion-guards, U-locks, UU-locks}
-use Rattle.commute.specs.Laws.Tests.{by-test, cond-same}
+use Rattle.serializability.specs.Laws.Tests.{by-test, cond-same}
 use Rattle.protocol.specs.State.{nobody, Marked, Tree, numbered, number-held, seen-by, callers-document, written-by, deleted-by}
 use Rattle.protocol.specs.State.{inserted-by, granted-to, mark, mark-node, renamed, act, grant, writer-of}
 use Rattle.serializability.specs.Laws.Granting.{keeps-written, keeps-deleted}

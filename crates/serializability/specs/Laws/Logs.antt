@@ -7,7 +7,7 @@ use lib.Dec.{eqb}
 use borrow.Author.Tests.{eqb-true}
 use Rattle.tree.specs.Lists.{joined}
 use Rattle.tree.specs.Laws.Lists.{map-append, map-map}
-use Rattle.commute.specs.Laws.Tests.{by-test}
+use Rattle.serializability.specs.Laws.Tests.{by-test}
 use Rattle.protocol.specs.Calls.{Call, start, load, begin, commit, abort, step, write, unreadable, stands-for}
 use Rattle.protocol.specs.History.{Log, with-log, logged}
 

@@ -8,7 +8,7 @@ use Rattle.tree.specs.Lists.{any, has, joined}
 use Rattle.tree.specs.Steps.{PlainAnswer, plain-value, unfit, plain-document}
 use Rattle.tree.specs.Laws.Tests.{refuted}
 use Rattle.tree.specs.Laws.Lists.{any-at, at-any, every-at, any-same, in-map}
-use Rattle.commute.specs.Laws.Runs.{run-document}
+use Rattle.serializability.specs.Laws.Runs.{run-document}
 use Rattle.protocol.specs.State.{State, start-state, is-transaction, transactions, held-document, document-of, committed-document}
 use Rattle.protocol.specs.Calls.{Call, start, load, begin, commit, abort, step, write, written, next}
 use Rattle.protocol.specs.History.{Event, history, state-after, event, fed, answered, plain, plain-run-answers, pending-in, pending}

@@ -17,8 +17,8 @@ use Rattle.locks.specs.Modes.{LU, LUU}
 use Rattle.locks.specs.Needs.{Lock, need, locks, needs}
 use Rattle.locks.specs.Laws.Compatible.{Compatible, compatible-symmetric, node-locked, clashing, excludes, off-node, off-parent, off-path}
 use Rattle.locks.specs.Laws.Excludes.{LW-excludes}
-use Rattle.commute.specs.Laws.Tests.{by-test, affirmed}
-use Rattle.commute.specs.Laws.Lines.{at-line}
+use Rattle.serializability.specs.Laws.Tests.{by-test, affirmed}
+use Rattle.serializability.specs.Laws.Lines.{at-line}
 use Rattle.protocol.specs.State.{nobody, Marked, Tree, seen-by, callers-document, writer-of}
 use Rattle.serializability.specs.Laws.Shown.{Place, Inside, path, numbers-of, local}
 use Rattle.serializability.specs.Laws.Numbers.{number-of, Distinct, one-place}

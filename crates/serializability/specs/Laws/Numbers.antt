@@ -11,7 +11,7 @@ use Rattle.tree.specs.Laws.Distinct.{distinct-one, distinct-keep}
 use Rattle.tree.specs.Laws.Rows.{to-rows, of-rows}
 use Rattle.tree.specs.Laws.Amend.{rows-amend, in-amend, amend-in}
 use Rattle.tree.specs.Laws.View.{rows-view, in-view, view-in}
-use Rattle.commute.specs.Laws.Uniqueness.{put-distinct}
+use Rattle.serializability.specs.Laws.Uniqueness.{put-distinct}
 use Rattle.protocol.specs.State.{Marked, Tree, nodes, numbered, number-held, mark}
 use Rattle.serializability.specs.Laws.Shown.{Place, Inside, path, numbers-of}
 

@@ -12,7 +12,7 @@ use Rattle.tree.specs.Laws.Lists.{every-at, keep-in}
 use Rattle.tree.specs.Document.{Document, lines}
 use Rattle.tree.specs.Steps.{Step, done, how-many, unknown, wrong-kind, wrong-content, misplaced, answer}
 use Rattle.locks.specs.Needs.{needs}
-use Rattle.commute.specs.Laws.Tests.{by-test}
+use Rattle.serializability.specs.Laws.Tests.{by-test}
 use Rattle.protocol.specs.State.{State, is-transaction, transactions, callers-document, committed-document, act, grant, commit-tree}
 use Rattle.protocol.specs.State.{abort-tree, tree-of, start-state, with-tree, opened, closed}
 use Rattle.protocol.specs.Lent.{Room}

@@ -18,10 +18,10 @@ use Rattle.tree.specs.Laws.Rows.{Each, each-above}
 use Rattle.tree.specs.Laws.View.{view-agree}
 use Rattle.locks.specs.Modes.{LW}
 use Rattle.locks.specs.Laws.Excludes.{LW-clashes}
-use Rattle.commute.specs.Laws.Tests.{by-test}
-use Rattle.commute.specs.Laws.Lines.{Of, of-lines, to-lines, line-here, at-only}
-use Rattle.commute.specs.Laws.Runs.{Entry, Run, run-append, run-one-end}
-use Rattle.commute.specs.Laws.Orders as orders
+use Rattle.serializability.specs.Laws.Tests.{by-test}
+use Rattle.serializability.specs.Laws.Lines.{Of, of-lines, to-lines, line-here, at-only}
+use Rattle.serializability.specs.Laws.Runs.{Entry, Run, run-append, run-one-end}
+use Rattle.serializability.specs.Laws.Orders as orders
 use Rattle.protocol.specs.State.{nobody, State, Marked, Tree, transactions, done-by, shown, as-shown, document-of, held-document, writer-of}
 use Rattle.protocol.specs.History.{inserted, pending-in}
 use Rattle.serializability.specs.Laws.WaitSet.{has-kept, kept-distinct}

@@ -9,16 +9,16 @@ use lib.Dec.{eqb}
 use borrow.Author.Tests.{eqb-true, eqb-false, eq-eqb, not-true}
 use Rattle.tree.specs.Document.{Document, node-0-alone, legal}
 use Rattle.tree.specs.Steps.{Step, with-content}
-use Rattle.tree.specs.Lists.{has, keep, distinct, joined}
+use Rattle.tree.specs.Lists.{has, keep, joined}
 use Rattle.tree.specs.Laws.Tests.{and-left, and-right, refuted}
 use Rattle.tree.specs.Laws.Lists.{every-at}
 use Rattle.tree.specs.Laws.View.{view-agree}
 use Rattle.locks.specs.Modes.{Mode}
 use Rattle.locks.specs.Needs.{Lock}
-use Rattle.commute.specs.Laws.Tests.{by-test}
-use Rattle.commute.specs.Laws.Runs.{Entry}
-use Rattle.commute.specs.Laws.Orders as orders
-use Rattle.commute.specs.Laws.Legal.{legal-run}
+use Rattle.serializability.specs.Laws.Tests.{by-test}
+use Rattle.serializability.specs.Laws.Runs.{Entry}
+use Rattle.serializability.specs.Laws.Orders as orders
+use Rattle.serializability.specs.Laws.Legal.{legal-run}
 use Rattle.protocol.specs.State.{State, Marked, Tree, nodes, seen-by, granted-to, none-of, lasting, undone, act, grant, commit-tree}
 use Rattle.protocol.specs.State.{abort-tree, tree-of, start-state, nobody, is-transaction, transactions, done-by, shown, as-shown}
 use Rattle.protocol.specs.State.{document-of, held-document, committed-document, writer-of, saved-of}

@@ -17,10 +17,10 @@ use Rattle.tree.specs.Laws.Rows.{of-rows}
 use Rattle.tree.specs.Laws.View.{rows-view, in-view}
 use Rattle.locks.specs.Needs.{Lock, need, needs}
 use Rattle.locks.specs.Laws.Compatible.{Compatible, excludes}
-use Rattle.commute.specs.Laws.Classes.{update, rename, write, bars-removal, removal-barred, Contents, reads-contents, bars-writing}
-use Rattle.commute.specs.Laws.Classes.{writing-barred}
-use Rattle.commute.specs.Laws.Lines.{at-line}
-use Rattle.commute.specs.Laws.Views.{shape, Shapes, Whole, Reach, itself, children, subtree, within, reach, Views}
+use Rattle.serializability.specs.Laws.Classes.{update, rename, write, bars-removal, removal-barred, Contents, reads-contents}
+use Rattle.serializability.specs.Laws.Classes.{bars-writing, writing-barred}
+use Rattle.serializability.specs.Laws.Lines.{at-line}
+use Rattle.serializability.specs.Laws.Views.{shape, Shapes, Whole, Reach, itself, children, subtree, within, reach, Views}
 use Rattle.protocol.specs.State.{nobody, Marked, Tree, numbered, seen-by, callers-document, document-of, renamed, act, number-held, done-by}
 use Rattle.protocol.specs.State.{shown, as-shown, writer-of}
 use Rattle.serializability.specs.Laws.Shown.{Place, path, numbers-of, local, U-shown, D-shown, I-shown, UU-shown, write-hidden}

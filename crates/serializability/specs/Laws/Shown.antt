@@ -3,7 +3,7 @@ use Prim.Native.Nat.{ℕ}
 use mathlib.Core.Path.{_≡_, refl, sym, ap, _∙_}
 use mathlib.Core.Bool.{Bool, true, false, cond, not, _&&_, _||_, or-true, and-true, and-false}
 use mathlib.Core.List.{List, [], _∷_, map}
-use mathlib.Core.Logic.{_⊎_, ⊎-elim}
+use mathlib.Core.Logic.{⊎-elim}
 use lib.Dec.{eqb}
 use borrow.Author.Tests.{eqb-true, eq-eqb, ne-eqb}
 use Rattle.tree.specs.Lists.{any, every, has}
@@ -16,7 +16,7 @@ use Rattle.tree.specs.Laws.Rows.{In, self, inner, later}
 use Rattle.tree.specs.Laws.View.{view-view, view-agree, view-amend}
 use Rattle.tree.specs.Laws.Put.{view-put, view-put-hidden}
 use Rattle.locks.specs.Needs.{Lock}
-use Rattle.commute.specs.Laws.Tests.{by-test, cond-same}
+use Rattle.serializability.specs.Laws.Tests.{by-test, cond-same}
 use Rattle.protocol.specs.State.{nobody, Marked, Tree, numbered, seen-by, done-by, shown, as-shown, document-of, written-by, deleted-by}
 use Rattle.protocol.specs.State.{inserted-by, granted-to, writer-of, Update, update-without, without, lasting, undone, mark, mark-node}
 use Rattle.protocol.specs.State.{renamed, grant, commit-tree, abort-tree, tree-of}

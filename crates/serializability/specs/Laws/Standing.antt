@@ -17,8 +17,8 @@ use Rattle.locks.specs.Needs.{Lock, locks}
 use Rattle.locks.specs.Laws.Clash.{every-mode}
 use Rattle.locks.specs.Laws.Compatible.{Locked, Compatible, new-locked}
 use Rattle.locks.specs.Laws.Places.{lock-place, path-locked}
-use Rattle.commute.specs.Laws.Tests.{affirmed}
-use Rattle.commute.specs.Laws.Classes.{new-need}
+use Rattle.serializability.specs.Laws.Tests.{affirmed}
+use Rattle.serializability.specs.Laws.Classes.{new-need}
 use Rattle.protocol.specs.State.{State, Marked, Tree, numbered, nodes, is-transaction}
 use Rattle.protocol.specs.Calls.{clashes, blocks, wait-set}
 use Rattle.serializability.specs.Laws.Shown.{Place, Inside, path, numbers-of}

@@ -13,10 +13,10 @@ use Rattle.tree.specs.Content.{allowed, children-rule}
 use Rattle.tree.specs.Laws.Tests.{and-left, or-right, or-cases}
 use Rattle.tree.specs.Laws.Lists.{map-append, map-map}
 use Rattle.tree.specs.Laws.View.{in-view}
-use Rattle.commute.specs.Laws.Lines.{Unique}
-use Rattle.commute.specs.Laws.Runs.{Entry, Run, run-append}
-use Rattle.commute.specs.Laws.Orders.{joined-append, logs}
-use Rattle.commute.specs.Laws.Legal.{legal-parts}
+use Rattle.serializability.specs.Laws.Lines.{Unique}
+use Rattle.serializability.specs.Laws.Runs.{Entry, Run, run-append}
+use Rattle.serializability.specs.Laws.Orders.{joined-append, logs}
+use Rattle.serializability.specs.Laws.Legal.{legal-parts}
 use Rattle.protocol.specs.State.{nobody, State, Marked, is-transaction, unmarked, commit-tree, tree-of, start-state, with-tree, opened}
 use Rattle.protocol.specs.State.{closed}
 use Rattle.protocol.specs.Calls.{Call, loadable, Taken, Next, next}

@@ -15,7 +15,7 @@ use Rattle.locks.specs.Words.{word}
 use Rattle.locks.specs.Modes.{bit}
 use Rattle.locks.specs.Laws.Words.{word-small}
 use Rattle.locks.specs.Laws.Sets.{word-bit}
-use Rattle.commute.specs.Laws.Tests.{by-test}
+use Rattle.serializability.specs.Laws.Tests.{by-test}
 use Rattle.protocol.specs.State.{transactions, is-transaction}
 use Rattle.protocol.specs.Calls.{sum-of-bits}
 

@@ -15,15 +15,14 @@ use Rattle.tree.specs.Laws.Tests.{refuted}
 use Rattle.tree.specs.Laws.Lists.{at-any, any-at, has-in, in-has}
 use Rattle.locks.specs.Needs.{Lock, needs}
 use Rattle.locks.specs.Laws.Compatible.{Compatible}
-use Rattle.commute.specs.Laws.Tests.{by-test, affirmed}
-use Rattle.commute.specs.Laws.Views.{views-same}
-use Rattle.commute.specs.Laws.Classes.{Absent}
-use Rattle.commute.specs.Laws.Runs.{Entry, Valid, Clear}
-use Rattle.commute.specs.Laws.Orders.{Distinct, permutation-back, to-front}
-use Rattle.commute.specs.Laws.Serial.{Serial, reorder, noted, in-noted, Grantable, grant, grant-other}
+use Rattle.serializability.specs.Laws.Tests.{by-test, affirmed}
+use Rattle.serializability.specs.Laws.Views.{views-same}
+use Rattle.serializability.specs.Laws.Classes.{Absent}
+use Rattle.serializability.specs.Laws.Runs.{Entry, Valid, Clear}
+use Rattle.serializability.specs.Laws.Orders.{Distinct, permutation-back, to-front}
+use Rattle.serializability.specs.Laws.Serial.{Serial, reorder, noted, in-noted, Grantable, grant, grant-other}
 use Rattle.protocol.specs.State.{nobody, State, Tree, is-transaction, number-held, seen-by, shown, as-shown, callers-document, document-of}
 use Rattle.protocol.specs.State.{act, with-tree}
-use Rattle.protocol.specs.State as state
 use Rattle.serializability.specs.Laws.Outcomes.{Passed}
 use Rattle.serializability.specs.Laws.Shown.{Place, Inside, path, numbers-of, grant-shown}
 use Rattle.serializability.specs.Laws.Numbers.{number-of, place-held}

@@ -1,5 +1,5 @@
 use native.Mathlib.Omega.{arith}
-use Rattle.layout.specs.Laws.Texts.{size-small, byte-at}
+use Rattle.table.specs.Laws.Texts.{size-small, byte-at}
 use borrow.Author.Needs.{needs}
 use Rattle.table.proofs.content.Statement.{statement}
 use Rattle.table.proofs.content.Tie as tie

@@ -4,7 +4,7 @@ use mathlib.Core.List.{List}
 use Prim.Native.Nat.{ℕ, _+_, _-_, _*_, _≤_, _<_}
 use lib.ListN.{length, getD, take, drop, length-drop}
 use lib.Seq.{getD-take, getD-drop, ext-getD, length-take-le}
-use Rattle.layout.specs.Laws.Texts.{byte-at}
+use Rattle.table.specs.Laws.Texts.{byte-at}
 use borrow.Author.Needs.{needs}
 use Rattle.table.proofs.content_bytes.Statement.{statement}
 use Rattle.table.proofs.content_bytes.Tie as tie

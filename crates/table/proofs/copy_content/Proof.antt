@@ -1,7 +1,7 @@
 use mathlib.Core.Path.{_∙_}
 use native.Mathlib.Omega.{arith}
 use lib.ListN.{length-set}
-use Rattle.layout.specs.Laws.Texts.{copied-kept}
+use Rattle.table.specs.Laws.Texts.{copied-kept}
 use borrow.Author.Needs.{needs}
 use Rattle.table.proofs.copy_content.Statement.{statement}
 use Rattle.table.proofs.copy_content.Tie as tie

@@ -1,5 +1,5 @@
-use Rattle.layout.specs.Layout.{count}
-use Rattle.layout.specs.Laws.Nodes.{length-nodes}
+use Rattle.table.specs.Layout.{count}
+use Rattle.table.specs.Laws.Nodes.{length-nodes}
 use borrow.Author.Needs.{needs}
 use Rattle.table.proofs.count.Statement.{statement}
 use Rattle.table.proofs.count.Tie as tie

@@ -1,5 +1,5 @@
 use mathlib.Core.Path.{_∙_}
-use Rattle.layout.specs.Laws.Fields.{depth-at}
+use Rattle.table.specs.Laws.Fields.{depth-at}
 use borrow.Author.Needs.{needs}
 use Rattle.table.proofs.depth.Statement.{statement}
 use Rattle.table.proofs.depth.Tie as tie

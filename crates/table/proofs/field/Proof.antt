@@ -1,4 +1,4 @@
-use Rattle.layout.specs.Laws.Fields.{field-at}
+use Rattle.table.specs.Laws.Fields.{field-at}
 use borrow.Author.Needs.{needs}
 use Rattle.table.proofs.field.Statement.{statement}
 use Rattle.table.proofs.field.Tie as tie

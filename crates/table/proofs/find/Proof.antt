@@ -3,9 +3,9 @@ use mathlib.Core.Path.{_≡_, sym, _∙_}
 use Prim.Native.Nat.{_+_, _-_, _≤_}
 use lib.ListN.{length, drop}
 use borrow.Author.Tests.{eq-eqb, ne-eqb}
-use Rattle.layout.specs.Lists.{first}
-use Rattle.layout.specs.Layout.{nodes, no-entry}
-use Rattle.layout.specs.Laws.First.{first-found, first-passed, first-none}
+use Rattle.table.specs.Lists.{first}
+use Rattle.table.specs.Layout.{nodes, no-entry}
+use Rattle.table.specs.Laws.First.{first-found, first-passed, first-none}
 use lib.Dec.{eqb}
 use Rattle.table.proofs.find.Statement.{statement}
 use Rattle.table.proofs.find.Tie as tie

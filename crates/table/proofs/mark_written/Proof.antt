@@ -1,7 +1,7 @@
 use native.Mathlib.Omega.{arith}
 use mathlib.Core.Path.{refl}
-use Rattle.layout.specs.Laws.Texts.{over-size, written-over, written-first}
-use Rattle.layout.specs.Fields.{saved-size}
+use Rattle.table.specs.Laws.Texts.{over-size, written-over, written-first}
+use Rattle.table.specs.Fields.{saved-size}
 use borrow.Author.Needs.{needs}
 use Rattle.table.proofs.mark_written.Statement.{statement}
 use Rattle.table.proofs.mark_written.Tie as tie

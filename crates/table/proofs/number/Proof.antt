@@ -1,5 +1,5 @@
 use mathlib.Core.Path.{_∙_}
-use Rattle.layout.specs.Laws.Fields.{number-at}
+use Rattle.table.specs.Laws.Fields.{number-at}
 use borrow.Author.Needs.{needs}
 use Rattle.table.proofs.number.Statement.{statement}
 use Rattle.table.proofs.number.Tie as tie

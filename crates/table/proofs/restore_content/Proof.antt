@@ -1,5 +1,5 @@
 use native.Mathlib.Omega.{arith}
-use Rattle.layout.specs.Laws.Texts.{restored-kept}
+use Rattle.table.specs.Laws.Texts.{restored-kept}
 use borrow.Author.Needs.{needs}
 use Rattle.table.proofs.restore_content.Statement.{statement}
 use Rattle.table.proofs.restore_content.Tie as tie

@@ -1,5 +1,5 @@
 use mathlib.Core.Path.{_∙_, refl}
-use Rattle.layout.specs.Laws.Texts.{stored-kept}
+use Rattle.table.specs.Laws.Texts.{stored-kept}
 use native.Mathlib.Omega.{arith}
 use lib.ListN.{length-set}
 use borrow.Author.Needs.{needs}

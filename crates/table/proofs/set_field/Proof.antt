@@ -1,4 +1,4 @@
-use Rattle.layout.specs.Laws.Fields.{field-kept}
+use Rattle.table.specs.Laws.Fields.{field-kept}
 use borrow.Author.Needs.{needs}
 use Rattle.table.proofs.set_field.Statement.{statement}
 use Rattle.table.proofs.set_field.Tie as tie

@@ -1,4 +1,4 @@
-use Rattle.layout.specs.Laws.Fields.{writer-kept}
+use Rattle.table.specs.Laws.Fields.{writer-kept}
 use borrow.Author.Needs.{needs}
 use Rattle.table.proofs.set_writer.Statement.{statement}
 use Rattle.table.proofs.set_writer.Tie as tie

@@ -1,6 +1,6 @@
 use native.Mathlib.Omega.{arith}
 use Prim.Native.Nat.{_+_, _*_}
-use Rattle.layout.specs.Laws.Texts.{size-small, size-at}
+use Rattle.table.specs.Laws.Texts.{size-small, size-at}
 use borrow.Author.Needs.{needs}
 use Rattle.table.proofs.size.Statement.{statement}
 use Rattle.table.proofs.size.Tie as tie

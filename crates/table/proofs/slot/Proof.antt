@@ -1,4 +1,4 @@
-use Rattle.layout.specs.Layout.{slot}
+use Rattle.table.specs.Layout.{slot}
 use borrow.Author.Needs.{needs}
 use Rattle.table.proofs.slot.Statement.{statement}
 use Rattle.table.proofs.slot.Tie as tie

@@ -11,9 +11,9 @@ use Rattle.protocol.specs.Calls.{Call, start, load, begin, commit, abort, step,
 use Rattle.protocol.specs.Calls.{Outcome, granted, written, waits, refused, refused-at}
 use Rattle.protocol.specs.Answers.{code-of, answer-of, lent-after}
 use Rattle.protocol.specs.declared.Answer.{Answer}
-use Rattle.layout.specs.Layout.{state-size}
+use Rattle.table.specs.Layout.{state-size}
 use Rattle.form.specs.Form.{Holds}
-use Rattle.writer.specs.Contract.{write-answer, write-buffer}
+use Rattle.xml_write.specs.Contract.{write-answer, write-buffer}
 use Rattle.traces.specs.Exchange.{Request, Exchange}
 use Rattle.traces.specs.Contract as contract
 use Rattle.traces.specs.Contract.{makes-start, Ensured, Contract}

@@ -1,7 +1,7 @@
 -- A call is refused by one of the causes alone; every request makes one call.
 use mathlib.Core.Path.{_≡_, refl, ap}
 use Prim.Native.Nat.{ℕ}
-use mathlib.Core.Bool.{true, false, false≢true}
+use mathlib.Core.Bool.{true, false≢true}
 use mathlib.Core.List.{List}
 use Rattle.tree.specs.Lists.{has}
 use Rattle.protocol.specs.State.{State}

@@ -16,8 +16,8 @@ use Rattle.locks.specs.Needs.{needs}
 use Rattle.protocol.specs.State.{State, is-transaction, callers-document, act, grant, with-tree}
 use Rattle.protocol.specs.Lent.{Room, has-room, first-lent, second-lent}
 use Rattle.protocol.specs.Causes.{not-a-transaction, not-open}
-use Rattle.protocol.specs.Calls.{Input, Call, start, load, begin, commit, abort, step, write, Outcome, granted, written, waits, refused, refused-at}
-use Rattle.protocol.specs.Calls.{Next, takes-step, Check, checked, step-checks, judged, next}
+use Rattle.protocol.specs.Calls.{Input, Call, start, load, begin, commit, abort, step, write, Outcome, granted, written, waits, refused}
+use Rattle.protocol.specs.Calls.{refused-at, Next, takes-step, Check, checked, step-checks, judged, next}
 use Rattle.protocol.specs.History.{is-granted}
 use Rattle.protocol.specs.Answers.{code-of, lent-after}
 use Rattle.protocol.specs.declared.Answer.{Answer}
@@ -27,9 +27,10 @@ use Rattle.serializability.specs.Laws.Outcomes.{AllPassed, checked-cases, every
 use Rattle.xml.specs.Reading.{ReadsAs}
 use Rattle.xml.specs.Laws.Readings.{reading}
 use Rattle.traces.specs.Exchange.{Request, Exchange, with-none, with-one, with-two}
-use Rattle.writer.specs.Contract.{Written}
+use Rattle.xml_write.specs.Contract.{Written}
 use Rattle.traces.specs.Contract as contract
-use Rattle.traces.specs.Contract.{Makes, makes-start, makes-load, makes-write, makes-begin, makes-commit, makes-abort, MakesCall, Ensured, Contract}
+use Rattle.traces.specs.Contract.{Makes, makes-start, makes-load, makes-write, makes-begin, makes-commit, makes-abort, MakesCall}
+use Rattle.traces.specs.Contract.{Ensured, Contract}
 use Rattle.traces.specs.Laws.Causes.{makes-only}
 
 is-step : Call → Bool

@@ -1,11 +1,10 @@
 -- Demand 3 of the numbers and the bytes: the log by the codes is the one that feeds the plain run, and its exchanges had these answers.
 use mathlib.Core.Path.{_≡_, refl, sym, ap, subst, _∙_}
 use Prim.Native.Nat.{ℕ}
-use mathlib.Core.Bool.{Bool, true, false, cond, false≢true, true≢false}
+use mathlib.Core.Bool.{Bool, true, false, cond, false≢true}
 use mathlib.Core.List.{List, [], _∷_, _++_, map}
 use mathlib.Core.Logic.{_↔_}
 use lib.ListN.{length}
-use lib.Dec.{eqb}
 use borrow.Author.Tests.{eqb-true, eq-eqb}
 use Rattle.tree.specs.Document.{node-0-alone}
 use Rattle.tree.specs.Lists.{joined}
@@ -17,7 +16,7 @@ use Rattle.protocol.specs.Lent.{second-lent}
 use Rattle.protocol.specs.Calls.{Call, start, load, begin, commit, abort, step, write, unreadable, stands-for, Outcome, Taken, Next, next}
 use Rattle.protocol.specs.History.{history, state-after, is-granted, Log, new-log, logged, log-after, fed, answered, plain-run-answers}
 use Rattle.protocol.specs.Answers.{code-of, answer-of, lent-after}
-use Rattle.writer.specs.Contract.{writing, text-after}
+use Rattle.xml_write.specs.Contract.{writing, text-after}
 use Rattle.serializability.specs.Theorem.{since-start, reached}
 use Rattle.serializability.specs.Laws.Outcomes.{every-call}
 use Rattle.serializability.specs.Laws.Logs.{read-off, logged-read, map-joined}
@@ -138,8 +137,7 @@ log-given before [] (c ∷ cs) h L = absurd h
 log-given before (x ∷ xs) [] h L = absurd h
 log-given before (x ∷ xs) (c ∷ cs) h L =
     let M = reached before in
-    let k = log-given (before ++ (c ∷ [])) xs cs (h .1) (with-given M x c (h .0) L) in
-    (
+    let k = log-given (before ++ (c ∷ [])) xs cs (h .1) (with-given M x c (h .0) L) in (
       k .0,
       ap (λ (z : Log Step). log-after (λ t. t .step) z (history (next c M .state) cs)) (read-taken M x c (h .0) (λ t. t .step) L)
           ∙ (rw (further before c) at (k .1)),

@@ -8,7 +8,7 @@ use Rattle.protocol.specs.Calls.{Call, start, load, begin, commit, abort, step,
 use Rattle.protocol.specs.Answers.{code-of, lent-after}
 use Rattle.protocol.specs.declared.Answer.{Answer}
 use Rattle.protocol.specs.declared.Answer.the-variants.{Done}
-use Rattle.layout.specs.Layout.{state-size}
+use Rattle.table.specs.Layout.{state-size}
 use Rattle.form.specs.Form.{Holds}
 use Rattle.traces.specs.Exchange.{Exchange}
 use Rattle.traces.specs.Contract as contract

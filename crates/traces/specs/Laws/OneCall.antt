@@ -10,25 +10,25 @@ use lib.Dec.{leb}
 use borrow.Author.Tests.{leb-true, leb-false}
 use Rattle.tree.specs.Forest.{Forest, nil, node, rows, view}
 use Rattle.tree.specs.Document.{Node, Document, legal, lines}
-use Rattle.tree.specs.Steps.{Step, Value, done, how-many}
+use Rattle.tree.specs.Steps.{Value, done, how-many}
 use Rattle.protocol.specs.State.{State, start-state, shown, as-shown, document-of, committed-document}
 use Rattle.protocol.specs.Lent.{filled, first-lent, second-lent}
-use Rattle.protocol.specs.Calls.{node-limit, Call, start, step, write, Outcome, granted, written, waits, refused, refused-at, next}
+use Rattle.protocol.specs.Calls.{node-limit, Call, start, write, Outcome, granted, written, waits, refused, refused-at, next}
 use Rattle.protocol.specs.History.{is-granted}
 use Rattle.protocol.specs.Answers.{code-of, answer-of, granted-answer, lent-after}
 use Rattle.protocol.specs.declared.Answer.{Answer}
 use Rattle.protocol.specs.declared.Answer.the-variants.{Done, Count, Refused}
-use Rattle.layout.specs.Flat.{flat}
-use Rattle.layout.specs.Layout.{state-size}
+use Rattle.table.specs.Flat.{flat}
+use Rattle.table.specs.Layout.{state-size}
 use Rattle.form.specs.Form.{form, Holds}
 use Rattle.form.specs.Laws.Holds.{form-holds, holds-form}
 use Rattle.serializability.specs.Laws.OneCall.{waiting}
 use Rattle.xml.specs.Writing as xml
 use Rattle.xml.specs.Laws.Expressible.{read-back}
 use Rattle.traces.specs.Exchange.{Exchange, outcome, value}
-use Rattle.markup.specs.Rows.{ordered}
-use Rattle.writer.specs.Contract.{writable, writing, text-after, write-answer, write-buffer}
-use Rattle.writer.specs.Laws.Calls.{legal-writing}
+use Rattle.xml_text.specs.Rows.{ordered}
+use Rattle.xml_write.specs.Contract.{writable, writing, text-after, write-answer, write-buffer}
+use Rattle.xml_write.specs.Laws.Calls.{legal-writing}
 use Rattle.traces.specs.Contract as contract
 use Rattle.traces.specs.Contract.{MakesCall, Ensured, Contract}
 use Rattle.traces.specs.Theorem.{Same, first-after, ByDefinition, Outcomes, Demand2}

@@ -12,7 +12,7 @@ use Rattle.protocol.specs.Calls.{Call, start, next}
 use Rattle.protocol.specs.Answers.{code-of, answer-of, granted-answer}
 use Rattle.protocol.specs.declared.Answer.{Answer}
 use Rattle.protocol.specs.declared.Answer.the-variants.{Refused}
-use Rattle.layout.specs.Layout.{state-size}
+use Rattle.table.specs.Layout.{state-size}
 use Rattle.form.specs.Form.{form}
 use Rattle.form.specs.Laws.Holds.{form-layout, form-holds, holds-form}
 use Rattle.traces.specs.Exchange.{Request, Exchange, outcome}

@@ -28,16 +28,5 @@ loop-again c =
     (search needs, l .inv .1 ∙ goes-on _ _ (l .i) (search needs) (sym (c .before .stands .ensures) ∙ not-false _ (c .if1 .left)))
 
 pub all-stand-spec : {M : Type 1} → statement M
-all-stand-spec =
-    tie.close
-    (tie.spec
-    Inv-loop
-    μ-loop
-    (λ c. search needs)
-    (λ c. search needs)
-    (λ c κs. search needs)
-    returns
-    (λ c. search needs)
-    (λ c. search needs)
-    loop-again
-    (λ c. sym (c .before .loop .inv .1 ∙ ends _ _ (c .before .loop .i) (search needs))))
+all-stand-spec = tie.close (tie.spec Inv-loop μ-loop (λ c. search needs) (λ c. search needs) (λ c κs. search needs) returns
+    (λ c. search needs) (λ c. search needs) loop-again (λ c. sym (c .before .loop .inv .1 ∙ ends _ _ (c .before .loop .i) (search needs))))

@@ -21,13 +21,5 @@ returns-4 c =
     c .all-stand .ensures ∙ sym (name-is _ (if1 .left) (if2 .left) ∙ rw (sym (name-start .ensures) ∙ not-false _ (if3 .left)))
 
 pub is-name-spec : {M : Type 1} → statement M
-is-name-spec =
-    tie.close
-    (tie.spec
-    (λ c. sym (name-empty _ (c .if1 .taken)))
-    (λ c. sym (name-long _ (c .if2 .taken)))
-    (λ c. search needs)
-    (λ c κs. search needs)
-    returns-3
-    (λ c κs. search needs)
-    returns-4)
+is-name-spec = tie.close (tie.spec (λ c. sym (name-empty _ (c .if1 .taken))) (λ c. sym (name-long _ (c .if2 .taken))) (λ c. search needs)
+    (λ c κs. search needs) returns-3 (λ c κs. search needs) returns-4)

@@ -1,6 +1,6 @@
 -- `amend`: the rows afterwards, one amendment after another, and amendments that agree.
 use mathlib.Core.Path.{_≡_, refl, ap}
-use mathlib.Core.List.{List, [], _∷_, map}
+use mathlib.Core.List.{List, _∷_, map}
 use Rattle.tree.specs.Forest.{Forest, nil, node, Row, row, rows, amend}
 use Rattle.tree.specs.Laws.Lists.{map-append, in-map, map-in}
 use Rattle.tree.specs.Laws.Rows.{In, self, inner, later, to-rows, of-rows}

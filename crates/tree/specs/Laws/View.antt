@@ -1,7 +1,7 @@
 -- `view`: the rows of what is shown, views of views, views that agree, and views of amended forests.
 use mathlib.Core.Path.{_≡_, refl, sym, _∙_}
 use mathlib.Core.Bool.{Bool, true, false, cond, _&&_, and-false}
-use mathlib.Core.List.{List, [], _∷_, _++_, map, List·Memᴰ}
+use mathlib.Core.List.{List, _∷_, _++_, map, List·Memᴰ}
 use Rattle.tree.specs.Lists.{every, keep}
 use Rattle.tree.specs.Forest.{Forest, nil, node, Row, row, rows, amend, view}
 use Rattle.tree.specs.Laws.Lists.{map-append, keep-append, keep-none, keep-in, in-keep, in-map, map-in, map-self}

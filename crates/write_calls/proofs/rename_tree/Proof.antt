@@ -4,17 +4,8 @@ use Rattle.traces.specs.Laws.Exports.{none-contract}
 use Rattle.write_calls.proofs.rename_tree.Statement.{statement}
 use Rattle.write_calls.proofs.rename_tree.Tie as tie
 
-rename-tree-requires : tie.Need-rename-tree-requires
-rename-tree-requires c κs = search needs
-
-code-requires : tie.Need-code-requires
-code-requires c κs = search needs
-
-same-length : tie.Need-same-length
-same-length c = search needs
-
 returns : tie.Need-returns
 returns c = none-contract (c .code .ensures) makes-step (c .before .before .before .rename-tree .ensures)
 
 pub rename-tree-spec : {M : Type 1} → statement M
-rename-tree-spec = tie.close (tie.spec rename-tree-requires code-requires same-length returns)
+rename-tree-spec = tie.close (tie.spec (λ c κs. search needs) (λ c κs. search needs) (λ c. search needs) returns)

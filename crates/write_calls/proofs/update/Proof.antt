@@ -4,17 +4,8 @@ use Rattle.traces.specs.Laws.Exports.{none-contract}
 use Rattle.write_calls.proofs.update.Statement.{statement}
 use Rattle.write_calls.proofs.update.Tie as tie
 
-update-requires : tie.Need-update-requires
-update-requires c κs = search needs
-
-code-requires : tie.Need-code-requires
-code-requires c κs = search needs
-
-same-length : tie.Need-same-length
-same-length c = search needs
-
 returns : tie.Need-returns
 returns c = none-contract (c .code .ensures) makes-step (c .before .before .before .update .ensures)
 
 pub update-spec : {M : Type 1} → statement M
-update-spec = tie.close (tie.spec update-requires code-requires same-length returns)
+update-spec = tie.close (tie.spec (λ c κs. search needs) (λ c κs. search needs) (λ c. search needs) returns)

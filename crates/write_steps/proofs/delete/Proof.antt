@@ -8,10 +8,10 @@ use Rattle.tree.specs.Steps.{D}
 use Rattle.protocol.specs.State.{deleted-by}
 use Rattle.protocol.specs.Lent.{first-lent, second-lent}
 use Rattle.protocol.specs.Answers.{granted-answer}
-use Rattle.layout.specs.Lists.{modify}
-use Rattle.layout.specs.Flat.{second}
-use Rattle.layout.specs.Laws.Kept.{kept-then, left-kept}
-use Rattle.edits.specs.Rows.{stepped}
+use Rattle.table.specs.Lists.{modify}
+use Rattle.table.specs.Flat.{second}
+use Rattle.table.specs.Laws.Kept.{kept-then, left-kept}
+use Rattle.rows.specs.Rows.{stepped}
 use Rattle.engine.specs.Laws.Judgement.{ready, admitted-place, step-stopped, step-free, free-granted, free-locked}
 use Rattle.write_steps.proofs.delete.Statement.{statement}
 use Rattle.write_steps.proofs.delete.Tie as tie
@@ -68,16 +68,5 @@ returns-2 c =
     performed-grants (free-granted f no-room refl (left-kept marked)) _ refl
 
 pub delete-spec : {M : Type 1} → statement M
-delete-spec =
-    tie.close
-    (tie.spec
-    (λ c κs. search needs)
-    (λ c κs. admitted-place (c .before .admit .ensures))
-    (λ c κs. search needs)
-    judge-requires
-    (λ c. search needs)
-    returns
-    grant-requires
-    set-deleter-requires
-    (λ c. search needs)
-    returns-2)
+delete-spec = tie.close (tie.spec (λ c κs. search needs) (λ c κs. admitted-place (c .before .admit .ensures)) (λ c κs. search needs)
+    judge-requires (λ c. search needs) returns grant-requires set-deleter-requires (λ c. search needs) returns-2)

@@ -207,26 +207,6 @@ returns-4 c =
     performed-grants (free-granted f no-room spare left) _ refl
 
 pub insert-spec : {M : Type 1} → statement M
-insert-spec =
-    tie.close
-    (tie.spec
-    (λ c κs. search needs)
-    (λ c κs. admitted-place (c .before .admit .ensures))
-    (λ c κs. search needs)
-    judge-requires
-    (λ c. search needs)
-    returns
-    fits-requires
-    (λ c. search needs)
-    returns-2
-    count-requires
-    (λ c. search needs)
-    returns-3
-    new-place-requires
-    depth-requires
-    grant-requires
-    add-put
-    cast-put
-    put-requires
-    (λ c. search needs)
-    returns-4)
+insert-spec = tie.close (tie.spec (λ c κs. search needs) (λ c κs. admitted-place (c .before .admit .ensures)) (λ c κs. search needs)
+    judge-requires (λ c. search needs) returns fits-requires (λ c. search needs) returns-2 count-requires (λ c. search needs) returns-3
+    new-place-requires depth-requires grant-requires add-put cast-put put-requires (λ c. search needs) returns-4)

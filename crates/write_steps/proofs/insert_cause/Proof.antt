@@ -61,17 +61,5 @@ returns-5 c =
     (rw (← at-kind .kind .ensures, takes, allowed, ← at-find .find .ensures, ← c .before .count .ensures, le-ltb _ _ (c .if4 .left)))
 
 pub insert-cause-spec : {M : Type 1} → statement M
-insert-cause-spec =
-    tie.close
-    (tie.spec
-    (λ c. found-first (c .if1 .taken))
-    (λ c κs. c .before .before .before .pre (c .if1 .left))
-    (λ c. search needs)
-    (λ c κs. search needs)
-    returns-2
-    (λ c κs. search needs)
-    returns-3
-    find-requires
-    count-requires
-    returns-4
-    returns-5)
+insert-cause-spec = tie.close (tie.spec (λ c. found-first (c .if1 .taken)) (λ c κs. c .before .before .before .pre (c .if1 .left))
+    (λ c. search needs) (λ c κs. search needs) returns-2 (λ c κs. search needs) returns-3 find-requires count-requires returns-4 returns-5)

@@ -19,12 +19,5 @@ returns-4 c =
     found-later (c .before .before .before .before .if1 .left) (rw (first, sym (c .before .is-name2 .ensures) ∙ not-false _ (c .if3 .left)))
 
 pub rename-cause-spec : {M : Type 1} → statement M
-rename-cause-spec =
-    tie.close
-    (tie.spec
-    (λ c. found-first (c .if1 .taken))
-    (λ c κs. search needs)
-    returns-2
-    (λ c κs. search needs)
-    returns-3
+rename-cause-spec = tie.close (tie.spec (λ c. found-first (c .if1 .taken)) (λ c κs. search needs) returns-2 (λ c κs. search needs) returns-3
     returns-4)

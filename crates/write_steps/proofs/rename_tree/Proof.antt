@@ -10,8 +10,8 @@ use Rattle.tree.specs.Content.{is-name}
 use Rattle.tree.specs.Steps.{UU}
 use Rattle.protocol.specs.Lent.{first-lent, second-lent}
 use Rattle.protocol.specs.Answers.{granted-answer}
-use Rattle.layout.specs.Laws.Kept.{kept-then, left-kept}
-use Rattle.edits.specs.Rows.{renamed-rows, stepped}
+use Rattle.table.specs.Laws.Kept.{kept-then, left-kept}
+use Rattle.rows.specs.Rows.{renamed-rows, stepped}
 use Rattle.engine.specs.Laws.Judgement.{ready, step-stopped, step-free, free-fits, free-granted, free-locked}
 use Rattle.write_steps.specs.Laws.Contents.{name-short}
 use Rattle.write_steps.specs.Laws.Renames.{named-locked}
@@ -81,17 +81,5 @@ returns-2 c =
     performed-grants (free-granted f no-room refl (left-kept renamed)) _ (rw (named-locked f (at-grant .grant .ensures) (below .hits)))
 
 pub rename-tree-spec : {M : Type 1} → statement M
-rename-tree-spec =
-    tie.close
-    (tie.spec
-    (λ c κs. search needs)
-    (λ c κs. search needs)
-    (λ c κs. search needs)
-    judge-requires
-    (λ c. search needs)
-    returns
-    grant-requires
-    rename-below-requires
-    (λ c. search needs)
-    (λ c. search needs)
-    returns-2)
+rename-tree-spec = tie.close (tie.spec (λ c κs. search needs) (λ c κs. search needs) (λ c κs. search needs) judge-requires
+    (λ c. search needs) returns grant-requires rename-below-requires (λ c. search needs) (λ c. search needs) returns-2)

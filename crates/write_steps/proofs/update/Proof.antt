@@ -9,10 +9,10 @@ use Rattle.tree.specs.Steps.{U}
 use Rattle.protocol.specs.State.{written-by}
 use Rattle.protocol.specs.Lent.{first-lent, second-lent}
 use Rattle.protocol.specs.Answers.{granted-answer}
-use Rattle.layout.specs.Lists.{modify}
-use Rattle.layout.specs.Flat.{second}
-use Rattle.layout.specs.Laws.Kept.{kept-then, left-kept}
-use Rattle.edits.specs.Rows.{stepped}
+use Rattle.table.specs.Lists.{modify}
+use Rattle.table.specs.Flat.{second}
+use Rattle.table.specs.Laws.Kept.{kept-then, left-kept}
+use Rattle.rows.specs.Rows.{stepped}
 use Rattle.engine.specs.Laws.Judgement.{ready, admitted-place, step-stopped, step-free, free-fits, free-granted, free-locked}
 use Rattle.write_steps.specs.Laws.Contents.{allowed-short}
 use Rattle.write_steps.proofs.update.Statement.{statement}
@@ -72,16 +72,5 @@ returns-2 c =
     performed-grants (free-granted f no-room refl (left-kept written)) _ refl
 
 pub update-spec : {M : Type 1} → statement M
-update-spec =
-    tie.close
-    (tie.spec
-    (λ c κs. search needs)
-    (λ c κs. admitted-place (c .before .admit .ensures))
-    (λ c κs. search needs)
-    judge-requires
-    (λ c. search needs)
-    returns
-    grant-requires
-    write-requires
-    (λ c. search needs)
-    returns-2)
+update-spec = tie.close (tie.spec (λ c κs. search needs) (λ c κs. admitted-place (c .before .admit .ensures)) (λ c κs. search needs)
+    judge-requires (λ c. search needs) returns grant-requires write-requires (λ c. search needs) returns-2)

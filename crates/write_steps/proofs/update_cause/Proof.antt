@@ -33,13 +33,5 @@ returns-4 c =
     ))
 
 pub update-cause-spec : {M : Type 1} → statement M
-update-cause-spec =
-    tie.close
-    (tie.spec
-    (λ c. found-first (c .if1 .taken))
-    (λ c κs. c .before .before .before .pre (c .if1 .left))
-    returns-2
-    (λ c. search needs)
-    (λ c κs. search needs)
-    returns-3
-    returns-4)
+update-cause-spec = tie.close (tie.spec (λ c. found-first (c .if1 .taken)) (λ c κs. c .before .before .before .pre (c .if1 .left)) returns-2
+    (λ c. search needs) (λ c κs. search needs) returns-3 returns-4)

@@ -1,7 +1,7 @@
 -- I on the node at p: its depth, causes 11 and 12, and the rows that it leaves.
-use mathlib.Core.Path.{_≡_, refl, sym, _∙_}
+use mathlib.Core.Path.{_≡_, sym, _∙_}
 use Prim.Native.Nat.{ℕ, zero, suc, _+_, _≤_, _<_}
-use mathlib.Core.Bool.{Bool, true, false, cond, not, _&&_}
+use mathlib.Core.Bool.{Bool, true, false, _&&_}
 use mathlib.Core.List.{List, [], _∷_, map}
 use native.Mathlib.Omega.{arith}
 use native.Mathlib.Numerals.{add-one}
@@ -13,13 +13,12 @@ use Rattle.tree.specs.Steps.{I, placed}
 use Rattle.tree.specs.Laws.Tests.{and-left, and-right}
 use Rattle.locks.specs.declared.NeedWords.{NeedWords}
 use Rattle.protocol.specs.Lent.{first-lent, second-lent}
-use Rattle.layout.specs.Lists.{insert}
-use Rattle.layout.specs.Layout.{Entry, nodes, Left, header}
-use Rattle.layout.specs.Laws.Kept.{left-kept, left-as, then-left}
-use Rattle.lookup.specs.Places.{depth, item, children}
-use Rattle.lookup.specs.Found.{kind-of}
-use Rattle.edits.specs.Rows.{new-place, stepped}
-use Rattle.writing.specs.Writing.{new-node}
+use Rattle.table.specs.Lists.{insert}
+use Rattle.table.specs.Layout.{Entry, nodes, Left, header}
+use Rattle.table.specs.Laws.Kept.{left-kept, left-as, then-left}
+use Rattle.rows.specs.Places.{depth, item, children}
+use Rattle.rows.specs.Rows.{new-place, stepped}
+use Rattle.write_steps.specs.Writing.{new-node}
 use Rattle.form.specs.Form.{valid, valid-document, valid-below, valid-rows}
 use Rattle.form.specs.Laws.Rows.{between-high}
 use Rattle.form.specs.Laws.Holds.{form-parts}
@@ -28,7 +27,7 @@ use Rattle.engine.specs.Admission.{Standing}
 use Rattle.engine.specs.Judgement.{first-cause, late-causes, Free}
 use Rattle.engine.specs.Laws.Judgement.{free-locked}
 use Rattle.engine.specs.declared.Admission.{Admission}
-use Rattle.locking.specs.Grants.{Granted}
+use Rattle.engine.specs.Grants.{Granted}
 
 -- depths are small -------------------------------------------------------------------------
 

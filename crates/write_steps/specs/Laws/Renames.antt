@@ -1,9 +1,8 @@
 -- What UU counts is not changed by locks.
 use mathlib.Core.Path.{_≡_, refl, sym, ap, _∙_}
 use Prim.Native.Nat.{ℕ, suc}
-use mathlib.Core.Bool.{Bool, true, false, cond, _&&_}
+use mathlib.Core.Bool.{Bool, true, false, cond}
 use mathlib.Core.List.{List, [], _∷_, map}
-use native.Mathlib.Omega.{arith}
 use lib.ListN.{length, drop, length-map, List·getD-map}
 use lib.Dec.{ltb}
 use Rattle.tree.specs.Lists.{keep}
@@ -12,16 +11,16 @@ use Rattle.tree.specs.Laws.Lists.{keep-map}
 use Rattle.locks.specs.Modes.{Mode, no-mode}
 use Rattle.locks.specs.Needs.{need}
 use Rattle.protocol.specs.State.{Marked, seen-by, with-held}
-use Rattle.layout.specs.Lists.{modify}
-use Rattle.layout.specs.Flat.{second, prune}
-use Rattle.layout.specs.Layout.{Entry, nodes, no-entry}
-use Rattle.layout.specs.Laws.Lists.{modify-none}
-use Rattle.lookup.specs.Places.{depth, item, items, number-of, below, seen-from, subtree}
-use Rattle.edits.specs.Rows.{granted-modes, granted-along, granted-up}
-use Rattle.edits.specs.Laws.Ends.{prune-map}
-use Rattle.edits.specs.Laws.Lists.{map-modify, map-drop}
+use Rattle.table.specs.Lists.{modify}
+use Rattle.table.specs.Flat.{second, prune}
+use Rattle.table.specs.Layout.{Entry, nodes, no-entry}
+use Rattle.table.specs.Laws.Lists.{modify-none}
+use Rattle.rows.specs.Places.{depth, item, items, below, seen-from, subtree}
+use Rattle.rows.specs.Rows.{granted-modes, granted-along, granted-up}
+use Rattle.rows.specs.Laws.Ends.{prune-map}
+use Rattle.rows.specs.Laws.Lists.{map-modify, map-drop}
 use Rattle.locks.specs.declared.NeedWords.{NeedWords}
-use Rattle.locking.specs.Grants.{Granted}
+use Rattle.engine.specs.Grants.{Granted}
 use Rattle.engine.specs.Judgement.{Free}
 use Rattle.engine.specs.Laws.Judgement.{free-locked}
 use Rattle.engine.specs.declared.Admission.{Admission}

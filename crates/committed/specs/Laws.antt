@@ -1,4 +1,0 @@
-pub mod Lines
-pub mod Selection
-pub mod Contents
-pub mod Documents

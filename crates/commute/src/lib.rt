@@ -1,1 +1,0 @@
-// Steps whose locks do not clash commute; transactions may run in any order. Definitions and theorems only, in specs/.

@@ -1,2 +1,0 @@
-pub mod Load
-pub mod Laws

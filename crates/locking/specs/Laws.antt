@@ -1,4 +1,0 @@
-pub mod Way
-pub mod Masks
-pub mod Waits
-pub mod Grants

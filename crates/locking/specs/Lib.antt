@@ -1,4 +1,0 @@
-pub mod Way
-pub mod Waits
-pub mod Grants
-pub mod Laws

@@ -1,4 +1,0 @@
-pub mod Places
-pub mod Found
-pub mod Placing
-pub mod Laws

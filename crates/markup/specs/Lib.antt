@@ -1,4 +1,0 @@
-pub mod Ordered
-pub mod Rows
-pub mod Lending
-pub mod Laws

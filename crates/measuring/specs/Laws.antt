@@ -1,5 +1,0 @@
-pub mod Walk
-pub mod Costs
-pub mod Tags
-pub mod Names
-pub mod Measure

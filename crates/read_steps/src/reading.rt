@@ -1,0 +1,158 @@
+// What reading steps find in the lent bytes: a child, a content, a subtree as the caller sees it; and what they put into lent buffers.
+use protocol::Answer;
+use table::layout;
+use table::layout::Places;
+ghost use mathlib.Core.Path.{_≡_};
+ghost use mathlib.Core.Bool.{_&&_};
+ghost use mathlib.Core.List.{map};
+ghost use Prim.Native.Nat.{_+_, _*_, _<_, _≤_};
+ghost use lib.ListN.{length};
+ghost use lib.Dec.{ltb, leb};
+ghost use Rattle.protocol.specs.Answers.{granted-answer};
+ghost use Rattle.protocol.specs.Lent.{list-bytes, cell, cells, filled};
+ghost use Rattle.table.specs.Layout.{nodes, Layout};
+ghost use Rattle.rows.specs.Places.{item, number-of, children};
+ghost use Rattle.rows.specs.Found.{kth-child};
+ghost use Rattle.read_steps.specs.Stored.{Stored};
+ghost use Rattle.engine.specs.Way.{nodes-of, Inside};
+ghost use Rattle.read_steps.specs.Subtree.{Selected};
+
+// The k-th child of the node at p that t sees, k from 1.
+pub fn kth_child(s: &[u8], t: u8, p: usize, k: u32) -> Answer
+    requires { ⌜ (Layout (now s)) × (p < length (nodes (now s))) ⌝ }
+    ensures { λ r. ⌜ r ≡ granted-answer (kth-child k (children t (nodes (now (s .entry))) p)) ⌝ }
+{
+    if k == 0 {
+        return Answer::NoChild;
+    }
+    let count = table::count(s);
+    let e = table::depth(s, p);
+    let mut left = k;
+    let mut i = p + 1;
+    while i < count {
+        let j = i;
+        i += 1;
+        let d = table::depth(s, j);
+        if d <= e {
+            return Answer::NoChild;
+        }
+        if 1 < d - e {
+            continue;
+        }
+        if table::deleter(s, j) == t {
+            continue;
+        }
+        if left == 1 {
+            let kind = table::kind(s, j);
+            let number = table::number(s, j);
+            return Answer::Child { kind, number };
+        }
+        left -= 1;
+    }
+    Answer::NoChild
+}
+
+// Whether a node at depth d is left out; hidden is the least depth that is, 0 for none.
+fn is_hidden(hidden: u32, d: u16) -> bool
+    ensures { λ r. ⌜ r ≡ (ltb 0 hidden && leb hidden d) ⌝ }
+{
+    if hidden == 0 {
+        return false;
+    }
+    hidden <= d as u32
+}
+
+// The places of the node at p and of all below it that t sees, in document order; t did not delete the node.
+pub fn select(s: &[u8], t: u8, p: usize) -> Places
+    requires { ⌜ (Layout (now s)) × (p < length (nodes (now s))) ⌝ }
+    ensures { λ r. ⌜ Selected (nodes (now (s .entry))) t p r ⌝ }
+{
+    let total = table::count(s);
+    let e = table::depth(s, p);
+    let mut places = [0u16; 1024];
+    places[0] = p as u16;
+    let mut count: usize = 1;
+    let mut hidden: u32 = 0;
+    let mut i = p + 1;
+    while i < total {
+        let j = i;
+        i += 1;
+        let d = table::depth(s, j);
+        if d <= e {
+            return Places { places, count };
+        }
+        if is_hidden(hidden, d) {
+            continue;
+        }
+        if table::deleter(s, j) == t {
+            hidden = (d as u32) + 1;
+            continue;
+        }
+        hidden = 0;
+        places[count] = j as u16;
+        count += 1;
+    }
+    Places { places, count }
+}
+
+// The content of the node at i, n bytes, to the bytes from k on.
+fn copy(s: &[u8], i: usize, n: usize, out: &mut [u8], k: usize)
+    requires { ⌜ (Layout (now s)) × (i < length (nodes (now s))) × (n ≡ length (item (nodes (now s)) i .now .content))
+        × (k + n ≤ length (now out)) ⌝ }
+    ensures { λ r. ⌜ Stored k (item (nodes (now (s .entry))) i .now .content) (now (out .entry)) (now (out .exit)) ⌝ }
+{
+    let mut j: usize = 0;
+    while j < n {
+        out[k + j] = table::content(s, i, 0, j);
+        j += 1;
+    }
+}
+
+// The content of the node at i, n bytes, to a lent buffer.
+pub fn content(s: &[u8], i: usize, n: usize, out: &mut [u8])
+    requires { ⌜ (Layout (now s)) × (i < length (nodes (now s))) × (n ≡ length (item (nodes (now s)) i .now .content))
+        × (n ≤ length (now out)) ⌝ }
+    ensures { λ r. ⌜ now (out .exit) ≡ filled (item (nodes (now (s .entry))) i .now .content) (now (out .entry)) ⌝ }
+{
+    copy(s, i, n, out, 0);
+}
+
+// The cell of the node at i to the bytes from k on: length, content, zeros.
+fn put_cell(s: &[u8], i: usize, out: &mut [u8], k: usize)
+    requires { ⌜ (Layout (now s)) × (i < length (nodes (now s))) × (k + 33 ≤ length (now out)) ⌝ }
+    ensures { λ r. ⌜ (Stored k (cell (item (nodes (now (s .entry))) i .now .content)) (now (out .entry)) (now (out .exit)))
+        × (length (cell (item (nodes (now (s .entry))) i .now .content)) ≡ 33) ⌝ }
+{
+    let n = table::size(s, i, 0);
+    out[k] = n as u8;
+    copy(s, i, n, out, k + 1);
+    layout::clear(out, k + 1 + n, 32 - n);
+}
+
+// The numbers of a subtree to a lent buffer, low byte first.
+pub fn numbers(s: &[u8], tree: Places, out: &mut [u8])
+    requires { ⌜ (Layout (now s)) × Inside (nodes (now s)) tree × (2 * (tree .count) ≤ length (now out)) ⌝ }
+    ensures { λ r. ⌜ now (out .exit) ≡ filled (list-bytes (map number-of (nodes-of (nodes (now (s .entry))) tree))) (now (out .entry)) ⌝ }
+{
+    let count = tree.count;
+    let mut j: usize = 0;
+    while j < count {
+        let n = table::number(s, tree.places[j] as usize);
+        layout::set_word(out, 2 * j, n);
+        j += 1;
+    }
+}
+
+// The cells of a subtree to a lent buffer, 33 bytes each.
+pub fn cells(s: &[u8], tree: Places, out: &mut [u8])
+    requires { ⌜ (Layout (now s)) × Inside (nodes (now s)) tree × (33 * (tree .count) ≤ length (now out)) ⌝ }
+    ensures { λ r. ⌜ now (out .exit) ≡ filled (cells (map (λ a. (number-of a, a .now .content)) (nodes-of (nodes (now (s .entry))) tree)))
+        (now (out .entry)) ⌝ }
+{
+    let count = tree.count;
+    let mut j: usize = 0;
+    while j < count {
+        put_cell(s, tree.places[j] as usize, out, 33 * j);
+        j += 1;
+    }
+}

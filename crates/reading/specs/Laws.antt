@@ -1,4 +1,0 @@
-pub mod Child
-pub mod Subtree
-pub mod Stores
-pub mod Buffers

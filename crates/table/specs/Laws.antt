@@ -1,0 +1,14 @@
+pub mod Lists
+pub mod Bytes
+pub mod Kept
+pub mod Nodes
+pub mod Fields
+pub mod Texts
+pub mod Locks
+pub mod Bits
+pub mod Opens
+pub mod First
+pub mod Entries
+pub mod Insert
+pub mod Prune
+pub mod ListInsertion

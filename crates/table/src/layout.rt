@@ -1,0 +1,97 @@
+// The lent bytes: words of sixteen bits, and bytes stored, cleared and copied. Where they hold what is in specs/Encoding.antt.
+ghost use mathlib.Core.Path.{_≡_};
+ghost use Prim.Native.Nat.{ℕ, _+_, _*_, _<_, _≤_};
+ghost use lib.ListN.{length, getD};
+ghost use Rattle.table.specs.Layout.{word};
+ghost use Rattle.table.specs.Laws.Bytes.{put-word, Filled};
+
+// The first bytes of a state, and the bytes that it takes; those behind are never touched.
+pub const MARK: [u8; 8] = *b"NFSTATE1";
+
+pub const SIZE: usize = 110608;
+
+// The most nodes.
+pub const NODES: usize = 1024;
+
+// Where the bytes hold the open transactions and how many nodes are held.
+pub const OPEN: usize = 8;
+
+pub const COUNT: usize = 10;
+
+// The outline, and the bytes of an entry; the cells, and those of one.
+pub const OUTLINE: usize = 16;
+
+pub const ENTRY: usize = 6;
+
+pub const CELLS: usize = 6160;
+
+pub const CELL: usize = 70;
+
+// The lock words, and the bytes of those of one transaction.
+pub const LOCKS: usize = 77840;
+
+pub const WORDS: usize = 2048;
+
+pub fn join(low: u8, high: u8) -> u16
+    ensures { λ r. ⌜ r ≡ low + 256 * high ⌝ }
+{
+    (low as u16) + 256 * (high as u16)
+}
+
+// Sixteen bits from k on, low byte first.
+pub fn word(s: &[u8], k: usize) -> u16
+    requires { ⌜ k + 1 < length (now s) ⌝ }
+    ensures { λ r. ⌜ r ≡ word (now (s .entry)) k ⌝ }
+{
+    join(s[k], s[k + 1])
+}
+
+pub fn set_word(s: &mut [u8], k: usize, v: u16)
+    requires { ⌜ k + 1 < length (now s) ⌝ }
+    ensures { λ r. ⌜ now (s .exit) ≡ put-word (now (s .entry)) k v ⌝ }
+{
+    s[k] = (v % 256) as u8;
+    s[k + 1] = (v / 256) as u8;
+}
+
+// Writes b from k on.
+pub fn store(s: &mut [u8], k: usize, b: &[u8])
+    requires { ⌜ k + length (now b) ≤ length (now s) ⌝ }
+    ensures { λ r. ⌜ Filled k (length (now (b .entry))) (λ j. getD (now (b .entry)) j 0) (now (s .entry)) (now (s .exit)) ⌝ }
+{
+    let mut j: usize = 0;
+    while j < b.len() {
+        s[k + j] = b[j];
+        j += 1;
+    }
+}
+
+// Sets n bytes from k on to 0.
+pub fn clear(s: &mut [u8], k: usize, n: usize)
+    requires { ⌜ k + n ≤ length (now s) ⌝ }
+    ensures { λ r. ⌜ Filled k n (λ j. 0) (now (s .entry)) (now (s .exit)) ⌝ }
+{
+    let mut j: usize = 0;
+    while j < n {
+        s[k + j] = 0;
+        j += 1;
+    }
+}
+
+// Copies 32 bytes from k to m; the two do not overlap.
+pub fn copy_32(s: &mut [u8], k: usize, m: usize)
+    requires { ⌜ (k + 32 ≤ length (now s)) × (m + 32 ≤ length (now s)) × ((j : ℕ) → j < 32 → (i : ℕ) → i < 32 → k + j ≡ m + i → ⊥) ⌝ }
+    ensures { λ r. ⌜ Filled m 32 (λ j. getD (now (s .entry)) (k + j) 0) (now (s .entry)) (now (s .exit)) ⌝ }
+{
+    let mut j: usize = 0;
+    while j < 32 {
+        s[m + j] = s[k + j];
+        j += 1;
+    }
+}
+
+// Nodes by their places in document order, in some order: the first `count` of `places`.
+pub struct Places {
+    pub places: [u16; 1024],
+    pub count: usize,
+}

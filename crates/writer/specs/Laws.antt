@@ -1,4 +1,0 @@
-pub mod Pieces
-pub mod Rows
-pub mod Calls
-pub mod Examples

@@ -1,3 +1,0 @@
-pub mod Contract
-pub mod Texts
-pub mod Laws

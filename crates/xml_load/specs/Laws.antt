@@ -1,0 +1,14 @@
+pub mod Declaration
+pub mod Element
+pub mod Whole
+pub mod Rows
+pub mod Runs
+pub mod Decoding
+pub mod Tokens
+pub mod Texts
+pub mod Places
+pub mod Prolog
+pub mod Opens
+pub mod Judgement
+pub mod Empty
+pub mod Load

@@ -1,0 +1,4 @@
+pub mod Judged
+pub mod Fill
+pub mod Load
+pub mod Laws

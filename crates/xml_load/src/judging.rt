@@ -1,0 +1,148 @@
+// Judges a whole input by the grammar and the limits: the declaration, the root element, what is behind it, the length.
+use xml_reader::Child;
+use xml_reader::Cursor;
+use xml_reader::Prolog;
+use xml_reader::Tag;
+ghost use mathlib.Core.Path.{_≡_};
+ghost use mathlib.Core.List.{[], _∷_};
+ghost use Prim.Native.Nat.{_+_, _-_, _≤_};
+ghost use lib.ListN.{length, getD};
+ghost use Rattle.xml.specs.Laws.Automaton.{at-start, epilog, closed, tag-name};
+ghost use Rattle.xml.specs.Laws.Judge.{judgement};
+ghost use Rattle.xml.specs.Laws.Scan.{scan, scan-at, limited};
+ghost use Rattle.xml.specs.Laws.Goes.{Leads};
+ghost use Rattle.xml.specs.Laws.Fixed.{word-at};
+ghost use Rattle.xml_reader.specs.Elements.{stack, Named};
+ghost use Rattle.xml_reader.specs.Children.{Beginning, Deep};
+ghost use Rattle.xml_reader.specs.Prolog.{RootRead};
+ghost use Rattle.xml_load.specs.Judged.{verdict, DeclaredRead};
+
+// How many nodes more there could be; or a cause and its offset.
+pub enum Judged {
+    Accepted(usize),
+    Rejected(u8, usize),
+}
+
+// Behind the root element, to the end of the input.
+fn behind_root(c: Cursor, s: &[u8], spare: usize) -> Judged
+    requires { ⌜ c .at ≤ length (now s) ⌝ }
+    ensures { λ r. ⌜ Leads (now (s .entry)) epilog spare (c .at) (verdict r) ⌝ }
+{
+    let end = c.blanks(s);
+    let at = end.at;
+    if at < s.len() {
+        return Judged::Rejected(4, at);
+    }
+    Judged::Accepted(spare)
+}
+
+// The content of the root element, and what is behind it.
+fn root_content(c: Cursor, s: &[u8], names: &mut [usize; 1024], spare: usize) -> Judged
+    requires { ⌜ Beginning (now s) (c .at) × Deep (now s) (now names) 1 spare ⌝ }
+    ensures { λ r. ⌜ Leads (now (s .entry)) (closed (stack (now (s .entry)) (now (names .entry)) 0 1)) spare (c .at) (verdict r) ⌝ }
+{
+    let mut i = c.at;
+    let mut depth: usize = 1;
+    let mut n = spare;
+    while 0 < depth {
+        let here = Cursor { at: i };
+        match here.child(s, names, depth, n) {
+            Child::Stopped(x, j) => return Judged::Rejected(x, j),
+            Child::At(next, d, m) => {
+                i = next.at;
+                depth = d;
+                n = m;
+            }
+        }
+    }
+    let end = Cursor { at: i };
+    behind_root(end, s, n)
+}
+
+// The root element from the first byte of its name on, and what is behind it.
+fn root_element(c: Cursor, s: &[u8], spare: usize) -> Judged
+    requires { ⌜ Named (now s) (c .at) × (2 + spare ≤ 1024) ⌝ }
+    ensures { λ r. ⌜ scan-at (now (s .entry)) (tag-name [] (getD (now (s .entry)) (c .at) 0 ∷ [])) spare 1 (c .at + 1) ≡ verdict r ⌝ }
+{
+    let mut names = [0usize; 1024];
+    match c.start_tag(s, &mut names, 0, spare) {
+        Tag::Broken(x, j) => Judged::Rejected(x, j),
+        Tag::Emptied(next, m) => behind_root(next, s, m),
+        Tag::Opened(next, m) => root_content(next, s, &mut names, m),
+    }
+}
+
+// A declaration, compared whole, and the way to the root element.
+fn declared(s: &[u8], word: &[u8]) -> Prolog
+    ensures { λ r. ⌜ DeclaredRead (now (s .entry)) (word-at (now (word .entry)) 0 (now (s .entry))) r ⌝ }
+{
+    let n = bytes::agreement(s, 0, word);
+    if n == word.len() {
+        let behind = Cursor { at: n };
+        return behind.root(s);
+    }
+    Prolog::NoRoot(n)
+}
+
+// From the first byte of the input to the root element's name; the byte behind the version tells which declaration it can be.
+fn find_root(s: &[u8]) -> Prolog
+    ensures { λ r. ⌜ RootRead (now (s .entry)) at-start 0 r ⌝ }
+{
+    let first = xml_reader::peek(s, 0);
+    let second = xml_reader::peek(s, 1);
+    let start = Cursor { at: 0 };
+    if first != b'<' {
+        return start.root(s);
+    }
+    if second != b'?' {
+        return start.root(s);
+    }
+    let behind = xml_reader::peek(s, 19);
+    if behind == b'?' {
+        return declared(s, &xml::SHORT_DECLARATION);
+    }
+    declared(s, &xml::LONG_DECLARATION)
+}
+
+// The whole input, of any length. Node 0 and the root element are always there.
+fn unlimited(s: &[u8], limit: usize) -> Judged
+    requires { ⌜ (2 ≤ limit) × (limit ≤ 1024) ⌝ }
+    ensures { λ r. ⌜ scan at-start (limit - 1) 0 0 0 (now (s .entry)) ≡ verdict r ⌝ }
+{
+    match find_root(s) {
+        Prolog::NoRoot(j) => Judged::Rejected(4, j),
+        Prolog::Root(c) => root_element(c, s, limit - 2),
+    }
+}
+
+// The limit of 65,536 bytes, on what is said of the first 65,537; long tells whether there are so many.
+fn limit_input(long: bool, said: Judged) -> Judged
+    ensures { λ r. ⌜ limited long (verdict said) ≡ verdict r ⌝ }
+{
+    match said {
+        Judged::Accepted(n) => {
+            if long {
+                return Judged::Rejected(4, 65536);
+            }
+            Judged::Accepted(n)
+        }
+        Judged::Rejected(x, i) => {
+            if i >= 65536 {
+                return Judged::Rejected(4, 65536);
+            }
+            Judged::Rejected(x, i)
+        }
+    }
+}
+
+// What load says of an input where `limit` nodes may be held.
+pub fn judge(x: &[u8], limit: usize) -> Judged
+    requires { ⌜ (2 ≤ limit) × (limit ≤ 1024) ⌝ }
+    ensures { λ r. ⌜ judgement limit (now (x .entry)) ≡ verdict r ⌝ }
+{
+    if x.len() > 65536 {
+        let first = &x[..65537];
+        return limit_input(true, unlimited(first, limit));
+    }
+    limit_input(false, unlimited(x, limit))
+}

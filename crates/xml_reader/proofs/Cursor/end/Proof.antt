@@ -1,0 +1,41 @@
+use Rattle.xml_reader.specs.Laws.Children.{end-wrong, end-right}
+use Rattle.xml_reader.specs.Elements.{EndRead}
+use Rattle.xml_reader.specs.declared.End.{End}
+use Rattle.xml.specs.Laws.Tokens.{name-at}
+use lib.ListN.{getD}
+use native.Mathlib.Omega.{arith}
+use mathlib.Core.Path.{subst}
+use Prim.Native.Nat.{_+_, _-_}
+use borrow.Author.Needs.{needs}
+use Rattle.xml_reader.proofs.Cursor.end.Statement.{statement}
+use Rattle.xml_reader.proofs.Cursor.end.Tie as tie
+
+end-tag-requires : tie.Need-end-tag-requires
+end-tag-requires c κs =
+    let pre = c .before .before .before .pre in
+    let args = c .before .before .before .args in
+    (search needs, pre .2 .names .placed (args .depth - 1) (omega (arith, pre .2 .some)))
+
+returns : tie.Need-returns
+returns c =
+    let a = c .before .before .before .before .before .before .before .args in
+    let pre = c .before .before .before .before .before .before .before .pre in
+    let end-tag = c .before .before .before .end-tag in
+    let j = c .before .j in
+    let open-name = name-at (a .s .now) (getD (a .names .now) (a .depth - 1) 0) in
+    let read = subst (λ (r : End). EndRead (a .s .now) open-name (a .self .at + 1) r) (j .given .1) (end-tag .ensures) in
+    end-wrong (a .s .now) (a .names .now) (a .depth) (a .spare) (a .self .at) (pre .2) (pre .0) (pre .1) read
+
+returns-2 : tie.Need-returns-2
+returns-2 c =
+    let a = c .before .before .before .before .before .before .before .args in
+    let pre = c .before .before .before .before .before .before .before .pre in
+    let end-tag = c .before .before .before .end-tag in
+    let c-here = c .before .c in
+    let open-name = name-at (a .s .now) (getD (a .names .now) (a .depth - 1) 0) in
+    let read = subst (λ (r : End). EndRead (a .s .now) open-name (a .self .at + 1) r) (c-here .given .1) (end-tag .ensures) in
+    end-right (a .s .now) (a .names .now) (a .depth) (a .spare) (a .self .at) (pre .2) (pre .0) (pre .1) read
+
+pub end-spec : {M : Type 1} → statement M
+end-spec = tie.close (tie.spec (λ c. search needs) (λ c. search needs) (λ c. search needs) (λ c. search needs) end-tag-requires
+    (λ c. search needs) (λ c. search needs) (λ c. search needs) returns returns-2)

@@ -1,0 +1,170 @@
+-- Tags and texts in the content of the open elements.
+use Prim.Native.Nat.{ℕ, zero, suc, _+_, _-_, _≤_, _<_}
+use mathlib.Core.Path.{_≡_, refl, sym, ap, _∙_}
+use mathlib.Core.Bool.{Bool, true, false}
+use mathlib.Core.List.{List, [], _∷_}
+use native.Mathlib.Omega.{arith}
+use native.Mathlib.Numerals.{add-one}
+use lib.ListN.{length, getD}
+use lib.Dec.{eqb}
+use borrow.Author.Tests.{ne-eqb, eqb-true, eqb-false}
+use Rattle.tree.specs.Content.{element-kind, name-start}
+use Rattle.xml.specs.Bytes.{less-than, slash}
+use Rattle.xml.specs.Grammar.{Name}
+use Rattle.xml.specs.Reading.{opener}
+use Rattle.xml.specs.Laws.Automaton.{Config, content, behind-open, tag-name, end-name, closed, born, byte, depth, move, step}
+use Rattle.xml.specs.Laws.Counts.{births, tail, peak}
+use Rattle.xml.specs.Laws.Judge.{Verdict, bad, byte-before, offset-before}
+use Rattle.xml.specs.Laws.Scan.{scan-at}
+use Rattle.xml.specs.Laws.Goes.{Leads, Goes, goes-then, goes-step, stops-end, stops-stuck, stops-many, scan-born}
+use Rattle.xml.specs.Laws.Tokens.{name-at}
+use Rattle.xml_reader.specs.declared.Cursor.{Cursor}
+use Rattle.xml_reader.specs.declared.Child.{Child}
+use Rattle.xml_reader.specs.declared.Child.the-variants.{At, Stopped}
+use Rattle.xml_reader.specs.declared.End.the-variants as end-variants
+use Rattle.xml_reader.specs.declared.Read.the-variants.{Past, Refused}
+use Rattle.xml_reader.specs.declared.Tag.the-variants.{Opened, Emptied, Broken}
+use Rattle.xml_reader.specs.Steps.{ContentRead, content-past, content-refused}
+use Rattle.xml_reader.specs.Elements.{stack, Placed, Kept, ElementRead, element-opened, element-emptied, element-broken, EndRead}
+use Rattle.xml_reader.specs.Elements.{end-behind, end-mismatch}
+use Rattle.xml_reader.specs.Children.{opened, Behind, Deep, ChildRead, child-at, child-stopped}
+use Rattle.xml_reader.specs.Laws.Contents.{text-contents}
+use Rattle.xml_reader.specs.Laws.StartTags.{stack-same, placed-kept}
+
+-- the innermost open element and those around it
+innermost : (s os : List ℕ) (d : ℕ) → 1 ≤ d → stack s os 0 d ≡ name-at s (getD os (d - 1) 0) ∷ stack s os 0 (d - 1)
+unfolding stack
+innermost s os zero h = absurd (omega arith)
+innermost s os (suc d) h = let p : 0 + d ≡ d = omega arith in let q : suc d - 1 ≡ d = omega arith in rw (p, q)
+
+one-deeper : (s os : List ℕ) (d : ℕ) → stack s os 0 (d + 1) ≡ name-at s (getD os d 0) ∷ stack s os 0 d
+unfolding stack
+one-deeper s os d = let p : 0 + d ≡ d = omega arith in rw (add-one d, p)
+
+placed-next : (s os : List ℕ) (d : ℕ) → Placed s os d → getD os d 0 ≤ length s → Placed s os (d + 1)
+placed-next s os d p h = record { placed = λ i m. go i m (eqb i d) refl }
+  where
+    go : (i : ℕ) → i < d + 1 → (t : Bool) → eqb i d ≡ t → getD os i 0 ≤ length s
+    go i m true e = rw (eqb-true i d e) h
+    go i m false e = let x : i ≡ d → ⊥ = eqb-false i d e in p .placed i (omega arith)
+
+module _ (s os : List ℕ) (deep spare at : ℕ) (x : Deep s os deep spare) where
+  abbrev n : Name
+  n = name-at s (getD os (deep - 1) 0)
+
+  abbrev ns : List Name
+  ns = stack s os 0 (deep - 1)
+
+  abbrev from : Config
+  from = opened (stack s os 0 deep)
+
+  from-is : from ≡ behind-open n ns
+  from-is = ap opened (innermost s os deep (x .some))
+
+  stopped : (os′ : List ℕ) (y j : ℕ) → Leads s (behind-open n ns) spare at (bad y j) → ChildRead s from at spare os′ (Stopped y j)
+  stopped os′ y j l = child-stopped {x = y} {j = j} (rw from-is l)
+
+  -- behind a <
+  pub tag-end : length s ≤ at → ChildRead s from at spare os (Stopped 4 at)
+  tag-end h = stopped os 4 at (stops-end s (behind-open n ns) spare at h refl)
+
+  module _ (h : at < length s) where
+    pub tag-wrong : (getD s at 0 ≡ slash → ⊥) → name-start (getD s at 0) ≡ false → ChildRead s from at spare os (Stopped 4 at)
+    unfolding step
+    tag-wrong e f = stopped os 4 at (stops-stuck s (behind-open n ns) spare at h (rw (f, ne-eqb (getD s at 0) slash e)))
+
+    -- an end tag
+    module _ (e : getD s at 0 ≡ slash) where
+      to-end : Goes s (behind-open n ns) spare at (end-name n ns n) spare (at + 1)
+      unfolding step name-start
+      to-end = goes-step s (behind-open n ns) spare at h (end-name n ns n) (rw e) refl
+
+      pub end-wrong : {j : ℕ} → EndRead s n (at + 1) (end-variants.Mismatch j) → ChildRead s from at spare os (Stopped 4 j)
+      end-wrong {j} (end-mismatch f) = stopped os 4 j (to-end .back _ (f ns spare))
+
+      pub end-right : {c : Cursor} → EndRead s n (at + 1) (end-variants.Behind c) → ChildRead s from at spare os (At c (deep - 1) spare)
+      end-right {c} (end-behind a b d f) =
+          child-at {c = c} {d = deep - 1} {m = spare}
+          (record { further = omega arith; inside = b; begins-here = d; fewer = omega arith }) (omega (arith, x .room)) (x .long)
+          (record { placed = λ i m. x .names .placed i (omega arith) }) (rw from-is (goes-then to-end (f ns spare)))
+
+    -- a start tag
+    module _ (e : name-start (getD s at 0) ≡ true) where
+      abbrev b : ℕ
+      b = getD s at 0
+
+      starts : step true (behind-open n ns) b ≡ move (tag-name (n ∷ ns) (b ∷ [])) (born (depth (n ∷ ns)) element-kind ∷ byte b ∷ [])
+      unfolding step
+      starts = rw e
+
+      pub start-many : Behind s at → spare ≡ 0 → ChildRead s from at spare os (Stopped 6 (at - 1))
+      unfolding births tail peak
+      start-many y l =
+          let p = offset-before s at (before at (y .some) (y .opens)) .0 in
+          stopped os 6 (at - 1)
+          (rw p at (stops-many s (behind-open n ns) spare at h (tag-name (n ∷ ns) (b ∷ [])) (depth (n ∷ ns)) element-kind (byte b ∷ [])
+          starts l (omega arith)))
+        where
+          before : (at : ℕ) → 1 ≤ at → getD s (at - 1) 0 ≡ less-than → opener (byte-before s at) ≡ true
+          before zero h o = absurd (omega arith)
+          before (suc i) h o = let p : suc i - 1 ≡ i = omega arith in let q : getD s i 0 ≡ less-than = rw p at o in rw q
+
+      module _ (room : 1 ≤ spare) (os′ : List ℕ) (k : Kept deep os os′) where
+        born-to : {v : Verdict} → scan-at s (tag-name (n ∷ ns) (b ∷ [])) (spare - 1) 1 (at + 1) ≡ v → Leads s (behind-open n ns) spare at v
+        unfolding births tail peak
+        born-to p = record {
+          leads = λ j m.
+              scan-born s (behind-open n ns) spare at h (tag-name (n ∷ ns) (b ∷ [])) (depth (n ∷ ns)) element-kind (byte b ∷ []) starts refl
+              room j m
+              (omega arith) ∙ p;
+        }
+
+        -- the names around are those that were there
+        around : n ∷ ns ≡ stack s os′ 0 deep
+        around = sym (innermost s os deep (x .some)) ∙ sym (stack-same s os os′ deep k)
+
+        pub start-broken : {y j : ℕ} → ElementRead s at (spare - 1) (Broken y j) → ChildRead s from at spare os′ (Stopped y j)
+        start-broken {y} {j} (element-broken f) = stopped os′ y j (born-to (f (n ∷ ns)))
+
+        pub start-emptied : {c : Cursor} {m : ℕ} → ElementRead s at (spare - 1) (Emptied c m) → ChildRead s from at spare os′ (At c deep m)
+        start-emptied {c} {m} (element-emptied o f) =
+            child-at {c = c} {d = deep} {m = m}
+            (record { further = o .further; inside = o .inside; begins-here = o .begins-here; fewer = omega (arith, o .fewer) })
+            (omega (arith, x .room, o .fewer)) (k .as-long ∙ x .long) (placed-kept s os os′ deep (x .names) k)
+            (rw (from-is, ← around) (record { back = λ v y. born-to (f (n ∷ ns) v y) }))
+
+        pub start-opened : {c : Cursor} {m : ℕ} → getD os′ deep 0 ≡ at → ElementRead s at (spare - 1) (Opened c m)
+            → ChildRead s from at spare os′ (At c (deep + 1) m)
+        start-opened {c} {m} q (element-opened o f) =
+            child-at {c = c} {d = deep + 1} {m = m}
+            (record { further = o .further; inside = o .inside; begins-here = o .begins-here; fewer = omega (arith, o .fewer) })
+            (omega (arith, x .room, o .fewer)) (k .as-long ∙ x .long) (placed-next s os′ deep (placed-kept s os os′ deep (x .names) k)
+            (rw q (omega arith)))
+            (rw (from-is, one-deeper s os′ deep, q, ← around) (record { back = λ v y. born-to (f (n ∷ ns) v y) }))
+
+  -- a text before it
+  within-is : closed (stack s os 0 deep) ≡ content n ns
+  within-is = ap closed (innermost s os deep (x .some))
+
+  pub text-refused : {y j : ℕ} → ContentRead s less-than at spare (Refused y j) → (os′ : List ℕ)
+      → ChildRead s (closed (stack s os 0 deep)) at spare os′ (Stopped y j)
+  text-refused {y} {j} (content-refused f) os′ = child-stopped {x = y} {j = j} (rw within-is (f _ _ _ _ (text-contents n ns)))
+
+  pub text-past : {c : Cursor} {m : ℕ} {r : Child} (os′ : List ℕ) → ContentRead s less-than at spare (Past c m)
+      → ChildRead s from (c .at) m os′ r
+      → ChildRead s (closed (stack s os 0 deep)) at spare os′ r
+  text-past {c} os′ (content-past a b d e f) (child-at {c = c′} {d = d′} {m = m′} o p q r w) =
+      child-at {c = c′} {d = d′} {m = m′}
+      (record { further = omega (arith, o .further); inside = o .inside; begins-here = o .begins-here; fewer = omega (arith, o .fewer) }) p
+      q r
+      (rw within-is (goes-then (f _ _ _ _ (text-contents n ns)) (rw from-is at w)))
+  text-past {c} os′ (content-past a b d e f) (child-stopped {x = y} {j = j} w) =
+      child-stopped {x = y} {j = j} (rw within-is (f _ _ _ _ (text-contents n ns) .back _ (rw from-is at w)))
+
+pub behind-text : {s os : List ℕ} {deep at spare m : ℕ} {c : Cursor} → Deep s os deep spare → ContentRead s less-than at spare (Past c m)
+    → Behind s (c .at) × Deep s os deep m
+behind-text x (content-past a b d e f) = (
+  record { inside = b; some = omega arith; opens = d },
+  record
+      { some = x .some; room = omega (arith, x .room); long = x .long; names = x .names },
+)

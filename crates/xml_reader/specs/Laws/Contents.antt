@@ -1,0 +1,184 @@
+-- A value or a text, which may be empty, and that the automaton's configurations are those of one.
+use Prim.Native.Nat.{ℕ, suc, _+_, _-_, _≤_, _<_}
+use mathlib.Core.Path.{_≡_, refl, sym, ap, _∙_}
+use mathlib.Core.Bool.{Bool, true, false, _||_, false≢true}
+use mathlib.Core.List.{List, [], _∷_}
+use native.Mathlib.Omega.{arith}
+use lib.Dec.{eqb}
+use lib.ListN.{length, getD}
+use borrow.Author.Tests.{ne-eqb, eqb-true, eqb-false}
+use Rattle.tree.specs.Content.{content-limit, text-byte, text-kind}
+use Rattle.xml.specs.Bytes.{ampersand, less-than, brackets, Quote, double, single, mark, value-literal, text-literal}
+use Rattle.xml.specs.Grammar.{Name}
+use Rattle.xml.specs.Reading.{node-offset}
+use Rattle.xml.specs.Laws.Words.{Words, entities}
+use Rattle.xml.specs.Laws.Automaton.{Config, behind-part, behind-quote, in-value, value-reference, content, behind-open, in-text}
+use Rattle.xml.specs.Laws.Automaton.{text-reference, born, byte, depth, stuck, move, to, step}
+use Rattle.xml.specs.Laws.Counts.{births, tail, peak}
+use Rattle.xml.specs.Laws.Judge.{bad}
+use Rattle.xml.specs.Laws.Scan.{scan-at}
+use Rattle.xml.specs.Laws.Goes.{Leads, goes-step, stops-end, stops-stuck, stops-many, scan-quiet, scan-byte, scan-born}
+use Rattle.xml_reader.specs.declared.Cursor.{Cursor}
+use Rattle.xml_reader.specs.declared.Read.{Read}
+use Rattle.xml_reader.specs.declared.Read.the-variants.{Past, Refused}
+use Rattle.xml_reader.specs.Classes.{literal, begins}
+use Rattle.xml_reader.specs.Steps.{Characters, CharactersRead, characters-past, characters-refused, Contents, ContentRead}
+use Rattle.xml_reader.specs.Steps.{content-past, content-refused}
+
+module _ (s : List ℕ) (stop at spare : ℕ) where
+  pub content-end : length s ≤ at → ContentRead s stop at spare (Refused 4 at)
+  content-end h = content-refused {x = 4} {j = at} (λ S C R D x. stops-end s S spare at h (x .starting))
+
+  module _ (h : at < length s) where
+    pub content-empty : (c : Cursor) → getD s at 0 ≡ stop → c .at ≡ at + 1 → ContentRead s stop at spare (Past c spare)
+    content-empty c e p =
+        let u : c .at - 1 ≡ at = omega arith in
+        content-past {c = c} {m = spare} (omega arith) (omega arith) (rw u e) (omega arith)
+        (λ S C R D x. rw p (goes-step s S spare at h D (ap (step true S) e ∙ x .nothing) (x .inner .behind)))
+
+    module _ (other : getD s at 0 ≡ stop → ⊥) where
+      pub content-wrong : begins stop 0 (getD s at 0) ≡ false → ContentRead s stop at spare (Refused 4 at)
+      unfolding begins
+      content-wrong e =
+          content-refused {x = 4} {j = at} (λ S C R D x. stops-stuck s S spare at h (go x (eqb (getD s at 0) ampersand) refl e))
+        where
+          go : {S : Config} {C : ℕ → Config} {R : Words → Config} {D : Config} → Contents stop S C R D → (y : Bool)
+              → eqb (getD s at 0) ampersand ≡ y
+              → (y || literal stop 0 (getD s at 0)) ≡ false → step true S (getD s at 0) ≡ stuck
+          go x true p q = absurd (false≢true (sym q))
+          go x false p q = x .no-first (getD s at 0) other (eqb-false (getD s at 0) ampersand p) q
+
+      module _ (e : begins stop 0 (getD s at 0) ≡ true) where
+        itself : (getD s at 0 ≡ ampersand → ⊥) → literal stop 0 (getD s at 0) ≡ true
+        unfolding begins
+        itself n = rw (ne-eqb (getD s at 0) ampersand n) at e
+
+        pub content-many : spare ≡ 0 → (begin : ℕ) → begin ≡ node-offset s at → ContentRead s stop at spare (Refused 6 begin)
+        unfolding births tail peak
+        content-many q begin p = content-refused {x = 6} {j = begin} (λ S C R D x. rw p (go S C R D x (eqb (getD s at 0) ampersand) refl))
+          where
+            go : (S : Config) (C : ℕ → Config) (R : Words → Config) (D : Config) → Contents stop S C R D → (y : Bool)
+                → eqb (getD s at 0) ampersand ≡ y
+                → Leads s S spare at (bad 6 (node-offset s at))
+            go S C R D x true a =
+                stops-many s S spare at h (R entities) (x .depth) (x .kind) []
+                (ap (step true S) (eqb-true (getD s at 0) ampersand a) ∙ x .first-refers) q
+                (omega (arith, x .inner .due entities))
+            go S C R D x false a =
+                let b = getD s at 0 in
+                stops-many s S spare at h (C (brackets 0 b)) (x .depth) (x .kind) (byte b ∷ [])
+                (x .first b other (itself (eqb-false b ampersand a))) q
+                (omega (arith, x .inner .calm (brackets 0 b)))
+
+        module _ (room : 1 ≤ spare) where
+          -- the first character is read as any other, with one node less to come
+          begins-so : {S : Config} {C : ℕ → Config} {R : Words → Config} {D : Config} → Contents stop S C R D → (k : ℕ) → k ≤ content-limit
+              → scan-at s S spare k at ≡ scan-at s (C 0) (spare - 1) 0 at
+          unfolding births tail peak
+          begins-so {S} {C} {R} x k m = go (eqb (getD s at 0) ampersand) refl
+            where
+              go : (y : Bool) → eqb (getD s at 0) ampersand ≡ y → scan-at s S spare k at ≡ scan-at s (C 0) (spare - 1) 0 at
+              go true a =
+                  let u = eqb-true (getD s at 0) ampersand a in
+                  scan-born s S spare at h (R entities) (x .depth) (x .kind) [] (ap (step true S) u ∙ x .first-refers) refl room k m
+                  (omega (arith, x .inner .due entities))
+                  ∙ sym (scan-quiet s (C 0) (spare - 1) at h (R entities) (ap (step true (C 0)) u ∙ x .inner .refers-to 0) 0
+                  (omega (arith, x .inner .due entities)))
+              go false a =
+                  let b = getD s at 0 in
+                  let i = itself (eqb-false b ampersand a) in
+                  scan-born s S spare at h (C (brackets 0 b)) (x .depth) (x .kind) (byte b ∷ []) (x .first b other i) refl room k m
+                  (omega (arith, x .inner .calm (brackets 0 b)))
+                  ∙ sym (scan-byte s (C 0) (spare - 1) at h (C (brackets 0 b)) b (x .inner .plainly 0 b other i)
+                  (x .inner .calm (brackets 0 b))
+                  0 (omega arith))
+
+          pub content-rest : {r : Read} → CharactersRead s stop at (spare - 1) r → ContentRead s stop at spare r
+          content-rest (characters-past {c = c} a b d f) =
+              content-past {c = c} {m = spare - 1} a b d (omega arith)
+              (λ S C R D x. record { back = λ v y. record { leads = λ k m. begins-so x k m ∙ f C R D (x .inner) v y } })
+          content-rest (characters-refused {x = x} {j = j} f) =
+              content-refused {x = x} {j = j} (λ S C R D y. record { leads = λ k m. begins-so y k m ∙ f C R D (y .inner) })
+
+-- the configurations of the automaton --------------------------------------------------------
+
+module _ (n : Name) (ns : List Name) where
+  pub text-characters : Characters less-than (in-text n ns) (text-reference n ns) (behind-open n ns)
+  unfolding step literal text-literal text-byte births
+  text-characters = record {
+    plainly = λ k b o h. rw h;
+    refers-to = λ k. refl;
+    stops = λ k. refl;
+    no-other = λ k b o a h. rw (h, ne-eqb b ampersand a, ne-eqb b less-than o);
+    words = record { next = λ x b. refl; calm = λ x. refl; no-node = λ k. refl };
+    calm = λ k. refl;
+    going = λ k. refl;
+    due = λ x. refl;
+    behind = refl;
+  }
+
+  pub text-contents : Contents less-than (content n ns) (in-text n ns) (text-reference n ns) (behind-open n ns)
+  unfolding step literal text-literal text-byte
+  text-contents = record {
+    inner = text-characters;
+    depth = depth (n ∷ ns);
+    kind = text-kind;
+    first = λ b o h. rw h;
+    first-refers = refl;
+    nothing = refl;
+    no-first = λ b o a h. rw (h, ne-eqb b ampersand a, ne-eqb b less-than o);
+    starting = refl;
+  }
+
+-- where the byte is not the quote
+literal-value : (q : Quote) (k b : ℕ) → (b ≡ mark q → ⊥) → literal (mark q) k b ≡ value-literal q b
+unfolding literal value-literal
+literal-value double k b o = rw (ne-eqb b (mark double) o)
+literal-value single k b o = rw (ne-eqb b (mark single) o)
+
+module _ (n : Name) (ns seen : List Name) where
+  pub value-characters : (q : Quote) → Characters (mark q) (λ k. in-value n ns seen q) (value-reference n ns seen q) (behind-part n ns seen)
+  unfolding step births value-literal text-byte
+  value-characters q = record {
+    plainly = λ k b o h. rw (sym (literal-value q k b o) ∙ h);
+    refers-to = λ k. refers-on q;
+    stops = λ k. stops-on q;
+    no-other = λ k b o a h. rw (sym (literal-value q k b o) ∙ h, ne-eqb b ampersand a, ne-eqb b (mark q) o);
+    words = record { next = λ x b. refl; calm = λ x. refl; no-node = λ k. refl };
+    calm = λ k. refl;
+    going = λ k. refl;
+    due = λ x. refl;
+    behind = refl;
+  }
+    where
+      refers-on : (q : Quote) → step true (in-value n ns seen q) ampersand ≡ to (value-reference n ns seen q entities)
+      refers-on double = refl
+      refers-on single = refl
+
+      stops-on : (q : Quote) → step true (in-value n ns seen q) (mark q) ≡ to (behind-part n ns seen)
+      stops-on double = refl
+      stops-on single = refl
+
+  pub value-contents : (q : Quote)
+      → Contents (mark q) (behind-quote n ns seen q) (λ k. in-value n ns seen q) (value-reference n ns seen q) (behind-part n ns seen)
+  unfolding step value-literal text-byte
+  value-contents q = record {
+    inner = value-characters q;
+    depth = suc (depth (n ∷ ns));
+    kind = text-kind;
+    first = λ b o h. rw (sym (literal-value q 0 b o) ∙ h);
+    first-refers = refers-on q;
+    nothing = stops-on q;
+    no-first = λ b o a h. rw (sym (literal-value q 0 b o) ∙ h, ne-eqb b ampersand a, ne-eqb b (mark q) o);
+    starting = refl;
+  }
+    where
+      refers-on : (q : Quote)
+          → step true (behind-quote n ns seen q) ampersand
+          ≡ move (value-reference n ns seen q entities) (born (suc (depth (n ∷ ns))) text-kind ∷ [])
+      refers-on double = refl
+      refers-on single = refl
+
+      stops-on : (q : Quote) → step true (behind-quote n ns seen q) (mark q) ≡ to (behind-part n ns seen)
+      stops-on double = refl
+      stops-on single = refl

@@ -1,0 +1,121 @@
+-- An end tag, compared with the name of its element.
+use Prim.Native.Nat.{ℕ, suc, _+_, _-_, _≤_, _<_}
+use mathlib.Core.Path.{_≡_, refl, sym, ap, _∙_}
+use mathlib.Core.Bool.{Bool, true, false, cond}
+use mathlib.Core.List.{List, [], _∷_}
+use native.Mathlib.Omega.{arith}
+use native.Mathlib.Numerals.{add-one}
+use lib.Dec.{eqb, leb}
+use lib.ListN.{length, getD, take, drop, drop-of-length-le}
+use lib.Seq.{drop-cons}
+use borrow.Author.Tests.{leb-true, leb-false, ne-eqb}
+use Rattle.tree.specs.Content.{name-byte}
+use Rattle.xml.specs.Bytes.{blank, greater-than}
+use Rattle.xml.specs.Grammar.{Name}
+use Rattle.xml.specs.Laws.Automaton.{end-name, closed, to, step}
+use Rattle.xml.specs.Laws.Judge.{bad}
+use Rattle.xml.specs.Laws.Goes.{Leads, Goes, goes-then, goes-same, goes-step, stops-end, stops-stuck}
+use Rattle.xml.specs.Laws.Tokens.{name-at, goes-blanks}
+use Rattle.xml.specs.Laws.Fixed.{agree}
+use Rattle.xml_reader.specs.declared.Cursor.{Cursor}
+use Rattle.xml_reader.specs.declared.End.the-variants.{Behind, Mismatch}
+use Rattle.bytes.specs.Agreement.{Agreement}
+use Rattle.xml_reader.specs.Steps.{Run}
+use Rattle.xml_reader.specs.Elements.{EndRead, end-behind, end-mismatch}
+use Rattle.xml_reader.specs.Laws.Tags.{no-blank-here, no-opener, calm-closed}
+use Rattle.xml_reader.specs.Laws.Names.{name-of, length-name}
+
+module _ (s : List ℕ) (n : Name) (ns : List Name) (m : ℕ) where
+  -- a byte of the name
+  agree-here : (x : ℕ) (w : List ℕ) (at : ℕ) → at < length s
+      → agree (x ∷ w) (drop at s) ≡ cond (eqb (getD s at 0) x) (suc (agree w (drop (suc at) s))) 0
+  unfolding agree
+  agree-here x w at h = rw (drop-cons s at 0 h)
+
+  agree-over : (x : ℕ) (w : List ℕ) (at : ℕ) → length s ≤ at → agree (x ∷ w) (drop at s) ≡ 0
+  unfolding agree
+  agree-over x w at h = rw (drop-of-length-le s h)
+
+  whole-name : (w : List ℕ) (at : ℕ) → agree w (drop at s) ≡ length w → Goes s (end-name n ns w) m at (end-name n ns []) m (at + length w)
+  unfolding step
+  whole-name [] at e = goes-same s (end-name n ns []) m at (at + 0) (omega arith)
+  whole-name (x ∷ w) at e = go (leb (length s) at) refl (whole-name w (suc at))
+    where
+      go : (t : Bool) → leb (length s) at ≡ t
+          → (agree w (drop (suc at) s) ≡ length w → Goes s (end-name n ns w) m (suc at) (end-name n ns []) m (suc at + length w))
+          → Goes s (end-name n ns (x ∷ w)) m at (end-name n ns []) m (at + suc (length w))
+      go true q f = absurd (omega (arith, agree-over x w at (leb-true (length s) at q)))
+      go false q f = next (leb-false (length s) at q) (eqb (getD s at 0) x) refl
+        where
+          next : at < length s → (y : Bool) → eqb (getD s at 0) x ≡ y
+              → Goes s (end-name n ns (x ∷ w)) m at (end-name n ns []) m (at + suc (length w))
+          next h true y =
+              let a : agree (x ∷ w) (drop at s) ≡ suc (agree w (drop (suc at) s)) = agree-here x w at h ∙ rw y in
+              goes-then (goes-step s (end-name n ns (x ∷ w)) m at h (end-name n ns w) (rw y) refl)
+              (goes-then (goes-same s (end-name n ns w) m (at + 1) (suc at) (add-one at))
+              (goes-then (f (omega arith)) (goes-same s (end-name n ns []) m (suc at + length w) (at + suc (length w)) (omega arith))))
+          next h false y = let a : agree (x ∷ w) (drop at s) ≡ 0 = agree-here x w at h ∙ rw y in absurd (omega arith)
+
+  part-name : (w : List ℕ) (at : ℕ) → (agree w (drop at s) ≡ length w → ⊥)
+      → Leads s (end-name n ns w) m at (bad 4 (at + agree w (drop at s)))
+  unfolding step agree
+  part-name [] at e = absurd (e refl)
+  part-name (x ∷ w) at e = go (leb (length s) at) refl (part-name w (suc at))
+    where
+      go : (t : Bool) → leb (length s) at ≡ t
+          → ((agree w (drop (suc at) s) ≡ length w → ⊥) → Leads s (end-name n ns w) m (suc at) (bad 4 (suc at + agree w (drop (suc at) s))))
+          → Leads s (end-name n ns (x ∷ w)) m at (bad 4 (at + agree (x ∷ w) (drop at s)))
+      go true q f =
+          let h = leb-true (length s) at q in
+          let p : at + agree (x ∷ w) (drop at s) ≡ at = omega (arith, agree-over x w at h) in
+          rw p (stops-end s (end-name n ns (x ∷ w)) m at h refl)
+      go false q f = next (leb-false (length s) at q) (eqb (getD s at 0) x) refl
+        where
+          next : at < length s → (y : Bool) → eqb (getD s at 0) x ≡ y
+              → Leads s (end-name n ns (x ∷ w)) m at (bad 4 (at + agree (x ∷ w) (drop at s)))
+          next h true y =
+              let a : agree (x ∷ w) (drop at s) ≡ suc (agree w (drop (suc at) s)) = agree-here x w at h ∙ rw y in
+              let p : at + agree (x ∷ w) (drop at s) ≡ suc at + agree w (drop (suc at) s) = omega arith in
+              rw p (goes-then (goes-step s (end-name n ns (x ∷ w)) m at h (end-name n ns w) (rw y) refl)
+              (goes-same s (end-name n ns w) m (at + 1) (suc at) (add-one at))
+              .back _ (f (λ z. e (omega arith))))
+          next h false y =
+              let a : agree (x ∷ w) (drop at s) ≡ 0 = agree-here x w at h ∙ rw y in
+              let p : at + agree (x ∷ w) (drop at s) ≡ at = omega arith in
+              rw p (stops-stuck s (end-name n ns (x ∷ w)) m at h (rw y))
+
+module _ (s : List ℕ) (at from to : ℕ) (r : Run name-byte s from to) (k : ℕ) (a : Agreement (take (to - from) (drop from s)) s at k) where
+  -- the bytes that agree with the name
+  agreed : k ≡ agree (name-at s from) (drop at s)
+  agreed = a .agrees ∙ ap (λ (w : List ℕ). agree w (drop at s)) (name-of s from to r)
+
+  pub end-differs : (k ≡ to - from → ⊥) → EndRead s (name-at s from) at (Mismatch (at + k))
+  end-differs h =
+      end-mismatch {j = at + k}
+      (λ ns m. rw agreed (part-name s (name-at s from) ns m (name-at s from) at (λ e. h (agreed ∙ e ∙ length-name s from to r))))
+
+  module _ (h : k ≡ to - from) (i : ℕ) (b : Run blank s (at + k) i) where
+    to-close : (ns : List Name) (m : ℕ) → Goes s (end-name (name-at s from) ns (name-at s from)) m at (end-name (name-at s from) ns []) m i
+    unfolding step
+    to-close ns m =
+        let n = name-at s from in
+        let e : k ≡ length n = h ∙ sym (length-name s from to r) in
+        goes-then (whole-name s n ns m n at (sym agreed ∙ e))
+        (goes-then (goes-same s (end-name n ns []) m (at + length n) (at + k) (omega arith))
+        (goes-then (goes-blanks s (end-name n ns []) m (λ x z. rw z) refl (at + k)) (goes-same s (end-name n ns []) m _ i (sym (b .ends)))))
+
+    pub end-over : length s ≤ i → EndRead s (name-at s from) at (Mismatch i)
+    end-over o = end-mismatch {j = i} (λ ns m. to-close ns m .back _ (stops-end s (end-name (name-at s from) ns []) m i o refl))
+
+    module _ (o : i < length s) where
+      pub end-unclosed : (getD s i 0 ≡ greater-than → ⊥) → EndRead s (name-at s from) at (Mismatch i)
+      unfolding step
+      end-unclosed e = end-mismatch {j = i} (λ ns m. to-close ns m .back _
+          (stops-stuck s (end-name (name-at s from) ns []) m i o (rw (no-blank-here s (at + k) i b o, ne-eqb (getD s i 0) greater-than e))))
+
+      pub end-closed : (c : Cursor) → getD s i 0 ≡ greater-than → c .at ≡ i + 1 → EndRead s (name-at s from) at (Behind c)
+      unfolding step blank
+      end-closed c e p =
+          end-behind {c = c} (omega (arith, b .ends)) (omega arith) (rw p (no-opener s i (rw e)))
+          (λ ns m. goes-then (to-close ns m) (rw p (goes-step s (end-name (name-at s from) ns []) m i o (closed ns) (rw e)
+          (calm-closed ns))))

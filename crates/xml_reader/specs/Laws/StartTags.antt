@@ -1,0 +1,177 @@
+-- Start tags: names kept as offsets, the loop over the attributes, the tag from the first byte of its name.
+use Prim.Native.Nat.{ℕ, zero, suc, _+_, _-_, _≤_, _<_}
+use mathlib.Core.Path.{_≡_, refl, _∙_, subst}
+use mathlib.Core.Bool.{Bool, true, false}
+use mathlib.Core.List.{List, [], _∷_}
+use native.Mathlib.Omega.{arith}
+use lib.Dec.{eqb}
+use lib.ListN.{length, getD, set, drop, length-set}
+use lib.Seq.{getD-set-same, getD-set-other}
+use borrow.Author.Tests.{eqb-true, eqb-false}
+use Rattle.tree.specs.Content.{content-limit, name-byte}
+use Rattle.xml.specs.Grammar.{Name}
+use Rattle.xml.specs.Laws.Automaton.{behind-part, tag-name, step}
+use Rattle.xml.specs.Laws.Scan.{scan-at, scan-alike}
+use Rattle.xml.specs.Laws.Goes.{Goes, goes-then, goes-same}
+use Rattle.xml.specs.Laws.Tokens.{span, span-behind, name-at, Naming, name-short, name-long}
+use Rattle.xml_reader.specs.declared.Cursor.{Cursor}
+use Rattle.xml_reader.specs.declared.Item.{Item}
+use Rattle.xml_reader.specs.declared.Item.the-variants.{Open, Empty, Attribute, Wrong}
+use Rattle.xml_reader.specs.declared.Read.{Read}
+use Rattle.xml_reader.specs.declared.Read.the-variants.{Past, Refused}
+use Rattle.xml_reader.specs.declared.Tag.{Tag}
+use Rattle.xml_reader.specs.declared.Tag.the-variants.{Opened, Emptied, Broken}
+use Rattle.xml_reader.specs.Steps.{Run, TagRead, tag-open, tag-empty, tag-attribute, tag-wrong}
+use Rattle.bytes.specs.Sorted.{Lists}
+use Rattle.bytes.specs.Laws.Sorted.{lists-none}
+use Rattle.xml_reader.specs.Elements.{stack, Placed, Attributed, AttributeRead, attribute-past, attribute-refused, Kept}
+use Rattle.xml_reader.specs.Elements.{attribute-names, Entered, NamesRead, names-past, AttributeEnters, AttributesRead}
+use Rattle.xml_reader.specs.Elements.{attributes-opened, attributes-emptied, attributes-broken, Named, ElementRead, element-opened}
+use Rattle.xml_reader.specs.Elements.{element-emptied, element-broken}
+use Rattle.xml_reader.specs.Laws.Attributes.{start-name}
+
+-- offsets --------------------------------------------------------------------------------------
+
+pub stack-same : (s os os′ : List ℕ) (n : ℕ) → Kept n os os′ → stack s os′ 0 n ≡ stack s os 0 n
+unfolding stack
+stack-same s os os′ zero k = refl
+stack-same s os os′ (suc n) k =
+    rw (k .kept (0 + n) (omega arith), stack-same s os os′ n (record { as-long = k .as-long; kept = λ i h. k .kept i (omega arith) }))
+
+pub placed-push : (s os : List ℕ) (n v : ℕ) → Placed s os n → v ≤ length s → n < length os → Placed s (set os n v) (n + 1)
+placed-push s os n v p h l = record { placed = λ i m. go i m (eqb i n) refl }
+  where
+    go : (i : ℕ) → i < n + 1 → (t : Bool) → eqb i n ≡ t → getD (set os n v) i 0 ≤ length s
+    go i m true e = rw (eqb-true i n e, getD-set-same os n v 0 l) h
+    go i m false e = let x : i ≡ n → ⊥ = eqb-false i n e in rw (getD-set-other os n i v 0 x) (p .placed i (omega arith))
+
+pub kept-same : (n : ℕ) (os : List ℕ) → Kept n os os
+kept-same n os = record { as-long = refl; kept = λ i h. refl }
+
+pub kept-set : (n : ℕ) (os os′ : List ℕ) (k v : ℕ) → Kept n os os′ → n ≤ k → Kept n os (set os′ k v)
+kept-set n os os′ k v x h =
+    record { as-long = length-set os′ k v ∙ x .as-long; kept = λ i m. getD-set-other os′ k i v 0 (λ e. omega arith) ∙ x .kept i m }
+
+pub kept-less : (n m : ℕ) (os os′ os″ : List ℕ) → Kept n os os′ → Kept m os′ os″ → n ≤ m → Kept n os os″
+kept-less n m os os′ os″ x y h = record { as-long = y .as-long ∙ x .as-long; kept = λ i l. y .kept i (omega arith) ∙ x .kept i l }
+
+pub placed-kept : (s os os′ : List ℕ) (n : ℕ) → Placed s os n → Kept n os os′ → Placed s os′ n
+placed-kept s os os′ n p k = record { placed = λ i h. rw (k .kept i h) (p .placed i h) }
+
+-- the loop over the attributes -------------------------------------------------------------------
+
+pub attribute-here : {s : List ℕ} {i : ℕ} {r : Item} {c : Cursor} → TagRead s behind-part i r → r ≡ Attribute c
+    → Attributed s (c .at) × (i ≤ c .at)
+attribute-here {s} {i} z ez = go (subst (TagRead s behind-part i) ez z)
+  where
+    go : {s : List ℕ} {i : ℕ} {c : Cursor} → TagRead s behind-part i (Attribute c) → Attributed s (c .at) × (i ≤ c .at)
+    go (tag-attribute d e g h f) = (record { inside = e; starts = h; begins-here = g }, d)
+
+-- the attributes so far lead here; the names that were seen are those from place lo on
+pub record AttributesTo (s os : List ℕ) (lo count at spare i n : ℕ) : Type 0 where
+  pub seen : List Name
+  pub lists : Lists (attribute-names s os lo) count seen
+  pub comes : (m : Name) (ns : List Name) → Goes s (behind-part m ns []) spare at (behind-part m ns seen) n i
+
+pub attributes-start : (s os : List ℕ) (lo at spare : ℕ) → AttributesTo s os lo 0 at spare at spare
+attributes-start s os lo at spare = record {
+  seen = [];
+  lists = lists-none (attribute-names s os lo);
+  comes = λ m ns. goes-same s (behind-part m ns []) spare at at refl;
+}
+
+module _ (s os : List ℕ) (lo count at spare i n : ℕ) (t : AttributesTo s os lo count at spare i n) (a : at ≤ i) (b : n ≤ spare) where
+  pub attributes-wrong : {j : ℕ} → TagRead s behind-part i (Wrong j) → AttributesRead s at spare (Broken 4 j)
+  attributes-wrong {j} (tag-wrong f) = attributes-broken {x = 4} {j = j} (λ m ns. t .comes m ns .back _ (f m ns (t .seen) n))
+
+  pub attributes-open : {c : Cursor} → TagRead s behind-part i (Open c) → AttributesRead s at spare (Opened c n)
+  attributes-open {c} (tag-open d e g f) =
+      attributes-opened {c = c} {m = n} (record { further = omega arith; inside = e; begins-here = g; fewer = b })
+      (λ m ns. goes-then (t .comes m ns) (f m ns (t .seen) n))
+
+  pub attributes-empty : {c : Cursor} → TagRead s behind-part i (Empty c) → AttributesRead s at spare (Emptied c n)
+  attributes-empty {c} (tag-empty d e g f) =
+      attributes-emptied {c = c} {m = n} (record { further = omega arith; inside = e; begins-here = g; fewer = b })
+      (λ m ns. goes-then (t .comes m ns) (f m ns (t .seen) n))
+
+  -- an attribute that is refused
+  refused : {c : Cursor} {x j : ℕ} → TagRead s behind-part i (Attribute c) → AttributeRead s (t .seen) (c .at) n (Refused x j)
+      → AttributesRead s at spare (Broken x j)
+  refused {c} {x} {j} (tag-attribute d e g h f) (attribute-refused u) =
+      attributes-broken {x = x} {j = j} (λ m ns. t .comes m ns .back _ (f m ns (t .seen) n .back _ (u m ns)))
+
+  -- one that is read
+  past : {c d : Cursor} {m : ℕ} {os′ : List ℕ} → TagRead s behind-part i (Attribute c) → AttributeRead s (t .seen) (c .at) n (Past d m)
+      → Lists (attribute-names s os′ lo) (count + 1) (name-at s (c .at) ∷ t .seen) → AttributesTo s os′ lo (count + 1) at spare (d .at) m
+  past {c} {d} {m} (tag-attribute p e g h f) (attribute-past q r w u) y = record {
+    seen = name-at s (c .at) ∷ t .seen;
+    lists = y;
+    comes = λ nm ns. goes-then (t .comes nm ns) (goes-then (f nm ns (t .seen) n) (u nm ns));
+  }
+
+  -- an attribute at c, and what is read of it
+  module _ {os′ : List ℕ} {r : Item} {c : Cursor} {q : Read} (z : TagRead s behind-part i r) (ez : r ≡ Attribute c)
+      (y : AttributeEnters s os os′ lo count (c .at) n q) where
+    found : TagRead s behind-part i (Attribute c)
+    found = subst (TagRead s behind-part i) ez z
+
+    reads : {q′ : Read} → q ≡ q′ → AttributeRead s (t .seen) (c .at) n q′
+    reads e = subst (AttributeRead s (t .seen) (c .at) n) e (y .reads (t .seen) (t .lists))
+
+    pub attributes-bad : {x j : ℕ} → q ≡ Refused x j → AttributesRead s at spare (Broken x j)
+    attributes-bad e = refused found (reads e)
+
+    module _ {d : Cursor} {m : ℕ} (e : q ≡ Past d m) where
+      pub attribute-entered : Entered s os os′ lo count (c .at)
+      attribute-entered = go (subst (NamesRead s os os′ lo count (c .at)) e (y .names))
+        where
+          go : NamesRead s os os′ lo count (c .at) (Past d m) → Entered s os os′ lo count (c .at)
+          go (names-past x) = x
+
+      pub attributes-turn : AttributesTo s os′ lo (count + 1) at spare (d .at) m
+      attributes-turn = past found (reads e) (attribute-entered .added .lists (t .seen) (t .lists))
+
+      pub attribute-behind : (i ≤ c .at) × (c .at < d .at) × (d .at ≤ length s) × (m < n)
+      attribute-behind = go (reads e)
+        where
+          go : AttributeRead s (t .seen) (c .at) n (Past d m)
+              → (i ≤ c .at) × (c .at < d .at) × (d .at ≤ length s) × (m < n)
+          go (attribute-past a b g u) = (attribute-here z ez .1, a, b, g)
+
+-- from the first byte of the name ------------------------------------------------------------------
+
+naming : (ns : List Name) → Naming (tag-name ns)
+unfolding step
+naming ns = record { next = λ p b e. rw e; calm = λ p. refl }
+
+module _ (s : List ℕ) (at spare to : ℕ) (x : Named s at) (r : Run name-byte s at to) where
+  pub element-long : content-limit < to - at → ElementRead s at spare (Broken 5 (at + 32))
+  element-long h = element-broken {x = 5} {j = at + 32}
+      (λ ns. name-long s (tag-name ns) spare (naming ns) at (x .inside) (start-name (getD s at 0) (x .starts)) (omega (arith, r .ends)))
+
+  module _ (short : to - at ≤ content-limit) where
+    -- behind the name
+    to-part : (ns : List Name)
+        → scan-at s (tag-name ns (getD s at 0 ∷ [])) spare 1 (at + 1) ≡ scan-at s (behind-part (name-at s at) ns []) spare (to - at) to
+    unfolding step
+    to-part ns =
+        let p : span name-byte (drop at s) ≡ to - at = omega (arith, r .ends) in
+        let q : at + (to - at) ≡ to = omega (arith, r .ends) in
+        (rw (p, q) at (name-short s (tag-name ns) spare (naming ns) at (x .inside) (start-name (getD s at 0) (x .starts)) (omega arith)))
+        ∙ scan-alike s (tag-name ns (name-at s at)) (behind-part (name-at s at) ns []) spare (to - at) to
+        (λ h. rw (rw (← r .ends) at (span-behind name-byte s at (omega (arith, r .ends))))) refl
+
+    pub element-rest : {y : Tag} → AttributesRead s to spare y → ElementRead s at spare y
+    element-rest (attributes-opened {c = c} {m = m} o f) =
+        element-opened {c = c} {m = m}
+        (record { further = omega (arith, o .further, r .ends); inside = o .inside; begins-here = o .begins-here; fewer = o .fewer })
+        (λ ns v y. to-part ns ∙ f (name-at s at) ns .back v y .leads (to - at) short)
+    element-rest (attributes-emptied {c = c} {m = m} o f) =
+        element-emptied {c = c} {m = m}
+        (record { further = omega (arith, o .further, r .ends); inside = o .inside; begins-here = o .begins-here; fewer = o .fewer })
+        (λ ns v y. to-part ns ∙ f (name-at s at) ns .back v y .leads (to - at) short)
+    element-rest (attributes-broken {x = x} {j = j} f) =
+        element-broken {x = x} {j = j} (λ ns. to-part ns ∙ f (name-at s at) ns .leads (to - at) short)
+
+pub placed-at : (s os : List ℕ) (n m : ℕ) → n ≡ m → Placed s os n → Placed s os m
+placed-at s os n m e p = subst (Placed s os) e p

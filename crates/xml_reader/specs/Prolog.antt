@@ -1,0 +1,21 @@
+-- The way to the root element.
+use Prim.Native.Nat.{ℕ, _+_, _-_, _≤_}
+use mathlib.Core.Path.{_≡_}
+use mathlib.Core.List.{List, [], _∷_}
+use lib.ListN.{getD}
+use Rattle.xml.specs.Laws.Automaton.{Config, tag-name}
+use Rattle.xml.specs.Laws.Judge.{Verdict, bad}
+use Rattle.xml.specs.Laws.Scan.{scan-at}
+use Rattle.xml.specs.Laws.Goes.{Leads}
+use Rattle.xml_reader.specs.declared.Cursor.{Cursor}
+use Rattle.xml_reader.specs.declared.Prolog.{Prolog}
+use Rattle.xml_reader.specs.declared.Prolog.the-variants.{Root, NoRoot}
+use Rattle.xml_reader.specs.Elements.{Named}
+
+-- where the bytes before the root element's name lead from a configuration
+pub data RootRead (s : List ℕ) (from : Config) (at : ℕ) : Prolog → Type 0 where
+  root-at : {c : Cursor} → Named s (c .at)
+      → ((spare : ℕ) → 1 ≤ spare → (v : Verdict) → scan-at s (tag-name [] (getD s (c .at) 0 ∷ [])) (spare - 1) 1 (c .at + 1) ≡ v → Leads s
+      from spare at v)
+      → RootRead s from at (Root c)
+  no-root : {j : ℕ} → ((spare : ℕ) → Leads s from spare at (bad 4 j)) → RootRead s from at (NoRoot j)

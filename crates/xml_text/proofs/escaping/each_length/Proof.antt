@@ -1,0 +1,28 @@
+use borrow.Author.Needs.{needs}
+use native.Mathlib.Omega.{arith}
+use mathlib.Core.Path.{_≡_, refl}
+use Prim.Native.Nat.{_-_, _≤_}
+use lib.ListN.{length}
+use Rattle.xml_text.specs.Laws.Escaping.{Counting, counting-start, counting-byte, counting-end}
+use Rattle.xml_text.proofs.escaping.each_length.Statement.{statement}
+use Rattle.xml_text.proofs.escaping.each_length.Tie as tie
+
+abbrev Inv-loop : tie.InvT-loop
+Inv-loop p n sum₀ i₀ sum i = (i ≤ n) × (n ≡ length p) × Counting p i sum
+
+abbrev μ-loop : tie.MeasureT-loop
+μ-loop p n sum₀ i₀ sum i = n - i
+
+loop-again : tie.Need-loop-again Inv-loop μ-loop
+loop-again c =
+    let l = c .before .before .before in (
+      omega arith,
+      l .loop .inv .1,
+      counting-byte _ (l .loop .inv .2) (omega arith) (c .byte-length .ensures .0)
+          (c .byte-length .ensures .1),
+    )
+
+pub each-length-spec : {M : Type 1} → statement M
+each-length-spec = tie.close (tie.spec Inv-loop μ-loop (λ c. (omega arith, refl, counting-start _)) (λ c. search needs)
+    (λ c κs. search needs) (λ c. omega (arith, c .before .before .before .loop .inv .2 .small)) (λ c. search needs) (λ c. search needs)
+    loop-again (λ c. (counting-end (c .before .loop .inv .2) (omega arith), omega (arith, c .before .loop .inv .2 .small))))

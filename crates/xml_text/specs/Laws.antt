@@ -1,0 +1,12 @@
+pub mod Pieces
+pub mod Trees
+pub mod Order
+pub mod Texts
+pub mod Lengths
+pub mod Names
+pub mod Judgement
+pub mod Documents
+pub mod Rules
+pub mod Next
+pub mod Copying
+pub mod Escaping

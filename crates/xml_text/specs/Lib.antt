@@ -1,0 +1,5 @@
+pub mod Ordered
+pub mod Rows
+pub mod Lending
+pub mod Plain
+pub mod Laws

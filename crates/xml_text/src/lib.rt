@@ -1,0 +1,4 @@
+// The pieces of an XML text, each put at the front of the lent bytes, and contents with their entities.
+pub mod copying;
+pub mod escaping;
+pub mod markup;

@@ -1,0 +1,6 @@
+pub mod Lines
+pub mod Walk
+pub mod Names
+pub mod Contract
+pub mod Texts
+pub mod Laws
