@@ -8,12 +8,12 @@ use Rattle.locks.specs.Needs.{need}
 use Rattle.locks.specs.Words.{words}
 use Rattle.locks.specs.declared.NeedWords.{NeedWords}
 use Rattle.protocol.specs.Lent.{Room, has-room}
-use Rattle.protocol.specs.Causes.{unfit-kind, unfit-content, held-number, unfit-place, full-table, short-buffer}
+use Rattle.protocol.specs.Causes.{kind-not-allowed, content-not-allowed, held-number, place-not-allowed, no-more-nodes, short-buffer}
 use Rattle.protocol.specs.Calls.{Call, step}
 use Rattle.protocol.specs.declared.Answer.{Answer}
 use Rattle.table.specs.Layout.{Entry, nodes, is-open}
 use Rattle.rows.specs.Places.{item, ups, children}
-use Rattle.rows.specs.Found.{kind-of, taken-in, full-in, answer-at, wait-word}
+use Rattle.rows.specs.Found.{kind-of, used-in, limit-reached-in, answer-at, wait-word}
 use Rattle.engine.specs.Contract.{Performed, Lent}
 use Rattle.engine.specs.Admission.{Standing, Admitted}
 use Rattle.engine.specs.declared.Admission.{Admission}
@@ -33,9 +33,9 @@ first-cause (c ∷ cs) = cond (c .1) (c .0) (first-cause cs)
 -- before the wait
 abbrev pub own-causes : Step → List Entry → ℕ → List Cause
 own-causes st l p =
-    (unfit-kind, wrong-kind-on st (item l p .now .kind))
-    ∷ (unfit-content, wrong-content-on st (item l p .now .kind))
-    ∷ (held-number, taken-in st l) ∷ []
+    (kind-not-allowed, wrong-kind-on st (item l p .now .kind))
+    ∷ (content-not-allowed, wrong-content-on st (item l p .now .kind))
+    ∷ (held-number, used-in st l) ∷ []
 
 abbrev pub own-cause : Step → List Entry → ℕ → ℕ
 own-cause st l p = first-cause (own-causes st l p)
@@ -43,8 +43,8 @@ own-cause st l p = first-cause (own-causes st l p)
 -- behind it
 abbrev pub late-causes : ℕ → Step → Room → List Entry → ℕ → List Cause
 late-causes t st room l p =
-    (unfit-place, misplaced-on st (item l p .now .kind) (map kind-of (children t l p)))
-    ∷ (full-table, full-in st l)
+    (place-not-allowed, misplaced-on st (item l p .now .kind) (map kind-of (children t l p)))
+    ∷ (no-more-nodes, limit-reached-in st l)
     ∷ (short-buffer, not (has-room (answer-at st t l p) room)) ∷ []
 
 -- a cause found already, or else the next one

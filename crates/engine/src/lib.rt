@@ -15,7 +15,7 @@ ghost use lib.ListN.{length};
 ghost use lib.Dec.{eqb};
 ghost use Rattle.tree.specs.Content.{document-kind};
 ghost use Rattle.tree.specs.Steps.{T, parent};
-ghost use Rattle.protocol.specs.Causes.{unfit-kind};
+ghost use Rattle.protocol.specs.Causes.{kind-not-allowed};
 ghost use Rattle.protocol.specs.Calls.{step};
 ghost use Rattle.table.specs.Layout.{nodes, Layout};
 ghost use Rattle.rows.specs.Places.{item, numbers-above};
@@ -94,13 +94,13 @@ pub fn admit(s: &[u8], t: u32, n: u16) -> Admission
 // A cause found already, or else cause 8 of R, U and D, for the document, or 0.
 pub fn document_cause(s: &[u8], found: u8, place: usize) -> u8
     requires { ⌜ (found ≡ 0 → ((Layout (now s)) × (place < length (nodes (now s))))) ⌝ }
-    ensures { λ r. ⌜ FirstOf found (cond (eqb (item (nodes (now (s .entry))) place .now .kind) document-kind) unfit-kind 0) r ⌝ }
+    ensures { λ r. ⌜ FirstOf found (cond (eqb (item (nodes (now (s .entry))) place .now .kind) document-kind) kind-not-allowed 0) r ⌝ }
 {
     if found != 0 {
         return found;
     }
     if table::kind(s, place) == 1 {
-        return causes::UNFIT_KIND;
+        return causes::KIND_NOT_ALLOWED;
     }
     0
 }

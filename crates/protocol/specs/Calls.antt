@@ -14,8 +14,8 @@ use Rattle.protocol.specs.State.{is-transaction, transactions, Marked, T
 use Rattle.protocol.specs.State.{committed-document, act, grant, commit-tree, abort-tree, tree-of}
 use Rattle.protocol.specs.State.{start-state, with-tree, opened, closed}
 use Rattle.protocol.specs.Lent.{Room, has-room}
-use Rattle.protocol.specs.Causes.{not-a-transaction, already-open, not-open, no-such-node, unfit-kind, unfit-content, held-number}
-use Rattle.protocol.specs.Causes.{unfit-place, full-table, short-buffer, open-at-load}
+use Rattle.protocol.specs.Causes.{not-a-transaction, already-open, not-open, no-such-node, kind-not-allowed, content-not-allowed, held-number}
+use Rattle.protocol.specs.Causes.{place-not-allowed, no-more-nodes, short-buffer, open-at-load}
 
 -- "at most 1,024 nodes are held"
 abbrev pub node-limit : ℕ
@@ -52,14 +52,14 @@ pub data Outcome : Type 0 where
   refused-at : (cause offset : ℕ) → Outcome
 
 -- a step that was granted, with its answer
-pub record Taken : Type 0 where
+pub record StepAnswer : Type 0 where
   pub step : Step
   pub value : Value
 
 -- what a call returns, the steps that were granted in it, in order, and the state that it leaves
 pub record Next : Type 0 where
   pub outcome : Outcome
-  pub steps : List Taken
+  pub steps : List StepAnswer
   pub state : State
 
 abbrev pub unchanged : Outcome → State → Next
@@ -69,8 +69,8 @@ unchanged o M = record { outcome = o; steps = []; state = M }
 abbrev pub becomes : Value → State → Next
 becomes v M = record { outcome = granted v; steps = []; state = M }
 
-abbrev pub takes-step : Step → Value → State → Next
-takes-step s v M = record { outcome = granted v; steps = record { step = s; value = v } ∷ []; state = M }
+abbrev pub grants-step : Step → Value → State → Next
+grants-step s v M = record { outcome = granted v; steps = record { step = s; value = v } ∷ []; state = M }
 
 -- a cause of refusal, or a wait, and whether it applies
 abbrev pub Check : Type 0
@@ -102,12 +102,12 @@ wait-set t ls M = sum-of-bits (blocks t ls M) transactions
 -- steps --------------------------------------------------------------------------------
 
 -- cause 10: a number that the step inserts is held
-abbrev pub number-taken : Step → Tree → Bool
-number-taken s f = any (λ m. number-held m f) (inserts s)
+abbrev pub number-in-use : Step → Tree → Bool
+number-in-use s f = any (λ m. number-held m f) (inserts s)
 
 -- cause 12: the step inserts a node, and as many as the limit are held
-abbrev pub table-full : ℕ → Step → Tree → Bool
-table-full limit s f = any (λ m. leb limit (length (nodes f))) (inserts s)
+abbrev pub limit-reached : ℕ → Step → Tree → Bool
+limit-reached limit s f = any (λ m. leb limit (length (nodes f))) (inserts s)
 
 -- the wait: for those who hold a mode that clashes with a lock of the step
 abbrev pub wait-check : ℕ → List Lock → State → Check
@@ -117,17 +117,17 @@ wait-check t ls M = (waits (wait-set t ls M), not (eqb (wait-set t ls M) 0))
 abbrev pub step-checks : ℕ → Step → Room → State → Document → List Check
 step-checks t s room M d =
     (refused no-such-node, unknown s d)
-    ∷ (refused unfit-kind, wrong-kind s d)
-    ∷ (refused unfit-content, wrong-content s d)
-    ∷ (refused held-number, number-taken s (M .tree))
+    ∷ (refused kind-not-allowed, wrong-kind s d)
+    ∷ (refused content-not-allowed, wrong-content s d)
+    ∷ (refused held-number, number-in-use s (M .tree))
     ∷ wait-check t (needs s d) M
-    ∷ (refused unfit-place, misplaced s d)
-    ∷ (refused full-table, table-full node-limit s (M .tree))
+    ∷ (refused place-not-allowed, misplaced s d)
+    ∷ (refused no-more-nodes, limit-reached node-limit s (M .tree))
     ∷ (refused short-buffer, not (has-room (answer s d) room)) ∷ []
 
 unfoldable pub judged : ℕ → Step → Room → State → Document → Next
 judged t s room M d =
-    checked (step-checks t s room M d) M (takes-step s (answer s d) (with-tree M (grant t (needs s d) (act t s (M .tree)))))
+    checked (step-checks t s room M d) M (grants-step s (answer s d) (with-tree M (grant t (needs s d) (act t s (M .tree)))))
 
 -- a call of a transaction: 1, then 3
 abbrev pub if-open : ℕ → State → Next → Next

@@ -19,36 +19,36 @@ abbrev pub not-of-grammar : ℕ
 not-of-grammar = 4
 
 -- load: a 33rd content byte
-abbrev pub long-content : ℕ
-long-content = 5
+abbrev pub content-over-limit : ℕ
+content-over-limit = 5
 
 -- load: a 1,025th node
-abbrev pub many-nodes : ℕ
-many-nodes = 6
+abbrev pub nodes-over-limit : ℕ
+nodes-over-limit = 6
 
 -- no node so numbered, or the caller deleted it or an ancestor
 abbrev pub no-such-node : ℕ
 no-such-node = 7
 
 -- R, U or D on the document; I where the parent's kind never takes such a child, or the kind is not 2 to 4
-abbrev pub unfit-kind : ℕ
-unfit-kind = 8
+abbrev pub kind-not-allowed : ℕ
+kind-not-allowed = 8
 
 -- content or name not allowed
-abbrev pub unfit-content : ℕ
-unfit-content = 9
+abbrev pub content-not-allowed : ℕ
+content-not-allowed = 9
 
 -- I: number held by any node
 abbrev pub held-number : ℕ
 held-number = 10
 
 -- I: k is 0 or past children + 1, or the children rule would break
-abbrev pub unfit-place : ℕ
-unfit-place = 11
+abbrev pub place-not-allowed : ℕ
+place-not-allowed = 11
 
 -- I: 1,024 nodes held
-abbrev pub full-table : ℕ
-full-table = 12
+abbrev pub no-more-nodes : ℕ
+no-more-nodes = 12
 
 -- lent buffer too short for the answer; state bytes too short or not of the form
 abbrev pub short-buffer : ℕ
@@ -65,5 +65,5 @@ open-at-load = 15
 -- all that a call can be refused by
 abbrev pub causes : List ℕ
 causes =
-    not-a-transaction ∷ already-open ∷ not-open ∷ not-of-grammar ∷ long-content ∷ many-nodes ∷ no-such-node ∷ unfit-kind ∷ unfit-content
-    ∷ held-number ∷ unfit-place ∷ full-table ∷ short-buffer ∷ not-expressible ∷ open-at-load ∷ []
+    not-a-transaction ∷ already-open ∷ not-open ∷ not-of-grammar ∷ content-over-limit ∷ nodes-over-limit ∷ no-such-node ∷ kind-not-allowed ∷ content-not-allowed
+    ∷ held-number ∷ place-not-allowed ∷ no-more-nodes ∷ short-buffer ∷ not-expressible ∷ open-at-load ∷ []

@@ -8,13 +8,13 @@ use Rattle.tree.specs.Document.{Document, lines, here, at, node-0-alone}
 use Rattle.tree.specs.Steps.{Step, Value, PlainAnswer, inserts, plain-document, plain-answers}
 use Rattle.protocol.specs.State.{State, transactions}
 use Rattle.protocol.specs.Calls.{Call, start, load, begin, commit, abort, step, write, unreadable, stands-for}
-use Rattle.protocol.specs.Calls.{Outcome, granted, written, waits, refused, refused-at, Taken, next}
+use Rattle.protocol.specs.Calls.{Outcome, granted, written, waits, refused, refused-at, StepAnswer, next}
 
 -- a call with its outcome and the steps that were granted in it
 pub record Event : Type 0 where
   pub call : Call
   pub outcome : Outcome
-  pub steps : List Taken
+  pub steps : List StepAnswer
 
 -- the call c in the state M
 abbrev pub event : Call → State → Event
@@ -69,7 +69,7 @@ logged (abort t) g es L = cond g (with-entries t [] L) L
 logged (step t s room) g es L = with-entries t (L .open-log t ++ es) L
 logged write g es L = L
 
-unfoldable pub log-after : {E : Type 0} → (Taken → E) → Log E → List Event → Log E
+unfoldable pub log-after : {E : Type 0} → (StepAnswer → E) → Log E → List Event → Log E
 log-after entry L [] = L
 log-after entry L (e ∷ es) = log-after entry (logged (e .call) (is-granted (e .outcome)) (map entry (e .steps)) L) es
 

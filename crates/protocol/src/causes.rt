@@ -8,21 +8,21 @@ pub const NOT_OPEN: u8 = 3;
 
 pub const NOT_OF_GRAMMAR: u8 = 4;
 
-pub const LONG_CONTENT: u8 = 5;
+pub const CONTENT_OVER_LIMIT: u8 = 5;
 
-pub const MANY_NODES: u8 = 6;
+pub const NODES_OVER_LIMIT: u8 = 6;
 
 pub const NO_SUCH_NODE: u8 = 7;
 
-pub const UNFIT_KIND: u8 = 8;
+pub const KIND_NOT_ALLOWED: u8 = 8;
 
-pub const UNFIT_CONTENT: u8 = 9;
+pub const CONTENT_NOT_ALLOWED: u8 = 9;
 
 pub const HELD_NUMBER: u8 = 10;
 
-pub const UNFIT_PLACE: u8 = 11;
+pub const PLACE_NOT_ALLOWED: u8 = 11;
 
-pub const FULL_TABLE: u8 = 12;
+pub const NO_MORE_NODES: u8 = 12;
 
 pub const SHORT_BUFFER: u8 = 13;
 

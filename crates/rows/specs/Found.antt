@@ -16,8 +16,8 @@ use Rattle.locks.specs.Needs.{Need, need, locks, needs}
 use Rattle.locks.specs.Words.{word}
 use Rattle.protocol.specs.State.{Marked, State, callers-document, with-tree, act, grant}
 use Rattle.protocol.specs.Lent.{Room, has-room}
-use Rattle.protocol.specs.Causes.{unfit-kind, unfit-content, held-number, unfit-place, full-table, short-buffer}
-use Rattle.protocol.specs.Calls.{node-limit, wait-set, number-taken, table-full, Next, checked, takes-step, refused, waits}
+use Rattle.protocol.specs.Causes.{kind-not-allowed, content-not-allowed, held-number, place-not-allowed, no-more-nodes, short-buffer}
+use Rattle.protocol.specs.Calls.{node-limit, wait-set, number-in-use, limit-reached, Next, checked, grants-step, refused, waits}
 use Rattle.table.specs.Layout.{Entry}
 use Rattle.rows.specs.Places.{item, number-of, place-of, ups, numbers-above, children, subtree}
 
@@ -65,12 +65,12 @@ abbrev pub kind-of : Marked → ℕ
 kind-of a = a .now .kind
 
 -- some place has a number that the step inserts
-abbrev pub taken-in : Step → List Entry → Bool
-taken-in s l = any (λ m. ltb (place-of m l) (length l)) (inserts s)
+abbrev pub used-in : Step → List Entry → Bool
+used-in s l = any (λ m. ltb (place-of m l) (length l)) (inserts s)
 
 -- the step inserts a node, and as many as the limit are held
-abbrev pub full-in : Step → List Entry → Bool
-full-in s l = any (λ m. leb node-limit (length l)) (inserts s)
+abbrev pub limit-reached-in : Step → List Entry → Bool
+limit-reached-in s l = any (λ m. leb node-limit (length l)) (inserts s)
 
 -- the record ---------------------------------------------------------------------------
 
@@ -82,27 +82,27 @@ pub record Found (l : List Entry) (t : ℕ) (s : Step) (M : State) (p : ℕ) : T
   -- causes 8 and 9
   pub kind : kind-at s (callers-document t (M .tree)) ≡ item l p .now .kind
   -- cause 10
-  pub held : number-taken s (M .tree) ≡ taken-in s l
-  pub wait : number-taken s (M .tree) ≡ false
+  pub held : number-in-use s (M .tree) ≡ used-in s l
+  pub wait : number-in-use s (M .tree) ≡ false
       → wait-set t (needs s (callers-document t (M .tree))) M ≡ wait-word t (need s) (M .header .is-open) (item l p ∷ ups l p)
   -- cause 11
   pub others : kinds (select (child (target s)) (callers-document t (M .tree))) ≡ map kind-of (children t l p)
   -- cause 12
-  pub full : table-full node-limit s (M .tree) ≡ full-in s l
+  pub full : limit-reached node-limit s (M .tree) ≡ limit-reached-in s l
   pub answers : answer s (callers-document t (M .tree)) ≡ answer-at s t l p
 
 -- the whole judgement: 8, 9, 10, wait, 11, 12, 13, then granted
 unfoldable pub judged-at : ℕ → Step → Room → State → List Entry → ℕ → Next
 judged-at t s room M l p =
     checked (
-    (refused unfit-kind, wrong-kind-on s (item l p .now .kind))
-    ∷ (refused unfit-content, wrong-content-on s (item l p .now .kind))
-    ∷ (refused held-number, taken-in s l)
+    (refused kind-not-allowed, wrong-kind-on s (item l p .now .kind))
+    ∷ (refused content-not-allowed, wrong-content-on s (item l p .now .kind))
+    ∷ (refused held-number, used-in s l)
     ∷ (
       waits (wait-word t (need s) (M .header .is-open) (item l p ∷ ups l p)),
       not (eqb (wait-word t (need s) (M .header .is-open) (item l p ∷ ups l p)) 0),
     )
-    ∷ (refused unfit-place, misplaced-on s (item l p .now .kind) (map kind-of (children t l p)))
-    ∷ (refused full-table, full-in s l)
+    ∷ (refused place-not-allowed, misplaced-on s (item l p .now .kind) (map kind-of (children t l p)))
+    ∷ (refused no-more-nodes, limit-reached-in s l)
     ∷ (refused short-buffer, not (has-room (answer-at s t l p) room)) ∷ [])
-    M (takes-step s (answer-at s t l p) (with-tree M (grant t (locks s (numbers-above l p)) (act t s (M .tree)))))
+    M (grants-step s (answer-at s t l p) (with-tree M (grant t (locks s (numbers-above l p)) (act t s (M .tree)))))

@@ -9,7 +9,7 @@ ghost use mathlib.Core.Bool.{cond};
 ghost use Prim.Native.Nat.{_<_};
 ghost use lib.ListN.{length};
 ghost use Rattle.tree.specs.Steps.{U, D, I, UU, wrong-content-on};
-ghost use Rattle.protocol.specs.Causes.{unfit-content};
+ghost use Rattle.protocol.specs.Causes.{content-not-allowed};
 ghost use Rattle.protocol.specs.Calls.{step};
 ghost use Rattle.table.specs.Layout.{nodes, Layout};
 ghost use Rattle.engine.specs.Contract.{Performed, no-room};
@@ -27,12 +27,12 @@ fn update_cause(s: &[u8], found: u8, place: usize, b: &[u8]) -> u8
     }
     let kind = table::kind(s, place);
     if kind == 1 {
-        return causes::UNFIT_KIND;
+        return causes::KIND_NOT_ALLOWED;
     }
     if tree::allowed(kind as u32, b) {
         return 0;
     }
-    causes::UNFIT_CONTENT
+    causes::CONTENT_NOT_ALLOWED
 }
 
 // U(n, b): the content of node n becomes b.
@@ -73,16 +73,16 @@ pub fn delete(s: &mut [u8], t: u32, n: u16) -> Answer
 
 // A cause found already, or else cause 9 of UU, or 0.
 fn rename_cause(found: u8, a: &[u8], b: &[u8]) -> u8
-    ensures { λ r. ⌜ FirstOf found (cond (wrong-content-on (UU 0 (now (a .entry)) (now (b .entry))) 0) unfit-content 0) r ⌝ }
+    ensures { λ r. ⌜ FirstOf found (cond (wrong-content-on (UU 0 (now (a .entry)) (now (b .entry))) 0) content-not-allowed 0) r ⌝ }
 {
     if found != 0 {
         return found;
     }
     if !tree::is_name(a) {
-        return causes::UNFIT_CONTENT;
+        return causes::CONTENT_NOT_ALLOWED;
     }
     if !tree::is_name(b) {
-        return causes::UNFIT_CONTENT;
+        return causes::CONTENT_NOT_ALLOWED;
     }
     0
 }
@@ -114,10 +114,10 @@ fn insert_cause(s: &[u8], found: u8, place: usize, m: u16, kind: u32, b: &[u8]) 
         return found;
     }
     if !tree::takes(table::kind(s, place) as u32, kind) {
-        return causes::UNFIT_KIND;
+        return causes::KIND_NOT_ALLOWED;
     }
     if !tree::allowed(kind, b) {
-        return causes::UNFIT_CONTENT;
+        return causes::CONTENT_NOT_ALLOWED;
     }
     if table::find(s, m) < table::count(s) {
         return causes::HELD_NUMBER;
@@ -137,10 +137,10 @@ pub fn insert(s: &mut [u8], t: u32, m: u16, kind: u32, b: &[u8], n: u16, k: u32)
         return verdict.answer;
     }
     if !writing::fits(s, at.place, at.t, kind, k) {
-        return Answer::Refused(causes::UNFIT_PLACE);
+        return Answer::Refused(causes::PLACE_NOT_ALLOWED);
     }
     if 1024 <= table::count(s) {
-        return Answer::Refused(causes::FULL_TABLE);
+        return Answer::Refused(causes::NO_MORE_NODES);
     }
     let q = writing::new_place(s, at.place, at.t, k);
     let d = table::depth(s, at.place);

@@ -17,7 +17,7 @@ use Rattle.locks.specs.declared.StepName.{StepName}
 use Rattle.locks.specs.declared.NeedWords.{NeedWords}
 use Rattle.protocol.specs.State.{State, Tree, act, grant, number-held, with-tree}
 use Rattle.protocol.specs.Lent.{Room}
-use Rattle.protocol.specs.Calls.{step, Check, checked, waits, refused, unchanged, takes-step, Next, next}
+use Rattle.protocol.specs.Calls.{step, Check, checked, waits, refused, unchanged, grants-step, Next, next}
 use Rattle.protocol.specs.Answers.{answer-of}
 use Rattle.protocol.specs.declared.Answer.{Answer}
 use Rattle.protocol.specs.declared.Answer.the-variants.{Waits, Refused}
@@ -25,7 +25,7 @@ use Rattle.table.specs.Flat.{flat}
 use Rattle.table.specs.Layout.{Entry, nodes, is-open, Layout, Left, Kept, header}
 use Rattle.table.specs.Laws.Kept.{kept-as}
 use Rattle.rows.specs.Places.{item, number-of, place-of, ups, numbers-above}
-use Rattle.rows.specs.Found.{answer-at, taken-in, wait-word, judged-at}
+use Rattle.rows.specs.Found.{answer-at, used-in, wait-word, judged-at}
 use Rattle.rows.specs.Laws.Find.{held-place}
 use Rattle.rows.specs.Rows.{granted-up, stepped}
 use Rattle.rows.specs.Laws.Granted.{step-rows}
@@ -107,7 +107,7 @@ abbrev tree-after : ℕ → Step → State → List Entry → ℕ → Tree
 tree-after t st M l p = grant t (locks st (numbers-above l p)) (act t st (M .tree))
 
 abbrev granting : ℕ → Step → State → List Entry → ℕ → Next
-granting t st M l p = takes-step st (answer-at st t l p) (with-tree M (tree-after t st M l p))
+granting t st M l p = grants-step st (answer-at st t l p) (with-tree M (tree-after t st M l p))
 
 module _ (t : ℕ) (st : Step) (room : Room) (M : State) (l : List Entry) (p : ℕ) where
   at-own : (c : ℕ) → c ≡ own-cause st l p → (c ≡ 0 → ⊥) → judged-at t st room M l p ≡ unchanged (refused c) M
@@ -212,10 +212,10 @@ module _ {s : List ℕ} {t : ℕ} {a : Admission} {cause : ℕ} {w : NeedWords} 
 pub free-fits : {s : List ℕ} {t : ℕ} {a : Admission} {w : NeedWords} {st : Step} → Free s t a w st
     → (wrong-kind-on st (item (nodes s) (a .place) .now .kind) ≡ false) ×
     (wrong-content-on st (item (nodes s) (a .place) .now .kind) ≡ false)
-    × (taken-in st (nodes s) ≡ false)
+    × (used-in st (nodes s) ≡ false)
 free-fits {s} {a = a} {st = st} f =
     go (wrong-kind-on st (item (nodes s) (a .place) .now .kind)) (wrong-content-on st (item (nodes s) (a .place) .now .kind))
-    (taken-in st (nodes s))
+    (used-in st (nodes s))
     (f .fits)
   where
     go : (x y z : Bool) → _≡_ {A = ℕ} (cond x 8 (cond y 9 (cond z 10 0))) 0 → (x ≡ false) × (y ≡ false) × (z ≡ false)

@@ -14,7 +14,7 @@ use Rattle.tree.specs.Steps.{Step, T, C, R, U, D, I, TT, RR, UU, target, insert
 use Rattle.tree.specs.Laws.Lists.{map-map, any-same, keep-map}
 use Rattle.protocol.specs.State.{Marked, State, number-held, callers-document}
 use Rattle.protocol.specs.Lent.{Room}
-use Rattle.protocol.specs.Calls.{node-limit, number-taken, unchanged, refused, judged}
+use Rattle.protocol.specs.Calls.{node-limit, number-in-use, unchanged, refused, judged}
 use Rattle.table.specs.Flat.{flat}
 use Rattle.table.specs.Layout.{Entry}
 use Rattle.rows.specs.Places.{item, number-of, unique, place-of, numbers-above, seen-at, children, subtree}
@@ -117,8 +117,8 @@ judged-missing t s room M h = rw h
 pub judged-found : (l : List Entry) (t : ℕ) (s : Step) (room : Room) (M : State) (p : ℕ) → Found l t s M p
     → judged t s room M (callers-document t (M .tree)) ≡ judged-at t s room M l p
 unfolding judged judged-at
-judged-found l t s room M p f = go (number-taken s (M .tree)) refl
+judged-found l t s room M p f = go (number-in-use s (M .tree)) refl
   where
-    go : (b : Bool) → number-taken s (M .tree) ≡ b → judged t s room M (callers-document t (M .tree)) ≡ judged-at t s room M l p
+    go : (b : Bool) → number-in-use s (M .tree) ≡ b → judged t s room M (callers-document t (M .tree)) ≡ judged-at t s room M l p
     go true e = let h = sym (f .held) ∙ e in rw (f .is-here, f .kind, e, h)
     go false e = let h = sym (f .held) ∙ e in rw (f .is-here, f .kind, e, h, f .wait e, f .lock-list, f .others, f .full, f .answers)

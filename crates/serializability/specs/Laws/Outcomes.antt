@@ -18,8 +18,8 @@ use Rattle.protocol.specs.State.{abort-tree, tree-of, start-state, with-tree, o
 use Rattle.protocol.specs.Lent.{Room}
 use Rattle.protocol.specs.Causes.{causes, not-a-transaction, already-open, not-open, open-at-load}
 use Rattle.protocol.specs.Calls.{Call, start, load, begin, commit, abort, step, write, Input, unreadable, stands-for, node-limit, loadable}
-use Rattle.protocol.specs.Calls.{Outcome, granted, written, waits, refused, refused-at, Next, unchanged, becomes, takes-step, Check}
-use Rattle.protocol.specs.Calls.{checked, wait-set, number-taken, step-checks, judged, if-open, loaded, next}
+use Rattle.protocol.specs.Calls.{Outcome, granted, written, waits, refused, refused-at, Next, unchanged, becomes, grants-step, Check}
+use Rattle.protocol.specs.Calls.{checked, wait-set, number-in-use, step-checks, judged, if-open, loaded, next}
 use Rattle.protocol.specs.History.{is-granted}
 
 -- none of the checks applies
@@ -54,7 +54,7 @@ pub record Passed (t : ℕ) (s : Step) (M : State) (d : Document) : Type 0 where
   pub there : unknown s d ≡ false
   pub kind : wrong-kind s d ≡ false
   pub content : wrong-content s d ≡ false
-  pub unheld : number-taken s (M .tree) ≡ false
+  pub unheld : number-in-use s (M .tree) ≡ false
   pub clear : eqb (wait-set t (needs s d) M) 0 ≡ true
   pub place : misplaced s d ≡ false
 
@@ -72,7 +72,7 @@ pub record Cases (P : Call → Next → Type 0) (M : State) : Type 0 where
       → P (abort t) (becomes done (closed t (abort-tree t (M .tree)) M))
   pub at-step : (t : ℕ) (s : Step) (room : Room) → is-transaction t ≡ true → M .header .is-open t ≡ true
       → let d = callers-document t (M .tree) in Passed t s M d
-      → P (step t s room) (takes-step s (answer s d) (with-tree M (grant t (needs s d) (act t s (M .tree)))))
+      → P (step t s room) (grants-step s (answer s d) (with-tree M (grant t (needs s d) (act t s (M .tree)))))
   pub at-write : P write (unchanged (written (committed-document M)) M)
 
 module _ (P : Call → Next → Type 0) (M : State) (k : Cases P M) where

@@ -19,7 +19,7 @@ use Rattle.serializability.specs.Laws.Orders.{joined-append, logs}
 use Rattle.serializability.specs.Laws.Legal.{legal-parts}
 use Rattle.protocol.specs.State.{nobody, State, Marked, is-transaction, unmarked, commit-tree, tree-of, start-state, with-tree, opened}
 use Rattle.protocol.specs.State.{closed}
-use Rattle.protocol.specs.Calls.{Call, loadable, Taken, Next, next}
+use Rattle.protocol.specs.Calls.{Call, loadable, StepAnswer, Next, next}
 use Rattle.protocol.specs.History.{history, state-after, is-granted, Log, new-log, with-log, with-commit, logged, log-after}
 use Rattle.serializability.specs.Laws.Outcomes.{every-call}
 use Rattle.serializability.specs.Laws.Logs.{read-off, logged-read, with-log-same, logged-none}
@@ -104,7 +104,7 @@ pub start-tracks : Tracks (new-log node-0-alone) start-state
 start-tracks = new-tracks node-0-alone node-0-legal start-state (λ u e. absurd (false≢true e))
 
 -- an entry is a granted step with its locks
-abbrev pub taken-of : Entry → Taken
+abbrev pub taken-of : Entry → StepAnswer
 taken-of x = record { step = x .step; value = x .value }
 
 -- some entries are the steps that were granted in a call, and with them the log is in step with the state
@@ -169,10 +169,10 @@ module _ (L : Log Entry) (M : State) (tr : Tracks L M) where
 pub record Tracked (L : Log Entry) (M : State) (cs : List Call) : Type 1 where
   pub log : Log Entry
   pub tracks : Tracks log (state-after M cs)
-  pub read : (E : Type 0) (g : Entry → E) (e : Taken → E) → ((x : Entry) → e (taken-of x) ≡ g x)
+  pub read : (E : Type 0) (g : Entry → E) (e : StepAnswer → E) → ((x : Entry) → e (taken-of x) ≡ g x)
       → log-after e (read-off g L) (history M cs) ≡ read-off g log
 
-call-read : (L : Log Entry) (M : State) (c : Call) (x : Entered L c (next c M)) (E : Type 0) (g : Entry → E) (e : Taken → E)
+call-read : (L : Log Entry) (M : State) (c : Call) (x : Entered L c (next c M)) (E : Type 0) (g : Entry → E) (e : StepAnswer → E)
     → ((y : Entry) → e (taken-of y) ≡ g y) → let b = is-granted (next c M .outcome) in
     logged c b (map e (next c M .steps)) (read-off g L) ≡ read-off g (logged c b (x .entries) L)
 call-read L M c x E g e h = rw (← x .read, map-map e taken-of g (x .entries) (λ y m. h y)) (sym (logged-read g c _ (x .entries) L))

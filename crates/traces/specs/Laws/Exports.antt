@@ -17,7 +17,7 @@ use Rattle.protocol.specs.State.{State, is-transaction, callers-document, act, 
 use Rattle.protocol.specs.Lent.{Room, has-room, first-lent, second-lent}
 use Rattle.protocol.specs.Causes.{not-a-transaction, not-open}
 use Rattle.protocol.specs.Calls.{Input, Call, start, load, begin, commit, abort, step, write, Outcome, granted, written, waits, refused}
-use Rattle.protocol.specs.Calls.{refused-at, Next, takes-step, Check, checked, step-checks, judged, next}
+use Rattle.protocol.specs.Calls.{refused-at, Next, grants-step, Check, checked, step-checks, judged, next}
 use Rattle.protocol.specs.History.{is-granted}
 use Rattle.protocol.specs.Answers.{code-of, lent-after}
 use Rattle.protocol.specs.declared.Answer.{Answer}
@@ -72,7 +72,7 @@ step-quiet : (lent : Value → List ℕ) (t : ℕ) (s : Step) (room : Room) (M :
 unfolding next judged lent-after
 step-quiet lent t s room M h =
     let d = callers-document t (M .tree) in
-    let n : Next = takes-step s (answer s d) (with-tree M (grant t (needs s d) (act t s (M .tree)))) in
+    let n : Next = grants-step s (answer s d) (with-tree M (grant t (needs s d) (act t s (M .tree)))) in
     behind-checks lent (open-checks t M) M (judged t s room M d) refl (λ _. behind-checks lent (step-checks t s room M d) M n refl (λ p.
     rw (h (answer s d) (not-false _ (p .1 .1 .1 .1 .1 .1 .1 .0)))))
 

@@ -13,7 +13,7 @@ use Rattle.tree.specs.Laws.Tests.{refuted}
 use Rattle.tree.specs.Laws.Lists.{map-map}
 use Rattle.protocol.specs.State.{State}
 use Rattle.protocol.specs.Lent.{second-lent}
-use Rattle.protocol.specs.Calls.{Call, start, load, begin, commit, abort, step, write, unreadable, stands-for, Outcome, Taken, Next, next}
+use Rattle.protocol.specs.Calls.{Call, start, load, begin, commit, abort, step, write, unreadable, stands-for, Outcome, StepAnswer, Next, next}
 use Rattle.protocol.specs.History.{history, state-after, is-granted, Log, new-log, logged, log-after, fed, answered, plain-run-answers}
 use Rattle.protocol.specs.Answers.{code-of, answer-of, lent-after}
 use Rattle.xml_write.specs.Contract.{writing, text-after}
@@ -37,7 +37,7 @@ granted-same code g h = go g refl
 
 -- a granted step, its exchange, and that the exchange had its answer
 record Given : Type 0 where
-  taken : Taken
+  taken : StepAnswer
   exchange : Exchange
   answered : Answered (taken .value) exchange
 
@@ -115,7 +115,7 @@ module _ (M : State) (x : Exchange) (c : Call) (d : Demand2 M x c) where
   abbrev with-given : Log Given → Log Given
   with-given L = logged c (is-granted (next c M .outcome)) (given .0) L
 
-  read-taken : {E : Type 0} (f : Taken → E) (L : Log Given)
+  read-taken : {E : Type 0} (f : StepAnswer → E) (L : Log Given)
       → logged c (is-granted (next c M .outcome)) (map f (next c M .steps)) (read-off (λ g. f (g .taken)) L) ≡ read-off (λ g. f (g .taken)) (with-given L)
   read-taken f L =
       rw (← given .1, map-map f (λ (g : Given). g .taken) (λ g. f (g .taken)) (given .0) (λ g i. refl))
