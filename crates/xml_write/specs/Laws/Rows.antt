@@ -168,9 +168,6 @@ module _ {l : List Entry} {places path kinds : List ℕ} {count top i : ℕ} (c 
 module _ {l : List Entry} {places path kinds : List ℕ} {count top i d : ℕ} (c : Listed l places count) (w : Walk l places path kinds top i)
     (h : i < count)
     (e : d ≡ depth l (getD places i 0)) where
-  pub row-deep : d < 1024
-  row-deep = omega (arith, e, walk-deep c w h)
-
   module _ {text o₀ o : List ℕ} {at : ℕ} (q : Partly text (from l places count path top i) o₀ o at) (k : length text ≤ length o₀) where
     pub next-inside : at ≤ length o
     next-inside = next-row c w h refl e q k .inside

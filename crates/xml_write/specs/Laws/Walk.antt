@@ -174,3 +174,15 @@ module _ {l : List Entry} {places path kinds : List ℕ} {count top i : ℕ} (c 
       go : (j : ℕ) → j ≤ d → (b : Bool) → eqb j d ≡ b → getD (set path d p) j 0 < length l
       go j k true z = rw (eqb-true j d z, getD-set-same path d p 0 (omega (arith, w .on-path .long, walk-deep)), q) (c .inside i h)
       go j k false z = let y = eqb-false j d z in rw (getD-set-other path d j p 0 y) (w .on-path .inside j (omega (arith, y, walk-steps)))
+
+-- the row at place i, of depth d
+module _ {l : List Entry} {places path kinds : List ℕ} {count top i d : ℕ} (c : Listed l places count) (w : Walk l places path kinds top i)
+    (h : i < count) (e : d ≡ depth l (getD places i 0)) where
+  pub row-low : 1 ≤ d
+  row-low = omega (arith, e, walk-below c w h)
+
+  pub row-deep : d < 1024
+  row-deep = omega (arith, e, walk-deep c w h)
+
+  pub row-above : d - 1 < 1024
+  row-above = omega (arith, e, walk-deep c w h)

@@ -2,7 +2,7 @@ use borrow.Author.Needs.{needs}
 use native.Mathlib.Omega.{arith}
 use Rattle.xml_write.specs.Laws.Measure.{Measuring, measuring-start, too-few, measured-long, measured-sum, measured-refused}
 use Rattle.xml_write.specs.Laws.Measure.{measured-on}
-use Rattle.xml_write.specs.Laws.Walk.{walk-below, walk-deep, walk-parent, walk-kind}
+use Rattle.xml_write.specs.Laws.Walk.{row-low, row-deep, row-above, walk-deep, walk-parent, walk-kind}
 use Rattle.xml_write.specs.Laws.Contents.{kind-at}
 use Rattle.table.specs.Layout.{nodes}
 use lib.ListN.{replicate}
@@ -48,18 +48,6 @@ kind-requires-2 c κs =
     let c8 = c3 .before .before .before .before .before in
     (c8 .pre .0, c8 .pre .1 .inside (c3 .loop .i) (omega arith))
 
-sub-above : tie.Need-sub-above Inv-loop μ-loop
-sub-above c =
-    let c4 = c .before .before .before .before in
-    let c9 = c4 .before .before .before .before .before in
-    omega (arith, c .before .depth .ensures, walk-below (c9 .pre .1) (c4 .loop .inv .walk) (omega arith))
-
-array-read-above : tie.Need-array-read-above Inv-loop μ-loop
-array-read-above c =
-    let c4 = c .before .before .before .before in
-    let c9 = c4 .before .before .before .before .before in
-    omega (arith, c .before .depth .ensures, walk-deep (c9 .pre .1) (c4 .loop .inv .walk) (omega arith))
-
 admit-requires : tie.Need-admit-requires Inv-loop μ-loop
 admit-requires c κs =
     let c3 = c .before .before .before in
@@ -86,22 +74,8 @@ returns-2 c =
       omega arith,
     )
 
-sub-parent : tie.Need-sub-parent Inv-loop μ-loop
-sub-parent c =
-    let c8 = c .before .before .before .before .before .before .before .before in
-    let c11 = c8 .before .before .before in
-    let c16 = c11 .before .before .before .before .before in
-    omega (arith, c8 .depth .ensures, walk-below (c16 .pre .1) (c11 .loop .inv .walk) (omega arith))
-
 mul-parent : tie.Need-mul-parent Inv-loop μ-loop
 mul-parent c =
-    let c8 = c .before .before .before .before .before .before .before .before in
-    let c11 = c8 .before .before .before in
-    let c16 = c11 .before .before .before .before .before in
-    omega (arith, c8 .depth .ensures, walk-deep (c16 .pre .1) (c11 .loop .inv .walk) (omega arith))
-
-array-read-parent : tie.Need-array-read-parent Inv-loop μ-loop
-array-read-parent c =
     let c8 = c .before .before .before .before .before .before .before .before in
     let c11 = c8 .before .before .before in
     let c16 = c11 .before .before .before .before .before in
@@ -141,20 +115,6 @@ mul-path c =
     let c17 = c12 .before .before .before .before .before in
     omega (arith, c9 .depth .ensures, walk-deep (c17 .pre .1) (c12 .loop .inv .walk) (omega arith))
 
-array-write-path-2 : tie.Need-array-write-path-2 Inv-loop μ-loop
-array-write-path-2 c =
-    let c9 = c .before .before .before .before .before .before .before .before .before in
-    let c12 = c9 .before .before .before in
-    let c17 = c12 .before .before .before .before .before in
-    omega (arith, c9 .depth .ensures, walk-deep (c17 .pre .1) (c12 .loop .inv .walk) (omega arith))
-
-array-write-kinds-2 : tie.Need-array-write-kinds-2 Inv-loop μ-loop
-array-write-kinds-2 c =
-    let c9 = c .before .before .before .before .before .before .before .before .before in
-    let c12 = c9 .before .before .before in
-    let c17 = c12 .before .before .before .before .before in
-    omega (arith, c9 .depth .ensures, walk-deep (c17 .pre .1) (c12 .loop .inv .walk) (omega arith))
-
 loop-again : tie.Need-loop-again Inv-loop μ-loop
 loop-again c =
     let c2 = c .before .before in
@@ -185,6 +145,8 @@ measure-spec = tie.close (tie.spec Inv-loop μ-loop (λ c. (too-few _ _ _ (c .be
     (λ c κs. (c .before .before .before .pre .0, c .before .before .before .pre .1 .inside 0 (c .before .before .before .pre .1 .some)))
     (λ c. search needs) loop-holds (λ c. omega (arith, c .before .before .before .before .before .before .pre .1 .room))
     (λ c. omega (arith, c .before .before .before .before .before .before .pre .1 .room)) cast-p depth-requires (λ c. search needs)
-    kind-requires-2 sub-above array-read-above (λ c κs. c .before .before .before .before .before .loop .inv .walk .on-path .deep)
-    admit-requires (λ c. search needs) returns-2 (λ c. search needs) sub-parent mul-parent array-read-parent cast-parent cost-requires
-    add-sum mul-path array-write-path-2 array-write-kinds-2 (λ c. search needs) (λ c. search needs) loop-again returns-3 returns-4)
+    kind-requires-2 (λ c. search (row-low, needs)) (λ c. search (row-above, needs))
+    (λ c κs. c .before .before .before .before .before .loop .inv .walk .on-path .deep) admit-requires (λ c. search needs) returns-2
+    (λ c. search needs) (λ c. search (row-low, needs)) mul-parent (λ c. search (row-above, needs)) cast-parent cost-requires add-sum
+    mul-path (λ c. search (row-deep, needs)) (λ c. search (row-deep, needs)) (λ c. search needs) (λ c. search needs) loop-again returns-3
+    returns-4)

@@ -1,5 +1,5 @@
-use Rattle.xml_write.specs.Laws.Rows.{from, from-start, next-row, last-ends, row-deep, next-inside, next-fits, last-inside, last-fits}
-use Rattle.xml_write.specs.Laws.Walk.{walk-start, walk-below, walk-steps, walk-deep, walk-on}
+use Rattle.xml_write.specs.Laws.Rows.{from, from-start, next-row, last-ends, next-inside, next-fits, last-inside, last-fits}
+use Rattle.xml_write.specs.Laws.Walk.{walk-start, walk-below, walk-steps, walk-deep, walk-on, row-deep}
 use Rattle.xml_write.specs.Walk.{Walk}
 use Rattle.xml_text.specs.Rows.{body}
 use Rattle.xml_text.specs.Laws.Next.{both}
