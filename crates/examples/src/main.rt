@@ -1,6 +1,6 @@
-// The examples of document 01 beside its lines P1 to P9, through the exported calls. A line for each call: what it is, G (granted), W (waits) or
-// R (refused), and a number: the length of write, the count of load, the cause of a refusal, else 0. A refusal of load has the byte offset
-// behind it. What was written follows the line of a write.
+// The examples of document 01 beside its lines P1 to P9, through the exported calls. A line for each call: what it is, G (granted), W
+// (waits) or R (refused), and a number: the length of write, the count of load, the cause of a refusal, else 0. A refusal of load has the
+// byte offset behind it. What was written follows the line of a write.
 mod inputs;
 mod lines;
 

@@ -70,7 +70,8 @@ pub extern "C" fn noodlefen_child(state: &mut [u8], t: u32, n: u16, k: u32) -> u
 // R(n): the content of node n, into out.
 #[no_mangle]
 pub extern "C" fn noodlefen_read(state: &mut [u8], t: u32, n: u16, out: &mut [u8]) -> u64
-    ensures { λ r. ⌜ Contract (with-one (Request.step t (R n)) (now (state .entry)) (now (state .exit)) (now (out .entry)) (now (out .exit)) r) ⌝ }
+    ensures { λ r. ⌜ Contract
+        (with-one (Request.step t (R n)) (now (state .entry)) (now (state .exit)) (now (out .entry)) (now (out .exit)) r) ⌝ }
 {
     read_calls::read(state, t, n, out)
 }
@@ -110,7 +111,8 @@ pub extern "C" fn noodlefen_insert(
 // TT(n): the numbers of node n and all below it, in document order.
 #[no_mangle]
 pub extern "C" fn noodlefen_test_tree(state: &mut [u8], t: u32, n: u16, numbers: &mut [u8]) -> u64
-    ensures { λ r. ⌜ Contract (with-one (Request.step t (TT n)) (now (state .entry)) (now (state .exit)) (now (numbers .entry)) (now (numbers .exit)) r) ⌝ }
+    ensures { λ r. ⌜ Contract
+        (with-one (Request.step t (TT n)) (now (state .entry)) (now (state .exit)) (now (numbers .entry)) (now (numbers .exit)) r) ⌝ }
 {
     read_calls::test_tree(state, t, n, numbers)
 }
@@ -139,7 +141,8 @@ pub extern "C" fn noodlefen_rename_tree(
     from: &[u8],
     to: &[u8],
 ) -> u64
-    ensures { λ r. ⌜ Contract (with-none (Request.step t (UU n (now (from .entry)) (now (to .entry)))) (now (state .entry)) (now (state .exit)) r) ⌝ }
+    ensures { λ r. ⌜ Contract
+        (with-none (Request.step t (UU n (now (from .entry)) (now (to .entry)))) (now (state .entry)) (now (state .exit)) r) ⌝ }
 {
     write_calls::rename_tree(state, t, n, from, to)
 }

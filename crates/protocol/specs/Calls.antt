@@ -14,7 +14,8 @@ use Rattle.protocol.specs.State.{is-transaction, transactions, Marked, T
 use Rattle.protocol.specs.State.{committed-document, act, grant, commit-tree, abort-tree, tree-of}
 use Rattle.protocol.specs.State.{start-state, with-tree, opened, closed}
 use Rattle.protocol.specs.Lent.{Room, has-room}
-use Rattle.protocol.specs.Causes.{not-a-transaction, already-open, not-open, no-such-node, kind-not-allowed, content-not-allowed, held-number}
+use Rattle.protocol.specs.Causes.{not-a-transaction, already-open, not-open, no-such-node}
+use Rattle.protocol.specs.Causes.{kind-not-allowed, content-not-allowed, held-number}
 use Rattle.protocol.specs.Causes.{place-not-allowed, no-more-nodes, short-buffer, open-at-load}
 
 -- "at most 1,024 nodes are held"

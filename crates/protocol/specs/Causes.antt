@@ -65,5 +65,6 @@ open-at-load = 15
 -- all that a call can be refused by
 abbrev pub causes : List ℕ
 causes =
-    not-a-transaction ∷ already-open ∷ not-open ∷ not-of-grammar ∷ content-over-limit ∷ nodes-over-limit ∷ no-such-node ∷ kind-not-allowed ∷ content-not-allowed
+    not-a-transaction ∷ already-open ∷ not-open ∷ not-of-grammar ∷ content-over-limit ∷ nodes-over-limit ∷ no-such-node ∷ kind-not-allowed
+    ∷ content-not-allowed
     ∷ held-number ∷ place-not-allowed ∷ no-more-nodes ∷ short-buffer ∷ not-expressible ∷ open-at-load ∷ []

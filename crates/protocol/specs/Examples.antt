@@ -79,7 +79,8 @@ P =
     ∷ does 2 (D 6) (granted done)
     ∷ does 1 (C 1 1) (waits 2) ∷ []) ∷
     -- P5, and with TT(1)
-    (does 1 (RR 1) (granted (cells-are ((1, bytes "lift") ∷ (2, bytes "rope") ∷ (3, bytes "2") ∷ (4, bytes "speed") ∷ (5, bytes "6") ∷ (6, bytes "ramp") ∷ [])))
+    (does 1 (RR 1) (granted (cells-are
+    ((1, bytes "lift") ∷ (2, bytes "rope") ∷ (3, bytes "2") ∷ (4, bytes "speed") ∷ (5, bytes "6") ∷ (6, bytes "ramp") ∷ [])))
     ∷ does 2 (U 5 (bytes "7")) (waits 1) ∷ []) ∷
     (does 1 (TT 1) (granted (numbers-are (1 ∷ 2 ∷ 3 ∷ 4 ∷ 5 ∷ 6 ∷ [])))
     ∷ does 2 (U 5 (bytes "7")) (granted done) ∷ []) ∷
@@ -107,6 +108,7 @@ P =
 pub P-holds : map from-E P ≡ P
 unfolding tree-E played from-E state-after history log-after plain pending next judged wait-set loadable first-lent second-lent
     nodes callers-document document-of grant commit-tree abort-tree tree-of node-0-alone clash locks
-    legal ruled lines select rows keep amend view place put name-start name-byte text-byte is-name is-text allowed takes attributes-first children-rule
+    legal ruled lines select rows keep amend view place put name-start name-byte text-byte is-name is-text allowed takes attributes-first
+    children-rule
     insert-at placed plain-document
 P-holds = refl

@@ -122,6 +122,7 @@ mistakes =
 pub mistakes-hold : map from-E mistakes ≡ mistakes
 unfolding tree-E played from-E state-after history log-after plain pending next judged wait-set loadable first-lent second-lent
     nodes callers-document document-of grant commit-tree abort-tree tree-of node-0-alone clash locks
-    legal ruled lines select rows keep amend view place put name-start name-byte text-byte is-name is-text allowed takes attributes-first children-rule
+    legal ruled lines select rows keep amend view place put name-start name-byte text-byte is-name is-text allowed takes attributes-first
+    children-rule
     insert-at placed plain-document
 mistakes-hold = refl

@@ -64,6 +64,7 @@ table =
 pub beside-holds : map (λ r. map (beside (state-after start-state opening) (r .0)) columns) table ≡ map (λ r. bytes (r .1)) table
 unfolding tree-E state-after next judged wait-set loadable first-lent second-lent
     nodes callers-document document-of grant commit-tree abort-tree tree-of node-0-alone clash locks
-    legal ruled lines select rows keep amend view place put name-start name-byte text-byte is-name is-text allowed takes attributes-first children-rule
+    legal ruled lines select rows keep amend view place put name-start name-byte text-byte is-name is-text allowed takes attributes-first
+    children-rule
     insert-at placed
 beside-holds = refl

@@ -24,7 +24,8 @@ module _ (b : ℕ) where
 
   pub start-lower : 97 ≤ b → leb b 122 ≡ name-start b
   unfolding name-start
-  start-lower h = rw (lt-leb b 90 (omega arith), le-leb 65 b (omega arith), le-leb 97 b h, ne-eqb b 95 (λ e. omega arith)) (or-nothing (leb b 122))
+  start-lower h = rw (lt-leb b 90 (omega arith), le-leb 65 b (omega arith), le-leb 97 b h, ne-eqb b 95 (λ e. omega arith))
+      (or-nothing (leb b 122))
 
   pub start-upper : b ≤ 90 → leb 65 b ≡ name-start b
   unfolding name-start
@@ -38,7 +39,8 @@ module _ (b : ℕ) where
   pub name-above : 65 ≤ b → name-start b ≡ name-byte b
   unfolding name-byte
   name-above h =
-      rw (le-leb 48 b (omega arith), lt-leb b 57 (omega arith), ne-eqb b 45 (λ e. omega arith), ne-eqb b 46 (λ e. omega arith)) (go (name-start b))
+      rw (le-leb 48 b (omega arith), lt-leb b 57 (omega arith), ne-eqb b 45 (λ e. omega arith), ne-eqb b 46 (λ e. omega arith))
+      (go (name-start b))
     where
       go : (x : Bool) → x ≡ (x || (true && false) || false || false)
       go true = refl

@@ -35,13 +35,18 @@ refuses s = (s, unfit)
 -- steps in order on E, and the answers of the plain run
 abbrev plain-examples : List (Step × PlainAnswer)
 plain-examples =
-    gives (T 0) (kind-parent 1 0) ∷ gives (T 5) (kind-parent 4 4) ∷ gives (C 1 1) (child-is 2 3) ∷ gives (C 1 4) none ∷ gives (R 2) (content-is (bytes "rope")) ∷ refuses (R 0) ∷
-    gives (UU 0 (bytes "ramp") (bytes "speed")) (how-many 1) ∷ gives (UU 1 (bytes "speed") (bytes "pace")) (how-many 2) ∷ gives (R 6) (content-is (bytes "pace")) ∷
-    gives (I 9 4 (bytes "x y") 6 1) done ∷ refuses (I 9 4 (bytes "z") 6 2) ∷ refuses (I 7 3 (bytes "a") 1 3) ∷ gives (I 7 3 (bytes "a") 1 2) done ∷
-    gives (TT 1) (numbers-are (1 ∷ 2 ∷ 3 ∷ 7 ∷ 4 ∷ 5 ∷ 6 ∷ 9 ∷ [])) ∷ gives (D 4) done ∷ refuses (R 5) ∷ refuses (U 9 (bytes "")) ∷ gives (U 9 (bytes "8")) done ∷
+    gives (T 0) (kind-parent 1 0) ∷ gives (T 5) (kind-parent 4 4) ∷ gives (C 1 1) (child-is 2 3) ∷ gives (C 1 4) none
+    ∷ gives (R 2) (content-is (bytes "rope")) ∷ refuses (R 0) ∷
+    gives (UU 0 (bytes "ramp") (bytes "speed")) (how-many 1) ∷ gives (UU 1 (bytes "speed") (bytes "pace")) (how-many 2)
+    ∷ gives (R 6) (content-is (bytes "pace")) ∷
+    gives (I 9 4 (bytes "x y") 6 1) done ∷ refuses (I 9 4 (bytes "z") 6 2) ∷ refuses (I 7 3 (bytes "a") 1 3)
+    ∷ gives (I 7 3 (bytes "a") 1 2) done ∷
+    gives (TT 1) (numbers-are (1 ∷ 2 ∷ 3 ∷ 7 ∷ 4 ∷ 5 ∷ 6 ∷ 9 ∷ [])) ∷ gives (D 4) done ∷ refuses (R 5) ∷ refuses (U 9 (bytes ""))
+    ∷ gives (U 9 (bytes "8")) done ∷
     gives (RR 6) (cells-are ((6, bytes "pace") ∷ (9, bytes "8") ∷ [])) ∷ gives (TT 0) (numbers-are (0 ∷ 1 ∷ 2 ∷ 3 ∷ 7 ∷ 6 ∷ 9 ∷ [])) ∷ []
 
 pub plain-examples-hold : plain-answers tree-E (map (λ x. x .0) plain-examples) ≡ map (λ x. x .1) plain-examples
-unfolding tree-E plain-answers lines select rows keep amend view place put name-start name-byte text-byte is-name is-text allowed takes attributes-first
+unfolding tree-E plain-answers lines select rows keep amend view place put name-start name-byte text-byte is-name is-text allowed takes
+    attributes-first
     children-rule insert-at placed
 plain-examples-hold = refl

@@ -1,4 +1,5 @@
--- The nine steps on a plain document: document 01, "Steps" and "The plain run". Locks, the number of nodes and room in buffers play no part.
+-- The nine steps on a plain document: document 01, "Steps" and "The plain run". Locks, the number of nodes and room in buffers play no
+-- part.
 use Prim.Native.Nat.{ℕ, zero, suc}
 use mathlib.Core.Bool.{Bool, true, false, cond, not, _&&_, _||_}
 use mathlib.Core.List.{List, [], _∷_, map}

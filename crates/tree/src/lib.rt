@@ -6,7 +6,8 @@ ghost use lib.ListN.{length, drop};
 ghost use Rattle.tree.specs.Lists.{every};
 ghost use Rattle.tree.specs.Content.{name-start, name-byte, text-byte, is-name, is-text, allowed, takes};
 
-// Classes of bytes by comparisons: a table in a constant would be laid out anew at each lookup. Small letters, the most frequent, come first.
+// Classes of bytes by comparisons: a table in a constant would be laid out anew at each lookup. Small letters, the most frequent, come
+// first.
 pub fn name_start(x: u8) -> bool
     ensures { λ r. ⌜ r ≡ name-start x ⌝ }
 {

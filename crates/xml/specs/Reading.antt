@@ -67,7 +67,8 @@ pub record Earlier (cause offset cause′ offset′ : ℕ) : Type 0 where
   pub causes : offset ≡ offset′ → cause ≤ cause′
 
 pub data ReadsWithin (limit : ℕ) (s : List ℕ) : Input → Type 0 where
-  accepted : {f : Shape} → Spells s f → ((cause offset : ℕ) → ¬ (FaultWithin limit s cause offset)) → (h : loadable node-limit (document f) ≡ true)
+  accepted : {f : Shape} → Spells s f → ((cause offset : ℕ) → ¬ (FaultWithin limit s cause offset))
+      → (h : loadable node-limit (document f) ≡ true)
       → ReadsWithin limit s (stands-for (document f) h)
   refused : {cause offset : ℕ} → FaultWithin limit s cause offset
       → ((cause′ offset′ : ℕ) → FaultWithin limit s cause′ offset′ → Earlier cause offset cause′ offset′)

@@ -25,4 +25,5 @@ insert-spec = tie.close (tie.spec Inv-loop μ-loop (λ c. (search needs, search 
     (λ c. search needs) (λ c. search needs) (λ c. search needs)
     (λ c. omega (arith, c .before .before .before .pre .1, c .before .before .before .pre .2, c .before .before .loop .inv .2 .as-long))
     (λ c. search needs) (λ c. search needs) loop-again (λ c. search needs) (λ c. search needs)
-    (λ c. let c2 = c .before .before in shift-end (c .before .loop .inv .2) _ (omega arith) (c2 .pre .0) (omega (arith, c2 .pre .1, c2 .pre .2))))
+    (λ c. let c2 = c .before .before in shift-end (c .before .loop .inv .2) _ (omega arith) (c2 .pre .0)
+    (omega (arith, c2 .pre .1, c2 .pre .2))))

@@ -38,7 +38,8 @@ in-every-one : (q : ℕ) (held : List Mode) (p : List ℕ) → has q p ≡ true 
 in-every-one q held [] h a m = absurd (false≢true h)
 in-every-one q held (x ∷ p) h a m = go (eqb x q) refl h (λ i. in-every-one q held p i a m)
   where
-    go : (t : Bool) → eqb x q ≡ t → (t || has q p) ≡ true → (has q p ≡ true → Locked q a (every-one held p)) → Locked q a (each held x ++ every-one held p)
+    go : (t : Bool) → eqb x q ≡ t → (t || has q p) ≡ true → (has q p ≡ true → Locked q a (every-one held p))
+        → Locked q a (each held x ++ every-one held p)
     go true e i f = Memᴰ·append-left (every-one held p) (in-each x q held e a m)
     go false e i f = Memᴰ·append-right (each held x) (f i)
 
@@ -53,7 +54,8 @@ module _ (s : Step) (p : List ℕ) where
 
   pub new-locked : (m : ℕ) → has m (inserts s) ≡ true → All-locked m (need s .new) (locks s p)
   unfolding locks
-  new-locked m h a i = Memᴰ·append-right (each (need s .node) (target s)) (Memᴰ·append-right (up (need s) p) (in-every-one m (need s .new) (inserts s) h a i))
+  new-locked m h a i = Memᴰ·append-right (each (need s .node) (target s))
+      (Memᴰ·append-right (up (need s) p) (in-every-one m (need s .new) (inserts s) h a i))
 
   pub parent-locked : (q : ℕ) → leads q p ≡ true → All-locked q (need s .parent) (locks s p)
   parent-locked q h a m = up-locked q a (go p h)
@@ -86,7 +88,8 @@ module _ (s : Step) (p : List ℕ) where
 abbrev pub clashing : List Mode → List Mode → Bool
 clashing held asked = any (λ a. any (clash a) asked) held
 
-pub not-both : (q : ℕ) (held asked : List Mode) (l k : List Lock) → clashing held asked ≡ true → Compatible l k → All-locked q held l → All-locked q asked k → ⊥
+pub not-both : (q : ℕ) (held asked : List Mode) (l k : List Lock) → clashing held asked ≡ true → Compatible l k → All-locked q held l
+    → All-locked q asked k → ⊥
 not-both q held asked l k h c x y =
     let f = any-at (λ a. any (clash a) asked) held h in
     let g = any-at (clash (f .0)) asked (f .2) in
@@ -97,7 +100,8 @@ abbrev pub excludes : List Mode → Need → Bool
 excludes held w = clashing held (w .node) && (clashing held (w .parent) && clashing held (w .above))
 
 -- node q is locked in these modes, and another step's locks are compatible
-module _ (q : ℕ) (held : List Mode) (l : List Lock) (locked : All-locked q held l) (s : Step) (p : List ℕ) (c : Compatible l (locks s p)) where
+module _ (q : ℕ) (held : List Mode) (l : List Lock) (locked : All-locked q held l) (s : Step) (p : List ℕ)
+    (c : Compatible l (locks s p)) where
   pub off-node : clashing held (need s .node) ≡ true → eqb (target s) q ≡ false
   off-node h = refuted _ (λ e. not-both q held (need s .node) l (locks s p) h c locked (rw (eqb-true (target s) q e) at (node-locked s p)))
 

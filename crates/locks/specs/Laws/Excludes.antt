@@ -83,7 +83,8 @@ content-kept (reads n) = refl
 content-kept (writes n b) = refl
 
 -- no U and no UU in the subtree
-pub contents-kept : {s : Step} → Touches-contents s → (excludes (need s .node) (need (U 0 [])) ≡ true) × (excludes (need s .node) (need (UU 0 [] [])) ≡ true)
+pub contents-kept : {s : Step} → Touches-contents s
+    → (excludes (need s .node) (need (U 0 [])) ≡ true) × (excludes (need s .node) (need (UU 0 [] [])) ≡ true)
 unfolding clash
 contents-kept (reads-below n) = (refl, refl)
 contents-kept (renames-below n a b) = (refl, refl)

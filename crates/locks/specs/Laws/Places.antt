@@ -24,7 +24,8 @@ pub in-every-one : (ms : List Mode) (p : List ℕ) (l : Lock) → List·Memᴰ l
 in-every-one ms [] l m = absurd (List·Memᴰ·not-nil m)
 in-every-one ms (q ∷ p) l m = go (List·Memᴰ·append-cases (each ms q) m) (in-every-one ms p l)
   where
-    go : List·Memᴰ l (each ms q) ⊎ List·Memᴰ l (every-one ms p) → (List·Memᴰ l (every-one ms p) → (has (l .0) p ≡ true) × List·Memᴰ (l .1) ms)
+    go : List·Memᴰ l (each ms q) ⊎ List·Memᴰ l (every-one ms p)
+        → (List·Memᴰ l (every-one ms p) → (has (l .0) p ≡ true) × List·Memᴰ (l .1) ms)
         → (has (l .0) (q ∷ p) ≡ true) × List·Memᴰ (l .1) ms
     go (inl i) f = let e = in-each ms q l i in (rw (eq-eqb q (l .0) (sym (e .0))), e .1)
     go (inr i) f = let e = f i in (rw (e .0) (or-true (eqb q (l .0))), e .1)
@@ -38,11 +39,13 @@ up-at w (q ∷ p) l m = go (List·Memᴰ·append-cases (each (w .parent) q) m)
     go (inr i) = rw (in-every-one (w .above) p l i .0) (or-true (eqb q (l .0)))
 
 -- on the node that the step is on, above it, or on the new node
-pub lock-place : (s : Step) (p : List ℕ) (l : Lock) → List·Memᴰ l (locks s p) → (has (l .0) (target s ∷ p) ≡ true) ⊎ (has (l .0) (inserts s) ≡ true)
+pub lock-place : (s : Step) (p : List ℕ) (l : Lock) → List·Memᴰ l (locks s p)
+    → (has (l .0) (target s ∷ p) ≡ true) ⊎ (has (l .0) (inserts s) ≡ true)
 unfolding locks
 lock-place s p l m = go (List·Memᴰ·append-cases (each (need s .node) (target s)) m)
   where
-    rest : List·Memᴰ l (up (need s) p) ⊎ List·Memᴰ l (every-one (need s .new) (inserts s)) → (has (l .0) (target s ∷ p) ≡ true) ⊎ (has (l .0) (inserts s) ≡ true)
+    rest : List·Memᴰ l (up (need s) p) ⊎ List·Memᴰ l (every-one (need s .new) (inserts s))
+        → (has (l .0) (target s ∷ p) ≡ true) ⊎ (has (l .0) (inserts s) ≡ true)
     rest (inl i) = inl (rw (up-at (need s) p l i) (or-true (eqb (target s) (l .0))))
     rest (inr i) = inr (in-every-one (need s .new) (inserts s) l i .0)
 
@@ -54,7 +57,8 @@ lock-place s p l m = go (List·Memᴰ·append-cases (each (need s .node) (target
 -- a lock on every node of a path --------------------------------------------------------------
 
 -- a step needs a mode on its node, on the parent, and above
-some-need : (s : Step) → ((a : Mode) × List·Memᴰ a (need s .node)) × ((a : Mode) × List·Memᴰ a (need s .parent)) × ((a : Mode) × List·Memᴰ a (need s .above))
+some-need : (s : Step) → ((a : Mode) × List·Memᴰ a (need s .node)) × ((a : Mode) × List·Memᴰ a (need s .parent))
+    × ((a : Mode) × List·Memᴰ a (need s .above))
 some-need (T n) = ((LT, List·Memᴰ·head refl), (LT, List·Memᴰ·head refl), (LT, List·Memᴰ·head refl))
 some-need (C n k) = ((LC, List·Memᴰ·head refl), (LT, List·Memᴰ·head refl), (LT, List·Memᴰ·head refl))
 some-need (R n) = ((LR, List·Memᴰ·head refl), (LIR, List·Memᴰ·head refl), (LIR, List·Memᴰ·head refl))
@@ -80,7 +84,8 @@ path-locked s p q h = go (eqb (target s) q) refl h
 -- insertions and deletions ---------------------------------------------------------------------
 
 -- the locks of the deletion of a new node are among those of its insertion
-pub insertion-guards : (m kind : ℕ) (b : List ℕ) (n k : ℕ) (p : List ℕ) (l : Lock) → List·Memᴰ l (locks (D m) (n ∷ p)) → List·Memᴰ l (locks (I m kind b n k) p)
+pub insertion-guards : (m kind : ℕ) (b : List ℕ) (n k : ℕ) (p : List ℕ) (l : Lock) → List·Memᴰ l (locks (D m) (n ∷ p))
+    → List·Memᴰ l (locks (I m kind b n k) p)
 unfolding locks
 insertion-guards m kind b n k p l x = node (List·Memᴰ·append-cases (each (LW ∷ []) m) x)
   where
@@ -93,7 +98,8 @@ insertion-guards m kind b n k p l x = node (List·Memᴰ·append-cases (each (LW
     above : (q : ℕ) → has q p ≡ true → List·Memᴰ {A = Lock} (q, LIW) (locks s p)
     above q h = go (above-locked s p q h)
       where
-        go : All-locked q (need s .parent) (locks s p) ⊎ All-locked q (need s .above) (locks s p) → List·Memᴰ {A = Lock} (q, LIW) (locks s p)
+        go : All-locked q (need s .parent) (locks s p) ⊎ All-locked q (need s .above) (locks s p)
+            → List·Memᴰ {A = Lock} (q, LIW) (locks s p)
         go (inl f) = f LIW LIW-there
         go (inr f) = f LIW LIW-there
 

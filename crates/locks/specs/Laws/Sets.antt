@@ -61,7 +61,8 @@ clash-at-index a b = rw (at-index (λ a. map (clash a) modes) [] a) (at-index (c
 -- the bits of a word
 bit-zero : (b : Bool) (w : ℕ) → eqb ((cond b 1 0 + 2 * w) / 2 ^ 0 % 2) 1 ≡ b
 bit-zero true w = let e : (1 + 2 * w) / 1 % 2 ≡ 1 = omega arith in eq-eqb _ 1 e
-bit-zero false w = let e : (0 + 2 * w) / 1 % 2 ≡ 0 = omega arith in ne-eqb ((0 + 2 * w) / 1 % 2) 1 (λ (h : (0 + 2 * w) / 1 % 2 ≡ 1). omega arith)
+bit-zero false w = let e : (0 + 2 * w) / 1 % 2 ≡ 0 =
+    omega arith in ne-eqb ((0 + 2 * w) / 1 % 2) 1 (λ (h : (0 + 2 * w) / 1 % 2 ≡ 1). omega arith)
 
 half : (b : Bool) (w : ℕ) → (cond b 1 0 + 2 * w) / 2 ≡ w
 half true w = omega arith

@@ -64,7 +64,8 @@ not-granted-unlent lent (refused-at c i) h = refl
 behind-checks : (lent : Value → List ℕ) (cs : List Check) (M : State) (n : Next) → every (λ c. not (is-granted (c .0))) cs ≡ true
     → (AllPassed cs → Unlent lent n) → Unlent lent (checked cs M n)
 behind-checks lent cs M n h g =
-    checked-cases (Unlent lent) cs M n (λ c i e. not-granted-unlent lent (c .0) (not-true _ (every-at (λ c. not (is-granted (c .0))) cs h i))) g
+    checked-cases (Unlent lent) cs M n
+    (λ c i e. not-granted-unlent lent (c .0) (not-true _ (every-at (λ c. not (is-granted (c .0))) cs h i))) g
 
 -- a step is granted only where there is room
 step-quiet : (lent : Value → List ℕ) (t : ℕ) (s : Step) (room : Room) (M : State) → ((v : Value) → has-room v room ≡ true → lent v ≡ [])
@@ -81,14 +82,17 @@ no-bytes [] h = refl
 no-bytes (x ∷ l) h = absurd (omega arith)
 
 module _ (s : List ℕ) (t : ℕ) (st : Step) where
-  step-unlent : (lent : Value → List ℕ) (room : Room) → ((v : Value) → has-room v room ≡ true → lent v ≡ []) → Lent lent s [] [] (step t st room)
+  step-unlent : (lent : Value → List ℕ) (room : Room) → ((v : Value) → has-room v room ≡ true → lent v ≡ [])
+      → Lent lent s [] [] (step t st room)
   step-unlent lent room h = record { unformed = λ _. refl; filled = λ M _. step-quiet lent t st room M h }
 
   no-first : Lent first-lent s [] [] (step t st no-room)
-  no-first = step-unlent first-lent no-room (λ v h. no-bytes (first-lent v) (leb-true (length (first-lent v)) 0 (and-left _ (leb (length (second-lent v)) 0) h)))
+  no-first = step-unlent first-lent no-room
+      (λ v h. no-bytes (first-lent v) (leb-true (length (first-lent v)) 0 (and-left _ (leb (length (second-lent v)) 0) h)))
 
   no-second : (k : ℕ) → Lent second-lent s [] [] (step t st (record { first = k; second = 0 }))
-  no-second k = step-unlent second-lent (record { first = k; second = 0 }) (λ v h. no-bytes (second-lent v) (leb-true (length (second-lent v)) 0 (and-right (leb (length (first-lent v)) k) _ h)))
+  no-second k = step-unlent second-lent (record { first = k; second = 0 })
+      (λ v h. no-bytes (second-lent v) (leb-true (length (second-lent v)) 0 (and-right (leb (length (first-lent v)) k) _ h)))
 
 -- begin, commit, abort and load put nothing into buffers
 module _ (lent : Value → List ℕ) (h : lent done ≡ []) (k : (n : ℕ) → lent (how-many n) ≡ []) where
@@ -149,20 +153,26 @@ module _ {s s′ : List ℕ} {a : Answer} {r : ℕ} (e : r ≡ code-of a) where
       contract-of a e (makes-load (i .1)) (quiet _ (load (i .0)) refl (h (i .0) (i .1)))
 
   -- steps with no buffer, with one, and with two
-  pub none-contract : {q : Request} {t : ℕ} {st : Step} → Makes no-room q (step t st no-room) → Performed s s′ a (step t st no-room) → Contract (with-none q s s′ r)
+  pub none-contract : {q : Request} {t : ℕ} {st : Step} → Makes no-room q (step t st no-room) → Performed s s′ a (step t st no-room)
+      → Contract (with-none q s s′ r)
   unfolding Ensured
   none-contract {t = t} {st = st} m h = contract-of a e m (record { performed = h; first = no-first s t st; second = no-second s t st 0 })
 
-  pub one-contract : {q : Request} {t : ℕ} {st : Step} {b b′ : List ℕ} → Makes (room-of b) q (step t st (room-of b)) → Performed s s′ a (step t st (room-of b))
+  pub one-contract : {q : Request} {t : ℕ} {st : Step} {b b′ : List ℕ} → Makes (room-of b) q (step t st (room-of b))
+      → Performed s s′ a (step t st (room-of b))
       → Lent first-lent s b b′ (step t st (room-of b)) → Contract (with-one q s s′ b b′ r)
   unfolding Ensured
-  one-contract {t = t} {st = st} {b = b} m h k = contract-of a e m (record { performed = h; first = k; second = no-second s t st (length b) })
+  one-contract {t = t} {st = st} {b = b} m h k =
+      contract-of a e m (record { performed = h; first = k; second = no-second s t st (length b) })
 
-  pub two-contract : {q : Request} {t : ℕ} {st : Step} {b b′ d d′ : List ℕ} → Makes (rooms-of b d) q (step t st (rooms-of b d)) → Performed s s′ a (step t st (rooms-of b d))
-      → Lent first-lent s b b′ (step t st (rooms-of b d)) → Lent second-lent s d d′ (step t st (rooms-of b d)) → Contract (with-two q s s′ b b′ d d′ r)
+  pub two-contract : {q : Request} {t : ℕ} {st : Step} {b b′ d d′ : List ℕ} → Makes (rooms-of b d) q (step t st (rooms-of b d))
+      → Performed s s′ a (step t st (rooms-of b d))
+      → Lent first-lent s b b′ (step t st (rooms-of b d)) → Lent second-lent s d d′ (step t st (rooms-of b d))
+      → Contract (with-two q s s′ b b′ d d′ r)
   unfolding Ensured
   two-contract m h k l = contract-of a e m (record { performed = h; first = k; second = l })
 
-pub write-contract : {s o o′ : List ℕ} {a : Answer} {r : ℕ} → r ≡ code-of a → Written s o o′ a → Contract (with-one Request.write s s o o′ r)
+pub write-contract : {s o o′ : List ℕ} {a : Answer} {r : ℕ} → r ≡ code-of a → Written s o o′ a
+    → Contract (with-one Request.write s s o o′ r)
 unfolding Ensured
 write-contract {a = a} e h = contract-of a e makes-write (record { written = h; state = refl; second = refl })

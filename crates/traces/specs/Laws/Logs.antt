@@ -13,7 +13,8 @@ use Rattle.tree.specs.Laws.Tests.{refuted}
 use Rattle.tree.specs.Laws.Lists.{map-map}
 use Rattle.protocol.specs.State.{State}
 use Rattle.protocol.specs.Lent.{second-lent}
-use Rattle.protocol.specs.Calls.{Call, start, load, begin, commit, abort, step, write, unreadable, stands-for, Outcome, StepAnswer, Next, next}
+use Rattle.protocol.specs.Calls.{Call, start, load, begin, commit, abort, step, write}
+use Rattle.protocol.specs.Calls.{unreadable, stands-for, Outcome, StepAnswer, Next, next}
 use Rattle.protocol.specs.History.{history, state-after, is-granted, Log, new-log, logged, log-after, fed, answered, plain-run-answers}
 use Rattle.protocol.specs.Answers.{code-of, answer-of, lent-after}
 use Rattle.xml_write.specs.Contract.{writing, text-after}
@@ -60,7 +61,8 @@ module _ (x : Exchange) where
   Gives c n = (is-write c ≡ false → told-granted (x .code) ≡ is-granted (n .outcome)) → Meets n
       → (gs : List Given) × (map (λ g. g .taken) gs ≡ n .steps) × (map by-exchange gs ≡ granted-in x c)
 
-  refused-none : (c : Call) (o : Outcome) → is-granted o ≡ false → (is-write c ≡ false → told-granted (x .code) ≡ is-granted o) → [] ≡ granted-in x c
+  refused-none : (c : Call) (o : Outcome) → is-granted o ≡ false → (is-write c ≡ false → told-granted (x .code) ≡ is-granted o)
+      → [] ≡ granted-in x c
   unfolding is-write
   refused-none start o g t = none-granted (told-granted (x .code))
   refused-none (load i) o g t = none-granted (told-granted (x .code))
@@ -80,13 +82,18 @@ module _ (x : Exchange) where
     at-begin = λ u i o t m. ([], refl, none-granted (told-granted (x .code)));
     at-commit = λ u i o t m. ([], refl, none-granted (told-granted (x .code)));
     at-abort = λ u i o t m. ([], refl, none-granted (told-granted (x .code)));
-    at-step = λ u s room i o p t m.
-        (record { taken = _; exchange = x; answered = record { code = m .code; first = m .first; second = m .second } } ∷ [], refl, rw (t refl));
+    at-step = λ u s room i o p t m. (
+      record { taken = _; exchange = x; answered = record { code = m .code; first = m .first; second = m .second } }
+          ∷ [],
+      refl,
+      rw (t refl),
+    );
     at-write = λ t m. ([], refl, none-granted (told-granted (x .code)));
   }) c
 
 -- the flag of a call that writes plays no part
-same-flag : {E : Type 0} (c : Call) (a b : Bool) (es : List E) (L : Log E) → (is-write c ≡ false → a ≡ b) → logged c a es L ≡ logged c b es L
+same-flag : {E : Type 0} (c : Call) (a b : Bool) (es : List E) (L : Log E) → (is-write c ≡ false → a ≡ b)
+    → logged c a es L ≡ logged c b es L
 unfolding is-write
 same-flag start a b es L h = rw (h refl)
 same-flag (load (unreadable cause offset)) a b es L h = refl
@@ -116,19 +123,22 @@ module _ (M : State) (x : Exchange) (c : Call) (d : Demand2 M x c) where
   with-given L = logged c (is-granted (next c M .outcome)) (given .0) L
 
   read-taken : {E : Type 0} (f : StepAnswer → E) (L : Log Given)
-      → logged c (is-granted (next c M .outcome)) (map f (next c M .steps)) (read-off (λ g. f (g .taken)) L) ≡ read-off (λ g. f (g .taken)) (with-given L)
+      → logged c (is-granted (next c M .outcome)) (map f (next c M .steps)) (read-off (λ g. f (g .taken)) L)
+      ≡ read-off (λ g. f (g .taken)) (with-given L)
   read-taken f L =
       rw (← given .1, map-map f (λ (g : Given). g .taken) (λ g. f (g .taken)) (given .0) (λ g i. refl))
       (sym (logged-read (λ g. f (g .taken)) c (is-granted (next c M .outcome)) (given .0) L))
 
-  read-codes : (L : Log Given) → logged c (told-granted (x .code)) (granted-in x c) (read-off by-exchange L) ≡ read-off by-exchange (with-given L)
+  read-codes : (L : Log Given)
+      → logged c (told-granted (x .code)) (granted-in x c) (read-off by-exchange L) ≡ read-off by-exchange (with-given L)
   read-codes L =
       same-flag c (told-granted (x .code)) (is-granted (next c M .outcome)) (granted-in x c) (read-off by-exchange L) same-told
       ∙ rw (← given .2) (sym (logged-read by-exchange c (is-granted (next c M .outcome)) (given .0) L))
 
 -- one log from which the history's logs and the one by codes are read off
 log-given : (before : List Call) (xs : List Exchange) (cs : List Call) → Each InReached before xs cs → (L : Log Given)
-    → (K : Log Given) × (log-after (λ t. t .step) (read-off (λ g. g .taken .step) L) (history (reached before) cs) ≡ read-off (λ g. g .taken .step) K)
+    → (K : Log Given) × (log-after (λ t. t .step) (read-off (λ g. g .taken .step) L) (history (reached before) cs)
+    ≡ read-off (λ g. g .taken .step) K)
     × (log-after (λ t. t .value) (read-off (λ g. g .taken .value) L) (history (reached before) cs) ≡ read-off (λ g. g .taken .value) K)
     × (log-by-codes (read-off by-exchange L) xs cs ≡ read-off by-exchange K)
 unfolding log-after history log-by-codes
@@ -183,11 +193,17 @@ module _ (x : Exchange) (xs : List Exchange) (cs : List Call) (g : outcome (x .c
 
   pub plain-answers-given : PlainAnswers G
   unfolding plain-run-answers
-  plain-answers-given = rw (codes-are, map-joined by-exchange (K .committed)) (subst (λ (vs : List PlainAnswer). AllAnswered vs (map by-exchange all)) (sym same) (all-answered all))
+  plain-answers-given = rw (codes-are, map-joined by-exchange (K .committed))
+      (subst (λ (vs : List PlainAnswer). AllAnswered vs (map by-exchange all)) (sym same) (all-answered all))
     where
       all : List Given
       all = joined (K .committed)
 
       same : plain-answers (K .first) (steps (map by-exchange all)) ≡ map plain-value (map (λ g. g .taken .value) all)
-      same = rw (steps-are all, ← map-joined (λ (g : Given). g .taken .step) (K .committed), ← map-joined (λ (g : Given). g .taken .value) (K .committed))
+      same = rw (
+        steps-are all,
+        ← map-joined (λ (g : Given). g .taken .step) (K .committed),
+        ← map-joined (λ (g : Given). g .taken .value)
+            (K .committed),
+      )
           (rw (fed-is, answered-is) at (demand-3 cs .answers))

@@ -18,7 +18,8 @@ use Rattle.traces.specs.Laws.Answers.{start-of}
 
 module _ (x y : Exchange) (f : x .first .before ≡ y .first .before) (g : x .second .before ≡ y .second .before)
     (r s : Answer) (p : x .code ≡ code-of r) (q : y .code ≡ code-of s) where
-  starts : contract.Start x r → contract.Start y s → state-size ≤ length (x .state .before) → state-size ≤ length (y .state .before) → OneAnswer x y
+  starts : contract.Start x r → contract.Start y s → state-size ≤ length (x .state .before) → state-size ≤ length (y .state .before)
+      → OneAnswer x y
   starts h k m n = record {
     code = p ∙ ap code-of (h .restarted .answer m start-state (λ d. Done) ∙ sym (k .restarted .answer n start-state (λ d. Done))) ∙ sym q;
     first = h .first ∙ f ∙ sym (k .first);

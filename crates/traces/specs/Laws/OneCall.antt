@@ -39,8 +39,10 @@ use Rattle.traces.specs.Laws.Answers.{ensured-cases, ensured-by}
 -- demand 1 ------------------------------------------------------------------------------
 
 -- by an outcome that the number tells
-told-demand : (x : Exchange) (o : Outcome) → Told (x .code) o → (is-granted o ≡ false → Same (x .state) × Same (x .first) × Same (x .second))
-    → length (x .state .after) ≡ length (x .state .before) → drop state-size (x .state .after) ≡ drop state-size (x .state .before) → Outcomes x
+told-demand : (x : Exchange) (o : Outcome) → Told (x .code) o
+    → (is-granted o ≡ false → Same (x .state) × Same (x .first) × Same (x .second))
+    → length (x .state .after) ≡ length (x .state .before) → drop state-size (x .state .after) ≡ drop state-size (x .state .before)
+    → Outcomes x
 told-demand x o t k l b = record {
   outcomes = t .outcomes;
   causes = t .causes;
@@ -74,7 +76,8 @@ module _ (x : Exchange) (r : Answer) (e : x .code ≡ code-of r) where
       go : (f : Bool) → form (x .state .before) ≡ f → Outcomes x
       go false f =
           let u = h .performed .unformed f in
-          told-demand x (refused 13) (rw (e, u .0) told-13) (λ _. (u .1, h .first .unformed f, h .second .unformed f)) (h .performed .long) (h .performed .behind)
+          told-demand x (refused 13) (rw (e, u .0) told-13) (λ _. (u .1, h .first .unformed f, h .second .unformed f)) (h .performed .long)
+          (h .performed .behind)
       go true f =
           let M = form-holds (x .state .before) f in
           let o = next c (M .0) .outcome in
@@ -95,18 +98,21 @@ module _ (x : Exchange) (r : Answer) (e : x .code ≡ code-of r) where
           let u = h .restarted .short (leb-false state-size (length (x .state .before)) f) in
           told-demand x (refused 13) (rw (e, u .0) told-13) (λ _. (u .1, h .first, h .second)) (h .restarted .long) (h .restarted .behind)
       go true f =
-          told-demand x (granted done) (tells (granted done) refl (h .restarted .answer (leb-true state-size (length (x .state .before)) f) start-state (λ d. Done)))
+          told-demand x (granted done)
+          (tells (granted done) refl (h .restarted .answer (leb-true state-size (length (x .state .before)) f) start-state (λ d. Done)))
           (λ g. absurd (false≢true (sym g))) (h .restarted .long) (h .restarted .behind)
 
   -- a write of d: its outcome as a number tells it, and what it leaves
-  writing-demand : (d : Document) → r ≡ writing (length (x .first .before)) d → x .first .after ≡ text-after (x .first .before) d → Same (x .state) → Same (x .second) → Outcomes x
+  writing-demand : (d : Document) → r ≡ writing (length (x .first .before)) d → x .first .after ≡ text-after (x .first .before) d
+      → Same (x .state) → Same (x .second) → Outcomes x
   unfolding writing text-after writable answer-of granted-answer
   writing-demand d a f s k = go (xml.expressible d) (leb (length (xml.write d)) (length (x .first .before))) a f
     where
       go : (p q : Bool) → r ≡ cond p (cond q (Count (length (xml.write d))) (Refused 13)) (Refused 14)
           → x .first .after ≡ cond (p && q) (filled (xml.write d) (x .first .before)) (x .first .before) → Outcomes x
       go true true a f =
-          told-demand x (granted (how-many (length (xml.write d)))) (tells (granted (how-many (length (xml.write d)))) refl a) (λ g. absurd (false≢true (sym g))) (ap length s) (ap (drop state-size) s)
+          told-demand x (granted (how-many (length (xml.write d)))) (tells (granted (how-many (length (xml.write d)))) refl a)
+          (λ g. absurd (false≢true (sym g))) (ap length s) (ap (drop state-size) s)
       go true false a f = told-demand x (refused 13) (tells (refused 13) refl a) (λ _. (s, f, k)) (ap length s) (ap (drop state-size) s)
       go false q a f = told-demand x (refused 14) (tells (refused 14) refl a) (λ _. (s, f, k)) (ap length s) (ap (drop state-size) s)
 
@@ -118,15 +124,18 @@ module _ (x : Exchange) (r : Answer) (e : x .code ≡ code-of r) where
           → x .first .after ≡ cond o (text-after (x .first .before) d) (x .first .before) → Outcomes x
       by-order d true a f = writing-demand d a f (h .state) (h .second)
       by-order d false a f =
-          told-demand x (refused 14) (tells (refused 14) refl a) (λ _. (h .state, f, h .second)) (ap length (h .state)) (ap (drop state-size) (h .state))
+          told-demand x (refused 14) (tells (refused 14) refl a) (λ _. (h .state, f, h .second)) (ap length (h .state))
+          (ap (drop state-size) (h .state))
 
       go : (f : Bool) → form (x .state .before) ≡ f → Outcomes x
       go false f =
           let u = h .written .unformed f in
-          told-demand x (refused 13) (rw (e, u .0) told-13) (λ _. (h .state, u .1, h .second)) (ap length (h .state)) (ap (drop state-size) (h .state))
+          told-demand x (refused 13) (rw (e, u .0) told-13) (λ _. (h .state, u .1, h .second)) (ap length (h .state))
+          (ap (drop state-size) (h .state))
       go true f =
           let M = form-holds (x .state .before) f in
-          by-order (committed-document (M .0)) (ordered (committed-document (M .0))) (h .written .answer (M .0) (M .1)) (h .written .text (M .0) (M .1))
+          by-order (committed-document (M .0)) (ordered (committed-document (M .0))) (h .written .answer (M .0) (M .1))
+          (h .written .text (M .0) (M .1))
 
 -- on any bytes
 pub outcomes-of : (x : Exchange) → Contract x → Outcomes x
@@ -139,13 +148,15 @@ outcomes-of x k =
 -- demand 2 ------------------------------------------------------------------------------
 
 -- no document shown has more nodes than are held
-view-length : {A B K : Type 0} (seen : A → Bool) (g : A → B) (key : B → K) (p : List K) (e : ℕ) (f : Forest A) → length (rows key p (view seen g f)) ≤ length (flat e f)
+view-length : {A B K : Type 0} (seen : A → Bool) (g : A → B) (key : B → K) (p : List K) (e : ℕ) (f : Forest A)
+    → length (rows key p (view seen g f)) ≤ length (flat e f)
 unfolding rows view flat
 view-length seen g key p e nil = omega arith
 view-length seen g key p e (node a ks fs) =
     go (seen a) (view-length seen g key (key (g a) ∷ p) (suc e) ks) (view-length seen g key p e fs)
   where
-    go : (b : Bool) → length (rows key (key (g a) ∷ p) (view seen g ks)) ≤ length (flat (suc e) ks) → length (rows key p (view seen g fs)) ≤ length (flat e fs)
+    go : (b : Bool) → length (rows key (key (g a) ∷ p) (view seen g ks)) ≤ length (flat (suc e) ks)
+        → length (rows key p (view seen g fs)) ≤ length (flat e fs)
         → length (rows key p (cond b (node (g a) (view seen g ks) (view seen g fs)) (view seen g fs))) ≤ length (flat e (node a ks fs))
     go true h k =
         omega (
@@ -157,7 +168,14 @@ view-length seen g key p e (node a ks fs) =
 
 few-lines : {s : List ℕ} {M : State} → Holds s M → length (lines (committed-document M)) ≤ node-limit
 unfolding lines document-of
-few-lines {s} {M} h = omega (arith, view-length (shown (λ u. false)) (as-shown (λ u. false)) (λ (a : Node). a .number) [] 0 (M .tree), h .layout .many, h .layout .room, ap length (h .rows))
+few-lines {s} {M} h = omega (
+  arith,
+  view-length (shown (λ u. false)) (as-shown (λ u. false)) (λ (a : Node). a .number) [] 0
+      (M .tree),
+  h .layout .many,
+  h .layout .room,
+  ap length (h .rows),
+)
 
 -- what a granted write gave: the tests that it passed
 granted-write : (out : List ℕ) (d : Document) → outcome (code-of (writing (length out) d)) ≡ 0
@@ -216,9 +234,11 @@ module _ (M : State) (x : Exchange) (r : Answer) (e : x .code ≡ code-of r) (b 
         );
   }
 
-  ensured-meets : (c : Call) → listed (next c M .outcome) ≡ true → legal (committed-document M) ≡ true → ByDefinition writing text-after M x c
+  ensured-meets : (c : Call) → listed (next c M .outcome) ≡ true → legal (committed-document M) ≡ true
+      → ByDefinition writing text-after M x c
       → Ensured x r c → Demand2 M x c
-  ensured-meets c l g d h = ensured-cases x r (λ c. listed (next c M .outcome) ≡ true → ByDefinition writing text-after M x c → Demand2 M x c)
+  ensured-meets c l g d h =
+      ensured-cases x r (λ c. listed (next c M .outcome) ≡ true → ByDefinition writing text-after M x c → Demand2 M x c)
       (λ h l d. told-meets start (h .restarted .answer (b .layout .size) M) l d) (λ h l d. write-meets g d)
       (λ c h l d. told-meets c (h .performed .answer M b) l d) c h l d
 

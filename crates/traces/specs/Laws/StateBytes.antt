@@ -33,7 +33,8 @@ only-start : {room : Room} {q : Request} → Makes room q start → q ≡ Reques
 only-start makes-start = refl
 
 module _ (x : Exchange) (r : Answer) where
-  unformed-answer : (c : Call) → MakesCall x c → Ensured x r c → form (x .state .before) ≡ false → (x .request ≡ Request.start → ⊥) → r ≡ Refused 13
+  unformed-answer : (c : Call) → MakesCall x c → Ensured x r c → form (x .state .before) ≡ false → (x .request ≡ Request.start → ⊥)
+      → r ≡ Refused 13
   unformed-answer c m h f n =
       ensured-cases x r (λ c. MakesCall x c → r ≡ Refused 13) (λ h m. absurd (n (only-start m))) (λ h m. h .written .unformed f .0)
       (λ c h m. h .performed .unformed f .0) c h m

@@ -7,7 +7,8 @@ use Rattle.tree.specs.Laws.Rows.{In, self, inner, later, to-rows, of-row
 
 module _ {A K : Type 0} (key : A → K) where
   -- amendments that agree on every row
-  pub amend-agree : (g h : Row A K → A) (p : List K) (f : Forest A) → ((r : Row A K) → In key r p f → g r ≡ h r) → amend key g p f ≡ amend key h p f
+  pub amend-agree : (g h : Row A K → A) (p : List K) (f : Forest A) → ((r : Row A K) → In key r p f → g r ≡ h r)
+      → amend key g p f ≡ amend key h p f
   unfolding amend
   amend-agree g h p nil e = refl
   amend-agree g h p (node a ks fs) e =
@@ -16,7 +17,8 @@ module _ {A K : Type 0} (key : A → K) where
   module _ {K' : Type 0} (key' : A → K') (g : Row A K → A) (above' : List K → List K')
       (new-line : (a : A) (p : List K) → key' (g (row a p)) ∷ above' p ≡ above' (key a ∷ p)) where
     -- the rows afterwards, by any key; above' gives the ancestors' keys afterwards
-    pub rows-amend : (p : List K) (f : Forest A) → rows key' (above' p) (amend key g p f) ≡ map (λ r. row (g r) (above' (r .above))) (rows key p f)
+    pub rows-amend : (p : List K) (f : Forest A)
+        → rows key' (above' p) (amend key g p f) ≡ map (λ r. row (g r) (above' (r .above))) (rows key p f)
     unfolding rows amend
     rows-amend p nil = refl
     rows-amend p (node a ks fs) =
@@ -42,9 +44,11 @@ module _ {A K : Type 0} (key : A → K) where
         (i .0, of-rows key (i .0) p f (i .1), i .2)
 
     -- a row is there afterwards
-    pub amend-in : (p : List K) (f : Forest A) {s : Row A K} → In key s p f → In key' (row (g s) (above' (s .above))) (above' p) (amend key g p f)
+    pub amend-in : (p : List K) (f : Forest A) {s : Row A K} → In key s p f
+        → In key' (row (g s) (above' (s .above))) (above' p) (amend key g p f)
     amend-in p f {s} m =
-        of-rows key' _ (above' p) (amend key g p f) (rw (rows-amend p f) (map-in (λ (r : Row A K). row (g r) (above' (r .above))) (to-rows key m)))
+        of-rows key' _ (above' p) (amend key g p f)
+        (rw (rows-amend p f) (map-in (λ (r : Row A K). row (g r) (above' (r .above))) (to-rows key m)))
 
   -- where the keys stay
   module _ (g : Row A K → A) (same-key : (r : Row A K) → key (g r) ≡ key (r .it)) where
@@ -55,7 +59,8 @@ module _ {A K : Type 0} (key : A → K) where
         → amend key g' p (amend key g p f) ≡ amend key (λ r. g' (row (g r) (r .above))) p f
     amend-amend-same g' p f = amend-amend key g (λ q. q) (λ a q. ap (λ (k : K). k ∷ q) (same-key (row a q))) g' p f
 
-    pub in-amend-same : (p : List K) (f : Forest A) {r : Row A K} → In key r p (amend key g p f) → (s : Row A K) × In key s p f × (r ≡ row (g s) (s .above))
+    pub in-amend-same : (p : List K) (f : Forest A) {r : Row A K} → In key r p (amend key g p f)
+        → (s : Row A K) × In key s p f × (r ≡ row (g s) (s .above))
     in-amend-same p f m = in-amend key g (λ q. q) (λ a q. ap (λ (k : K). k ∷ q) (same-key (row a q))) p f m
 
     pub amend-in-same : (p : List K) (f : Forest A) {s : Row A K} → In key s p f → In key (row (g s) (s .above)) p (amend key g p f)

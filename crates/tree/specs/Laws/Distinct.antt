@@ -11,14 +11,16 @@ use Rattle.tree.specs.Laws.Tests.{refuted}
 use Rattle.tree.specs.Laws.Lists.{in-has, any-map, any-at, map-in, in-keep, keep-none, count, count-cons, count-append, count-some}
 
 module _ {A : Type 0} (number : A → ℕ) where
-  pub head-new : (x : A) (l : List A) → distinct (map number (x ∷ l)) ≡ true → (has (number x) (map number l) ≡ false) × (distinct (map number l) ≡ true)
+  pub head-new : (x : A) (l : List A) → distinct (map number (x ∷ l)) ≡ true
+      → (has (number x) (map number l) ≡ false) × (distinct (map number l) ≡ true)
   head-new x l h = go (has (number x) (map number l)) h
     where
       go : (t : Bool) → cond t false (distinct (map number l)) ≡ true → (t ≡ false) × (distinct (map number l) ≡ true)
       go true e = absurd (false≢true e)
       go false e = (refl, e)
 
-  new-head : (x : A) (l : List A) → has (number x) (map number l) ≡ false → distinct (map number l) ≡ true → distinct (map number (x ∷ l)) ≡ true
+  new-head : (x : A) (l : List A) → has (number x) (map number l) ≡ false → distinct (map number l) ≡ true
+      → distinct (map number (x ∷ l)) ≡ true
   new-head x l h e = rw h e
 
   not-in : (x a : A) (l : List A) → has (number x) (map number l) ≡ false → List·Memᴰ a l → number a ≡ number x → ⊥
@@ -63,7 +65,8 @@ module _ {A : Type 0} (number : A → ℕ) where
 
       twice : has (number x) (map number l) ≡ true → ⊥
       twice e =
-          let i : cond (eqb (number x) (number x)) 1 0 + count (numbered (number x)) l ≤ 1 = rw (count-cons (numbered (number x)) x l) at (h (number x)) in
+          let i : cond (eqb (number x) (number x)) 1 0 + count (numbered (number x)) l ≤ 1 =
+          rw (count-cons (numbered (number x)) x l) at (h (number x)) in
           let j : 1 + count (numbered (number x)) l ≤ 1 = rw (eq-eqb (number x) (number x) refl) at i in
           let g = any-at (numbered (number x)) l (sym (any-map (λ q. eqb q (number x)) number l) ∙ e) in
           omega (arith, count-some (numbered (number x)) l (g .1) (g .2))
@@ -93,7 +96,8 @@ module _ {A : Type 0} (number : A → ℕ) where
       count-distinct k (λ n. let i : count (numbered n) l + count (numbered n) k ≤ 1 = rw (count-append (numbered n) l k) at
       (distinct-count (l ++ k) h n) in omega arith)
 
-  pub distinct-apart : (l k : List A) → distinct (map number (l ++ k)) ≡ true → {a b : A} → List·Memᴰ a l → List·Memᴰ b k → number a ≡ number b → ⊥
+  pub distinct-apart : (l k : List A) → distinct (map number (l ++ k)) ≡ true → {a b : A} → List·Memᴰ a l → List·Memᴰ b k
+      → number a ≡ number b → ⊥
   distinct-apart l k h {a} {b} i j e =
       let c : count (numbered (number a)) l + count (numbered (number a)) k ≤ 1 =
       rw (count-append (numbered (number a)) l k) at (distinct-count (l ++ k) h (number a)) in

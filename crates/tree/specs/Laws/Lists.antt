@@ -27,7 +27,8 @@ module _ {A : Type 0} where
   any-at t [] h = absurd (false≢true h)
   any-at t (x ∷ xs) h = go (or-cases (t x) _ h) (any-at t xs)
     where
-      go : (t x ≡ true) ⊎ (any t xs ≡ true) → (any t xs ≡ true → (a : A) × List·Memᴰ a xs × (t a ≡ true)) → (a : A) × List·Memᴰ a (x ∷ xs) × (t a ≡ true)
+      go : (t x ≡ true) ⊎ (any t xs ≡ true) → (any t xs ≡ true → (a : A) × List·Memᴰ a xs × (t a ≡ true))
+          → (a : A) × List·Memᴰ a (x ∷ xs) × (t a ≡ true)
       go (inl e) f = (x, List·Memᴰ·head refl, e)
       go (inr e) f = let g = f e in (g .0, List·Memᴰ·tail (g .1), g .2)
 
@@ -113,11 +114,13 @@ module _ {A : Type 0} where
       down : List·Memᴰ a xs × (t a ≡ true) → List·Memᴰ a (x ∷ xs) × (t a ≡ true)
       down h = (List·Memᴰ·tail (h .0), h .1)
 
-      split : t x ≡ true → (List·Memᴰ a (keep t xs) → List·Memᴰ a xs × (t a ≡ true)) → (a ≡ x) ⊎ List·Memᴰ a (keep t xs) → List·Memᴰ a (x ∷ xs) × (t a ≡ true)
+      split : t x ≡ true → (List·Memᴰ a (keep t xs) → List·Memᴰ a xs × (t a ≡ true)) → (a ≡ x) ⊎ List·Memᴰ a (keep t xs)
+          → List·Memᴰ a (x ∷ xs) × (t a ≡ true)
       split p below (inl e) = (List·Memᴰ·head e, ap t e ∙ p)
       split p below (inr i) = down (below i)
 
-      go : (b : Bool) → t x ≡ b → (List·Memᴰ a (keep t xs) → List·Memᴰ a xs × (t a ≡ true)) → List·Memᴰ a (cond b (x ∷ keep t xs) (keep t xs))
+      go : (b : Bool) → t x ≡ b → (List·Memᴰ a (keep t xs) → List·Memᴰ a xs × (t a ≡ true))
+          → List·Memᴰ a (cond b (x ∷ keep t xs) (keep t xs))
           → List·Memᴰ a (x ∷ xs) × (t a ≡ true)
       go true p below i = split p below (List·Memᴰ·cases-cons i)
       go false p below i = down (below i)
@@ -173,7 +176,8 @@ module _ {A : Type 0} where
 
   -- map --------------------------------------------------------------------------
 
-  pub map-map : {B C : Type 0} (g : B → C) (f : A → B) (h : A → C) (l : List A) → ((a : A) → List·Memᴰ a l → g (f a) ≡ h a) → map g (map f l) ≡ map h l
+  pub map-map : {B C : Type 0} (g : B → C) (f : A → B) (h : A → C) (l : List A) → ((a : A) → List·Memᴰ a l → g (f a) ≡ h a)
+      → map g (map f l) ≡ map h l
   map-map g f h [] e = refl
   map-map g f h (x ∷ xs) e = rw (e x (List·Memᴰ·head refl), map-map g f h xs (λ a m. e a (List·Memᴰ·tail m)))
 

@@ -15,7 +15,8 @@ abbrev pub Tops : {A : Type 0} → (A → Type 0) → Forest A → Type 0
 Tops q nil = Unit {0}
 Tops q (node a ks fs) = q a × Tops q fs
 
-rows-tops : {A K : Type 0} (key : A → K) (q : A → Type 0) (p : List K) (f : Forest A) → ((r : Row A K) → In key r p f → r .above ≡ p → q (r .it)) → Tops q f
+rows-tops : {A K : Type 0} (key : A → K) (q : A → Type 0) (p : List K) (f : Forest A)
+    → ((r : Row A K) → In key r p f → r .above ≡ p → q (r .it)) → Tops q f
 rows-tops key q p nil h = tt
 rows-tops key q p (node a ks fs) h = (h (row a p) (self refl) refl, rows-tops key q p fs (λ r m. h r (later m)))
 
@@ -42,7 +43,8 @@ module _ {A : Type 0} (parent counts : A → Bool) (k : ℕ) (new : A) where
       where
         go : (c : Bool) → keep t (rows key p (place counts (suc k) new fs)) ≡ keep t (rows key p fs)
             → keep t (rows key p (place counts (suc (suc k)) new fs)) ≡ keep t (rows key p fs)
-            → keep t (rows key p (node a ks (cond c (place counts (suc k) new fs) (place counts (suc (suc k)) new fs)))) ≡ keep t (rows key p (node a ks fs))
+            → keep t (rows key p (node a ks (cond c (place counts (suc k) new fs) (place counts (suc (suc k)) new fs))))
+            ≡ keep t (rows key p (node a ks fs))
         go true u v =
             rw (
               keep-append t (rows key (key a ∷ p) ks) (rows key p (place counts (suc k) new fs)),
@@ -57,19 +59,23 @@ module _ {A : Type 0} (parent counts : A → Bool) (k : ℕ) (new : A) where
             )
 
     -- of the rows that pass a test which new rows fail nothing changes
-    pub put-kept : (t : Row A K → Bool) (p : List K) (f : Forest A) → ((s : Row A K) → In key s p f → parent (s .it) ≡ true → t (new-row s) ≡ false)
+    pub put-kept : (t : Row A K → Bool) (p : List K) (f : Forest A)
+        → ((s : Row A K) → In key s p f → parent (s .it) ≡ true → t (new-row s) ≡ false)
         → keep t (rows key p (put parent counts k new f)) ≡ keep t (rows key p f)
     unfolding rows put keep
     put-kept t p nil h = refl
-    put-kept t p (node a ks fs) h = go (parent a) refl (put-kept t (key a ∷ p) ks (λ r m. h r (inner m))) (put-kept t p fs (λ r m. h r (later m)))
+    put-kept t p (node a ks fs) h =
+        go (parent a) refl (put-kept t (key a ∷ p) ks (λ r m. h r (inner m))) (put-kept t p fs (λ r m. h r (later m)))
       where
         go : (e : Bool) → parent a ≡ e → keep t (rows key (key a ∷ p) (put parent counts k new ks)) ≡ keep t (rows key (key a ∷ p) ks)
             → keep t (rows key p (put parent counts k new fs)) ≡ keep t (rows key p fs)
-            → keep t (rows key p (node a (cond e (place counts k new (put parent counts k new ks)) (put parent counts k new ks)) (put parent counts k new fs)))
+            → keep t (rows key p (node a (cond e (place counts k new (put parent counts k new ks)) (put parent counts k new ks))
+            (put parent counts k new fs)))
             ≡ keep t (rows key p (node a ks fs))
         go true e u v =
             rw (
-              keep-append t (rows key (key a ∷ p) (place counts k new (put parent counts k new ks))) (rows key p (put parent counts k new fs)),
+              keep-append t (rows key (key a ∷ p) (place counts k new (put parent counts k new ks)))
+                  (rows key p (put parent counts k new fs)),
               v,
               place-kept t k (key a ∷ p) (put parent counts k new ks) (h (row a p) (self refl) e),
               u,
@@ -100,7 +106,8 @@ module _ {A : Type 0} (parent counts : A → Bool) (k : ℕ) (new : A) where
     in-place (suc (suc k)) p nil (later i) = absurd (not-in-nil key i)
     in-place (suc (suc k)) p (node a ks fs) (self e) = inl (self e)
     in-place (suc (suc k)) p (node a ks fs) (inner i) = inl (inner i)
-    in-place (suc (suc k)) {r} p (node a ks fs) (later i) = go (counts a) i (λ j. in-place (suc k) p fs j) (λ j. in-place (suc (suc k)) p fs j)
+    in-place (suc (suc k)) {r} p (node a ks fs) (later i) =
+        go (counts a) i (λ j. in-place (suc k) p fs j) (λ j. in-place (suc (suc k)) p fs j)
       where
         lift : In key r p fs ⊎ (r ≡ row new p) → In key r p (node a ks fs) ⊎ (r ≡ row new p)
         lift (inl x) = inl (later x)
@@ -125,11 +132,13 @@ module _ {A : Type 0} (parent counts : A → Bool) (k : ℕ) (new : A) where
         up (inr x) = inr (x .0, inner (x .1), x .2, x .3)
 
         fresh : parent a ≡ true → (In key r (key a ∷ p) (put parent counts k new ks) → In key r (key a ∷ p) ks ⊎ New r (key a ∷ p) ks)
-            → In key r (key a ∷ p) (put parent counts k new ks) ⊎ (r ≡ row new (key a ∷ p)) → In key r p (node a ks fs) ⊎ New r p (node a ks fs)
+            → In key r (key a ∷ p) (put parent counts k new ks) ⊎ (r ≡ row new (key a ∷ p))
+            → In key r p (node a ks fs) ⊎ New r p (node a ks fs)
         fresh e below (inl x) = up (below x)
         fresh e below (inr x) = inr (row a p, self refl, e, x)
 
-        go : (t : Bool) → parent a ≡ t → In key r (key a ∷ p) (cond t (place counts k new (put parent counts k new ks)) (put parent counts k new ks))
+        go : (t : Bool) → parent a ≡ t
+            → In key r (key a ∷ p) (cond t (place counts k new (put parent counts k new ks)) (put parent counts k new ks))
             → (In key r (key a ∷ p) (put parent counts k new ks) → In key r (key a ∷ p) ks ⊎ New r (key a ∷ p) ks)
             → In key r p (node a ks fs) ⊎ New r p (node a ks fs)
         go true e x below = fresh e below (in-place k (key a ∷ p) (put parent counts k new ks) x)
@@ -179,7 +188,8 @@ module _ {A : Type 0} (parent counts : A → Bool) (k : ℕ) (new : A) where
     put-in (later m) = later (put-in m)
 
     -- each parent has a new row below it
-    pub put-new : {s : Row A K} {p : List K} {f : Forest A} → In key s p f → parent (s .it) ≡ true → In key (new-row s) p (put parent counts k new f)
+    pub put-new : {s : Row A K} {p : List K} {f : Forest A} → In key s p f → parent (s .it) ≡ true
+        → In key (new-row s) p (put parent counts k new f)
     unfolding put
     put-new {s} (self {a = a} {p = p} {ks = ks} {fs = fs} e) h =
         rw (e, sym (ap (λ (r : Row A K). parent (r .it)) e) ∙ h) (inner (place-new k (key a ∷ p) (put parent counts k new ks)))
@@ -205,7 +215,12 @@ module _ {A : Type 0} (parent counts : A → Bool) (k : ℕ) (new : A) where
             → count t (row a p ∷ (rows key (key a ∷ p) ks ++ rows key p f))
             ≡ 1 + (cond (t (row a p)) 1 0 + (count t (rows key (key a ∷ p) ks) + count t (rows key p fs)))
         one-more f e =
-            rw (count-cons t (row a p) (rows key (key a ∷ p) ks ++ rows key p f), count-append t (rows key (key a ∷ p) ks) (rows key p f), e)
+            rw (
+              count-cons t (row a p) (rows key (key a ∷ p) ks ++ rows key p f),
+              count-append t (rows key (key a ∷ p) ks)
+                  (rows key p f),
+              e,
+            )
             (omega arith)
 
         go : (c : Bool) → count t (rows key p (place counts (suc k) new fs)) ≡ 1 + count t (rows key p fs)
@@ -219,7 +234,8 @@ module _ {A : Type 0} (parent counts : A → Bool) (k : ℕ) (new : A) where
     is-parent s = parent (s .it)
 
     -- how many rows pass a test that new rows pass: one more for each parent
-    pub put-count : (t : Row A K → Bool) (p : List K) (f : Forest A) → ((s : Row A K) → In key s p f → is-parent s ≡ true → t (new-row s) ≡ true)
+    pub put-count : (t : Row A K → Bool) (p : List K) (f : Forest A)
+        → ((s : Row A K) → In key s p f → is-parent s ≡ true → t (new-row s) ≡ true)
         → count t (rows key p (put parent counts k new f)) ≡ count is-parent (rows key p f) + count t (rows key p f)
     unfolding rows put
     put-count t p nil h = rw (count-nil t, count-nil is-parent)
@@ -242,13 +258,20 @@ module _ {A : Type 0} (parent counts : A → Bool) (k : ℕ) (new : A) where
             count-cons t (row a p) (rows key (key a ∷ p) f ++ rows key p g)
             ∙ ap (λ (n : ℕ). cond (t (row a p)) 1 0 + n) (count-append t (rows key (key a ∷ p) f) (rows key p g))
 
-        go : (e : Bool) → parent a ≡ e → count t (rows key (key a ∷ p) kids) ≡ count is-parent (rows key (key a ∷ p) ks) + count t (rows key (key a ∷ p) ks)
+        go : (e : Bool) → parent a ≡ e
+            → count t (rows key (key a ∷ p) kids) ≡ count is-parent (rows key (key a ∷ p) ks) + count t (rows key (key a ∷ p) ks)
             → count t (rows key p (put parent counts k new fs)) ≡ count is-parent (rows key p fs) + count t (rows key p fs)
             → count t (rows key p (node a (cond e (place counts k new kids) kids) (put parent counts k new fs)))
             ≡ (cond e 1 0 + (count is-parent (rows key (key a ∷ p) ks) + count is-parent (rows key p fs)))
             + (cond (t (row a p)) 1 0 + (count t (rows key (key a ∷ p) ks) + count t (rows key p fs)))
         go true e u v =
-            rw (split (place counts k new kids) (put parent counts k new fs), place-count t k (key a ∷ p) kids (h (row a p) (self refl) e), u, v)
+            rw (
+              split (place counts k new kids) (put parent counts k new fs),
+              place-count t k (key a ∷ p) kids
+                  (h (row a p) (self refl) e),
+              u,
+              v,
+            )
             (omega arith)
         go false e u v = rw (split kids (put parent counts k new fs), u, v) (omega arith)
 
@@ -257,16 +280,19 @@ module _ {A : Type 0} (parent counts : A → Bool) (k : ℕ) (new : A) where
   -- an amended insertion is an insertion into the amended forest, if the amendment keeps who is a parent and who counts
   module _ {K : Type 0} (key : A → K) (parent' counts' : A → Bool) (new' : A) (c : Row A K → A)
       (same-parent : (r : Row A K) → parent' (c r) ≡ parent (r .it)) (same-counts : (r : Row A K) → counts' (c r) ≡ counts (r .it)) where
-    amend-place : (k : ℕ) (p : List K) (f : Forest A) → c (row new p) ≡ new' → amend key c p (place counts k new f) ≡ place counts' k new' (amend key c p f)
+    amend-place : (k : ℕ) (p : List K) (f : Forest A) → c (row new p) ≡ new'
+        → amend key c p (place counts k new f) ≡ place counts' k new' (amend key c p f)
     unfolding amend place
     amend-place zero p f e = rw e
     amend-place (suc zero) p f e = rw e
     amend-place (suc (suc k)) p nil e = rw e
-    amend-place (suc (suc k)) p (node a ks fs) e = rw (same-counts (row a p)) (go (counts a) (amend-place (suc k) p fs e) (amend-place (suc (suc k)) p fs e))
+    amend-place (suc (suc k)) p (node a ks fs) e =
+        rw (same-counts (row a p)) (go (counts a) (amend-place (suc k) p fs e) (amend-place (suc (suc k)) p fs e))
       where
         go : (t : Bool) → amend key c p (place counts (suc k) new fs) ≡ place counts' (suc k) new' (amend key c p fs)
             → amend key c p (place counts (suc (suc k)) new fs) ≡ place counts' (suc (suc k)) new' (amend key c p fs)
-            → node (c (row a p)) (amend key c (key a ∷ p) ks) (amend key c p (cond t (place counts (suc k) new fs) (place counts (suc (suc k)) new fs)))
+            → node (c (row a p)) (amend key c (key a ∷ p) ks)
+            (amend key c p (cond t (place counts (suc k) new fs) (place counts (suc (suc k)) new fs)))
             ≡ node (c (row a p)) (amend key c (key a ∷ p) ks)
             (cond t (place counts' (suc k) new' (amend key c p fs)) (place counts' (suc (suc k)) new' (amend key c p fs)))
         go true u v = rw u
@@ -277,14 +303,18 @@ module _ {A : Type 0} (parent counts : A → Bool) (k : ℕ) (new : A) where
     unfolding amend put
     amend-put p nil e = refl
     amend-put p (node a ks fs) e =
-        rw (same-parent (row a p)) (go (parent a) refl (amend-put (key a ∷ p) ks (λ s m. e s (inner m))) (amend-put p fs (λ s m. e s (later m))))
+        rw (same-parent (row a p))
+        (go (parent a) refl (amend-put (key a ∷ p) ks (λ s m. e s (inner m))) (amend-put p fs (λ s m. e s (later m))))
       where
-        go : (t : Bool) → parent a ≡ t → amend key c (key a ∷ p) (put parent counts k new ks) ≡ put parent' counts' k new' (amend key c (key a ∷ p) ks)
+        go : (t : Bool) → parent a ≡ t
+            → amend key c (key a ∷ p) (put parent counts k new ks) ≡ put parent' counts' k new' (amend key c (key a ∷ p) ks)
             → amend key c p (put parent counts k new fs) ≡ put parent' counts' k new' (amend key c p fs)
-            → node (c (row a p)) (amend key c (key a ∷ p) (cond t (place counts k new (put parent counts k new ks)) (put parent counts k new ks)))
+            → node (c (row a p)) (amend key c (key a ∷ p)
+            (cond t (place counts k new (put parent counts k new ks)) (put parent counts k new ks)))
             (amend key c p (put parent counts k new fs))
             ≡ node (c (row a p))
-            (cond t (place counts' k new' (put parent' counts' k new' (amend key c (key a ∷ p) ks))) (put parent' counts' k new' (amend key c (key a ∷ p) ks)))
+            (cond t (place counts' k new' (put parent' counts' k new' (amend key c (key a ∷ p) ks)))
+            (put parent' counts' k new' (amend key c (key a ∷ p) ks)))
             (put parent' counts' k new' (amend key c p fs))
         go true q u v = rw (amend-place k (key a ∷ p) (put parent counts k new ks) (e (row a p) (self refl) q), u, v)
         go false q u v = rw (u, v)
@@ -298,8 +328,10 @@ module _ {A : Type 0} (parent counts : A → Bool) (k : ℕ) (new : A) where
     view-place-hidden (suc (suc k)) nil e = rw e
     view-place-hidden (suc (suc k)) (node a ks fs) e = go (counts a) (view-place-hidden (suc k) fs e) (view-place-hidden (suc (suc k)) fs e)
       where
-        go : (t : Bool) → view shown g (place counts (suc k) new fs) ≡ view shown g fs → view shown g (place counts (suc (suc k)) new fs) ≡ view shown g fs
-            → view shown g (node a ks (cond t (place counts (suc k) new fs) (place counts (suc (suc k)) new fs))) ≡ view shown g (node a ks fs)
+        go : (t : Bool) → view shown g (place counts (suc k) new fs) ≡ view shown g fs
+            → view shown g (place counts (suc (suc k)) new fs) ≡ view shown g fs
+            → view shown g (node a ks (cond t (place counts (suc k) new fs) (place counts (suc (suc k)) new fs)))
+            ≡ view shown g (node a ks fs)
         go true u v = rw u
         go false u v = rw v
 
@@ -309,8 +341,10 @@ module _ {A : Type 0} (parent counts : A → Bool) (k : ℕ) (new : A) where
     view-put-hidden nil e = refl
     view-put-hidden (node a ks fs) e = go (parent a) (view-put-hidden ks e) (view-put-hidden fs e)
       where
-        go : (t : Bool) → view shown g (put parent counts k new ks) ≡ view shown g ks → view shown g (put parent counts k new fs) ≡ view shown g fs
-            → view shown g (node a (cond t (place counts k new (put parent counts k new ks)) (put parent counts k new ks)) (put parent counts k new fs))
+        go : (t : Bool) → view shown g (put parent counts k new ks) ≡ view shown g ks
+            → view shown g (put parent counts k new fs) ≡ view shown g fs
+            → view shown g (node a (cond t (place counts k new (put parent counts k new ks)) (put parent counts k new ks))
+            (put parent counts k new fs))
             ≡ view shown g (node a ks fs)
         go true u v = rw (view-place-hidden k (put parent counts k new ks) e, u, v)
         go false u v = rw (u, v)
@@ -332,7 +366,8 @@ module _ {A : Type 0} (parent counts : A → Bool) (k : ℕ) (new : A) where
           next : Bool → Forest A
           next t = cond t (place counts (suc k) new fs) (place counts (suc (suc k)) new fs)
 
-          go : (s t : Bool) → counts' (g a) ≡ t → view shown g (place counts (suc k) new fs) ≡ place counts' (suc k) (g new) (view shown g fs)
+          go : (s t : Bool) → counts' (g a) ≡ t
+              → view shown g (place counts (suc k) new fs) ≡ place counts' (suc k) (g new) (view shown g fs)
               → view shown g (place counts (suc (suc k)) new fs) ≡ place counts' (suc (suc k)) (g new) (view shown g fs)
               → cond s (node (g a) (view shown g ks) (view shown g (next (s && t)))) (view shown g (next (s && t)))
               ≡ place counts' (suc (suc k)) (g new) (cond s (node (g a) (view shown g ks) (view shown g fs)) (view shown g fs))
@@ -358,7 +393,8 @@ module _ {A : Type 0} (parent counts : A → Bool) (k : ℕ) (new : A) where
           go : (s : Bool) → shown a ≡ s → (t : Bool) → parent a ≡ t
               → view shown g (put parent counts k new ks) ≡ put parent' counts' k (g new) (view shown g ks)
               → view shown g (put parent counts k new fs) ≡ put parent' counts' k (g new) (view shown g fs)
-              → cond s (node (g a) (view shown g (kids t)) (view shown g (put parent counts k new fs))) (view shown g (put parent counts k new fs))
+              → cond s (node (g a) (view shown g (kids t)) (view shown g (put parent counts k new fs)))
+              (view shown g (put parent counts k new fs))
               ≡ put parent' counts' k (g new) (cond s (node (g a) (view shown g ks) (view shown g fs)) (view shown g fs))
           go true e true q u v = rw (same-parent a e ∙ q, view-place k (put parent counts k new ks) (counted q), u, v)
           go true e false q u v = rw (same-parent a e ∙ q, u, v)
@@ -374,18 +410,23 @@ module _ {A : Type 0} (parent counts : A → Bool) (k : ℕ) (new : A) where
   place-put parent' counts' k' new' (suc (suc k)) (node a ks fs) e =
       go (counts a) (place-put parent' counts' k' new' (suc k) fs e) (place-put parent' counts' k' new' (suc (suc k)) fs e)
     where
-      go : (t : Bool) → put parent' counts' k' new' (place counts (suc k) new fs) ≡ place counts (suc k) new (put parent' counts' k' new' fs)
-          → put parent' counts' k' new' (place counts (suc (suc k)) new fs) ≡ place counts (suc (suc k)) new (put parent' counts' k' new' fs)
+      go : (t : Bool) → put parent' counts' k' new' (place counts (suc k) new fs)
+          ≡ place counts (suc k) new (put parent' counts' k' new' fs)
+          → put parent' counts' k' new' (place counts (suc (suc k)) new fs)
+          ≡ place counts (suc (suc k)) new (put parent' counts' k' new' fs)
           → put parent' counts' k' new' (node a ks (cond t (place counts (suc k) new fs) (place counts (suc (suc k)) new fs)))
           ≡ node a (cond (parent' a) (place counts' k' new' (put parent' counts' k' new' ks)) (put parent' counts' k' new' ks))
-          (cond t (place counts (suc k) new (put parent' counts' k' new' fs)) (place counts (suc (suc k)) new (put parent' counts' k' new' fs)))
+          (cond t (place counts (suc k) new (put parent' counts' k' new' fs))
+          (place counts (suc (suc k)) new (put parent' counts' k' new' fs)))
       go true u v = rw u
       go false u v = rw v
 
 -- in either order, if no node is the parent of both, and neither new node is a parent of the other
-module _ {A : Type 0} (parent parent' counts counts' : A → Bool) (k k' : ℕ) (new new' : A) (no-parent : parent' new ≡ false) (no-parent' : parent new' ≡ false)
+module _ {A : Type 0} (parent parent' counts counts' : A → Bool) (k k' : ℕ) (new new' : A) (no-parent : parent' new ≡ false)
+    (no-parent' : parent new' ≡ false)
     (apart : (a : A) → parent a ≡ true → parent' a ≡ false) where
-  pub put-put : (f : Forest A) → put parent counts k new (put parent' counts' k' new' f) ≡ put parent' counts' k' new' (put parent counts k new f)
+  pub put-put : (f : Forest A)
+      → put parent counts k new (put parent' counts' k' new' f) ≡ put parent' counts' k' new' (put parent counts k new f)
   unfolding put
   put-put nil = refl
   put-put (node a ks fs) = go (parent a) refl (parent' a) refl (put-put ks) (put-put fs)
@@ -398,12 +439,15 @@ module _ {A : Type 0} (parent parent' counts counts' : A → Bool) (k k' : ℕ) 
 
       go : (s : Bool) → parent a ≡ s → (t : Bool) → parent' a ≡ t → one (two ks) ≡ two (one ks) → one (two fs) ≡ two (one fs)
           → node a
-          (cond s (place counts k new (one (cond t (place counts' k' new' (two ks)) (two ks)))) (one (cond t (place counts' k' new' (two ks)) (two ks))))
+          (cond s (place counts k new (one (cond t (place counts' k' new' (two ks)) (two ks))))
+          (one (cond t (place counts' k' new' (two ks)) (two ks))))
           (one (two fs))
           ≡ node a
-          (cond t (place counts' k' new' (two (cond s (place counts k new (one ks)) (one ks)))) (two (cond s (place counts k new (one ks)) (one ks))))
+          (cond t (place counts' k' new' (two (cond s (place counts k new (one ks)) (one ks))))
+          (two (cond s (place counts k new (one ks)) (one ks))))
           (two (one fs))
       go true i true j u v = absurd (true≢false (sym j ∙ apart a i))
       go true i false j u v = rw (u, v, place-put parent counts k new parent' counts' k' new' k (put parent counts k new ks) no-parent)
-      go false i true j u v = rw (← u, v, place-put parent' counts' k' new' parent counts k new k' (put parent' counts' k' new' ks) no-parent')
+      go false i true j u v = rw
+          (← u, v, place-put parent' counts' k' new' parent counts k new k' (put parent' counts' k' new' ks) no-parent')
       go false i false j u v = rw (u, v)

@@ -48,7 +48,8 @@ module _ {A K : Type 0} (key : A → K) where
   -- ancestors ----------------------------------------------------------------------
 
   -- a row's parent has a row
-  pub parent-row : {r : Row A K} {p : List K} {f : Forest A} → In r p f → (r .above ≡ p) ⊎ ((s : Row A K) × In s p f × (r .above ≡ line key s))
+  pub parent-row : {r : Row A K} {p : List K} {f : Forest A} → In r p f
+      → (r .above ≡ p) ⊎ ((s : Row A K) × In s p f × (r .above ≡ line key s))
   parent-row (self e) = inl (rw e)
   parent-row {r} (inner {a = a} {p = p} {ks = ks} {fs = fs} m) = go (parent-row m)
     where
@@ -91,7 +92,8 @@ module _ {A K : Type 0} (key : A → K) where
       go (inr g) = inr (g .0, inner (g .1), g .2)
   ancestor-row {r} {k = k} (later {a = a} {p = p} {ks = ks} {fs = fs} i) m = go (ancestor-row i m)
     where
-      go : List·Memᴰ k p ⊎ ((s : Row A K) × In s p fs × (k ≡ key (s .it))) → List·Memᴰ k p ⊎ ((s : Row A K) × In s p (node a ks fs) × (k ≡ key (s .it)))
+      go : List·Memᴰ k p ⊎ ((s : Row A K) × In s p fs × (k ≡ key (s .it)))
+          → List·Memᴰ k p ⊎ ((s : Row A K) × In s p (node a ks fs) × (k ≡ key (s .it)))
       go (inl j) = inl j
       go (inr g) = inr (g .0, later (g .1), g .2)
 
@@ -137,7 +139,8 @@ module _ {A : Type 0} (key : A → ℕ) where
       go : (t : Bool) → eqb (key a) x ≡ t → (eqb (key a) x || false) ≡ true → Nested x y p (node a ks fs) ⊎ Nested y x p (node a ks fs)
       go true q w = inl (row a p, self refl, eqb-true (key a) x q, rw e at v)
       go false q w = absurd (false≢true (rw q at w))
-  nested x y {r} hx hy (inner {a = a} {p = p} {ks = ks} {fs = fs} m) u v = go (eqb (key a) x) refl (eqb (key a) y) refl (λ i j. nested x y i j m u v)
+  nested x y {r} hx hy (inner {a = a} {p = p} {ks = ks} {fs = fs} m) u v =
+      go (eqb (key a) x) refl (eqb (key a) y) refl (λ i j. nested x y i j m u v)
     where
       lift : Nested x y (key a ∷ p) ks ⊎ Nested y x (key a ∷ p) ks → Nested x y p (node a ks fs) ⊎ Nested y x p (node a ks fs)
       lift (inl g) = inl (g .0, inner (g .1), g .2, g .3)

@@ -17,9 +17,11 @@ view-view {A} shown g shown' g' (node a ks fs) = go (shown a) (view-view shown g
     both : A → Bool
     both x = shown x && shown' (g x)
 
-    go : (t : Bool) → view shown' g' (view shown g ks) ≡ view both (λ x. g' (g x)) ks → view shown' g' (view shown g fs) ≡ view both (λ x. g' (g x)) fs
+    go : (t : Bool) → view shown' g' (view shown g ks) ≡ view both (λ x. g' (g x)) ks
+        → view shown' g' (view shown g fs) ≡ view both (λ x. g' (g x)) fs
         → view shown' g' (cond t (node (g a) (view shown g ks) (view shown g fs)) (view shown g fs))
-        ≡ cond (t && shown' (g a)) (node (g' (g a)) (view both (λ x. g' (g x)) ks) (view both (λ x. g' (g x)) fs)) (view both (λ x. g' (g x)) fs)
+        ≡ cond (t && shown' (g a)) (node (g' (g a)) (view both (λ x. g' (g x)) ks) (view both (λ x. g' (g x)) fs))
+        (view both (λ x. g' (g x)) fs)
     go true u v = rw (u, v)
     go false u v = v
 
@@ -40,10 +42,12 @@ module _ {A K : Type 0} (key : A → K) (shown : A → Bool) (shown-key : K → 
     rows-view-along p (node a ks fs) h = rw (← by-key a) (go (shown a) refl (rows-view-along (key a ∷ p) ks) (rows-view-along p fs h))
       where
         gone : shown a ≡ false → (r : Row A K) → List·Memᴰ r (rows key (key a ∷ p) ks) → visible r ≡ false
-        gone e r m = rw (every-below key shown-key (rw (← by-key a, e)) (of-rows key r (key a ∷ p) ks m)) (and-false (shown-key (key (r .it))))
+        gone e r m = rw (every-below key shown-key (rw (← by-key a, e)) (of-rows key r (key a ∷ p) ks m))
+            (and-false (shown-key (key (r .it))))
 
         go : (t : Bool) → shown a ≡ t
-            → (every shown-key (key a ∷ p) ≡ true → rows key' (above' (key a ∷ p)) (view shown g ks) ≡ map viewed (keep visible (rows key (key a ∷ p) ks)))
+            → (every shown-key (key a ∷ p) ≡ true
+            → rows key' (above' (key a ∷ p)) (view shown g ks) ≡ map viewed (keep visible (rows key (key a ∷ p) ks)))
             → rows key' (above' p) (view shown g fs) ≡ map viewed (keep visible (rows key p fs))
             → rows key' (above' p) (cond t (node (g a) (view shown g ks) (view shown g fs)) (view shown g fs))
             ≡ map viewed (cond (t && every shown-key p) (row a p ∷ keep visible (rows key (key a ∷ p) ks ++ rows key p fs))
@@ -57,7 +61,12 @@ module _ {A K : Type 0} (key : A → K) (shown : A → Bool) (shown-key : K → 
               ← v,
               new-line a p,
             )
-        go false e u v = rw (keep-append visible (rows key (key a ∷ p) ks) (rows key p fs), keep-none visible (rows key (key a ∷ p) ks) (gone e), v)
+        go false e u v = rw (
+          keep-append visible (rows key (key a ∷ p) ks) (rows key p fs),
+          keep-none visible (rows key (key a ∷ p) ks)
+              (gone e),
+          v,
+        )
 
     -- a row of the view is shown with all its ancestors
     in-view-along : (p : List K) (f : Forest A) → every shown-key p ≡ true → {r : Row B K'} → In key' r (above' p) (view shown g f)
@@ -71,7 +80,8 @@ module _ {A K : Type 0} (key : A → K) (shown : A → Bool) (shown-key : K → 
     view-in-along : (p : List K) (f : Forest A) → every shown-key p ≡ true → {s : Row A K} → In key s p f → visible s ≡ true
         → In key' (viewed s) (above' p) (view shown g f)
     view-in-along p f h {s} m v =
-        of-rows key' (viewed s) (above' p) (view shown g f) (rw (rows-view-along p f h) (map-in viewed (keep-in visible (rows key p f) (to-rows key m) v)))
+        of-rows key' (viewed s) (above' p) (view shown g f)
+        (rw (rows-view-along p f h) (map-in viewed (keep-in visible (rows key p f) (to-rows key m) v)))
 
   -- by another key, which is computed from the first
   module _ {B K' : Type 0} (g : A → B) (key' : B → K') (h : K → K') (keys : (a : A) → key' (g a) ≡ h (key a)) where
@@ -81,7 +91,8 @@ module _ {A K : Type 0} (key : A → K) (shown : A → Bool) (shown-key : K → 
     new-line : (a : A) (p : List K) → key' (g a) ∷ map h p ≡ map h (key a ∷ p)
     new-line a p = rw (keys a)
 
-    pub rows-view : (p : List K) (f : Forest A) → every shown-key p ≡ true → rows key' (map h p) (view shown g f) ≡ map seen (keep visible (rows key p f))
+    pub rows-view : (p : List K) (f : Forest A) → every shown-key p ≡ true
+        → rows key' (map h p) (view shown g f) ≡ map seen (keep visible (rows key p f))
     rows-view p f e = rows-view-along g key' (map h) new-line p f e
 
     pub in-view : (p : List K) (f : Forest A) → every shown-key p ≡ true → {r : Row B K'} → In key' r (map h p) (view shown g f)
@@ -115,7 +126,8 @@ module _ {A K : Type 0} (key : A → K) (shown : A → Bool) (shown-key : K → 
       go false q u v = v
 
   -- a view of an amended forest is an amended view, if the two amendments agree on what is shown
-  pub view-amend : {B K' : Type 0} (shown' : A → Bool) (g g' : A → B) (c : Row A K → A) (key' : B → K') (c' : Row B K' → B) (above' : List K → List K')
+  pub view-amend : {B K' : Type 0} (shown' : A → Bool) (g g' : A → B) (c : Row A K → A) (key' : B → K') (c' : Row B K' → B)
+      (above' : List K → List K')
       → ((a : A) (q : List K) → shown a ≡ true → key' (g a) ∷ above' q ≡ above' (key a ∷ q))
       → (p : List K) (f : Forest A) → every shown-key p ≡ true
       → ((r : Row A K) → In key r p f → every shown-key (r .above) ≡ true → shown' (c r) ≡ shown (r .it))

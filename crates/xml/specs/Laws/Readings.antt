@@ -46,9 +46,11 @@ module _ {limit : ℕ} {s : List ℕ} {d : Document} (x : Accepted limit s d) wh
   no-fault (long-content {i = i} h) = let k = h .forced (drop (suc i) s) (x .shape) (parsed (suc i)) in omega (arith, x .short-contents)
   no-fault (many-nodes {i = i} h) = let k = h .forced (drop (suc i) s) (x .shape) (parsed (suc i)) in omega (arith, x .few-nodes)
 
-same-input : {d e : Document} (h : loadable node-limit d ≡ true) (k : loadable node-limit e ≡ true) → d ≡ e → stands-for d h ≡ stands-for e k
+same-input : {d e : Document} (h : loadable node-limit d ≡ true) (k : loadable node-limit e ≡ true) → d ≡ e
+    → stands-for d h ≡ stands-for e k
 same-input {d} {e} h k p =
-    pathJ (λ e p. (k : loadable node-limit e ≡ true) → stands-for d h ≡ stands-for e k) (λ k. ap (stands-for d) (Bool-set (loadable node-limit d) true h k)) p k
+    pathJ (λ e p. (k : loadable node-limit e ≡ true) → stands-for d h ≡ stands-for e k)
+    (λ k. ap (stands-for d) (Bool-set (loadable node-limit d) true h k)) p k
 
 -- NO INPUT reads as two things
 pub one-reading : {limit : ℕ} {s : List ℕ} {x y : Input} → ReadsWithin limit s x → ReadsWithin limit s y → x ≡ y

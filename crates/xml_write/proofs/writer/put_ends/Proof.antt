@@ -36,9 +36,15 @@ put-ends-spec = tie.close (tie.spec Inv-loop μ-loop (λ c. omega (arith, c .bef
     (λ c. search needs)
     (λ c. omega (arith, ends-on (c .before .before .before .before .pre) (c .before .loop .inv .1) (omega arith) .index))
     (λ c. ends-on (c .before .before .before .before .pre) (c .before .loop .inv .1) (omega arith) .index)
-    (λ c. omega (arith, ends-on (c .before .before .before .before .before .pre) (c .before .before .loop .inv .1) (omega arith) .small-place))
+    (λ c. omega (
+      arith,
+      ends-on (c .before .before .before .before .before .pre) (c .before .before .loop .inv .1)
+          (omega arith) .small-place,
+    ))
     (λ c. ends-on (c .before .before .before .before .before .pre) (c .before .before .loop .inv .1) (omega arith) .index)
-    (λ c. ends-on (c .before .before .before .before .before .before .pre) (c .before .before .before .loop .inv .1) (omega arith) .piece .inside)
-    (λ c. ends-on (c .before .before .before .before .before .before .pre) (c .before .before .before .loop .inv .1) (omega arith) .piece .inside)
+    (λ c. ends-on (c .before .before .before .before .before .before .pre) (c .before .before .before .loop .inv .1)
+    (omega arith) .piece .inside)
+    (λ c. ends-on (c .before .before .before .before .before .before .pre) (c .before .before .before .loop .inv .1)
+    (omega arith) .piece .inside)
     (λ c. search needs) put-end-requires add-at (λ c. omega arith) loop-again (λ c. c .before .loop .inv .0)
     (λ c. ends-over (c .before .loop .inv .1) (omega arith)))
