@@ -9,7 +9,7 @@ use Rattle.tree.specs.Steps.{Value}
 use Rattle.protocol.specs.State.{State}
 use Rattle.protocol.specs.Lent.{Room}
 use Rattle.protocol.specs.Calls.{Call, Outcome, next}
-use Rattle.protocol.specs.Answers.{answer-of, lent-after}
+use Rattle.protocol.specs.Answers.{answer-of, lent-after, as-it-was}
 use Rattle.protocol.specs.History.{is-granted}
 use Rattle.protocol.specs.declared.Answer.{Answer}
 use Rattle.protocol.specs.declared.Answer.the-variants.{Refused}
@@ -45,7 +45,7 @@ pub record Performed (s s′ : List ℕ) (r : Answer) (call : Call) : Type 0 whe
 -- the call was lent a buffer too, which held b and now holds b′; `lent` is first-lent or second-lent
 pub record Lent (lent : Value → List ℕ) (s b b′ : List ℕ) (call : Call) : Type 0 where
   pub unformed : form s ≡ false → b′ ≡ b
-  pub filled : (M : State) → Holds s M → b′ ≡ lent-after lent (next call M .outcome) b
+  pub filled : (M : State) → Holds s M → b′ ≡ lent-after lent as-it-was (next call M .outcome) b
 
 -- the room of a step with no lent buffer, with one, and with two
 abbrev pub no-room : Room

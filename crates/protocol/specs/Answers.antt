@@ -46,11 +46,15 @@ code-of (Waits set) = packed 1 0 set
 code-of (Refused cause) = packed 2 cause 0
 code-of (RefusedAt cause offset) = packed 2 cause offset
 
--- "bytes of a lent buffer behind the answer keep their values", and only a granted step puts anything there;
--- `lent` is first-lent or second-lent (write's buffer is stated with its text)
-unfoldable pub lent-after : (Value → List ℕ) → Outcome → List ℕ → List ℕ
-lent-after lent (granted v) buffer = filled (lent v) buffer
-lent-after lent (written d) buffer = buffer
-lent-after lent (waits set) buffer = buffer
-lent-after lent (refused cause) buffer = buffer
-lent-after lent (refused-at cause offset) buffer = buffer
+-- a lent buffer afterwards: "bytes of a lent buffer behind the answer keep their values". Only a granted call puts anything there: what
+-- `lent`, which is first-lent or second-lent, has for its answer, and what `text` says of the buffer and the document written
+unfoldable pub lent-after : (Value → List ℕ) → (List ℕ → Document → List ℕ) → Outcome → List ℕ → List ℕ
+lent-after lent text (granted v) buffer = filled (lent v) buffer
+lent-after lent text (written d) buffer = text buffer d
+lent-after lent text (waits set) buffer = buffer
+lent-after lent text (refused cause) buffer = buffer
+lent-after lent text (refused-at cause offset) buffer = buffer
+
+-- a buffer that no text goes into
+abbrev pub as-it-was : List ℕ → Document → List ℕ
+as-it-was buffer d = buffer

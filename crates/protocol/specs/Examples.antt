@@ -18,7 +18,7 @@ use Rattle.protocol.specs.State.{State, start-state, nodes, callers-docu
 use Rattle.protocol.specs.Lent.{first-lent, second-lent}
 use Rattle.protocol.specs.Calls.{node-limit, loadable, stands-for, Call, start, load, begin, abort, step, Outcome, granted, waits}
 use Rattle.protocol.specs.Calls.{refused, wait-set, judged, next}
-use Rattle.protocol.specs.Answers.{lent-after}
+use Rattle.protocol.specs.Answers.{lent-after, as-it-was}
 use Rattle.protocol.specs.History.{Event, event, history, state-after, log-after, plain, pending}
 
 pub E-loadable : loadable node-limit tree-E ≡ true
@@ -48,7 +48,7 @@ played M h [] = []
 played M h (gives c o ∷ l) =
     gives c (next c M .outcome) ∷ played (next c M .state) (h ++ (event c M ∷ [])) l
 played M h (fills c o b b′ ∷ l) =
-    fills c (next c M .outcome) b (lent-after first-lent (next c M .outcome) b)
+    fills c (next c M .outcome) b (lent-after first-lent as-it-was (next c M .outcome) b)
     ∷ played (next c M .state) (h ++ (event c M ∷ [])) l
 played M h (is-pending b ∷ l) = is-pending (pending h) ∷ played M h l
 played M h (plain-is d ∷ l) = plain-is (plain h) ∷ played M h l

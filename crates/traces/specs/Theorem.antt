@@ -16,7 +16,7 @@ use Rattle.protocol.specs.Causes.{causes}
 use Rattle.protocol.specs.Calls.{Call, start, load, begin, commit, abort, step, write, Outcome, granted, written, waits, refused}
 use Rattle.protocol.specs.Calls.{refused-at, next}
 use Rattle.protocol.specs.History.{Event, is-granted, Log, new-log, logged, fed, plain}
-use Rattle.protocol.specs.Answers.{granted-answer, code-of, answer-of, lent-after}
+use Rattle.protocol.specs.Answers.{granted-answer, code-of, answer-of, lent-after, as-it-was}
 use Rattle.protocol.specs.declared.Answer.{Answer}
 use Rattle.protocol.specs.declared.Answer.the-variants.{Count, Refused}
 use Rattle.table.specs.Layout.{state-size}
@@ -50,20 +50,13 @@ pub data Made : List Exchange → List Call → Type 0 where
 
 -- one call, by the definitions ---------------------------------------------------------
 
--- the first buffer afterwards; it held b, and `text` says what writing a document leaves there
-unfoldable pub first-after : (List ℕ → Document → List ℕ) → Outcome → List ℕ → List ℕ
-first-after text (granted v) b = filled (first-lent v) b
-first-after text (written d) b = text b d
-first-after text (waits set) b = b
-first-after text (refused c) b = b
-first-after text (refused-at c offset) b = b
-
--- the call c in the state M: number, buffers and the state left are the definition's; `writing` says what writing a document answers
+-- the call c in the state M: number, buffers and the state left are the definition's; `writing` says what writing a document answers, and
+-- `text` what it leaves in the first buffer
 pub record ByDefinition (writing : ℕ → Document → Answer) (text : List ℕ → Document → List ℕ)
     (M : State) (x : Exchange) (c : Call) : Type 0 where
   pub code : x .code ≡ code-of (answer-of (writing (length (x .first .before))) (next c M .outcome))
-  pub first : x .first .after ≡ first-after text (next c M .outcome) (x .first .before)
-  pub second : x .second .after ≡ lent-after second-lent (next c M .outcome) (x .second .before)
+  pub first : x .first .after ≡ lent-after first-lent text (next c M .outcome) (x .first .before)
+  pub second : x .second .after ≡ lent-after second-lent as-it-was (next c M .outcome) (x .second .before)
   pub left : Holds (x .state .after) (next c M .state)
 
 -- demand 1 -----------------------------------------------------------------------------

@@ -74,6 +74,11 @@ unfoldable pub ruled : Document → Bool
 ruled nil = true
 ruled (node a ks fs) = allowed (a .kind) (a .content) && children-rule (a .kind) (top-kinds ks) && ruled ks && ruled fs
 
+-- every node has children by the rule, whatever its content is
+unfoldable pub ordered : Document → Bool
+ordered nil = true
+ordered (node a ks fs) = children-rule (a .kind) (top-kinds ks) && ordered ks && ordered fs
+
 -- one document node, numbered 0, alone at the top
 abbrev pub rooted : Document → Bool
 rooted nil = false

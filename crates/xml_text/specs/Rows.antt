@@ -1,14 +1,14 @@
 -- Writing by a pass over rows: the nodes of a document in document order, each with its depth, kind and content.
 use Prim.Native.Nat.{ℕ, zero, suc, _+_, _-_}
-use mathlib.Core.Bool.{Bool, cond, not, _&&_}
+use mathlib.Core.Bool.{Bool, true, cond, not, _&&_, _||_}
 use mathlib.Core.List.{List, [], _∷_, _++_, map}
 use lib.ListN.{length, getD, drop}
 use lib.Dec.{eqb, leb, ltb}
 use Rattle.tree.specs.Text.{bytes}
-use Rattle.tree.specs.Content.{text-kind}
-unfoldable pub use Rattle.xml_text.specs.Ordered.{in-start-tag, may-stand, in-order, ordered}
+use Rattle.tree.specs.Forest.{nil, node}
+use Rattle.tree.specs.Content.{element-kind, attribute-kind, text-kind, takes}
 use Rattle.xml.specs.Bytes.{line-feed, used, long-declaration}
-use Rattle.xml.specs.Shape.{Label}
+use Rattle.xml.specs.Shape.{Label, Shape}
 use Rattle.xml.specs.Reading.{input-limit}
 use Rattle.xml.specs.Writing.{escaped, is-element, is-attribute}
 
@@ -22,7 +22,24 @@ no-label = record { kind = 0; content = [] }
 abbrev pub kinds : List Label → List ℕ
 kinds es = map (λ a. a .kind) es
 
--- the order of children, and neighbouring texts apart
+-- the children rule, child by child ----------------------------------------------------------
+
+-- a child behind which the start tag of its parent is still open, by its kind; 0: there is none
+abbrev pub in-start-tag : ℕ → Bool
+in-start-tag previous = eqb previous 0 || eqb previous attribute-kind
+
+-- the rule for a node of a kind below a parent of a kind, behind a sibling of kind `previous` (0: it is the first)
+unfoldable pub may-stand : ℕ → ℕ → ℕ → Bool
+may-stand parent previous kind =
+    takes parent kind && cond (eqb parent element-kind) (not (eqb kind attribute-kind) || in-start-tag previous) (eqb previous 0)
+
+-- every node may stand where it is, below this parent and behind this sibling: of a document that is `ordered` (law ordered-document)
+unfoldable pub in-order : ℕ → ℕ → Shape → Bool
+in-order parent previous nil = true
+in-order parent previous (node a ks fs) =
+    may-stand parent previous (a .kind) && (in-order (a .kind) 0 ks && in-order parent (a .kind) fs)
+
+-- the same, and neighbouring texts apart
 unfoldable pub fits : ℕ → ℕ → ℕ → Bool
 fits parent previous kind = may-stand parent previous kind && not (eqb previous text-kind && eqb kind text-kind)
 

@@ -5,14 +5,13 @@ use mathlib.Core.Bool.{Bool, false, cond, _&&_}
 use mathlib.Core.List.{List}
 use lib.ListN.{length}
 use lib.Dec.{leb}
-use Rattle.tree.specs.Document.{Document}
+use Rattle.tree.specs.Document.{Document, ordered}
 use Rattle.protocol.specs.State.{State, committed-document}
 use Rattle.protocol.specs.Lent.{filled}
 use Rattle.protocol.specs.declared.Answer.{Answer}
 use Rattle.protocol.specs.declared.Answer.the-variants.{Count, Refused}
 use Rattle.form.specs.Form.{form, Holds}
 use Rattle.xml.specs.Writing.{write, expressible}
-use Rattle.xml_text.specs.Rows.{ordered}
 
 -- the text of a document can be written, and fits into this room
 unfoldable pub writable : ℕ → Document → Bool

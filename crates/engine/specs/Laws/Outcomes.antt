@@ -9,7 +9,7 @@ use Rattle.tree.specs.Steps.{Value}
 use Rattle.protocol.specs.State.{State}
 use Rattle.protocol.specs.Lent.{filled}
 use Rattle.protocol.specs.Calls.{Call, Outcome, granted, written, waits, refused, refused-at, unchanged, next}
-use Rattle.protocol.specs.Answers.{answer-of, granted-answer, lent-after}
+use Rattle.protocol.specs.Answers.{answer-of, granted-answer, lent-after, as-it-was}
 use Rattle.protocol.specs.History.{is-granted}
 use Rattle.protocol.specs.declared.Answer.{Answer}
 use Rattle.protocol.specs.declared.Answer.the-variants.{Refused}
@@ -22,7 +22,7 @@ use Rattle.engine.specs.Judgement.{Stopped}
 pub not-both : {X : Type 0} {b : Bool} → b ≡ true → b ≡ false → X
 not-both p q = absurd (false≢true (sym q ∙ p))
 
-lent-quiet : (lent : Value → List ℕ) (o : Outcome) (b : List ℕ) → is-granted o ≡ false → b ≡ lent-after lent o b
+lent-quiet : (lent : Value → List ℕ) (o : Outcome) (b : List ℕ) → is-granted o ≡ false → b ≡ lent-after lent as-it-was o b
 unfolding lent-after
 lent-quiet lent (granted v) b h = absurd (false≢true (sym h))
 lent-quiet lent (written d) b h = refl

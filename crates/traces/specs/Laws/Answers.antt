@@ -9,7 +9,7 @@ use Rattle.protocol.specs.State.{State, start-state, committed-document}
 use Rattle.protocol.specs.Lent.{first-lent, second-lent}
 use Rattle.protocol.specs.Calls.{Call, start, load, begin, commit, abort, step, write, next}
 use Rattle.protocol.specs.Calls.{Outcome, granted, written, waits, refused, refused-at}
-use Rattle.protocol.specs.Answers.{code-of, answer-of, lent-after}
+use Rattle.protocol.specs.Answers.{code-of, answer-of, lent-after, as-it-was}
 use Rattle.protocol.specs.declared.Answer.{Answer}
 use Rattle.table.specs.Layout.{state-size}
 use Rattle.form.specs.Form.{Holds}
@@ -17,7 +17,7 @@ use Rattle.xml_write.specs.Contract.{write-answer, write-buffer}
 use Rattle.traces.specs.Exchange.{Request, Exchange}
 use Rattle.traces.specs.Contract as contract
 use Rattle.traces.specs.Contract.{makes-start, Ensured, Contract}
-use Rattle.traces.specs.Theorem.{first-after, ByDefinition, Answers}
+use Rattle.traces.specs.Theorem.{ByDefinition, Answers}
 use Rattle.traces.specs.Laws.Codes.{not-written}
 
 -- a call is start, write, or one on a state
@@ -34,8 +34,8 @@ ensured-cases x r P f g h (step t s room) e = h (step t s room) e
 
 -- where nothing is written
 same-first : (text : List ℕ → Document → List ℕ) (r : Answer) (o : Outcome) (b : List ℕ) → ((w : Document → Answer) → r ≡ answer-of w o)
-    → lent-after first-lent o b ≡ first-after text o b
-unfolding lent-after first-after
+    → lent-after first-lent as-it-was o b ≡ lent-after first-lent text o b
+unfolding lent-after
 same-first text r (granted v) b h = refl
 same-first text r (written d) b h = absurd (not-written r d h)
 same-first text r (waits w) b h = refl
@@ -50,7 +50,7 @@ module _ (w : ℕ → Document → Answer) (text : List ℕ → Document → Lis
       × (x .first .after ≡ text (x .first .before) (committed-document M))
 
   start-by : contract.Start x r → state-size ≤ length (x .state .before) → ByDefinition w text M x start
-  unfolding next first-after lent-after first-lent second-lent
+  unfolding next lent-after first-lent second-lent
   start-by h l = record {
     code = e ∙ ap code-of (h .restarted .answer l M (w (length (x .first .before))));
     first = h .first;
@@ -68,7 +68,7 @@ module _ (w : ℕ → Document → Answer) (text : List ℕ → Document → Lis
     }
 
     write-by : contract.Write x r → Writes → ByDefinition w text M x write
-    unfolding next first-after lent-after answer-of
+    unfolding next lent-after answer-of
     write-by h g = record { code = e ∙ ap code-of (g .0); first = g .1; second = h .second; left = rw (h .state) b }
 
     pub ensured-by : (contract.Write x r → Writes) → (c : Call) → Ensured x r c → ByDefinition w text M x c

@@ -19,7 +19,7 @@ use Rattle.protocol.specs.Causes.{not-a-transaction, not-open}
 use Rattle.protocol.specs.Calls.{Input, Call, start, load, begin, commit, abort, step, write, Outcome, granted, written, waits, refused}
 use Rattle.protocol.specs.Calls.{refused-at, Next, grants-step, Check, checked, step-checks, judged, next}
 use Rattle.protocol.specs.History.{is-granted}
-use Rattle.protocol.specs.Answers.{code-of, lent-after}
+use Rattle.protocol.specs.Answers.{code-of, lent-after, as-it-was}
 use Rattle.protocol.specs.declared.Answer.{Answer}
 use Rattle.engine.specs.Contract.{Performed, Lent, no-room, room-of, rooms-of}
 use Rattle.ends.specs.Ends.{Restarted}
@@ -50,9 +50,9 @@ open-checks t M = (refused not-a-transaction, not (is-transaction t)) ∷ (refus
 
 -- nothing is put into it
 abbrev Unlent : (Value → List ℕ) → Next → Type 0
-Unlent lent n = [] ≡ lent-after lent (n .outcome) []
+Unlent lent n = [] ≡ lent-after lent as-it-was (n .outcome) []
 
-not-granted-unlent : (lent : Value → List ℕ) (o : Outcome) → is-granted o ≡ false → [] ≡ lent-after lent o []
+not-granted-unlent : (lent : Value → List ℕ) (o : Outcome) → is-granted o ≡ false → [] ≡ lent-after lent as-it-was o []
 unfolding lent-after
 not-granted-unlent lent (granted v) h = absurd (true≢false h)
 not-granted-unlent lent (written d) h = refl

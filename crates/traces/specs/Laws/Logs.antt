@@ -12,18 +12,18 @@ use Rattle.tree.specs.Steps.{Step, Value, PlainAnswer, plain-value, plain-answe
 use Rattle.tree.specs.Laws.Tests.{refuted}
 use Rattle.tree.specs.Laws.Lists.{map-map}
 use Rattle.protocol.specs.State.{State}
-use Rattle.protocol.specs.Lent.{second-lent}
+use Rattle.protocol.specs.Lent.{first-lent, second-lent}
 use Rattle.protocol.specs.Calls.{Call, start, load, begin, commit, abort, step, write}
 use Rattle.protocol.specs.Calls.{unreadable, stands-for, Outcome, StepAnswer, Next, next}
 use Rattle.protocol.specs.History.{history, state-after, is-granted, Log, new-log, logged, log-after, fed, answered, plain-run-answers}
-use Rattle.protocol.specs.Answers.{code-of, answer-of, lent-after}
+use Rattle.protocol.specs.Answers.{code-of, answer-of, lent-after, as-it-was}
 use Rattle.xml_write.specs.Contract.{writing, text-after}
 use Rattle.serializability.specs.Theorem.{since-start, reached}
 use Rattle.serializability.specs.Laws.Outcomes.{every-call}
 use Rattle.serializability.specs.Laws.Logs.{read-off, logged-read, map-joined}
 use Rattle.serializability.specs.Laws.Main.{is-write, further, demand-3}
 use Rattle.traces.specs.Exchange.{Exchange, outcome, told-granted}
-use Rattle.traces.specs.Theorem.{first-after, Demand2, Each, GrantedStep, granted-in, log-by-codes, granted-steps, steps, Feeds}
+use Rattle.traces.specs.Theorem.{Demand2, Each, GrantedStep, granted-in, log-by-codes, granted-steps, steps, Feeds}
 use Rattle.traces.specs.Theorem.{Answered, AllAnswered, PlainAnswers}
 
 -- one call ---------------------------------------------------------------------------------
@@ -53,8 +53,8 @@ module _ (x : Exchange) where
   -- x has the outcome of n
   record Meets (n : Next) : Type 0 where
     code : x .code ≡ code-of (answer-of (writing (length (x .first .before))) (n .outcome))
-    first : x .first .after ≡ first-after text-after (n .outcome) (x .first .before)
-    second : x .second .after ≡ lent-after second-lent (n .outcome) (x .second .before)
+    first : x .first .after ≡ lent-after first-lent text-after (n .outcome) (x .first .before)
+    second : x .second .after ≡ lent-after second-lent as-it-was (n .outcome) (x .second .before)
 
   -- the granted steps of a call, from the codes and from the definitions
   abbrev Gives : Call → Next → Type 0
@@ -73,7 +73,7 @@ module _ (x : Exchange) where
   refused-none write o g t = none-granted (told-granted (x .code))
 
   gives : (c : Call) (M : State) → Gives c (next c M)
-  unfolding answer-of first-after lent-after is-write
+  unfolding answer-of lent-after is-write
   gives c M = every-call Gives M (record {
     refusal = λ c o g r t m. ([], refl, refused-none c o g t);
     at-start = λ t m. ([], refl, none-granted (told-granted (x .code)));

@@ -5,7 +5,7 @@ use lib.ListN.{length}
 use Rattle.protocol.specs.State.{State, start-state}
 use Rattle.protocol.specs.Lent.{first-lent, second-lent}
 use Rattle.protocol.specs.Calls.{Call, start, load, begin, commit, abort, step, write, next}
-use Rattle.protocol.specs.Answers.{code-of, lent-after}
+use Rattle.protocol.specs.Answers.{code-of, lent-after, as-it-was}
 use Rattle.protocol.specs.declared.Answer.{Answer}
 use Rattle.protocol.specs.declared.Answer.the-variants.{Done}
 use Rattle.table.specs.Layout.{state-size}
@@ -33,8 +33,8 @@ module _ (x y : Exchange) (f : x .first .before ≡ y .first .before) (g : x .se
     on-states : (c : Call) → contract.OnState x r c → contract.OnState y s c → OneAnswer x y
     on-states c h k = record {
       code = p ∙ ap code-of (h .performed .answer M b (λ d. Done) ∙ sym (k .performed .answer M d (λ d. Done))) ∙ sym q;
-      first = h .first .filled M b ∙ ap (lent-after first-lent (next c M .outcome)) f ∙ sym (k .first .filled M d);
-      second = h .second .filled M b ∙ ap (lent-after second-lent (next c M .outcome)) g ∙ sym (k .second .filled M d);
+      first = h .first .filled M b ∙ ap (lent-after first-lent as-it-was (next c M .outcome)) f ∙ sym (k .first .filled M d);
+      second = h .second .filled M b ∙ ap (lent-after second-lent as-it-was (next c M .outcome)) g ∙ sym (k .second .filled M d);
       left = next c M .state;
       left-by-x = h .performed .state M b;
       left-by-y = k .performed .state M d;

@@ -9,13 +9,13 @@ use lib.Seq.{take-append-seam}
 use lib.Dec.{leb}
 use borrow.Author.Tests.{leb-true, leb-false}
 use Rattle.tree.specs.Forest.{Forest, nil, node, rows, view}
-use Rattle.tree.specs.Document.{Node, Document, legal, lines}
+use Rattle.tree.specs.Document.{Node, Document, ordered, legal, lines}
 use Rattle.tree.specs.Steps.{Value, done, how-many}
 use Rattle.protocol.specs.State.{State, start-state, shown, as-shown, document-of, committed-document}
 use Rattle.protocol.specs.Lent.{filled, first-lent, second-lent}
 use Rattle.protocol.specs.Calls.{node-limit, Call, start, write, Outcome, granted, written, waits, refused, refused-at, next}
 use Rattle.protocol.specs.History.{is-granted}
-use Rattle.protocol.specs.Answers.{code-of, answer-of, granted-answer, lent-after}
+use Rattle.protocol.specs.Answers.{code-of, answer-of, granted-answer, lent-after, as-it-was}
 use Rattle.protocol.specs.declared.Answer.{Answer}
 use Rattle.protocol.specs.declared.Answer.the-variants.{Done, Count, Refused}
 use Rattle.table.specs.Flat.{flat}
@@ -26,12 +26,11 @@ use Rattle.serializability.specs.Laws.OneCall.{waiting}
 use Rattle.xml.specs.Writing as xml
 use Rattle.xml.specs.Laws.Expressible.{read-back}
 use Rattle.traces.specs.Exchange.{Exchange, outcome, value}
-use Rattle.xml_text.specs.Rows.{ordered}
 use Rattle.xml_write.specs.Contract.{writable, writing, text-after, write-answer, write-buffer}
 use Rattle.xml_write.specs.Laws.Calls.{legal-writing}
 use Rattle.traces.specs.Contract as contract
 use Rattle.traces.specs.Contract.{MakesCall, Ensured, Contract}
-use Rattle.traces.specs.Theorem.{Same, first-after, ByDefinition, Outcomes, Demand2}
+use Rattle.traces.specs.Theorem.{Same, ByDefinition, Outcomes, Demand2}
 use Rattle.traces.specs.Laws.Codes.{listed, Told, told, not-written, count-value}
 use Rattle.traces.specs.Laws.Causes.{makes-one, all-listed}
 use Rattle.traces.specs.Laws.Answers.{ensured-cases, ensured-by}
@@ -52,7 +51,7 @@ told-demand x o t k l b = record {
   behind = b;
 }
 
-kept-buffer : (lent : Value → List ℕ) (o : Outcome) (b : List ℕ) → is-granted o ≡ false → lent-after lent o b ≡ b
+kept-buffer : (lent : Value → List ℕ) (o : Outcome) (b : List ℕ) → is-granted o ≡ false → lent-after lent as-it-was o b ≡ b
 unfolding lent-after
 kept-buffer lent (granted v) b h = absurd (false≢true (sym h))
 kept-buffer lent (written d) b h = refl
@@ -218,7 +217,7 @@ module _ (M : State) (x : Exchange) (r : Answer) (e : x .code ≡ code-of r) (b 
       t = tells x r e (next c M .outcome) l (given (λ d. Done))
 
   write-meets : legal (committed-document M) ≡ true → ByDefinition writing text-after M x write → Demand2 M x write
-  unfolding next first-after answer-of
+  unfolding next lent-after answer-of
   write-meets l d = record {
     held = b;
     by-definition = d;
@@ -253,7 +252,7 @@ demand-2 M x c k m b g =
 pub granted-text : (M : State) (x : Exchange) (c : Call) → Demand2 M x c → c ≡ write → outcome (x .code) ≡ 0
     → (x .code ≡ code-of (Count (length (xml.write (committed-document M)))))
     × (x .first .after ≡ filled (xml.write (committed-document M)) (x .first .before))
-unfolding next first-after answer-of
+unfolding next lent-after answer-of
 granted-text M x c h k g =
     let o : next c M .outcome ≡ written (committed-document M) = ap (λ (y : Call). next y M .outcome) k in
     let d = h .by-definition in

@@ -9,15 +9,16 @@ use lib.Dec.{leb}
 use Rattle.tree.specs.Text.{bytes}
 use Rattle.tree.specs.Forest.{nil, node}
 use Rattle.tree.specs.Content.{document-kind}
-use Rattle.tree.specs.Document.{Document}
+use Rattle.tree.specs.Document.{Document, ordered}
 use Rattle.xml.specs.Shape.{Label, Shape, shape, element}
 use Rattle.xml.specs.Reading.{input-limit}
 use Rattle.xml.specs.Writing.{attributes, childless, contents, write, repeats, neighbouring-texts, expressible}
 use Rattle.xml.specs.Writing as xml
 use Rattle.table.specs.Flat.{flat}
-use Rattle.xml_text.specs.Rows.{in-order, ordered, begin, tag-end, end, ends, emit, extra, cost, judge, prolog, body, written-rows}
+use Rattle.xml_text.specs.Rows.{in-order, begin, tag-end, end, ends, emit, extra, cost, judge, prolog, body, written-rows}
 use Rattle.xml_text.specs.Rows.{measured}
 use Rattle.xml_text.specs.Laws.Trees.{up-none, inner, emit-tree, spots, tree-spots, spots-tree, total, total-append}
+use Rattle.xml_text.specs.Laws.Rules.{ordered-document}
 use Rattle.xml_text.specs.Laws.Order.{texts-behind, fits-tree, no-children, child-element, Root, no-root, root, root-of}
 use Rattle.xml_text.specs.Laws.Texts.{inner-rest}
 use Rattle.xml_text.specs.Laws.Lengths.{inner-length}
@@ -90,8 +91,8 @@ judged c f n h =
 module _ (d : Document) (c : List ℕ) (f : Shape) (e : shape d ≡ node (top c) f nil) where
   -- THE LAW of the text
   pub written-is : ordered d ≡ true → written-rows (flat 0 (shape d)) ≡ write d
-  unfolding ordered written-rows body prolog write flat
-  written-is h = rw e (ap (λ (l : List ℕ). prolog ++ l) (emit-root c f ∙ text-of c (root-of f (rw e at h))))
+  unfolding written-rows body prolog write flat
+  written-is h = rw e (ap (λ (l : List ℕ). prolog ++ l) (emit-root c f ∙ text-of c (root-of f (sym (ordered-document d e) ∙ h))))
 
   write-length : in-order document-kind 0 f ≡ true → length (write d) ≡ length prolog + total (tree-spots (top c) 0 f)
   unfolding write prolog
@@ -101,8 +102,8 @@ module _ (d : Document) (c : List ℕ) (f : Shape) (e : shape d ≡ node (top c)
 
   -- THE LAW of the length
   pub measured-is : measured (flat 0 (shape d)) ≡ cond (ordered d && expressible d) (length (write d)) 0
-  unfolding measured expressible ordered flat in-order
-  measured-is = rw e (go f (length (write d)) write-length)
+  unfolding measured expressible flat in-order
+  measured-is = rw (ordered-document d e, e) (go f (length (write d)) write-length)
     where
       go : (f : Shape) (n : ℕ) → (in-order document-kind 0 f ≡ true → n ≡ length prolog + total (tree-spots (top c) 0 f))
           → measured ((0, top c) ∷ (flat 1 f ++ []))

@@ -7,7 +7,7 @@ use native.Mathlib.Omega.{arith}
 use lib.ListN.{length}
 use lib.Dec.{leb}
 use borrow.Author.Tests.{le-leb, lt-leb}
-use Rattle.tree.specs.Document.{Document, legal}
+use Rattle.tree.specs.Document.{Document, ordered, legal}
 use Rattle.protocol.specs.State.{State, committed-document}
 use Rattle.protocol.specs.declared.Answer.{Answer}
 use Rattle.protocol.specs.declared.Answer.the-variants.{Count, Refused}
@@ -18,7 +18,7 @@ use Rattle.table.specs.Layout.{nodes}
 use Rattle.form.specs.Form.{form, Holds}
 use Rattle.form.specs.Laws.Holds.{holds-form}
 use Rattle.xml.specs.Writing.{write, expressible}
-use Rattle.xml_text.specs.Rows.{ordered, measured, written-rows}
+use Rattle.xml_text.specs.Rows.{measured, written-rows}
 use Rattle.xml_text.specs.Lending.{Wrote}
 use Rattle.xml_text.specs.Laws.Documents.{written-is, measured-is}
 use Rattle.xml_text.specs.Laws.Rules.{legal-ordered}

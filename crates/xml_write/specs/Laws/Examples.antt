@@ -4,8 +4,8 @@ use Prim.Native.String.{String}
 use mathlib.Core.Path.{_≡_, refl}
 use mathlib.Core.List.{List, [], _∷_, map}
 use Rattle.tree.specs.Forest.{nil, view}
-use Rattle.tree.specs.Content.{takes}
-use Rattle.tree.specs.Document.{Document, node-0-alone}
+use Rattle.tree.specs.Content.{takes, attributes-first, children-rule}
+use Rattle.tree.specs.Document.{Document, node-0-alone, ordered}
 use Rattle.tree.specs.Examples.{a-node, tree-E}
 use Rattle.protocol.specs.declared.Answer.{Answer}
 use Rattle.protocol.specs.declared.Answer.the-variants.{Count, Refused}
@@ -13,7 +13,6 @@ use Rattle.form.specs.Form.{form}
 use Rattle.xml.specs.Bytes.{used}
 use Rattle.xml.specs.Shape.{shape}
 use Rattle.xml.specs.Writing.{escaped, attributes, contents, write, repeats, neighbouring-texts, expressible}
-use Rattle.xml_text.specs.Rows.{may-stand, in-order, ordered}
 use Rattle.xml_write.specs.Contract.{writing, write-answer, Written}
 
 -- an element with two neighbours of a kind and a content in it
@@ -39,8 +38,8 @@ write-refusals =
     ∷ []
 
 pub write-refusals-hold : map (λ (x : Row). write-answer (x .0) (x .1)) write-refusals ≡ map (λ (x : Row). x .2) write-refusals
-unfolding tree-E node-0-alone write-answer writing ordered in-order may-stand takes shape view expressible repeats neighbouring-texts
-    write contents attributes escaped used
+unfolding tree-E node-0-alone write-answer writing ordered children-rule attributes-first takes shape view expressible repeats
+    neighbouring-texts write contents attributes escaped used
 write-refusals-hold = refl
 
 -- "state bytes that are too short, or not of the form .., give 13 before all else": no bytes at all, whatever the buffer
