@@ -108,8 +108,12 @@ ordered-behind : (parent previous : ℕ) (f : Document)
 unfolding in-order shape view ordered
 ordered-behind parent previous nil = rw (rule-none parent previous) refl
 ordered-behind parent previous (node a ks fs) =
-    rw (ordered-behind (a .kind) 0 ks, ordered-behind parent (a .kind) fs, rule-more parent previous (a .kind) (top-kinds fs),
-    rule-first (a .kind) (top-kinds ks))
+    rw (
+      ordered-behind (a .kind) 0 ks,
+      ordered-behind parent (a .kind) fs,
+      rule-more parent previous (a .kind) (top-kinds fs),
+      rule-first (a .kind) (top-kinds ks),
+    )
     (exchange (may-stand parent previous (a .kind)) (children-rule (a .kind) (top-kinds ks)) (ordered ks)
     (rule-behind parent (a .kind) (top-kinds fs)) (ordered fs))
 
@@ -141,9 +145,11 @@ ruled-ordered nil h = refl
 ruled-ordered (node a ks fs) h =
     let u = and-left (allowed (a .kind) (a .content) && children-rule (a .kind) (top-kinds ks) && ruled ks) _ h in
     let v = and-left (allowed (a .kind) (a .content) && children-rule (a .kind) (top-kinds ks)) _ u in
-    rw (and-right (allowed (a .kind) (a .content)) _ v, 
-    ruled-ordered ks (and-right (allowed (a .kind) (a .content) && children-rule (a .kind) (top-kinds ks)) _ u),
-    ruled-ordered fs (and-right (allowed (a .kind) (a .content) && children-rule (a .kind) (top-kinds ks) && ruled ks) _ h)) refl
+    rw (
+      and-right (allowed (a .kind) (a .content)) _ v,
+      ruled-ordered ks (and-right (allowed (a .kind) (a .content) && children-rule (a .kind) (top-kinds ks)) _ u),
+      ruled-ordered fs (and-right (allowed (a .kind) (a .content) && children-rule (a .kind) (top-kinds ks) && ruled ks) _ h),
+    ) refl
 
 -- every document of the tree's rules has its children in order
 pub legal-ordered : (d : Document) → legal d ≡ true → ordered d ≡ true
