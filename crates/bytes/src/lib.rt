@@ -37,7 +37,7 @@ pub fn agreement(s: &[u8], at: usize, word: &[u8]) -> usize
 }
 
 // An entry put at a place of a list; those from there to `end` go one place further.
-pub fn insert(list: &mut [usize; 1024], at: usize, end: usize, place: usize)
+pub fn insert(list: &mut [u16; 1024], at: usize, end: usize, place: u16)
     requires { ⌜ (at ≤ end) × (end < 1024) × (length (now list) ≡ 1024) ⌝ }
     ensures { λ r. ⌜ Inserted (now (list .entry)) (now (list .exit)) at end place ⌝ }
 {

@@ -37,7 +37,7 @@ fn behind_root(c: Cursor, s: &[u8], spare: usize) -> Judged
 }
 
 // The content of the root element, and what is behind it.
-fn root_content(c: Cursor, s: &[u8], names: &mut [usize; 1024], spare: usize) -> Judged
+fn root_content(c: Cursor, s: &[u8], names: &mut [u16; 1024], spare: usize) -> Judged
     requires { ⌜ Beginning (now s) (c .at) × Deep (now s) (now names) 1 spare ⌝ }
     ensures { λ r. ⌜ Leads (now (s .entry)) (closed (stack (now (s .entry)) (now (names .entry)) 0 1)) spare (c .at) (verdict r) ⌝ }
 {
@@ -61,10 +61,10 @@ fn root_content(c: Cursor, s: &[u8], names: &mut [usize; 1024], spare: usize) ->
 
 // The root element from the first byte of its name on, and what is behind it.
 fn root_element(c: Cursor, s: &[u8], spare: usize) -> Judged
-    requires { ⌜ Named (now s) (c .at) × (2 + spare ≤ 1024) ⌝ }
+    requires { ⌜ Named (now s) (c .at) × (2 + spare ≤ 1024) × (length (now s) ≤ 65537) ⌝ }
     ensures { λ r. ⌜ scan-at (now (s .entry)) (tag-name [] (getD (now (s .entry)) (c .at) 0 ∷ [])) spare 1 (c .at + 1) ≡ verdict r ⌝ }
 {
-    let mut names = [0usize; 1024];
+    let mut names = [0u16; 1024];
     match c.start_tag(s, &mut names, 0, spare) {
         Tag::Broken(x, j) => Judged::Rejected(x, j),
         Tag::Emptied(next, m) => behind_root(next, s, m),
@@ -104,9 +104,9 @@ fn find_root(s: &[u8]) -> Prolog
     declared(s, &xml::LONG_DECLARATION)
 }
 
-// The whole input, of any length. Node 0 and the root element are always there.
+// The whole input, one byte longer than the limit at most. Node 0 and the root element are always there.
 fn unlimited(s: &[u8], limit: usize) -> Judged
-    requires { ⌜ (2 ≤ limit) × (limit ≤ 1024) ⌝ }
+    requires { ⌜ (2 ≤ limit) × (limit ≤ 1024) × (length (now s) ≤ 65537) ⌝ }
     ensures { λ r. ⌜ scan at-start (limit - 1) 0 0 0 (now (s .entry)) ≡ verdict r ⌝ }
 {
     match find_root(s) {

@@ -1,4 +1,4 @@
--- Names of open elements and of attributes, kept as offsets into the input, and what whole attributes and tags lead to.
+-- Names of open elements and of attributes, kept as offsets of the bytes before them, and what whole attributes and tags lead to.
 use Prim.Native.Nat.{ℕ, zero, suc, _+_, _≤_, _<_}
 use mathlib.Core.Path.{_≡_}
 use mathlib.Core.Bool.{Bool, true, false}
@@ -6,7 +6,7 @@ use mathlib.Core.List.{List, [], _∷_}
 use lib.ListN.{length, getD}
 use Rattle.tree.specs.Content.{name-start}
 use Rattle.xml.specs.Grammar.{Name}
-use Rattle.xml.specs.Reading.{node-offset}
+use Rattle.xml.specs.Reading.{node-offset, input-limit}
 use Rattle.xml.specs.Laws.Automaton.{behind-part, in-tag, tag-name, content, closed, end-name}
 use Rattle.xml.specs.Laws.Judge.{Verdict, bad}
 use Rattle.xml.specs.Laws.Scan.{scan-at}
@@ -21,17 +21,23 @@ use Rattle.xml_reader.specs.declared.Tag.the-variants.{Opened, Emptied, 
 use Rattle.xml_reader.specs.declared.Read.{Read}
 use Rattle.xml_reader.specs.declared.Read.the-variants.{Past, Refused}
 
--- the names at the n offsets from place lo on, the last first
+-- the name behind the byte at an offset
+abbrev pub name-behind : List ℕ → ℕ → Name
+name-behind s o = name-at s (o + 1)
+
+-- the names behind the n offsets from place lo on, the last first
 unfoldable pub stack : List ℕ → List ℕ → ℕ → ℕ → List Name
 stack s os lo zero = []
-stack s os lo (suc n) = name-at s (getD os (lo + n) 0) ∷ stack s os lo n
+stack s os lo (suc n) = name-behind s (getD os (lo + n) 0) ∷ stack s os lo n
 
--- the first n are offsets of the input
+-- the first n are offsets in the input, of which no more is read than one byte behind the limit
 pub record Placed (s os : List ℕ) (n : ℕ) : Type 0 where
-  pub placed : (i : ℕ) → i < n → getD os i 0 ≤ length s
+  pub short : length s ≤ input-limit + 1
+  pub placed : (i : ℕ) → i < n → getD os i 0 + 1 ≤ length s
 
 -- an attribute may begin here
 pub record Attributed (s : List ℕ) (at : ℕ) : Type 0 where
+  pub some : 1 ≤ at
   pub inside : at < length s
   pub starts : name-start (getD s at 0) ≡ true
   pub begins-here : node-offset s at ≡ at
@@ -49,9 +55,9 @@ pub record Kept (n : ℕ) (os os′ : List ℕ) : Type 0 where
   pub as-long : length os′ ≡ length os
   pub kept : (i : ℕ) → i < n → getD os′ i 0 ≡ getD os i 0
 
--- the names of attributes, by the offsets from place lo on
+-- the names of attributes, behind the offsets from place lo on
 abbrev pub attribute-names : List ℕ → List ℕ → ℕ → ℕ → Name
-attribute-names s os lo = entries (name-at s) os lo
+attribute-names s os lo = entries (name-behind s) os lo
 
 -- the name at an offset is put among the count names from place lo on, os before and os′ behind it
 pub record Entered (s os os′ : List ℕ) (lo count at : ℕ) : Type 0 where
@@ -94,6 +100,7 @@ pub data AttributesRead (s : List ℕ) (at spare : ℕ) : Tag → Type 0 where
 
 -- a name begins here
 pub record Named (s : List ℕ) (at : ℕ) : Type 0 where
+  pub some : 1 ≤ at
   pub inside : at < length s
   pub starts : name-start (getD s at 0) ≡ true
 

@@ -99,7 +99,7 @@ pub data TagRead (s : List ℕ) (F : Name → List Name → List Name → Config
       → ((n : Name) (ns seen : List Name) (m : ℕ) → Goes s (F n ns seen) m at (content n ns) m (c .at)) → TagRead s F at (Open c)
   tag-empty : {c : Cursor} → at < c .at → c .at ≤ length s → node-offset s (c .at) ≡ c .at
       → ((n : Name) (ns seen : List Name) (m : ℕ) → Goes s (F n ns seen) m at (closed ns) m (c .at)) → TagRead s F at (Empty c)
-  tag-attribute : {c : Cursor} → at ≤ c .at → c .at < length s → node-offset s (c .at) ≡ c .at → name-start (getD s (c .at) 0) ≡ true
+  tag-attribute : {c : Cursor} → at < c .at → c .at < length s → node-offset s (c .at) ≡ c .at → name-start (getD s (c .at) 0) ≡ true
       → ((n : Name) (ns seen : List Name) (m : ℕ) → Goes s (F n ns seen) m at (in-tag n ns seen) m (c .at)) → TagRead s F at (Attribute c)
   tag-wrong : {j : ℕ} → ((n : Name) (ns seen : List Name) (m : ℕ) → Leads s (F n ns seen) m at (bad 4 j)) → TagRead s F at (Wrong j)
 

@@ -42,12 +42,12 @@ impl Cursor {
     }
 
     // The end tag of the innermost open element, from its slash on.
-    fn end(self, s: &[u8], names: &[usize; 1024], depth: usize, spare: usize) -> Child
+    fn end(self, s: &[u8], names: &[u16; 1024], depth: usize, spare: usize) -> Child
         requires { ⌜ (self .at < length (now s)) × (getD (now s) (self .at) 0 ≡ 47) × Deep (now s) (now names) depth spare ⌝ }
         ensures { λ r. ⌜ ChildRead (now (s .entry)) (opened (stack (now (s .entry)) (now (names .entry)) 0 depth)) (self .at) spare
             (now (names .entry)) r ⌝ }
     {
-        let from = names[depth - 1];
+        let from = names[depth - 1] as usize + 1;
         let next = Cursor { at: self.at + 1 };
         match next.end_tag(s, from) {
             End::Mismatch(j) => Child::Stopped(4, j),
@@ -55,8 +55,8 @@ impl Cursor {
         }
     }
 
-    // A tag from behind its <; depth elements are open, the offsets of their names kept at the first places.
-    pub fn tag(self, s: &[u8], names: &mut [usize; 1024], depth: usize, spare: usize) -> Child
+    // A tag from behind its <; depth elements are open, the offsets of the bytes before their names kept at the first places.
+    pub fn tag(self, s: &[u8], names: &mut [u16; 1024], depth: usize, spare: usize) -> Child
         requires { ⌜ Behind (now s) (self .at) × Deep (now s) (now names) depth spare ⌝ }
         ensures { λ r. ⌜ ChildRead (now (s .entry)) (opened (stack (now (s .entry)) (now (names .entry)) 0 depth)) (self .at) spare
             (now (names .exit)) r ⌝ }
@@ -83,7 +83,7 @@ impl Cursor {
     }
 
     // A text, which may be empty, and the tag behind it.
-    pub fn child(self, s: &[u8], names: &mut [usize; 1024], depth: usize, spare: usize) -> Child
+    pub fn child(self, s: &[u8], names: &mut [u16; 1024], depth: usize, spare: usize) -> Child
         requires { ⌜ Beginning (now s) (self .at) × Deep (now s) (now names) depth spare ⌝ }
         ensures { λ r. ⌜ ChildRead (now (s .entry)) (closed (stack (now (s .entry)) (now (names .entry)) 0 depth)) (self .at) spare
             (now (names .exit)) r ⌝ }

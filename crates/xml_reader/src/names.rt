@@ -1,4 +1,5 @@
 // The names of the attributes of a start tag, kept as offsets in the order of the names: a name is found by halving, whatever they are.
+// What is kept is the offset of the byte before the name: a name may begin at 65,536, one more than 16 bits hold.
 use super::peek;
 use bytes::Order;
 use bytes::Place;
@@ -10,7 +11,7 @@ ghost use Rattle.xml.specs.Laws.Tokens.{name-at};
 ghost use Rattle.bytes.specs.Order.{Ordered};
 ghost use Rattle.bytes.specs.Sorted.{Increasing, Belongs};
 ghost use Rattle.xml_reader.specs.Steps.{Run};
-ghost use Rattle.xml_reader.specs.Elements.{Placed, Kept, attribute-names, EnterRead};
+ghost use Rattle.xml_reader.specs.Elements.{Placed, Attributed, Kept, attribute-names, EnterRead};
 
 // How the name that stands between two offsets lies to the one at another.
 fn order(s: &[u8], from: usize, to: usize, other: usize) -> Order
@@ -37,7 +38,7 @@ fn order(s: &[u8], from: usize, to: usize, other: usize) -> Order
 }
 
 // Where a name belongs among the count names whose offsets stand from lo on.
-fn place(s: &[u8], names: &[usize; 1024], lo: usize, count: usize, from: usize, to: usize) -> Place
+fn place(s: &[u8], names: &[u16; 1024], lo: usize, count: usize, from: usize, to: usize) -> Place
     requires { ⌜ (from ≤ to) × Run name-byte (now s) from to × (lo + count ≤ 1024) × Placed (now s) (now names) (lo + count)
         × Increasing (attribute-names (now s) (now names) lo) count ⌝ }
     ensures { λ r. ⌜ Belongs (attribute-names (now (s .entry)) (now (names .entry)) lo) count (name-at (now (s .entry)) from) r ⌝ }
@@ -46,7 +47,7 @@ fn place(s: &[u8], names: &[usize; 1024], lo: usize, count: usize, from: usize, 
     let mut high = count;
     while low < high {
         let middle = (low + high) / 2;
-        let other = names[lo + middle];
+        let other = names[lo + middle] as usize + 1;
         match order(s, from, to, other) {
             Order::Same => return Place::Taken,
             Order::Before => {
@@ -65,13 +66,13 @@ fn place(s: &[u8], names: &[usize; 1024], lo: usize, count: usize, from: usize, 
 // A name put among the count names whose offsets stand from lo on, unless it is one of them.
 pub fn enter(
     s: &[u8],
-    names: &mut [usize; 1024],
+    names: &mut [u16; 1024],
     lo: usize,
     count: usize,
     from: usize,
     to: usize,
 ) -> bool
-    requires { ⌜ (from ≤ to) × Run name-byte (now s) from to × (lo + count < 1024) × Placed (now s) (now names) (lo + count)
+    requires { ⌜ Attributed (now s) from × Run name-byte (now s) from to × (lo + count < 1024) × Placed (now s) (now names) (lo + count)
         × Increasing (attribute-names (now s) (now names) lo) count × (length (now names) ≡ 1024) ⌝ }
     ensures { λ r. ⌜ EnterRead (now (s .entry)) (now (names .entry)) (now (names .exit)) lo count from r
         × Kept lo (now (names .entry)) (now (names .exit)) ⌝ }
@@ -79,7 +80,7 @@ pub fn enter(
     match place(s, names, lo, count, from, to) {
         Place::Taken => false,
         Place::Free(k) => {
-            bytes::insert(names, lo + k, lo + count, from);
+            bytes::insert(names, lo + k, lo + count, (from - 1) as u16);
             true
         }
     }

@@ -89,7 +89,7 @@ impl Cursor {
     pub fn attribute(
         self,
         s: &[u8],
-        names: &mut [usize; 1024],
+        names: &mut [u16; 1024],
         lo: usize,
         count: usize,
         spare: usize,
@@ -120,7 +120,7 @@ impl Cursor {
     }
 
     // A start tag from behind its name on; the offsets of its attributes' names are kept from lo on.
-    fn attributes(self, s: &[u8], names: &mut [usize; 1024], lo: usize, spare: usize) -> Tag
+    fn attributes(self, s: &[u8], names: &mut [u16; 1024], lo: usize, spare: usize) -> Tag
         requires { ⌜ (self .at ≤ length (now s)) × (lo + 1 + spare ≤ 1024) × Placed (now s) (now names) lo × (length (now names) ≡ 1024) ⌝ }
         ensures { λ r. ⌜ AttributesRead (now (s .entry)) (self .at) spare r × Kept lo (now (names .entry)) (now (names .exit)) ⌝ }
     {
@@ -147,15 +147,15 @@ impl Cursor {
         }
     }
 
-    // A start tag from the first byte of its name on; the offset of the name is kept at place depth.
-    pub fn start_tag(self, s: &[u8], names: &mut [usize; 1024], depth: usize, spare: usize) -> Tag
+    // A start tag from the first byte of its name on; the offset of the byte before the name is kept at place depth.
+    pub fn start_tag(self, s: &[u8], names: &mut [u16; 1024], depth: usize, spare: usize) -> Tag
         requires { ⌜ Named (now s) (self .at) × (depth + 2 + spare ≤ 1024) × Placed (now s) (now names) depth
             × (length (now names) ≡ 1024) ⌝ }
         ensures { λ r. ⌜ ElementRead (now (s .entry)) (self .at) spare r × Kept depth (now (names .entry)) (now (names .exit))
-            × (getD (now (names .exit)) depth 0 ≡ self .at) ⌝ }
+            × (getD (now (names .exit)) depth 0 + 1 ≡ self .at) ⌝ }
     {
         let at = self.at;
-        names[depth] = at;
+        names[depth] = (at - 1) as u16;
         let end = self.name(s);
         if end.at - at > 32 {
             return Tag::Broken(5, at + 32);

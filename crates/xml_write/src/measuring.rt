@@ -63,7 +63,7 @@ fn cost(s: &[u8], parent: usize, above: u8, previous: u8, p: usize, kind: u8) ->
 // The names behind the node at p, of kind `kind`, below a node of kind `above` and behind one of kind `before`, if it may be written there.
 fn admit(
     s: &[u8],
-    names: &mut [usize; 1024],
+    names: &mut [u16; 1024],
     kept: usize,
     above: u8,
     before: u8,
@@ -94,7 +94,7 @@ pub fn measure(s: &[u8], places: &[u16; 1024], count: usize) -> usize
     let mut kinds = [0u8; 1024];
     kinds[0] = table::kind(s, first as usize);
     let mut top: usize = 0;
-    let mut names = [0usize; 1024];
+    let mut names = [0u16; 1024];
     let mut kept: usize = 0;
     let mut sum: usize = 39;
     let mut i: usize = 1;

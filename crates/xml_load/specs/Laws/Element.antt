@@ -85,7 +85,7 @@ module _ (s : List ℕ) (at spare : ℕ) where
       → scan-at s (tag-name [] (getD s at 0 ∷ [])) spare 1 (at + 1) ≡ v
   root-empty v (element-emptied o f) y = f [] v y
 
-  pub root-open : {c : Cursor} {m : ℕ} (os : List ℕ) (v : Verdict) → getD os 0 0 ≡ at → ElementRead s at spare (Opened c m)
+  pub root-open : {c : Cursor} {m : ℕ} (os : List ℕ) (v : Verdict) → getD os 0 0 + 1 ≡ at → ElementRead s at spare (Opened c m)
       → Leads s (closed (stack s os 0 1)) m (c .at) v
       → scan-at s (tag-name [] (getD s at 0 ∷ [])) spare 1 (at + 1) ≡ v
   unfolding stack
@@ -94,16 +94,15 @@ module _ (s : List ℕ) (at spare : ℕ) where
 pub emptied-inside : {s : List ℕ} {at spare m : ℕ} {c : Cursor} → ElementRead s at spare (Emptied c m) → c .at ≤ length s
 emptied-inside (element-emptied o f) = o .inside
 
-pub opened-inside : {s : List ℕ} {at spare m : ℕ} {c : Cursor} (os : List ℕ) → length os ≡ 1024 → getD os 0 0 ≡ at → at ≤ length s
-    → 2 + spare ≤ 1024
+pub opened-inside : {s : List ℕ} {at spare m : ℕ} {c : Cursor} (os : List ℕ) → length os ≡ 1024 → getD os 0 0 + 1 ≡ at → at ≤ length s
+    → length s ≤ 65537 → 2 + spare ≤ 1024
     → ElementRead s at spare (Opened c m) → Beginning s (c .at) × Deep s os 1 m
-opened-inside {s} os l e h p (element-opened o f) = (
+opened-inside {s} os l e h z p (element-opened o f) = (
   record { inside = o .inside; begins-here = o .begins-here },
   record {
     some = omega arith;
     room = omega (arith, o .fewer);
     long = l;
-    names = record
-        { placed = λ i k. let z : i ≡ 0 = omega arith in rw (z, e) h };
+    names = record { short = z; placed = λ i k. let y : i ≡ 0 = omega arith in rw (y, e) h };
   },
 )

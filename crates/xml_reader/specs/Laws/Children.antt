@@ -25,32 +25,32 @@ use Rattle.xml_reader.specs.declared.End.the-variants as end-variants
 use Rattle.xml_reader.specs.declared.Read.the-variants.{Past, Refused}
 use Rattle.xml_reader.specs.declared.Tag.the-variants.{Opened, Emptied, Broken}
 use Rattle.xml_reader.specs.Steps.{ContentRead, content-past, content-refused}
-use Rattle.xml_reader.specs.Elements.{stack, Placed, Kept, ElementRead, element-opened, element-emptied, element-broken, EndRead}
-use Rattle.xml_reader.specs.Elements.{end-behind, end-mismatch}
+use Rattle.xml_reader.specs.Elements.{stack, name-behind, Placed, Kept, ElementRead, element-opened, element-emptied, element-broken}
+use Rattle.xml_reader.specs.Elements.{EndRead, end-behind, end-mismatch}
 use Rattle.xml_reader.specs.Children.{opened, Behind, Deep, ChildRead, child-at, child-stopped}
 use Rattle.xml_reader.specs.Laws.Contents.{text-contents}
 use Rattle.xml_reader.specs.Laws.StartTags.{stack-same, placed-kept}
 
 -- the innermost open element and those around it
-innermost : (s os : List ℕ) (d : ℕ) → 1 ≤ d → stack s os 0 d ≡ name-at s (getD os (d - 1) 0) ∷ stack s os 0 (d - 1)
+innermost : (s os : List ℕ) (d : ℕ) → 1 ≤ d → stack s os 0 d ≡ name-behind s (getD os (d - 1) 0) ∷ stack s os 0 (d - 1)
 unfolding stack
 innermost s os zero h = absurd (omega arith)
 innermost s os (suc d) h = let p : 0 + d ≡ d = omega arith in let q : suc d - 1 ≡ d = omega arith in rw (p, q)
 
-one-deeper : (s os : List ℕ) (d : ℕ) → stack s os 0 (d + 1) ≡ name-at s (getD os d 0) ∷ stack s os 0 d
+one-deeper : (s os : List ℕ) (d : ℕ) → stack s os 0 (d + 1) ≡ name-behind s (getD os d 0) ∷ stack s os 0 d
 unfolding stack
 one-deeper s os d = let p : 0 + d ≡ d = omega arith in rw (add-one d, p)
 
-placed-next : (s os : List ℕ) (d : ℕ) → Placed s os d → getD os d 0 ≤ length s → Placed s os (d + 1)
-placed-next s os d p h = record { placed = λ i m. go i m (eqb i d) refl }
+placed-next : (s os : List ℕ) (d : ℕ) → Placed s os d → getD os d 0 + 1 ≤ length s → Placed s os (d + 1)
+placed-next s os d p h = record { short = p .short; placed = λ i m. go i m (eqb i d) refl }
   where
-    go : (i : ℕ) → i < d + 1 → (t : Bool) → eqb i d ≡ t → getD os i 0 ≤ length s
+    go : (i : ℕ) → i < d + 1 → (t : Bool) → eqb i d ≡ t → getD os i 0 + 1 ≤ length s
     go i m true e = rw (eqb-true i d e) h
     go i m false e = let x : i ≡ d → ⊥ = eqb-false i d e in p .placed i (omega arith)
 
 module _ (s os : List ℕ) (deep spare at : ℕ) (x : Deep s os deep spare) where
   abbrev n : Name
-  n = name-at s (getD os (deep - 1) 0)
+  n = name-behind s (getD os (deep - 1) 0)
 
   abbrev ns : List Name
   ns = stack s os 0 (deep - 1)
@@ -86,7 +86,8 @@ module _ (s os : List ℕ) (deep spare at : ℕ) (x : Deep s os deep spare) wher
       end-right {c} (end-behind a b d f) =
           child-at {c = c} {d = deep - 1} {m = spare}
           (record { further = omega arith; inside = b; begins-here = d; fewer = omega arith }) (omega (arith, x .room)) (x .long)
-          (record { placed = λ i m. x .names .placed i (omega arith) }) (rw from-is (goes-then to-end (f ns spare)))
+          (record { short = x .names .short; placed = λ i m. x .names .placed i (omega arith) })
+          (rw from-is (goes-then to-end (f ns spare)))
 
     -- a start tag
     module _ (e : name-start (getD s at 0) ≡ true) where
@@ -133,13 +134,13 @@ module _ (s os : List ℕ) (deep spare at : ℕ) (x : Deep s os deep spare) wher
             (omega (arith, x .room, o .fewer)) (k .as-long ∙ x .long) (placed-kept s os os′ deep (x .names) k)
             (rw (from-is, ← around) (record { back = λ v y. born-to (f (n ∷ ns) v y) }))
 
-        pub start-opened : {c : Cursor} {m : ℕ} → getD os′ deep 0 ≡ at → ElementRead s at (spare - 1) (Opened c m)
+        pub start-opened : {c : Cursor} {m : ℕ} → getD os′ deep 0 + 1 ≡ at → ElementRead s at (spare - 1) (Opened c m)
             → ChildRead s from at spare os′ (At c (deep + 1) m)
         start-opened {c} {m} q (element-opened o f) =
             child-at {c = c} {d = deep + 1} {m = m}
             (record { further = o .further; inside = o .inside; begins-here = o .begins-here; fewer = omega (arith, o .fewer) })
             (omega (arith, x .room, o .fewer)) (k .as-long ∙ x .long) (placed-next s os′ deep (placed-kept s os os′ deep (x .names) k)
-            (rw q (omega arith)))
+            (omega arith))
             (rw (from-is, one-deeper s os′ deep, q, ← around) (record { back = λ v y. born-to (f (n ∷ ns) v y) }))
 
   -- a text before it

@@ -20,7 +20,7 @@ use Rattle.bytes.specs.Laws.Order.{order-same, order-shorter, order-longer, ord
 use Rattle.bytes.specs.Sorted.{Increasing, Between, Inserted}
 use Rattle.bytes.specs.Laws.Entries.{each-entry, entry-added}
 use Rattle.xml_reader.specs.Steps.{Run}
-use Rattle.xml_reader.specs.Elements.{Placed, Kept, attribute-names, EnterRead, is-entered}
+use Rattle.xml_reader.specs.Elements.{Placed, Attributed, Kept, name-behind, attribute-names, EnterRead, is-entered}
 
 run-names : (l : List ℕ) → every name-byte (take (span name-byte l) l) ≡ true
 unfolding span
@@ -136,14 +136,16 @@ module _ (s : List ℕ) (from to other n : ℕ) (a : Run name-byte s from to) (g
 
 -- a name put among the others ------------------------------------------------------------------
 
-pub enter-new : {s os os′ : List ℕ} {lo count k at : ℕ} → Inserted os os′ (lo + k) (lo + count) at
+pub enter-new : {s os os′ : List ℕ} {lo count k at : ℕ} → Inserted os os′ (lo + k) (lo + count) (at - 1)
     → Increasing (attribute-names s os lo) count
-    → Between (attribute-names s os lo) count k k (name-at s at) → Placed s os (lo + count) → at ≤ length s
+    → Between (attribute-names s os lo) count k k (name-at s at) → Placed s os (lo + count) → Attributed s at
     → EnterRead s os os′ lo count at true
-enter-new {s} {lo = lo} x i b p h = is-entered (record {
-  placed = record { placed = each-entry x (λ o. o ≤ length s) (p .placed) h };
-  added = entry-added (name-at s) lo refl refl x i b;
-})
+enter-new {s} {lo = lo} {at = at} x i b p h =
+    let e : at - 1 + 1 ≡ at = omega (arith, h .some) in
+    is-entered (record {
+      placed = record { short = p .short; placed = each-entry x (λ o. o + 1 ≤ length s) (p .placed) (omega (arith, h .inside)) };
+      added = rw e at (entry-added (name-behind s) lo refl refl x i (rw e b));
+    })
 
 pub enter-kept : {os os′ : List ℕ} {lo at end p : ℕ} → lo ≤ at → Inserted os os′ at end p → Kept lo os os′
 enter-kept h x = record { as-long = x .as-long; kept = λ i k. x .ahead i (omega arith) }

@@ -10,6 +10,7 @@ use lib.Seq.{getD-set-same, getD-set-other}
 use borrow.Author.Tests.{eqb-true, eqb-false}
 use Rattle.tree.specs.Content.{content-limit, name-byte}
 use Rattle.xml.specs.Grammar.{Name}
+use Rattle.xml.specs.Reading.{input-limit}
 use Rattle.xml.specs.Laws.Automaton.{behind-part, tag-name, step}
 use Rattle.xml.specs.Laws.Scan.{scan-at, scan-alike}
 use Rattle.xml.specs.Laws.Goes.{Goes, goes-then, goes-same}
@@ -38,10 +39,10 @@ stack-same s os os′ zero k = refl
 stack-same s os os′ (suc n) k =
     rw (k .kept (0 + n) (omega arith), stack-same s os os′ n (record { as-long = k .as-long; kept = λ i h. k .kept i (omega arith) }))
 
-pub placed-push : (s os : List ℕ) (n v : ℕ) → Placed s os n → v ≤ length s → n < length os → Placed s (set os n v) (n + 1)
-placed-push s os n v p h l = record { placed = λ i m. go i m (eqb i n) refl }
+pub placed-push : (s os : List ℕ) (n v : ℕ) → Placed s os n → v + 1 ≤ length s → n < length os → Placed s (set os n v) (n + 1)
+placed-push s os n v p h l = record { short = p .short; placed = λ i m. go i m (eqb i n) refl }
   where
-    go : (i : ℕ) → i < n + 1 → (t : Bool) → eqb i n ≡ t → getD (set os n v) i 0 ≤ length s
+    go : (i : ℕ) → i < n + 1 → (t : Bool) → eqb i n ≡ t → getD (set os n v) i 0 + 1 ≤ length s
     go i m true e = rw (eqb-true i n e, getD-set-same os n v 0 l) h
     go i m false e = let x : i ≡ n → ⊥ = eqb-false i n e in rw (getD-set-other os n i v 0 x) (p .placed i (omega arith))
 
@@ -56,16 +57,19 @@ pub kept-less : (n m : ℕ) (os os′ os″ : List ℕ) → Kept n os os′ → 
 kept-less n m os os′ os″ x y h = record { as-long = y .as-long ∙ x .as-long; kept = λ i l. y .kept i (omega arith) ∙ x .kept i l }
 
 pub placed-kept : (s os os′ : List ℕ) (n : ℕ) → Placed s os n → Kept n os os′ → Placed s os′ n
-placed-kept s os os′ n p k = record { placed = λ i h. rw (k .kept i h) (p .placed i h) }
+placed-kept s os os′ n p k = record { short = p .short; placed = λ i h. rw (k .kept i h) (p .placed i h) }
+
+pub placed-short : {s os : List ℕ} {n : ℕ} → Placed s os n → (i : ℕ) → i < n → getD os i 0 ≤ input-limit
+placed-short p i h = omega (arith, p .short, p .placed i h)
 
 -- the loop over the attributes -------------------------------------------------------------------
 
 pub attribute-here : {s : List ℕ} {i : ℕ} {r : Item} {c : Cursor} → TagRead s behind-part i r → r ≡ Attribute c
-    → Attributed s (c .at) × (i ≤ c .at)
+    → Attributed s (c .at) × (i < c .at)
 attribute-here {s} {i} z ez = go (subst (TagRead s behind-part i) ez z)
   where
-    go : {s : List ℕ} {i : ℕ} {c : Cursor} → TagRead s behind-part i (Attribute c) → Attributed s (c .at) × (i ≤ c .at)
-    go (tag-attribute d e g h f) = (record { inside = e; starts = h; begins-here = g }, d)
+    go : {s : List ℕ} {i : ℕ} {c : Cursor} → TagRead s behind-part i (Attribute c) → Attributed s (c .at) × (i < c .at)
+    go (tag-attribute d e g h f) = (record { some = omega arith; inside = e; starts = h; begins-here = g }, d)
 
 -- the attributes so far lead here; the names that were seen are those from place lo on
 pub record AttributesTo (s os : List ℕ) (lo count at spare i n : ℕ) : Type 0 where
@@ -131,11 +135,11 @@ module _ (s os : List ℕ) (lo count at spare i n : ℕ) (t : AttributesTo s os 
       pub attributes-turn : AttributesTo s os′ lo (count + 1) at spare (d .at) m
       attributes-turn = past found (reads e) (attribute-entered .added .lists (t .seen) (t .lists))
 
-      pub attribute-behind : (i ≤ c .at) × (c .at < d .at) × (d .at ≤ length s) × (m < n)
+      pub attribute-behind : (i < c .at) × (c .at < d .at) × (d .at ≤ length s) × (m < n)
       attribute-behind = go (reads e)
         where
           go : AttributeRead s (t .seen) (c .at) n (Past d m)
-              → (i ≤ c .at) × (c .at < d .at) × (d .at ≤ length s) × (m < n)
+              → (i < c .at) × (c .at < d .at) × (d .at ≤ length s) × (m < n)
           go (attribute-past a b g u) = (attribute-here z ez .1, a, b, g)
 
 -- from the first byte of the name ------------------------------------------------------------------

@@ -141,9 +141,9 @@ module _ (s : List ℕ) (at i : ℕ) (r : Run blank s at i) where
         let u : at + (i - at - 1) ≡ i - 1 = omega (arith, r .ends) in
         let v : i - 1 + 1 ≡ i = omega (arith, r .ends) in
         let w : node-offset s i ≡ i = rw v at (no-opener s (i - 1) (blank-no-opener (getD s (i - 1) 0) (rw u at (x .1)))) in
-        behind-spaces (omega (arith, r .ends))
-        (tag-attribute {c = c} (omega arith) (omega arith) (rw q w) (rw q e)
-        (λ n ns seen m. goes-same s (in-tag n ns seen) m i (c .at) (sym q)))
+        let l : at < i = omega (arith, r .ends) in
+        tag-attribute {c = c} (omega arith) (omega arith) (rw q w) (rw q e)
+        (λ n ns seen m. goes-then (spaces l n ns seen m) (goes-same s (in-tag n ns seen) m i (c .at) (sym q)))
 
     pub part-wrong : (i ≡ at → ⊥) → (getD s i 0 ≡ slash → ⊥) → (getD s i 0 ≡ greater-than → ⊥) → name-start (getD s i 0) ≡ false
         → TagRead s behind-part at (Wrong i)

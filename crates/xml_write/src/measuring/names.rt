@@ -37,7 +37,7 @@ fn order(s: &[u8], p: usize, q: usize) -> Order
 }
 
 // Where the name of the node at p belongs among the first count names.
-fn place(s: &[u8], names: &[usize; 1024], count: usize, p: usize) -> Place
+fn place(s: &[u8], names: &[u16; 1024], count: usize, p: usize) -> Place
     requires { ⌜ (Layout (now s)) × (p < length (nodes (now s))) × Inside (nodes (now s)) (now names) count
         × Increasing (names-at (nodes (now s)) (now names)) count ⌝ }
     ensures { λ r. ⌜ Belongs (names-at (nodes (now (s .entry))) (now (names .entry))) count
@@ -47,7 +47,7 @@ fn place(s: &[u8], names: &[usize; 1024], count: usize, p: usize) -> Place
     let mut high = count;
     while low < high {
         let middle = (low + high) / 2;
-        let other = names[middle];
+        let other = names[middle] as usize;
         match order(s, p, other) {
             Order::Same => return Place::Taken,
             Order::Before => {
@@ -64,7 +64,7 @@ fn place(s: &[u8], names: &[usize; 1024], count: usize, p: usize) -> Place
 }
 
 // The name of the node at p put among the first count names, unless it is one of them.
-fn enter(s: &[u8], names: &mut [usize; 1024], count: usize, p: usize) -> Admission
+fn enter(s: &[u8], names: &mut [u16; 1024], count: usize, p: usize) -> Admission
     requires { ⌜ (Layout (now s)) × (p < length (nodes (now s))) × (count < 1024) × Inside (nodes (now s)) (now names) count
         × Increasing (names-at (nodes (now s)) (now names)) count ⌝ }
     ensures { λ r. ⌜ Entered (nodes (now (s .entry))) (now (names .entry)) (now (names .exit)) count p r ⌝ }
@@ -72,14 +72,14 @@ fn enter(s: &[u8], names: &mut [usize; 1024], count: usize, p: usize) -> Admissi
     match place(s, names, count, p) {
         Place::Taken => Admission::Refused,
         Place::Free(k) => {
-            bytes::insert(names, k, count, p);
+            bytes::insert(names, k, count, p as u16);
             Admission::Kept(count + 1)
         }
     }
 }
 
 // The names behind the node at p, of kind `kind`: those of its attributes are still to come behind an element, and a text leaves them.
-pub fn follow(s: &[u8], names: &mut [usize; 1024], count: usize, p: usize, kind: u8) -> Admission
+pub fn follow(s: &[u8], names: &mut [u16; 1024], count: usize, p: usize, kind: u8) -> Admission
     requires { ⌜ (Layout (now s)) × (p < length (nodes (now s))) × (count < 1024) × Inside (nodes (now s)) (now names) count
         × Increasing (names-at (nodes (now s)) (now names)) count × (kind ≡ label-at (nodes (now s)) p .kind) ⌝ }
     ensures { λ r. ⌜ Followed (nodes (now (s .entry))) (now (names .entry)) (now (names .exit)) count p r ⌝ }

@@ -4,9 +4,14 @@ use borrow.Author.Needs.{needs}
 use Rattle.xml_load.proofs.judging.judge.Statement.{statement}
 use Rattle.xml_load.proofs.judging.judge.Tie as tie
 
+unlimited-requires : tie.Need-unlimited-requires
+unlimited-requires c κs =
+    let c1 = c .before in
+    (search needs, search needs, omega (arith, taken-length 65537 (c1 .before .before .args .x .now) (omega (arith, c1 .if1 .taken))))
+
 pub judge-spec : {M : Type 1} → statement M
 judge-spec = tie.close (tie.spec (λ c. taken-length _ (c .before .before .before .args .x .now) (omega (arith, c .before .if1 .taken)))
-    (λ c κs. search needs) (λ c κs. search needs)
+    unlimited-requires (λ c κs. search needs)
     (λ c. judged-long _ _ _ _ (c .before .before .before .if1 .taken) (c .before .unlimited .ensures) (c .limit-input .ensures))
     (λ c κs. search needs) (λ c κs. search needs)
     (λ c. judged-short _ _ _ _ (c .before .before .if1 .left) (c .before .unlimited2 .ensures) (c .limit-input2 .ensures)))

@@ -21,7 +21,7 @@ root-content-requires c κs =
     let start-tag = c .before .before .before .before .start-tag in
     let next2 = c .before .before .next2 in
     opened-inside (start-tag .last .1 .1 .0) (start-tag .ensures .1 .as-long ∙ search needs) (start-tag .ensures .2)
-    (omega (arith, pre .0 .inside)) (pre .1)
+    (omega (arith, pre .0 .inside)) (pre .2) (pre .1)
     (subst (λ (r : Tag). ElementRead (args .s .now) (args .c .at) (args .spare) r) (next2 .given .1) (start-tag .ensures .0))
 
 returns : tie.Need-returns

@@ -10,8 +10,11 @@ use Rattle.xml_load.proofs.judging.unlimited.Tie as tie
 root-element-requires : tie.Need-root-element-requires
 root-element-requires c κs =
     let args = c .before .before .before .before .before .args in
-    let find-root = c .before .before .before .find-root in
-    (root-named (subst (λ (r : Prolog). RootRead (args .s .now) at-start 0 r) (c .before .c .given .1) (find-root .ensures)), search needs)
+    let find-root = c .before .before .before .find-root in (
+      root-named (subst (λ (r : Prolog). RootRead (args .s .now) at-start 0 r) (c .before .c .given .1) (find-root .ensures)),
+      search needs,
+      search needs,
+    )
 
 returns : tie.Need-returns
 returns c =

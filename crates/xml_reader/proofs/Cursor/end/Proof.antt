@@ -1,7 +1,7 @@
 use Rattle.xml_reader.specs.Laws.Children.{end-wrong, end-right}
-use Rattle.xml_reader.specs.Elements.{EndRead}
+use Rattle.xml_reader.specs.Laws.StartTags.{placed-short}
+use Rattle.xml_reader.specs.Elements.{name-behind, EndRead}
 use Rattle.xml_reader.specs.declared.End.{End}
-use Rattle.xml.specs.Laws.Tokens.{name-at}
 use lib.ListN.{getD}
 use native.Mathlib.Omega.{arith}
 use mathlib.Core.Path.{subst}
@@ -16,13 +16,23 @@ end-tag-requires c κs =
     let args = c .before .before .before .args in
     (search needs, pre .2 .names .placed (args .depth - 1) (omega (arith, pre .2 .some)))
 
+cast-from : tie.Need-cast-from
+cast-from c =
+    let c2 = c .before .before in
+    omega (arith, placed-short (c2 .pre .2 .names) (c2 .args .depth - 1) (omega (arith, c2 .pre .2 .some)))
+
+add-from : tie.Need-add-from
+add-from c =
+    let c2 = c .before .before in
+    omega (arith, placed-short (c2 .pre .2 .names) (c2 .args .depth - 1) (omega (arith, c2 .pre .2 .some)))
+
 returns : tie.Need-returns
 returns c =
     let a = c .before .before .before .before .before .before .before .args in
     let pre = c .before .before .before .before .before .before .before .pre in
     let end-tag = c .before .before .before .end-tag in
     let j = c .before .j in
-    let open-name = name-at (a .s .now) (getD (a .names .now) (a .depth - 1) 0) in
+    let open-name = name-behind (a .s .now) (getD (a .names .now) (a .depth - 1) 0) in
     let read = subst (λ (r : End). EndRead (a .s .now) open-name (a .self .at + 1) r) (j .given .1) (end-tag .ensures) in
     end-wrong (a .s .now) (a .names .now) (a .depth) (a .spare) (a .self .at) (pre .2) (pre .0) (pre .1) read
 
@@ -32,10 +42,10 @@ returns-2 c =
     let pre = c .before .before .before .before .before .before .before .pre in
     let end-tag = c .before .before .before .end-tag in
     let c-here = c .before .c in
-    let open-name = name-at (a .s .now) (getD (a .names .now) (a .depth - 1) 0) in
+    let open-name = name-behind (a .s .now) (getD (a .names .now) (a .depth - 1) 0) in
     let read = subst (λ (r : End). EndRead (a .s .now) open-name (a .self .at + 1) r) (c-here .given .1) (end-tag .ensures) in
     end-right (a .s .now) (a .names .now) (a .depth) (a .spare) (a .self .at) (pre .2) (pre .0) (pre .1) read
 
 pub end-spec : {M : Type 1} → statement M
-end-spec = tie.close (tie.spec (λ c. search needs) (λ c. search needs) (λ c. search needs) (λ c. search needs) end-tag-requires
-    (λ c. search needs) (λ c. search needs) (λ c. search needs) returns returns-2)
+end-spec = tie.close (tie.spec (λ c. search needs) (λ c. search needs) (λ c. search needs) cast-from add-from (λ c. search needs)
+    end-tag-requires (λ c. search needs) (λ c. search needs) (λ c. search needs) returns returns-2)

@@ -14,6 +14,11 @@ add-insert c =
     let c7 = c4 .before .before .before in
     omega (arith, free-of (c4 .place .ensures) (c2 .k .given .1) .0, c7 .pre .2)
 
+cast-insert : tie.Need-cast-insert
+cast-insert c =
+    let c7 = c .before .before .before .before .before .before .before in
+    omega (arith, c7 .pre .0 .inside, c7 .pre .3 .short)
+
 insert-requires : tie.Need-insert-requires
 insert-requires c κs =
     let c2 = c .before .before in
@@ -27,8 +32,9 @@ returns-2 c =
     let c8 = c5 .before .before .before in
     let f = free-of (c5 .place .ensures) (c3 .k .given .1) in
     let x = c .insert .ensures in
-    (enter-new x (c8 .pre .4) (f .1) (c8 .pre .3) (omega (arith, c8 .pre .0, c8 .pre .1 .inside)), enter-kept (omega arith) x)
+    (enter-new x (c8 .pre .4) (f .1) (c8 .pre .3) (c8 .pre .0), enter-kept (omega arith) x)
 
 pub enter-spec : {M : Type 1} → statement M
 enter-spec = tie.close (tie.spec (λ c κs. search needs) (λ c. search needs) (λ c. search needs) add-insert (λ c. search needs)
-    insert-requires (λ c. (is-repeated (taken-of (c .before .before .place .ensures) (c .enum-told .given .1)), kept-same _ _)) returns-2)
+    (λ c. search needs) cast-insert insert-requires
+    (λ c. (is-repeated (taken-of (c .before .before .place .ensures) (c .enum-told .given .1)), kept-same _ _)) returns-2)

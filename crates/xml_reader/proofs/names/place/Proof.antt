@@ -1,11 +1,12 @@
 use borrow.Author.Needs.{needs}
 use native.Mathlib.Omega.{arith}
 use mathlib.Core.Path.{_≡_}
-use Prim.Native.Nat.{_-_, _≤_}
+use Prim.Native.Nat.{_+_, _-_, _/_, _≤_}
 use Rattle.xml.specs.Laws.Tokens.{name-at}
 use Rattle.bytes.specs.Sorted.{entries, Between, is-free}
 use Rattle.bytes.specs.Laws.Sorted.{between-start, turn-before, turn-behind, turn-same}
 use Rattle.xml_reader.specs.Elements.{attribute-names}
+use Rattle.xml_reader.specs.Laws.StartTags.{placed-short}
 use Rattle.xml_reader.proofs.names.place.Statement.{statement}
 use Rattle.xml_reader.proofs.names.place.Tie as tie
 
@@ -15,6 +16,18 @@ Inv-loop s names lo count from to low₀ high₀ low high =
 
 abbrev μ-loop : tie.MeasureT-loop
 μ-loop s names lo count from to low₀ high₀ low high = high - low
+
+cast-other : tie.Need-cast-other Inv-loop μ-loop
+cast-other c =
+    let c4 = c .before .before .before .before in
+    let l = c .before .before .loop in
+    omega (arith, placed-short (c4 .pre .3) (c4 .args .lo + (l .low + l .high) / 2) (search needs))
+
+add-other : tie.Need-add-other-2 Inv-loop μ-loop
+add-other c =
+    let c4 = c .before .before .before .before in
+    let l = c .before .before .loop in
+    omega (arith, placed-short (c4 .pre .3) (c4 .args .lo + (l .low + l .high) / 2) (search needs))
 
 returns : tie.Need-returns Inv-loop μ-loop
 unfolding entries
@@ -53,6 +66,6 @@ returns-2 c =
 
 pub place-spec : {M : Type 1} → statement M
 place-spec = tie.close (tie.spec Inv-loop μ-loop (λ c. (search needs, search needs, between-start _ _ _)) (λ c. search needs)
-    (λ c. search needs) (λ c. search needs) (λ c. search needs)
+    (λ c. search needs) (λ c. search needs) (λ c. search needs) cast-other add-other
     (λ c κs. (search needs, c .before .before .before .before .pre .3 .placed _ (search needs), search needs)) (λ c. search needs) returns
     (λ c. search needs) (λ c. omega arith) loop-again (λ c. search needs) (λ c. search needs) (λ c. omega arith) loop-again-2 returns-2)

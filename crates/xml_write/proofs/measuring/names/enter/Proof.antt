@@ -1,9 +1,15 @@
+use native.Mathlib.Omega.{arith}
 use Rattle.bytes.specs.Laws.Sorted.{taken-of, free-of}
 use Rattle.xml_write.specs.Names.{is-repeated}
 use Rattle.xml_write.specs.Laws.Names.{entered}
 use borrow.Author.Needs.{needs}
 use Rattle.xml_write.proofs.measuring.names.enter.Statement.{statement}
 use Rattle.xml_write.proofs.measuring.names.enter.Tie as tie
+
+cast-insert : tie.Need-cast-insert
+cast-insert c =
+    let c7 = c .before .before .before .before .before .before .before in
+    omega (arith, c7 .pre .1, c7 .pre .0 .many, c7 .pre .0 .room)
 
 insert-requires : tie.Need-insert-requires
 insert-requires c κs =
@@ -21,5 +27,6 @@ returns-2 c =
     entered (c .insert .ensures) (c8 .pre .2) (c8 .pre .3) (c8 .pre .4) (f .1) (c8 .pre .1)
 
 pub enter-spec : {M : Type 1} → statement M
-enter-spec = tie.close (tie.spec (λ c κs. search needs) (λ c. search needs) (λ c. search needs) insert-requires (λ c. search needs)
+enter-spec = tie.close (tie.spec (λ c κs. search needs) (λ c. search needs) (λ c. search needs) cast-insert insert-requires
+    (λ c. search needs)
     (λ c. is-repeated (taken-of (c .before .before .place .ensures) (c .enum-told .given .1))) returns-2)

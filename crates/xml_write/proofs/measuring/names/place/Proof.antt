@@ -1,7 +1,7 @@
 use borrow.Author.Needs.{needs}
 use native.Mathlib.Omega.{arith}
 use mathlib.Core.Path.{_≡_}
-use Prim.Native.Nat.{_-_, _≤_}
+use Prim.Native.Nat.{_+_, _-_, _/_, _≤_}
 use Rattle.table.specs.Layout.{nodes}
 use Rattle.bytes.specs.Sorted.{Between, is-free}
 use Rattle.bytes.specs.Laws.Sorted.{between-start, turn-before, turn-behind, turn-same}
@@ -17,6 +17,12 @@ Inv-loop s names count p low₀ high₀ low high =
 
 abbrev μ-loop : tie.MeasureT-loop
 μ-loop s names count p low₀ high₀ low high = high - low
+
+cast-other : tie.Need-cast-other Inv-loop μ-loop
+cast-other c =
+    let c4 = c .before .before .before .before in
+    let l = c .before .before .loop in
+    omega (arith, c4 .pre .2 .inside ((l .low + l .high) / 2) (search needs), c4 .pre .0 .many, c4 .pre .0 .room)
 
 order-requires : tie.Need-order-requires Inv-loop μ-loop
 order-requires c κs =
@@ -58,5 +64,5 @@ returns-2 c =
 pub place-spec : {M : Type 1} → statement M
 place-spec = tie.close (tie.spec Inv-loop μ-loop (λ c. (search needs, search needs, between-start _ _ _)) (λ c. search needs)
     (λ c. omega (arith, c .before .before .before .pre .2 .room)) (λ c. omega (arith, c .before .before .before .pre .2 .room))
-    order-requires (λ c. search needs) returns (λ c. search needs) (λ c. omega arith) loop-again (λ c. search needs) (λ c. search needs)
-    (λ c. omega arith) loop-again-2 returns-2)
+    cast-other order-requires (λ c. search needs) returns (λ c. search needs) (λ c. omega arith) loop-again (λ c. search needs)
+    (λ c. search needs) (λ c. omega arith) loop-again-2 returns-2)
