@@ -40,13 +40,13 @@ module _ (cs : List Call) where
 
   pub any-order : AnyOrder cs
   any-order b n = record {
-    document = rw (fed-is, joined-read (λ (x : Entry). x .step) entries b) (run-document (entries .first) (entries-of b) _ run);
+    document = rw (fed-is, joined-read (λ (x : Entry). x .step) entries b) (run-document (entries .initial) (entries-of b) _ run);
     answers = rw (fed-is, answered-is, joined-read (λ (x : Entry). x .step) entries b, joined-read (λ (x : Entry). x .value) entries b)
-        (run-answers (entries .first) (entries-of b) _ run);
+        (run-answers (entries .initial) (entries-of b) _ run);
   }
     where
-      run : Run (entries .first) (entries-of b) (document-of (λ u. has u b) (reached cs .tree))
+      run : Run (entries .initial) (entries-of b) (document-of (λ u. has u b) (reached cs .tree))
       run =
           let tr = reached-tracks in
           rw (joined-append (entries .committed) (map (entries .open-log) b))
-          (run-append (entries .first) (joined (entries .committed)) _ (tr .c) _ (tr .run) (tr .good .serial b n .run))
+          (run-append (entries .initial) (joined (entries .committed)) _ (tr .c) _ (tr .run) (tr .good .serial b n .run))

@@ -198,4 +198,4 @@ always-reached cs = record {
 
     legal-set : (S : ℕ → Bool) → legal (document-of S (reached cs .tree)) ≡ true
     legal-set S = set-legal (tr .c) (entries cs .open-log) (reached cs) (tr .good) S
-        (legal-run (entries cs .first) (joined (entries cs .committed)) (tr .c) (tr .first-legal) (tr .run))
+        (legal-run (entries cs .initial) (joined (entries cs .committed)) (tr .c) (tr .first-legal) (tr .run))
