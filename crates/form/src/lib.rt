@@ -1,15 +1,18 @@
 // The form of the lent bytes (docs/STATE.md): its check, and the bytes of the beginning.
+mod numbers;
+
 use table::layout;
 ghost use mathlib.Core.Path.{_≡_};
 ghost use Prim.Native.Nat.{_+_, _^_, _<_, _≤_};
 ghost use lib.ListN.{length};
 ghost use Rattle.tree.specs.Lists.{same};
 ghost use Rattle.locks.specs.Modes.{bit};
+ghost use Rattle.protocol.specs.Calls.{node-limit};
 ghost use Rattle.table.specs.Layout.{state-size, count, cell, part};
-ghost use Rattle.form.specs.Form.{sizes-in-range, apart, form};
+ghost use Rattle.form.specs.Form.{sizes-in-range, slots, apart, form};
 ghost use Rattle.table.specs.Laws.Bytes.{Filled};
 ghost use Rattle.form.specs.Start.{outline-byte, start-byte, Started};
-ghost use Rattle.form.specs.Check.{valid-header, column, cell-in-range, valid-first, valid-nodes, Outlined};
+ghost use Rattle.form.specs.Check.{valid-header, cell-in-range, valid-first, valid-nodes, Outlined};
 
 // Whether s begins with the bytes of b.
 fn begins(s: &[u8], b: &[u8]) -> bool
@@ -57,25 +60,25 @@ fn power(i: usize) -> u64
     1 << i
 }
 
-// Whether the words at offset o of the first n entries of the outline are below the limit, and no two alike.
-// Those met are marked in a map of 65,536 bits.
-fn apart(s: &[u8], o: usize, n: usize, limit: usize) -> bool
-    requires { ⌜ (state-size ≤ length (now s)) × (o ≤ 4) × (n ≤ 1024) ⌝ }
-    ensures { λ r. ⌜ r ≡ apart limit (column (now (s .entry)) o n) ⌝ }
+// Whether the slots of all entries of the outline are below 1,024, and no two alike. Those met are marked in a map of 1,024 bits; neighbours
+// in different words, so that a word is not stored and read again at once.
+fn slots(s: &[u8]) -> bool
+    requires { ⌜ state-size ≤ length (now s) ⌝ }
+    ensures { λ r. ⌜ r ≡ apart node-limit (slots (now (s .entry))) ⌝ }
 {
-    let mut seen = [0u64; 1024];
+    let mut seen = [0u64; 16];
     let mut i: usize = 0;
-    while i < n {
-        let w = layout::word(s, layout::OUTLINE + layout::ENTRY * i + o) as usize;
-        if w >= limit {
+    while i < layout::NODES {
+        let w = layout::word(s, layout::OUTLINE + layout::ENTRY * i) as usize;
+        if w >= layout::NODES {
             return false;
         }
-        let k = w % 1024;
+        let k = w % 16;
         let old = seen[k];
-        if has_bit(old, w / 1024) {
+        if has_bit(old, w / 16) {
             return false;
         }
-        seen[k] = old ^ power(w / 1024);
+        seen[k] = old ^ power(w / 16);
         i += 1;
     }
     true
@@ -175,13 +178,13 @@ pub fn formed(s: &[u8]) -> bool
         return false;
     }
     let n = layout::word(s, layout::COUNT) as usize;
-    if !apart(s, 0, layout::NODES, layout::NODES) {
+    if !slots(s) {
         return false;
     }
     if !nodes(s, n) {
         return false;
     }
-    apart(s, 4, n, 65536)
+    numbers::distinct(s, n)
 }
 
 // The beginning ----------------------------------------------------------------------
