@@ -7,7 +7,7 @@ use lib.ListN.{length, getD}
 use lib.Dec.{eqb, leb}
 use Rattle.tree.specs.Lists.{every, same}
 use Rattle.tree.specs.Content.{document-kind, between}
-use Rattle.locks.specs.Modes.{no-mode, bit}
+use Rattle.locks.specs.Modes.{no-mode}
 use Rattle.protocol.specs.State.{nobody}
 use Rattle.protocol.specs.Calls.{node-limit}
 use Rattle.table.specs.Encoding.{state-size, format-mark, part, count, slot, depth, number, cell, decode, nodes}
@@ -33,10 +33,6 @@ valid-nodes s = every sizes-in-range (cells s) && valid-rows (nodes s)
 unfoldable pub fresh : (ℕ → Bool) → (ℕ → Bool) → List ℕ → Bool
 fresh ok old [] = true
 fresh ok old (w ∷ ws) = ok w && (cond (old w) false true && fresh ok (λ k. eqb k w || old k) ws)
-
--- slots below 1,024 that were met: bit w / 16 of word w % 16
-unfoldable pub met : List ℕ → ℕ → Bool
-met seen w = bit (getD seen (w % 16) 0) (w / 16)
 
 -- the bucket of a number
 unfoldable pub bucket : ℕ → ℕ

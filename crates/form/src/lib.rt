@@ -3,10 +3,9 @@ mod numbers;
 
 use table::layout;
 ghost use mathlib.Core.Path.{_≡_};
-ghost use Prim.Native.Nat.{_+_, _^_, _<_, _≤_};
+ghost use Prim.Native.Nat.{_<_, _≤_};
 ghost use lib.ListN.{length};
 ghost use Rattle.tree.specs.Lists.{same};
-ghost use Rattle.locks.specs.Modes.{bit};
 ghost use Rattle.protocol.specs.Calls.{node-limit};
 ghost use Rattle.table.specs.Layout.{state-size, count, cell, part};
 ghost use Rattle.form.specs.Form.{sizes-in-range, slots, apart, form};
@@ -46,39 +45,22 @@ fn header(s: &[u8]) -> bool
     n <= layout::NODES
 }
 
-fn has_bit(w: u64, i: usize) -> bool
-    requires { ⌜ i < 64 ⌝ }
-    ensures { λ r. ⌜ r ≡ bit w i ⌝ }
-{
-    (w >> i) % 2 == 1
-}
-
-fn power(i: usize) -> u64
-    requires { ⌜ i < 64 ⌝ }
-    ensures { λ r. ⌜ r ≡ 2 ^ i ⌝ }
-{
-    1 << i
-}
-
-// Whether the slots of all entries of the outline are below 1,024, and no two alike. Those met are marked in a map of 1,024 bits; neighbours
-// in different words, so that a word is not stored and read again at once.
+// Whether the slots of all entries of the outline are below 1,024, and no two alike. Those met are marked in a byte each: bits take longer.
 fn slots(s: &[u8]) -> bool
     requires { ⌜ state-size ≤ length (now s) ⌝ }
     ensures { λ r. ⌜ r ≡ apart node-limit (slots (now (s .entry))) ⌝ }
 {
-    let mut seen = [0u64; 16];
+    let mut met = [false; 1024];
     let mut i: usize = 0;
     while i < layout::NODES {
-        let w = layout::word(s, layout::OUTLINE + layout::ENTRY * i) as usize;
-        if w >= layout::NODES {
+        let k = layout::word(s, layout::OUTLINE + layout::ENTRY * i) as usize;
+        if k >= layout::NODES {
             return false;
         }
-        let k = w % 16;
-        let old = seen[k];
-        if has_bit(old, w / 16) {
+        if met[k] {
             return false;
         }
-        seen[k] = old ^ power(w / 16);
+        met[k] = true;
         i += 1;
     }
     true

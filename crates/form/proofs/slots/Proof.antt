@@ -9,10 +9,10 @@ use Rattle.form.proofs.slots.Statement.{statement}
 use Rattle.form.proofs.slots.Tie as tie
 
 abbrev Inv-loop : tie.InvT-loop
-Inv-loop s seen₀ i₀ seen i = (i ≤ 1024) × (length seen ≡ 16) × (apart node-limit (slots s) ≡ slots-from s seen i)
+Inv-loop s met₀ i₀ met i = (i ≤ 1024) × (length met ≡ 1024) × (apart node-limit (slots s) ≡ slots-from s met i)
 
 abbrev μ-loop : tie.MeasureT-loop
-μ-loop s seen₀ i₀ seen i = 1024 - i
+μ-loop s met₀ i₀ met i = 1024 - i
 
 loop-holds : tie.Need-loop-holds Inv-loop μ-loop
 loop-holds c = (search needs, refl, slots-begin _ _ refl)
@@ -22,21 +22,15 @@ returns c = slots-high _ _ _ (c .before .before .before .loop .inv .2) _ (search
 
 returns-2 : tie.Need-returns-2 Inv-loop μ-loop
 returns-2 c =
-    let l = c .before .before .before .before .before .loop in
-    let word = c .before .before .before .word in
-    let has-bit = c .before .has-bit in
-    slots-met _ _ _ (l .inv .2) _ (search needs) (word .ensures) (search needs) _ (has-bit .ensures) (c .if2 .taken)
+    let l = c .before .before .before .before .loop in
+    slots-met _ _ _ (l .inv .2) _ (search needs) (c .before .before .word .ensures) (search needs) (c .if2 .taken)
 
 loop-again : tie.Need-loop-again Inv-loop μ-loop
 loop-again c =
-    let l = c .before .before .before .before .before .before .loop in
-    let word = c .before .before .before .before .word in
-    let has-bit = c .before .before .has-bit in
-    let if2 = c .before .if2 in (
+    let l = c .before .before .before .before .loop in (
       search needs,
       simp length-set (l .inv .1),
-      slots-next _ _ _ (l .inv .2) _ (search needs) (word .ensures) (search needs) _ (has-bit .ensures) (if2 .left)
-          (l .inv .1) _ (c .power .ensures),
+      slots-next _ _ _ (l .inv .2) _ (search needs) (c .before .before .word .ensures) (search needs) (c .if2 .left) (l .inv .1),
     )
 
 returns-3 : tie.Need-returns-3 Inv-loop μ-loop
@@ -44,5 +38,5 @@ returns-3 c = slots-end _ _ _ (c .before .loop .inv .2) (search needs)
 
 pub slots-spec : {M : Type 1} → statement M
 slots-spec = tie.close (tie.spec Inv-loop μ-loop loop-holds (λ c. search needs) (λ c. search needs) (λ c κs. search needs)
-    (λ c. search needs) returns (λ c. search needs) (λ c. search needs) (λ c κs. search needs) returns-2
-    (λ c κs. search needs) (λ c. search needs) (λ c. search needs) (λ c. search needs) (λ c. search needs) loop-again returns-3)
+    (λ c. search needs) returns (λ c. search needs) returns-2 (λ c. search needs) (λ c. search needs) (λ c. search needs) loop-again
+    returns-3)

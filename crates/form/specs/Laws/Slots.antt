@@ -1,95 +1,61 @@
--- The slots that were met, in a map of bits.
-use mathlib.Core.Path.{_≡_, refl, sym, ap, _∙_, fun-ext}
-use Prim.Native.Nat.{ℕ, _+_, _/_, _%_, _^_, _≤_, _<_}
-use mathlib.Core.Bool.{Bool, true, false, cond, _&&_, _||_}
-use mathlib.Core.List.{List}
+-- The slots, as a loop checks them that marks those it met.
+use mathlib.Core.Path.{_≡_, refl, sym, _∙_, fun-ext}
+use Prim.Native.Nat.{ℕ, zero, suc, _+_, _≤_, _<_}
+use mathlib.Core.Bool.{Bool, true, false, cond, not, _&&_, _||_, false≢true}
+use mathlib.Core.List.{List, [], _∷_}
 use native.Mathlib.Omega.{arith}
-use native.Mathlib.Nat.{zero-div}
 use lib.ListN.{length, getD, set}
 use lib.Seq.{getD-set-same, getD-set-other}
-use lib.Bits.{bitXor}
 use lib.Dec.{eqb, ltb}
-use borrow.Author.Tests.{eqb-true, eqb-false, eq-eqb, ne-eqb, lt-ltb, le-ltb}
+use borrow.Author.Tests.{eqb-true, eqb-false, lt-ltb, le-ltb}
 use Rattle.tree.specs.Lists.{every}
-use Rattle.locks.specs.Modes.{bit}
 use Rattle.protocol.specs.Calls.{node-limit}
 use Rattle.table.specs.Layout.{entry-at, word, slot}
-use Rattle.table.specs.Laws.Bits.{bit-xor}
 use Rattle.form.specs.Form.{slots, apart}
-use Rattle.form.specs.Check.{met}
-use Rattle.form.specs.Laws.Fresh.{fresh-from, fresh-begin, fresh-turn, fresh-end, zeros}
+use Rattle.form.specs.Laws.Fresh.{fresh-from, fresh-begin, fresh-turn, fresh-end}
 
-met-none : (seen : List ℕ) → ((i : ℕ) → getD seen i 0 ≡ 0) → (k : ℕ) → met seen k ≡ false
-unfolding met
-met-none seen h k = rw (h (k % 16), zero-div (2 ^ (k / 16)))
-
-met-more : (seen : List ℕ) (w : ℕ) → length seen ≡ 16 → met seen w ≡ false
-    → met (set seen (w % 16) (bitXor (getD seen (w % 16) 0) (2 ^ (w / 16)))) ≡ (λ k. eqb k w || met seen k)
-unfolding met
-met-more seen w l h = fun-ext (λ k. go k (eqb (k % 16) (w % 16)) refl (eqb (w / 16) (k / 16)) refl)
+-- one more is marked
+marked : (met : List Bool) (k j : ℕ) → k < length met → getD (set met k true) j false ≡ (eqb j k || getD met j false)
+marked met k j h = go (eqb j k) refl
   where
-    old : ℕ
-    old = getD seen (w % 16) 0
-
-    go : (k : ℕ) (x : Bool) → eqb (k % 16) (w % 16) ≡ x → (y : Bool) → eqb (w / 16) (k / 16) ≡ y
-        → bit (getD (set seen (w % 16) (bitXor old (2 ^ (w / 16)))) (k % 16) 0) (k / 16)
-        ≡ (eqb k w || bit (getD seen (k % 16) 0) (k / 16))
-    go k true p true q =
-        let a : k % 16 ≡ w % 16 = eqb-true (k % 16) (w % 16) p in
-        let b : w / 16 ≡ k / 16 = eqb-true (w / 16) (k / 16) q in
-        let e : k ≡ w = omega arith in
-        rw (
-          e,
-          eq-eqb w w refl,
-          getD-set-same seen (w % 16) (bitXor old (2 ^ (w / 16))) 0 (omega arith),
-          bit-xor old (w / 16) (w / 16),
-          eq-eqb (w / 16) (w / 16) refl,
-          h,
-        )
-    go k true p false q =
-        let a : k % 16 ≡ w % 16 = eqb-true (k % 16) (w % 16) p in
-        let b : w / 16 ≡ k / 16 → ⊥ = eqb-false (w / 16) (k / 16) q in
-        rw (
-          ne-eqb k w (λ e. b (ap (λ (n : ℕ). n / 16) (sym e))),
-          a,
-          getD-set-same seen (w % 16) (bitXor old (2 ^ (w / 16))) 0 (omega arith),
-          bit-xor old (w / 16) (k / 16),
-          q,
-        )
-    go k false p y q =
-        let a : k % 16 ≡ w % 16 → ⊥ = eqb-false (k % 16) (w % 16) p in
-        rw (ne-eqb k w (λ e. a (ap (λ (n : ℕ). n % 16) e)), getD-set-other seen (w % 16) (k % 16) (bitXor old (2 ^ (w / 16))) 0 a)
+    go : (b : Bool) → eqb j k ≡ b → getD (set met k true) j false ≡ (b || getD met j false)
+    go true p = rw (eqb-true j k p, getD-set-same met k true false h)
+    go false p = getD-set-other met k j true false (eqb-false j k p)
 
 -- the slots from place i on
-unfoldable pub slots-from : List ℕ → List ℕ → ℕ → Bool
-slots-from s seen i = fresh-from (λ k. ltb k node-limit) (slot s) node-limit (met seen) i
+unfoldable pub slots-from : List ℕ → List Bool → ℕ → Bool
+slots-from s met i = fresh-from (λ k. ltb k node-limit) (slot s) node-limit (λ k. getD met k false) i
 
-pub slots-begin : (s seen : List ℕ) → every (λ x. eqb x 0) seen ≡ true → apart node-limit (slots s) ≡ slots-from s seen 0
+pub slots-begin : (s : List ℕ) (met : List Bool) → every not met ≡ true → apart node-limit (slots s) ≡ slots-from s met 0
 unfolding apart slots slots-from
-slots-begin s seen z = fresh-begin (λ k. ltb k node-limit) (slot s) node-limit (met seen) (met-none seen (zeros seen z))
+slots-begin s met z = fresh-begin (λ k. ltb k node-limit) (slot s) node-limit (λ k. getD met k false) (none met z)
+  where
+    none : (l : List Bool) → every not l ≡ true → (k : ℕ) → getD l k false ≡ false
+    none [] h k = refl
+    none (false ∷ l) h zero = refl
+    none (false ∷ l) h (suc k) = none l h k
+    none (true ∷ l) h k = absurd (false≢true h)
 
-module _ (s seen : List ℕ) (i : ℕ) (v : apart node-limit (slots s) ≡ slots-from s seen i) where
-  -- w is the slot that was read
-  module _ (w : ℕ) (h : i < 1024) (e : w ≡ word s (entry-at i)) where
+module _ (s : List ℕ) (met : List Bool) (i : ℕ) (v : apart node-limit (slots s) ≡ slots-from s met i) where
+  -- k is the slot that was read
+  module _ (k : ℕ) (h : i < 1024) (e : k ≡ word s (entry-at i)) where
     slots-turn : apart node-limit (slots s)
-        ≡ (ltb w node-limit && (cond (met seen w) false true
-        && fresh-from (λ k. ltb k node-limit) (slot s) node-limit (λ k. eqb k w || met seen k) (i + 1)))
+        ≡ (ltb k node-limit && (cond (getD met k false) false true
+        && fresh-from (λ k. ltb k node-limit) (slot s) node-limit (λ j. eqb j k || getD met j false) (i + 1)))
     unfolding slots-from slot
-    slots-turn = v ∙ fresh-turn (λ k. ltb k node-limit) (slot s) node-limit (met seen) i h ∙ rw e
+    slots-turn = v ∙ fresh-turn (λ k. ltb k node-limit) (slot s) node-limit (λ k. getD met k false) i h ∙ rw e
 
-    pub slots-high : 1024 ≤ w → false ≡ apart node-limit (slots s)
-    slots-high l = sym (slots-turn ∙ rw (le-ltb w node-limit l))
+    pub slots-high : 1024 ≤ k → false ≡ apart node-limit (slots s)
+    slots-high l = sym (slots-turn ∙ rw (le-ltb k node-limit l))
 
-    module _ (l : w < 1024) (b : Bool) (m : b ≡ bit (getD seen (w % 16) 0) (w / 16)) where
-      pub slots-met : b ≡ true → false ≡ apart node-limit (slots s)
-      unfolding met
-      slots-met t = sym (slots-turn ∙ rw (lt-ltb w node-limit l, sym m ∙ t))
+    module _ (l : k < 1024) where
+      pub slots-met : getD met k false ≡ true → false ≡ apart node-limit (slots s)
+      slots-met t = sym (slots-turn ∙ rw (lt-ltb k node-limit l, t))
 
-      pub slots-next : b ≡ false → length seen ≡ 16 → (p : ℕ) → p ≡ 2 ^ (w / 16)
-          → apart node-limit (slots s) ≡ slots-from s (set seen (w % 16) (bitXor (getD seen (w % 16) 0) p)) (i + 1)
-      unfolding met slots-from
-      slots-next f z p q = slots-turn ∙ rw (lt-ltb w node-limit l, sym m ∙ f, q, met-more seen w z (sym m ∙ f))
+      pub slots-next : getD met k false ≡ false → length met ≡ 1024 → apart node-limit (slots s) ≡ slots-from s (set met k true) (i + 1)
+      unfolding slots-from
+      slots-next f z = slots-turn ∙ rw (lt-ltb k node-limit l, f, fun-ext (λ j. marked met k j (omega arith)))
 
   pub slots-end : 1024 ≤ i → true ≡ apart node-limit (slots s)
   unfolding slots-from
-  slots-end h = sym (v ∙ fresh-end (λ k. ltb k node-limit) (slot s) node-limit (met seen) i h)
+  slots-end h = sym (v ∙ fresh-end (λ k. ltb k node-limit) (slot s) node-limit (λ k. getD met k false) i h)
