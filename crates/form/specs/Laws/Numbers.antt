@@ -87,7 +87,8 @@ module _ {i : ℕ} {heads next : List ℕ} (h : Chains i heads next) where
 
   -- the numbers that were met are one more
   entered-more : (f : ℕ → ℕ) → i < 1024 → bucket (f i) < 2048
-      → entered f (set heads (bucket (f i)) (i + 1)) (set next i (getD heads (bucket (f i)) 0)) ≡ (λ k. eqb k (f i) || entered f heads next k)
+      → entered f (set heads (bucket (f i)) (i + 1)) (set next i (getD heads (bucket (f i)) 0))
+      ≡ (λ k. eqb k (f i) || entered f heads next k)
   unfolding entered chained
   entered-more f l m = fun-ext (λ k. go k (eqb (bucket k) (bucket (f i))) refl)
     where
@@ -138,7 +139,8 @@ numbers-begin f n heads next z =
 module _ (f : ℕ → ℕ) (n : ℕ) (heads next : List ℕ) (i : ℕ) (v : distinct (tabulate n f) ≡ numbers-from f n heads next i) where
   -- w is the number that was read, b its bucket, and r says whether it was found there
   module _ (w b : ℕ) (r : Bool) (l : i < n) (e : w ≡ f i) (g : b ≡ bucket w) (q : r ≡ chained f next w 1024 (getD heads b 0)) where
-    numbers-turn : distinct (tabulate n f) ≡ (cond r false true && fresh-from (λ k. true) f n (λ k. eqb k (f i) || entered f heads next k) (i + 1))
+    numbers-turn : distinct (tabulate n f)
+        ≡ (cond r false true && fresh-from (λ k. true) f n (λ k. eqb k (f i) || entered f heads next k) (i + 1))
     unfolding numbers-from entered
     numbers-turn = v ∙ fresh-turn (λ k. true) f n (entered f heads next) i l ∙ rw (← e, ← g, q)
 
