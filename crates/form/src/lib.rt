@@ -113,7 +113,7 @@ fn document(s: &[u8]) -> bool
     if layout::word(s, layout::OUTLINE + 2) != 0 {
         return false;
     }
-    if layout::word(s, layout::OUTLINE + 4) != 0 {
+    if numbers::number(s, 0) != 0 {
         return false;
     }
     cell(s, layout::word(s, layout::OUTLINE) as usize, 1, 1, 0)

@@ -8,7 +8,7 @@ ghost use Rattle.table.specs.Layout.{state-size, number, tabulate};
 ghost use Rattle.form.specs.Check.{bucket, chained};
 
 // The number of the node at place i.
-fn number(s: &[u8], i: usize) -> u32
+pub fn number(s: &[u8], i: usize) -> u32
     requires { ⌜ (state-size ≤ length (now s)) × (i < 1024) ⌝ }
     ensures { λ r. ⌜ r ≡ number (now (s .entry)) i ⌝ }
 {

@@ -162,14 +162,14 @@ module _ (s : List ℕ) (d : ℕ) (e : d ≡ word s 18) where
   unfolding valid-first depth
   first-deep h = rw (← e, ne-eqb d 0 h)
 
-  module _ (f : d ≡ 0) (n : ℕ) (g : n ≡ word s 20) where
+  module _ (f : d ≡ 0) (n : ℕ) (g : n ≡ number s 0) where
     pub first-numbered : (n ≡ 0 → ⊥) → false ≡ valid-first s
-    unfolding valid-first depth number
+    unfolding valid-first depth
     first-numbered h = rw (← e, eq-eqb d 0 f, ← g, ne-eqb n 0 h)
 
     pub first-cell : n ≡ 0 → (k : ℕ) → k ≡ word s 16 → (r : Bool) → r ≡ cell-in-range document-kind document-kind nobody (cell s k)
         → r ≡ valid-first s
-    unfolding valid-first depth number slot
+    unfolding valid-first depth slot
     first-cell h k i r j = rw (← e, eq-eqb d 0 f, ← g, eq-eqb n 0 h, ← i) j
 
 -- the slot that was read is in range
