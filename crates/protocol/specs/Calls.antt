@@ -10,7 +10,7 @@ use Rattle.tree.specs.Document.{Document, lines, numbers, legal}
 use Rattle.tree.specs.Steps.{Step, Value, done, how-many, unknown, wrong-kind, wrong-content, misplaced, inserts, answer}
 use Rattle.locks.specs.Modes.{against}
 use Rattle.locks.specs.Needs.{Lock, needs}
-use Rattle.protocol.specs.State.{is-transaction, transactions, Marked, Tree, State, nodes, numbered, number-held, callers-document}
+use Rattle.protocol.specs.State.{is-transaction, transactions, Marked, Tree, State, nodes, has-number, number-held, callers-document}
 use Rattle.protocol.specs.State.{committed-document, act, grant, commit-tree, abort-tree, tree-of}
 use Rattle.protocol.specs.State.{start-state, with-tree, opened, closed}
 use Rattle.protocol.specs.Lent.{Room, has-room}
@@ -86,7 +86,7 @@ checked (c ∷ cs) M n = cond (c .1) (unchanged (c .0) M) (checked cs M n)
 
 -- u holds, on this node, a mode that clashes with one of the locks
 abbrev pub clashes : List Lock → ℕ → Marked → Bool
-clashes ls u a = any (λ l. numbered (l .0) a && against (a .held u) (l .1)) ls
+clashes ls u a = any (λ l. has-number (l .0) a && against (a .held u) (l .1)) ls
 
 -- another open transaction, which holds such a mode on some node
 abbrev pub blocks : ℕ → List Lock → State → ℕ → Bool

@@ -39,23 +39,23 @@ is-granted (refused-at c o) = false
 -- a log of the calls since the last granted start or load: the document at first, the entries of each committed transaction, in commit
 -- order and each one's in call order, and those of each open one so far. A granted step has one entry
 pub record Log (E : Type 0) : Type 0 where
-  pub first : Document
+  pub initial : Document
   pub committed : List (List E)
   pub open-log : ℕ → List E
 
 abbrev pub new-log : {E : Type 0} → Document → Log E
-new-log d = record { first = d; committed = []; open-log = λ u. [] }
+new-log d = record { initial = d; committed = []; open-log = λ u. [] }
 
 -- the entries of transaction t are l
 abbrev pub with-log : {E : Type 0} → ℕ → List E → (ℕ → List E) → ℕ → List E
 with-log t l log u = cond (eqb u t) l (log u)
 
 abbrev pub with-entries : {E : Type 0} → ℕ → List E → Log E → Log E
-with-entries t l L = record { first = L .first; committed = L .committed; open-log = with-log t l (L .open-log) }
+with-entries t l L = record { initial = L .initial; committed = L .committed; open-log = with-log t l (L .open-log) }
 
 -- t committed: its entries behind those of the transactions committed before
 abbrev pub with-commit : {E : Type 0} → ℕ → Log E → Log E
-with-commit t L = record { first = L .first; committed = L .committed ++ (L .open-log t ∷ []); open-log = with-log t [] (L .open-log) }
+with-commit t L = record { initial = L .initial; committed = L .committed ++ (L .open-log t ∷ []); open-log = with-log t [] (L .open-log) }
 
 -- the log after a call: whether it was granted, and the entries of the steps that were granted in it, which are logged whatever came of
 -- the whole call; one that is not granted has none today (`NotGranted` in serializability)
@@ -84,10 +84,10 @@ answered h = log-after (λ x. x .value) (new-log node-0-alone) h
 
 -- the plain run's document, and its answers to the granted steps of committed transactions
 unfoldable pub plain : List Event → Document
-plain h = plain-document (fed h .first) (joined (fed h .committed))
+plain h = plain-document (fed h .initial) (joined (fed h .committed))
 
 unfoldable pub plain-run-answers : List Event → List PlainAnswer
-plain-run-answers h = plain-answers (fed h .first) (joined (fed h .committed))
+plain-run-answers h = plain-answers (fed h .initial) (joined (fed h .committed))
 
 -- pending --------------------------------------------------------------------------------
 

@@ -76,12 +76,12 @@ pub record State : Type 0 where
 unfoldable pub nodes : Tree → List Marked
 nodes f = map (λ r. r .it) (rows (λ a. a) [] f)
 
-abbrev pub numbered : ℕ → Marked → Bool
-numbered n a = eqb (a .now .number) n
+abbrev pub has-number : ℕ → Marked → Bool
+has-number n a = eqb (a .now .number) n
 
 -- a number is held by any node
 abbrev pub number-held : ℕ → Tree → Bool
-number-held n f = any (numbered n) (nodes f)
+number-held n f = any (has-number n) (nodes f)
 
 -- documents ------------------------------------------------------------------------
 
@@ -180,11 +180,11 @@ mark g f = amend (λ a. a) g [] f
 
 -- the node numbered n
 abbrev pub mark-node : ℕ → (Marked → Marked) → Tree → Tree
-mark-node n g f = mark (λ r. cond (numbered n (r .it)) (g (r .it)) (r .it)) f
+mark-node n g f = mark (λ r. cond (has-number n (r .it)) (g (r .it)) (r .it)) f
 
 -- t sees it, it is in the subtree of n, and it is an element named a
 abbrev pub renamed : ℕ → ℕ → List ℕ → Row Marked Marked → Bool
-renamed t n a r = every (seen-by t) (r .it ∷ r .above) && any (numbered n) (r .it ∷ r .above) && is-named a (r .it .now)
+renamed t n a r = every (seen-by t) (r .it ∷ r .above) && any (has-number n) (r .it ∷ r .above) && is-named a (r .it .now)
 
 -- what a granted step of t does
 abbrev pub act : ℕ → Step → Tree → Tree
@@ -195,7 +195,7 @@ act t (U n b) f = mark-node n (written-by t b) f
 act t (D n) f = mark-node n (deleted-by t) f
 -- among siblings that t deleted itself the place is a free choice, which no document can show: right behind the one counted last,
 -- for k = 1 before all
-act t (I m kind b n k) f = put (numbered n) (seen-by t) k (inserted-by t (record { number = m; kind = kind; content = b })) f
+act t (I m kind b n k) f = put (has-number n) (seen-by t) k (inserted-by t (record { number = m; kind = kind; content = b })) f
 act t (TT n) f = f
 act t (RR n) f = f
 act t (UU n a b) f = mark (λ r. cond (renamed t n a r) (written-by t b (r .it)) (r .it)) f

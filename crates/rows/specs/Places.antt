@@ -5,7 +5,7 @@ use mathlib.Core.List.{List, [], _∷_, map}
 use lib.ListN.{getD, drop}
 use lib.Dec.{eqb, ltb}
 use Rattle.tree.specs.Lists.{every, keep}
-use Rattle.protocol.specs.State.{Marked, numbered, seen-by}
+use Rattle.protocol.specs.State.{Marked, has-number, seen-by}
 use Rattle.table.specs.Lists.{first}
 use Rattle.table.specs.Flat.{prune}
 use Rattle.table.specs.Layout.{Entry, no-entry}
@@ -26,7 +26,7 @@ number-of a = a .now .number
 
 -- the first place with this number, or the length
 abbrev pub place-of : ℕ → List Entry → ℕ
-place-of n l = first (λ x. numbered n (x .1)) l
+place-of n l = first (λ x. has-number n (x .1)) l
 
 -- the way up -----------------------------------------------------------------------
 

@@ -9,7 +9,7 @@ use Rattle.tree.specs.Lists.{any}
 use Rattle.tree.specs.Steps.{Step, T, C, R, U, D, I, TT, RR, UU, is-named}
 use Rattle.locks.specs.Modes.{Mode, union, among}
 use Rattle.locks.specs.Needs.{Need, need, Lock}
-use Rattle.protocol.specs.State.{Marked, numbered, seen-by, written-by, deleted-by, inserted-by, granted-to, with-held}
+use Rattle.protocol.specs.State.{Marked, has-number, seen-by, written-by, deleted-by, inserted-by, granted-to, with-held}
 use Rattle.table.specs.Lists.{modify, insert}
 use Rattle.table.specs.Flat as Flat
 use Rattle.table.specs.Flat.{second}
@@ -29,7 +29,7 @@ number-at l i = number-of (item l i)
 
 -- no row has this number
 abbrev pub Lacks : ℕ → List Entry → Type 0
-Lacks n l = any (numbered n) (items l) ≡ false
+Lacks n l = any (has-number n) (items l) ≡ false
 
 -- every place is one of the rows
 abbrev pub Inside : List ℕ → List Entry → Type 0

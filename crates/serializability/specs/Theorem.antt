@@ -38,8 +38,8 @@ answers-of h b = joined (answered h .committed ++ map (answered h .open-log) b)
 
 -- the plain rules run the committed transactions and then b: they leave the document d, and each step has the answer it had
 pub record Runs (h : List Event) (b : List ℕ) (d : Document) : Type 0 where
-  pub document : plain-document (fed h .first) (steps-of h b) ≡ d
-  pub answers : plain-answers (fed h .first) (steps-of h b) ≡ map plain-value (answers-of h b)
+  pub document : plain-document (fed h .initial) (steps-of h b) ≡ d
+  pub answers : plain-answers (fed h .initial) (steps-of h b) ≡ map plain-value (answers-of h b)
 
 -- any of the open transactions, in any order, leave what the tree shows of them
 abbrev pub AnyOrder : List Call → Type 0

@@ -174,7 +174,7 @@ steps gs = map (λ g. g .step) gs
 
 -- the plain run of the events h is fed these steps
 pub record Feeds (L : Log GrantedStep) (h : List Event) : Type 0 where
-  pub first : L .first ≡ fed h .first
+  pub initial : L .initial ≡ fed h .initial
   pub committed : map steps (L .committed) ≡ fed h .committed
   pub open-log : (t : ℕ) → steps (L .open-log t) ≡ fed h .open-log t
 
@@ -198,7 +198,7 @@ AllAnswered (v ∷ vs) (g ∷ gs) = AnsweredWith v (g .exchange) × AllAnswered 
 
 -- "each granted step of a committed transaction has in the plain run the answer it had here"
 abbrev pub PlainAnswers : Log GrantedStep → Type 0
-PlainAnswers L = AllAnswered (plain-answers (L .first) (steps (joined (L .committed)))) (joined (L .committed))
+PlainAnswers L = AllAnswered (plain-answers (L .initial) (steps (joined (L .committed)))) (joined (L .committed))
 
 -- all of them --------------------------------------------------------------------------
 

@@ -33,17 +33,17 @@ is n r = eqb (r .it .number) n
 abbrev pub child : ℕ → Line → Bool
 child n r = leads n (r .above)
 
-abbrev pub under : ℕ → Line → Bool
-under n r = has n (r .it .number ∷ r .above)
+abbrev pub in-subtree : ℕ → Line → Bool
+in-subtree n r = has n (r .it .number ∷ r .above)
 
 -- in document order
 unfoldable pub select : (Line → Bool) → Document → List Line
 select t d = keep t (lines d)
 
 -- where there is none, a line that no document has
-abbrev pub first : List Line → Line
-first [] = row (record { number = 0; kind = 0; content = [] }) []
-first (r ∷ rs) = r
+abbrev pub first-line : List Line → Line
+first-line [] = row (record { number = 0; kind = 0; content = [] }) []
+first-line (r ∷ rs) = r
 
 abbrev pub some? : List Line → Bool
 some? [] = false
@@ -54,7 +54,7 @@ abbrev pub here : ℕ → Document → Bool
 here n d = some? (select (is n) d)
 
 abbrev pub at : ℕ → Document → Line
-at n d = first (select (is n) d)
+at n d = first-line (select (is n) d)
 
 abbrev pub numbers : List Line → List ℕ
 numbers l = map (λ r. r .it .number) l

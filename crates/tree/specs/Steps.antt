@@ -8,7 +8,7 @@ use lib.Dec.{eqb, leb}
 use Rattle.tree.specs.Lists.{any, keep, same}
 use Rattle.tree.specs.Forest.{amend, view, put}
 use Rattle.tree.specs.Content.{document-kind, element-kind, is-name, allowed, takes, children-rule, insert-at}
-use Rattle.tree.specs.Document.{Node, Document, Line, is, child, under, select, here, at, numbers, kinds}
+use Rattle.tree.specs.Document.{Node, Document, Line, is, child, in-subtree, select, here, at, numbers, kinds}
 
 pub data Step : Type 0 where
   T : (n : ℕ) → Step
@@ -152,9 +152,9 @@ answer (R n) d = content-is (at n d .it .content)
 answer (U n b) d = done
 answer (D n) d = done
 answer (I m kind b n k) d = done
-answer (TT n) d = numbers-are (numbers (select (under n) d))
-answer (RR n) d = cells-are (map (λ r. (r .it .number, r .it .content)) (select (under n) d))
-answer (UU n a b) d = how-many (length (keep (named a) (select (under n) d)))
+answer (TT n) d = numbers-are (numbers (select (in-subtree n) d))
+answer (RR n) d = cells-are (map (λ r. (r .it .number, r .it .content)) (select (in-subtree n) d))
+answer (UU n a b) d = how-many (length (keep (named a) (select (in-subtree n) d)))
 
 -- the document afterwards ----------------------------------------------------------
 
@@ -178,7 +178,7 @@ after (D n) d = remove n d
 after (I m kind b n k) d = put (λ a. eqb (a .number) n) (λ a. true) k (record { number = m; kind = kind; content = b }) d
 after (TT n) d = d
 after (RR n) d = d
-after (UU n a b) d = rewrite (λ r. under n r && named a r) b d
+after (UU n a b) d = rewrite (λ r. in-subtree n r && named a r) b d
 
 -- the plain run ----------------------------------------------------------------------
 

@@ -46,13 +46,13 @@ blank b = eqb b 9 || eqb b line-feed || eqb b space
 pub data Quote : Type 0 where
   double single : Quote
 
-abbrev pub mark : Quote → ℕ
-mark double = quotation-mark
-mark single = apostrophe
+abbrev pub quote-byte : Quote → ℕ
+quote-byte double = quotation-mark
+quote-byte single = apostrophe
 
 -- [10]: a byte that stands for itself in a value in these quotes
 unfoldable pub value-literal : Quote → ℕ → Bool
-value-literal q b = text-byte b && not (eqb b less-than) && not (eqb b ampersand) && not (eqb b (mark q))
+value-literal q b = text-byte b && not (eqb b less-than) && not (eqb b ampersand) && not (eqb b (quote-byte q))
 
 -- [14]: a byte that stands for itself in a text, k literal bytes ] just before it (2 for two or more): there is no ]]> in a text
 unfoldable pub text-literal : ℕ → ℕ → Bool

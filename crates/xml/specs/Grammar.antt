@@ -6,7 +6,7 @@ use mathlib.Core.Bool.{Bool, true, false, _&&_}
 use mathlib.Core.List.{List, [], _∷_, _++_}
 use Rattle.tree.specs.Forest.{nil, node}
 use Rattle.tree.specs.Content.{name-start, name-byte}
-use Rattle.xml.specs.Bytes.{ampersand, slash, less-than, equals-sign, greater-than, quotation-mark, apostrophe, blank, Quote, mark}
+use Rattle.xml.specs.Bytes.{ampersand, slash, less-than, equals-sign, greater-than, quotation-mark, apostrophe, blank, Quote, quote-byte}
 use Rattle.xml.specs.Bytes.{value-literal, text-literal, brackets, used, amp, apos, gt, lt, quot, short-declaration, long-declaration}
 use Rattle.xml.specs.Shape.{Shape, element, attribute, text}
 
@@ -37,7 +37,7 @@ pub data Entity : (s t : List ℕ) → ℕ → Type 0 where
 
 -- AttValue [10] behind its opening quote, the closing quote included; its bytes are c
 pub data Value (q : Quote) : (s t c : List ℕ) → Type 0 where
-  value-close : {t : List ℕ} → Value q (mark q ∷ t) t []
+  value-close : {t : List ℕ} → Value q (quote-byte q ∷ t) t []
   value-byte : {b : ℕ} {s t c : List ℕ} → value-literal q b ≡ true → Value q s t c → Value q (b ∷ s) t (b ∷ c)
   value-entity : {b : ℕ} {s u t c : List ℕ} → Entity s u b → Value q u t c → Value q (ampersand ∷ s) t (b ∷ c)
 
@@ -75,7 +75,7 @@ pub data Derives (unique : Bool) : Place → (s : List ℕ) (f : Shape) (t : Lis
       → Derives unique (spaced n seen) s f t
   -- Attribute [41], with Eq [25] and AttValue [10]
   derive-attribute : {n a : Name} {seen : List Name} (q : Quote) {s u v w x t c : List ℕ} {f : Shape}
-      → Named a s u → (unique && used seen a) ≡ false → Blanks u (equals-sign ∷ v) → Blanks v (mark q ∷ w) → Value q w x c
+      → Named a s u → (unique && used seen a) ≡ false → Blanks u (equals-sign ∷ v) → Blanks v (quote-byte q ∷ w) → Value q w x c
       → Derives unique (unspaced n (a ∷ seen)) x f t → Derives unique (spaced n seen) s (node (attribute a) (text-node c) f) t
   -- CharData and references in content [43]
   derive-text : {n : Name} {s u t c : List ℕ} {b : ℕ} {f : Shape}

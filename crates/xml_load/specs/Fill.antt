@@ -12,7 +12,7 @@ use Rattle.protocol.specs.State.{unmarked, tree-of}
 use Rattle.protocol.specs.Calls.{node-limit}
 use Rattle.table.specs.Flat.{flat}
 use Rattle.table.specs.Layout.{state-size, Entry, nodes, Layout, Left, header}
-use Rattle.xml.specs.Bytes.{ampersand, slash, equals-sign, greater-than, Quote, mark}
+use Rattle.xml.specs.Bytes.{ampersand, slash, equals-sign, greater-than, Quote, quote-byte}
 use Rattle.xml.specs.Shape.{Label, Shape, element, attribute, text, size, longest, document}
 use Rattle.xml.specs.Grammar.{Name, Blanks, Named, Entity, Value, unspaced, inside, Derives, Root, Spells}
 use Rattle.xml_reader.specs.declared.Cursor.{Cursor}
@@ -90,7 +90,7 @@ pub record AtAttribute (d : ℕ) (s : List ℕ) (l : List Row) : Type 0 where
   pub later : List Row
   pub named : Named name s behind-name
   pub equals : Blanks behind-name (equals-sign ∷ behind-equals)
-  pub quoted : Blanks behind-equals (mark quote ∷ behind-quote)
+  pub quoted : Blanks behind-equals (quote-byte quote ∷ behind-quote)
   pub value : Value quote behind-quote behind-value content
   pub after : InTag d behind-value later
   pub rows : l ≡ (d, attribute name) ∷ (texts (suc d) content ++ later)
@@ -170,7 +170,7 @@ pub record TextPut (x : List ℕ) (stop at d : ℕ) (s s′ : List ℕ) (c : Cur
 pub record QuoteAt (x : List ℕ) (at : ℕ) (c : Cursor) : Type 0 where
   pub forward : at ≤ c .at
   pub inside : c .at ≤ length x
-  pub quotes : {v w : List ℕ} (q : Quote) → Blanks (drop at x) (equals-sign ∷ v) → Blanks v (mark q ∷ w) → drop (c .at) x ≡ mark q ∷ w
+  pub quotes : {v w : List ℕ} (q : Quote) → Blanks (drop at x) (equals-sign ∷ v) → Blanks v (quote-byte q ∷ w) → drop (c .at) x ≡ quote-byte q ∷ w
 
 -- c is behind the end tag whose slash is at `at`
 pub record EndsAt (x : List ℕ) (at : ℕ) (c : Cursor) : Type 0 where

@@ -5,7 +5,7 @@ use mathlib.Core.Bool.{Bool, true, false}
 use mathlib.Core.List.{List, [], _∷_}
 use lib.ListN.{length, getD, drop}
 use Rattle.tree.specs.Content.{name-start}
-use Rattle.xml.specs.Bytes.{ampersand, brackets, Quote, mark}
+use Rattle.xml.specs.Bytes.{ampersand, brackets, Quote, quote-byte}
 use Rattle.xml.specs.Grammar.{Name}
 use Rattle.xml.specs.Reading.{node-offset}
 use Rattle.xml.specs.Laws.Words.{Words, entities}
@@ -89,7 +89,7 @@ pub data ContentRead (s : List ℕ) (stop at spare : ℕ) : Read → Type 0 wher
 pub data EqualsRead (s : List ℕ) (at : ℕ) : Equals → Type 0 where
   quoted : {c : Cursor} (q : Quote) → at < c .at → c .at ≤ length s → node-offset s (c .at) ≡ c .at - 1
       → ((n : Name) (ns seen : List Name) (m : ℕ) → Goes s (before-equals n ns seen) m at (behind-quote n ns seen q) m (c .at))
-      → EqualsRead s at (Quoted (mark q) c)
+      → EqualsRead s at (Quoted (quote-byte q) c)
   no-quote : {j : ℕ} → ((n : Name) (ns seen : List Name) (m : ℕ) → Leads s (before-equals n ns seen) m at (bad 4 j))
       → EqualsRead s at (NoQuote j)
 

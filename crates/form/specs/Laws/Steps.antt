@@ -14,7 +14,7 @@ use Rattle.tree.specs.Document.{Node, Document, node-0-alone, top-kinds, ruled,
 use Rattle.tree.specs.Steps.{Step, T, C, R, U, D, I, TT, RR, UU, target, wrong-kind-on}
 use Rattle.tree.specs.Laws.Tests.{and-left, and-right}
 use Rattle.locks.specs.Needs.{Lock}
-use Rattle.protocol.specs.State.{nobody, Marked, Tree, State, numbered, seen-by, written-by, deleted-by, unmarked, inserted-by, granted-to}
+use Rattle.protocol.specs.State.{nobody, Marked, Tree, State, has-number, seen-by, written-by, deleted-by, unmarked, inserted-by, granted-to}
 use Rattle.protocol.specs.State.{lasting, undone, mark, renamed, act, grant, commit-tree, abort-tree, tree-of, start-state}
 use Rattle.table.specs.Flat.{flat}
 use Rattle.table.specs.Layout.{Entry, Left}
@@ -94,14 +94,14 @@ valid-act t (T n) f p l h u k e m = h
 valid-act t (C n i) f p l h u k e m = h
 valid-act t (R n) f p l h u k e m = h
 valid-act t (U n b) f p l h u k e m =
-    valid-some (λ r. numbered n (r .it)) (written-by t b) (keeps-node (keeps-written t b l))
+    valid-some (λ r. has-number n (r .it)) (written-by t b) (keeps-node (keeps-written t b l))
     (λ a d v. keeps-document (keeps-written t b l) a d) f h
-valid-act t (D n) f p l h u k e m = valid-some (λ r. numbered n (r .it)) (deleted-by t) (valid-deleted t l)
+valid-act t (D n) f p l h u k e m = valid-some (λ r. has-number n (r .it)) (deleted-by t) (valid-deleted t l)
     (λ a d v. absurd (eqb-false _ document-kind m (is-root f p h u k (e ∙ sym (eqb-true (a .now .number) n v) ∙ d .number)))) f h
 valid-act t (I x kind b n i) f p l h u k e m =
     let q : between element-kind text-kind kind ≡ true = takes-low (item (flat 0 f) p .now .kind) kind (not-false _ m) in
     let a : Node = record { number = x; kind = kind; content = b } in
-    valid-put (numbered n) (seen-by t) i (inserted-by t a)
+    valid-put (has-number n) (seen-by t) i (inserted-by t a)
     (valid-inserted t a l (between-low element-kind text-kind kind q) (between-high element-kind text-kind kind q)) f h
 valid-act t (TT n) f p l h u k e m = h
 valid-act t (RR n) f p l h u k e m = h

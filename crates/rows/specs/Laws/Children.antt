@@ -13,7 +13,7 @@ use Rattle.tree.specs.Document.{child, select}
 use Rattle.tree.specs.Steps.{child-is, none}
 use Rattle.tree.specs.Laws.Tests.{or-left, or-right}
 use Rattle.tree.specs.Laws.Lists.{keep-append}
-use Rattle.protocol.specs.State.{Marked, Tree, numbered, seen-by, callers-document}
+use Rattle.protocol.specs.State.{Marked, Tree, has-number, seen-by, callers-document}
 use Rattle.table.specs.Flat.{flat}
 use Rattle.table.specs.Layout.{Entry}
 use Rattle.rows.specs.Places.{depth, item, items, number-of, child-seen, children-from, children, seen-at}
@@ -77,17 +77,17 @@ abbrev is-child : ℕ → Row Marked Marked → Bool
 is-child n r = child n (plain r)
 
 -- what n stands not right above, and where n is not
-none-child : (n d : ℕ) (up : List Marked) (f : Tree) → leads n (map number-of up) ≡ false → any (numbered n) (nodes-of (flat d f)) ≡ false
+none-child : (n d : ℕ) (up : List Marked) (f : Tree) → leads n (map number-of up) ≡ false → any (has-number n) (nodes-of (flat d f)) ≡ false
     → keep (is-child n) (lines-of up f) ≡ []
 unfolding rows keep flat
 none-child n d up nil u h = refl
 none-child n d up (node a ks fs) u h =
-    let j : any (numbered n) (nodes-of (flat (suc d) ks ++ flat d fs)) ≡ false = or-right (numbered n a) _ h in
+    let j : any (has-number n) (nodes-of (flat (suc d) ks ++ flat d fs)) ≡ false = or-right (has-number n a) _ h in
     rw (
       u,
       keep-append (is-child n) (lines-of (a ∷ up) ks) (lines-of up fs),
-      none-child n (suc d) (a ∷ up) ks (or-left (numbered n a) _ h) (none-first (numbered n) (flat (suc d) ks) (flat d fs) j),
-      none-child n d up fs u (none-second (numbered n) (flat (suc d) ks) (flat d fs) j),
+      none-child n (suc d) (a ∷ up) ks (or-left (has-number n a) _ h) (none-first (has-number n) (flat (suc d) ks) (flat d fs) j),
+      none-child n d up fs u (none-second (has-number n) (flat (suc d) ks) (flat d fs) j),
     )
 
 -- rows deeper than a forest's topmost
@@ -104,21 +104,21 @@ none-top t e d (node a ks fs) h =
 
 -- the topmost nodes of a forest right below n
 top-children : (t n e : ℕ) (up : List Marked) (f : Tree) → leads n (map number-of up) ≡ true → every (seen-by t) up ≡ true
-    → any (numbered n) (nodes-of (flat (suc e) f)) ≡ false
+    → any (has-number n) (nodes-of (flat (suc e) f)) ≡ false
     → map (λ r. r .it) (keep (seen-line t) (keep (is-child n) (lines-of up f))) ≡ items (keep (child-seen t e) (flat (suc e) f))
 unfolding rows keep flat
 top-children t n e up nil u v h = refl
 top-children t n e up (node a ks fs) u v h =
-    let j : any (numbered n) (nodes-of (flat (suc (suc e)) ks ++ flat (suc e) fs)) ≡ false = or-right (numbered n a) _ h in
+    let j : any (has-number n) (nodes-of (flat (suc (suc e)) ks ++ flat (suc e) fs)) ≡ false = or-right (has-number n a) _ h in
     rw (
       u,
       keep-append (is-child n) (lines-of (a ∷ up) ks) (lines-of up fs),
-      none-child n (suc (suc e)) (a ∷ up) ks (or-left (numbered n a) _ h)
-          (none-first (numbered n) (flat (suc (suc e)) ks) (flat (suc e) fs) j),
+      none-child n (suc (suc e)) (a ∷ up) ks (or-left (has-number n a) _ h)
+          (none-first (has-number n) (flat (suc (suc e)) ks) (flat (suc e) fs) j),
       eq-eqb (suc e) (suc e) refl,
       keep-append (child-seen t e) (flat (suc (suc e)) ks) (flat (suc e) fs),
       none-top t e (suc (suc e)) ks (omega arith),
-    ) (go (seen-by t a) (top-children t n e up fs u v (none-second (numbered n) (flat (suc (suc e)) ks) (flat (suc e) fs) j)))
+    ) (go (seen-by t a) (top-children t n e up fs u v (none-second (has-number n) (flat (suc (suc e)) ks) (flat (suc e) fs) j)))
   where
     X : List (Row Marked Marked)
     X = keep (seen-line t) (keep (is-child n) (lines-of up fs))
@@ -132,11 +132,11 @@ top-children t n e up (node a ks fs) u v h =
     go false r = r
 
 module _ {f : Tree} {n p : ℕ} (o : Holder f n p) where
-  not-leading : (up : List Marked) → any (numbered n) up ≡ false → leads n (map number-of up) ≡ false
+  not-leading : (up : List Marked) → any (has-number n) up ≡ false → leads n (map number-of up) ≡ false
   not-leading [] h = refl
-  not-leading (a ∷ up) h = or-left (numbered n a) _ h
+  not-leading (a ∷ up) h = or-left (has-number n a) _ h
 
-  leading : (up : List Marked) → leads n (map number-of up) ≡ true → any (numbered n) up ≡ true
+  leading : (up : List Marked) → leads n (map number-of up) ≡ true → any (has-number n) up ≡ true
   leading [] h = h
   leading (a ∷ up) h = rw h
 
@@ -145,8 +145,8 @@ module _ {f : Tree} {n p : ℕ} (o : Holder f n p) where
   unfolding keep
   rows-child =
       let c = o .place in
-      c .keeps (numbered n) (is-child n) (λ r e. rw (leading (r .above) e) (or-true (numbered n (r .it)))) [] refl (o .before) (o .behind)
-      ∙ rw (append-nil (c .above), not-leading (c .above) (c .earlier (numbered n) (o .before)))
+      c .keeps (has-number n) (is-child n) (λ r e. rw (leading (r .above) e) (or-true (has-number n (r .it)))) [] refl (o .before) (o .behind)
+      ∙ rw (append-nil (c .above), not-leading (c .above) (c .earlier (has-number n) (o .before)))
 
   -- the children that t sees, in order
   pub child-lines : (t : ℕ) → seen-at t (flat 0 f) p ≡ true

@@ -14,7 +14,7 @@ use Rattle.tree.specs.Document.{here, at, is, select, some?}
 use Rattle.tree.specs.Laws.Tests.{or-left, or-right}
 use Rattle.tree.specs.Laws.Lists.{any-map, map-append, eqb-flip}
 use Rattle.tree.specs.Laws.Distinct.{head-new}
-use Rattle.protocol.specs.State.{Marked, Tree, nodes, numbered, number-held, seen-by, callers-document}
+use Rattle.protocol.specs.State.{Marked, Tree, nodes, has-number, number-held, seen-by, callers-document}
 use Rattle.table.specs.Lists.{first}
 use Rattle.table.specs.Flat.{flat}
 use Rattle.table.specs.Laws.First.{first-passes}
@@ -60,38 +60,38 @@ any-first t (x ∷ l) = go (t x) (any-first t l)
     go false e = e ∙ sym (leb·suc-suc (suc (first t l)) (length l))
 
 pub held-place : (m : ℕ) (f : Tree) → number-held m f ≡ ltb (place-of m (flat 0 f)) (length (flat 0 f))
-held-place m f = ap (any (numbered m)) (nodes-held f) ∙ any-map (numbered m) (λ x. x .1) (flat 0 f)
-    ∙ any-first (λ (x : Entry). numbered m (x .1)) (flat 0 f)
+held-place m f = ap (any (has-number m)) (nodes-held f) ∙ any-map (has-number m) (λ x. x .1) (flat 0 f)
+    ∙ any-first (λ (x : Entry). has-number m (x .1)) (flat 0 f)
 
 -- what a search by number finds
 pub found-number : (n : ℕ) (l : List Entry) → place-of n l < length l → number-of (item l (place-of n l)) ≡ n
-found-number n l h = eqb-true (number-of (item l (place-of n l))) n (first-passes (λ (x : Entry). numbered n (x .1)) l no-entry h)
+found-number n l h = eqb-true (number-of (item l (place-of n l))) n (first-passes (λ (x : Entry). has-number n (x .1)) l no-entry h)
 
 -- apart ------------------------------------------------------------------------------------
 
-pub has-items : (n : ℕ) (l : List Entry) → has n (map (λ x. number-of (x .1)) l) ≡ any (numbered n) (items l)
-has-items n l = any-map (λ q. eqb q n) (λ (x : Entry). number-of (x .1)) l ∙ sym (any-map (numbered n) (λ (x : Entry). x .1) l)
+pub has-items : (n : ℕ) (l : List Entry) → has n (map (λ x. number-of (x .1)) l) ≡ any (has-number n) (items l)
+has-items n l = any-map (λ q. eqb q n) (λ (x : Entry). number-of (x .1)) l ∙ sym (any-map (has-number n) (λ (x : Entry). x .1) l)
 
 pub unique-head : (x : Entry) (l : List Entry) → unique (x ∷ l) ≡ true
-    → (any (numbered (number-of (x .1))) (items l) ≡ false) × (unique l ≡ true)
+    → (any (has-number (number-of (x .1))) (items l) ≡ false) × (unique l ≡ true)
 unique-head x l h =
     let g = head-new (λ (y : Entry). number-of (y .1)) x l h in
     (sym (has-items (number-of (x .1)) l) ∙ g .0, g .1)
 
 -- a number that no row has is at no place
-pub lacks-at : (n : ℕ) (l : List Entry) (i : ℕ) → any (numbered n) (items l) ≡ false → i < length l → number-of (item l i) ≡ n → ⊥
+pub lacks-at : (n : ℕ) (l : List Entry) (i : ℕ) → any (has-number n) (items l) ≡ false → i < length l → number-of (item l i) ≡ n → ⊥
 lacks-at n [] i h k e = omega arith
-lacks-at n (x ∷ l) zero h k e = eqb-false (number-of (x .1)) n (or-left (numbered n (x .1)) _ h) e
-lacks-at n (x ∷ l) (suc i) h k e = lacks-at n l i (or-right (numbered n (x .1)) _ h) (omega arith) e
+lacks-at n (x ∷ l) zero h k e = eqb-false (number-of (x .1)) n (or-left (has-number n (x .1)) _ h) e
+lacks-at n (x ∷ l) (suc i) h k e = lacks-at n l i (or-right (has-number n (x .1)) _ h) (omega arith) e
 
 -- a row's number is no other row's
 pub alone : (l : List Entry) (x : Entry) (k : List Entry) → unique (l ++ (x ∷ k)) ≡ true
-    → (any (numbered (number-of (x .1))) (items l) ≡ false) × (any (numbered (number-of (x .1))) (items k) ≡ false)
+    → (any (has-number (number-of (x .1))) (items l) ≡ false) × (any (has-number (number-of (x .1))) (items k) ≡ false)
 alone [] x k h = (refl, unique-head x k h .0)
 alone (y ∷ l) x k h =
     let g = unique-head y (l ++ (x ∷ k)) h in
     let r = alone l x k (g .1) in
-    let i : any (numbered (number-of (y .1))) (items (x ∷ k)) ≡ false = none-second (numbered (number-of (y .1))) l (x ∷ k) (g .0) in
+    let i : any (has-number (number-of (y .1))) (items (x ∷ k)) ≡ false = none-second (has-number (number-of (y .1))) l (x ∷ k) (g .0) in
     let j : eqb (number-of (x .1)) (number-of (y .1)) ≡ false = or-left _ _ i in
     (rw (eqb-flip (number-of (x .1)) (number-of (y .1)) j) (r .0), r .1)
 
@@ -100,44 +100,44 @@ alone (y ∷ l) x k h =
 -- at place p stands a node numbered n; no other has that number
 pub record Holder (f : Tree) (n p : ℕ) : Type 0 where
   pub place : NodeAt 0 f p
-  pub number : numbered n (place .it) ≡ true
-  pub before : any (numbered n) (nodes-of (place .before)) ≡ false
-  pub children : any (numbered n) (nodes-of (flat (suc (place .depth)) (place .children))) ≡ false
-  pub behind : any (numbered n) (nodes-of (place .behind)) ≡ false
+  pub number : has-number n (place .it) ≡ true
+  pub before : any (has-number n) (nodes-of (place .before)) ≡ false
+  pub children : any (has-number n) (nodes-of (flat (suc (place .depth)) (place .children))) ≡ false
+  pub behind : any (has-number n) (nodes-of (place .behind)) ≡ false
 
 pub holder : (f : Tree) (n p : ℕ) → unique (flat 0 f) ≡ true → p < length (flat 0 f) → number-of (item (flat 0 f) p) ≡ n → Holder f n p
 holder f n p u h e =
     let c = node-at 0 f p h in
     let x : number-of (c .it) ≡ n = sym (ap number-of (item-at c)) ∙ e in
     let a = alone (c .before) (c .depth, c .it) (flat (suc (c .depth)) (c .children) ++ c .behind) (sym (ap unique (c .split)) ∙ u) in
-    let k : any (numbered n) (nodes-of (flat (suc (c .depth)) (c .children) ++ c .behind)) ≡ false = rw x at (a .1) in
+    let k : any (has-number n) (nodes-of (flat (suc (c .depth)) (c .children) ++ c .behind)) ≡ false = rw x at (a .1) in
     record {
       place = c;
       number = eq-eqb (number-of (c .it)) n x;
       before = rw x at (a .0);
-      children = none-first (numbered n) (flat (suc (c .depth)) (c .children)) (c .behind) k;
-      behind = none-second (numbered n) (flat (suc (c .depth)) (c .children)) (c .behind) k;
+      children = none-first (has-number n) (flat (suc (c .depth)) (c .children)) (c .behind) k;
+      behind = none-second (has-number n) (flat (suc (c .depth)) (c .children)) (c .behind) k;
     }
 
 -- no node in the forest has the number
-none-numbered : (n d : ℕ) (up : List Marked) (f : Tree) → any (numbered n) (nodes-of (flat d f)) ≡ false
-    → keep (λ r. numbered n (r .it)) (lines-of up f) ≡ []
+none-numbered : (n d : ℕ) (up : List Marked) (f : Tree) → any (has-number n) (nodes-of (flat d f)) ≡ false
+    → keep (λ r. has-number n (r .it)) (lines-of up f) ≡ []
 none-numbered n d up f h =
-    keep-none-any (λ r. numbered n (r .it)) (lines-of up f)
-    (sym (any-map (numbered n) (λ (r : Row Marked Marked). r .it) (lines-of up f)) ∙ ap (any (numbered n)) (rows-nodes (λ a. a) d up f) ∙ h)
+    keep-none-any (λ r. has-number n (r .it)) (lines-of up f)
+    (sym (any-map (has-number n) (λ (r : Row Marked Marked). r .it) (lines-of up f)) ∙ ap (any (has-number n)) (rows-nodes (λ a. a) d up f) ∙ h)
 
 pub here-nowhere : (t n : ℕ) (f : Tree) → number-held n f ≡ false → here n (callers-document t f) ≡ false
 unfolding keep
 here-nowhere t n f h =
     ap some? (select-seen (is n) t f ∙ ap (λ l. map plain (keep (seen-line t) l))
-    (none-numbered n 0 [] f (ap (any (numbered n)) (sym (nodes-held f)) ∙ h)))
+    (none-numbered n 0 [] f (ap (any (has-number n)) (sym (nodes-held f)) ∙ h)))
 
 module _ {f : Tree} {n p : ℕ} (o : Holder f n p) where
-  rows-numbered : keep (λ r. numbered n (r .it)) (lines-of [] f) ≡ row (o .place .it) (o .place .above) ∷ []
+  rows-numbered : keep (λ r. has-number n (r .it)) (lines-of [] f) ≡ row (o .place .it) (o .place .above) ∷ []
   unfolding keep
   rows-numbered =
       let c = o .place in
-      c .keeps (numbered n) (λ r. numbered n (r .it)) (λ r e. rw e) [] refl (o .before) (o .behind)
+      c .keeps (has-number n) (λ r. has-number n (r .it)) (λ r e. rw e) [] refl (o .before) (o .behind)
       ∙ rw (o .number, none-numbered n (suc (c .depth)) (c .it ∷ (c .above ++ [])) (c .children) (o .children), append-nil (c .above))
 
   module _ (t : ℕ) where

@@ -12,7 +12,7 @@ use Rattle.tree.specs.Steps.{Step, T, C, R, U, D, I, TT, RR, UU, target, insert
 use Rattle.tree.specs.Laws.Tests.{or-left}
 use Rattle.tree.specs.Laws.Lists.{map-map, map-append}
 use Rattle.locks.specs.Needs.{Lock, need, locks}
-use Rattle.protocol.specs.State.{Marked, Tree, numbered, number-held, mark-node, seen-by, inserted-by, written-by, deleted-by, granted-to}
+use Rattle.protocol.specs.State.{Marked, Tree, has-number, number-held, mark-node, seen-by, inserted-by, written-by, deleted-by, granted-to}
 use Rattle.protocol.specs.State.{grant, act}
 use Rattle.table.specs.Lists.{modify, insert}
 use Rattle.table.specs.Flat.{flat, second}
@@ -97,8 +97,8 @@ module _ (t : ℕ) (f : Tree) (p : ℕ) (u : unique (flat 0 f) ≡ true) (h : p 
     abbrev lock-list : List Lock
     lock-list = locks s (numbers-above (flat 0 f) p)
 
-    none-held : any (λ q. any (numbered q) (items (flat 0 f))) (inserts s) ≡ false
-    none-held = ap (λ (ns : List Marked). any (λ q. any (numbered q) ns) (inserts s)) (sym (nodes-held f)) ∙ new
+    none-held : any (λ q. any (has-number q) (items (flat 0 f))) (inserts s) ≡ false
+    none-held = ap (λ (ns : List Marked). any (λ q. any (has-number q) ns) (inserts s)) (sym (nodes-held f)) ∙ new
 
     way : all-granted t lock-list (flat 0 f) ≡ granted-up t (need s) p (flat 0 f)
     way =

@@ -12,7 +12,7 @@ use Rattle.tree.specs.Laws.Tests.{or-left, or-right}
 use Rattle.tree.specs.Steps.{Step, target, inserts}
 use Rattle.locks.specs.Modes.{Mode, ModeSet, no-mode, same-mode, among, union}
 use Rattle.locks.specs.Needs.{Need, need, Lock, each, every-one, locks}
-use Rattle.protocol.specs.State.{Marked, Tree, numbered, modes-on, granted-to, grant, with-held}
+use Rattle.protocol.specs.State.{Marked, Tree, has-number, modes-on, granted-to, grant, with-held}
 use Rattle.table.specs.Lists.{modify}
 use Rattle.table.specs.Flat.{flat, second}
 use Rattle.table.specs.Layout.{Entry}
@@ -78,8 +78,8 @@ module _ (t : ℕ) where
       go u m false = refl
 
   -- locks on one number
-  pub granted-each : (ms : List Mode) (q : ℕ) (a : Marked) → granted-to t (each ms q) a ≡ cond (numbered q a) (granted-modes t ms a) a
-  granted-each ms q a = ap (λ p. granted-set p a) (fun-ext (λ m. modes-each ms q (a .now .number) m)) ∙ go (numbered q a) refl
+  pub granted-each : (ms : List Mode) (q : ℕ) (a : Marked) → granted-to t (each ms q) a ≡ cond (has-number q a) (granted-modes t ms a) a
+  granted-each ms q a = ap (λ p. granted-set p a) (fun-ext (λ m. modes-each ms q (a .now .number) m)) ∙ go (has-number q a) refl
     where
       go : (b : Bool) → eqb (a .now .number) q ≡ b
           → granted-set (λ m. cond (eqb q (a .now .number)) (among ms m) false) a ≡ cond b (granted-modes t ms a) a
@@ -98,7 +98,7 @@ module _ (t : ℕ) where
       (λ x m. ap (λ a. (x .0, a)) (sym (granted-append ls ks (x .1)))))
 
   rows-each : (ms : List Mode) (q : ℕ) (l : List Entry) → all-granted t (each ms q) l ≡ map (by-number (second (granted-modes t ms)) q) l
-  rows-each ms q l = map-same _ _ l (λ x m. ap (λ a. (x .0, a)) (granted-each ms q (x .1)) ∙ inside (numbered q (x .1)) x)
+  rows-each ms q l = map-same _ _ l (λ x m. ap (λ a. (x .0, a)) (granted-each ms q (x .1)) ∙ inside (has-number q (x .1)) x)
     where
       inside : (b : Bool) (x : Entry) → (x .0, cond b (granted-modes t ms (x .1)) (x .1)) ≡ cond b (second (granted-modes t ms) x) x
       inside true x = refl
@@ -132,16 +132,16 @@ module _ (t : ℕ) where
       (b j (List·Memᴰ·tail m)))
 
   -- on numbers that no row has
-  rows-new : (ms : List Mode) (qs : List ℕ) (l : List Entry) → any (λ q. any (numbered q) (items l)) qs ≡ false
+  rows-new : (ms : List Mode) (qs : List ℕ) (l : List Entry) → any (λ q. any (has-number q) (items l)) qs ≡ false
       → all-granted t (every-one ms qs) l ≡ l
   rows-new ms [] l h = rows-nil l
   rows-new ms (q ∷ qs) l h =
       rows-append (each ms q) (every-one ms qs) l
-      ∙ rw (rows-absent ms q l (or-left _ _ h)) (rows-new ms qs l (or-right (any (numbered q) (items l)) _ h))
+      ∙ rw (rows-absent ms q l (or-left _ _ h)) (rows-new ms qs l (or-right (any (has-number q) (items l)) _ h))
 
   -- THE LAW: the locks of a step, along the places of the node and its proper ancestors
   module _ (s : Step) (l : List Entry) (i : ℕ) (is : List ℕ) (u : unique l ≡ true) (e : number-at l i ≡ target s) (b : Inside (i ∷ is) l)
-      (new : any (λ q. any (numbered q) (items l)) (inserts s) ≡ false) where
+      (new : any (λ q. any (has-number q) (items l)) (inserts s) ≡ false) where
     pub rows-locks : all-granted t (locks s (map (number-at l) is)) l
         ≡ granted-along t (need s .node) (need s .parent) (need s .above) (i ∷ is) l
     rows-locks =

@@ -9,7 +9,7 @@ use lib.Seq.{append-snoc}
 use lib.Dec.{eqb, ltb}
 use borrow.Author.Tests.{lt-ltb, le-ltb, eq-eqb, ne-eqb}
 use Rattle.tree.specs.Forest.{Forest, nil, node, place, put}
-use Rattle.protocol.specs.State.{Marked, Tree, numbered, seen-by}
+use Rattle.protocol.specs.State.{Marked, Tree, has-number, seen-by}
 use Rattle.table.specs.Lists.{insert}
 use Rattle.table.specs.Flat.{flat}
 use Rattle.table.specs.Layout.{Entry}
@@ -115,7 +115,7 @@ module _ {A : Type 0} (counts : A → Bool) (top : ℕ) where
 
 pub insert-rows : (t n k : ℕ) (new : Marked) (f : Tree) (p : ℕ) → unique (flat 0 f) ≡ true → p < length (flat 0 f)
     → number-at (flat 0 f) p ≡ n
-    → flat 0 (put (numbered n) (seen-by t) k new f) ≡ insert (new-place t k p (flat 0 f)) (suc (depth (flat 0 f) p), new) (flat 0 f)
+    → flat 0 (put (has-number n) (seen-by t) k new f) ≡ insert (new-place t k p (flat 0 f)) (suc (depth (flat 0 f) p), new) (flat 0 f)
 unfolding new-place
 insert-rows t n k new f p u h e =
     let o = holder f n p u h e in
@@ -126,7 +126,7 @@ insert-rows t n k new f p u h e =
     let i : ℕ = before-new (seen-by t) (c .depth) (k - 1) r in
     let y : Entry = (suc (c .depth), new) in
     let z : length (b ++ (x ∷ [])) ≡ suc p = length-append b (x ∷ []) ∙ omega (arith, c .count) in
-    c .puts (numbered n) (seen-by t) k new (o .number) (o .children) (o .before) (o .behind)
+    c .puts (has-number n) (seen-by t) k new (o .number) (o .children) (o .before) (o .behind)
     ∙ ap (λ l. b ++ (x ∷ l)) (place-rows (seen-by t) (c .depth) k new (c .children) (c .behind) (c .stops))
     ∙ sym (append-snoc b x (insert i y r))
     ∙ sym (insert-append (b ++ (x ∷ [])) r i y)

@@ -9,7 +9,7 @@ use lib.Dec.{ltb, leb}
 use borrow.Author.Tests.{le-ltb}
 use Rattle.tree.specs.Lists.{any, keep}
 use Rattle.tree.specs.Forest.{row}
-use Rattle.tree.specs.Document.{Node, Document, Line, here, at, child, under, select}
+use Rattle.tree.specs.Document.{Node, Document, Line, here, at, child, in-subtree, select}
 use Rattle.tree.specs.Steps.{Step, T, C, R, U, D, I, TT, RR, UU, target, inserts, answer, kth, is-named, numbers-are, cells-are, how-many}
 use Rattle.tree.specs.Laws.Lists.{map-map, any-same, keep-map}
 use Rattle.protocol.specs.State.{Marked, State, number-held, callers-document}
@@ -57,7 +57,7 @@ count-same q ls cs e =
 -- the nine steps ---------------------------------------------------------------------------
 
 answer-here : (s : Step) (t : ℕ) (l : List Entry) (p : ℕ) (d : Document) → at (target s) d ≡ row (item l p .now) (numbers-above l p)
-    → Same (select (child (target s)) d) (children t l p) → Same (select (under (target s)) d) (subtree t l p) → answer s d
+    → Same (select (child (target s)) d) (children t l p) → Same (select (in-subtree (target s)) d) (subtree t l p) → answer s d
     ≡ answer-at s t l p
 answer-here (T n) t l p d e c u = rw e
 answer-here (C n k) t l p d e c u = kth-same k (select (child n) d) (children t l p) c
@@ -65,9 +65,9 @@ answer-here (R n) t l p d e c u = rw e
 answer-here (U n b) t l p d e c u = refl
 answer-here (D n) t l p d e c u = refl
 answer-here (I m kind b n k) t l p d e c u = refl
-answer-here (TT n) t l p d e c u = ap numbers-are (by-nodes (λ x. x .number) (select (under n) d) (subtree t l p) u)
-answer-here (RR n) t l p d e c u = ap cells-are (by-nodes (λ x. (x .number, x .content)) (select (under n) d) (subtree t l p) u)
-answer-here (UU n a b) t l p d e c u = ap how-many (count-same (is-named a) (select (under n) d) (subtree t l p) u)
+answer-here (TT n) t l p d e c u = ap numbers-are (by-nodes (λ x. x .number) (select (in-subtree n) d) (subtree t l p) u)
+answer-here (RR n) t l p d e c u = ap cells-are (by-nodes (λ x. (x .number, x .content)) (select (in-subtree n) d) (subtree t l p) u)
+answer-here (UU n a b) t l p d e c u = ap how-many (count-same (is-named a) (select (in-subtree n) d) (subtree t l p) u)
 
 -- the theorems --------------------------------------------------------------------------------
 
@@ -93,7 +93,7 @@ module _ (l : List Entry) (t : ℕ) (s : Step) (M : State) (rows : l ≡ flat 0 
         let here-is : here (target s) (callers-document t (M .tree)) ≡ true = here-at o t ∙ x in
         let line-is : at (target s) (callers-document t (M .tree)) ≡ row (item l p .now) (numbers-above l p) = rw rows (line-at o t x) in
         let children-are : Same (select (child (target s)) (callers-document t (M .tree))) (children t l p) = rw rows (child-lines o t x) in
-        let all-are : Same (select (under (target s)) (callers-document t (M .tree))) (subtree t l p) = rw rows (subtree-lines o t x) in
+        let all-are : Same (select (in-subtree (target s)) (callers-document t (M .tree))) (subtree t l p) = rw rows (subtree-lines o t x) in
         record {
           is-here = here-is;
           line = line-is;

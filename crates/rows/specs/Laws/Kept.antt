@@ -11,7 +11,7 @@ use Rattle.tree.specs.Document.{Node, Document, lines, rooted, ruled, legal}
 use Rattle.tree.specs.Steps.{Step, T, C, R, U, D, I, TT, RR, UU, target, inserts}
 use Rattle.tree.specs.Laws.Tests.{or-left, or-right, and-right}
 use Rattle.tree.specs.Laws.Lists.{map-append, map-map, eqb-flip}
-use Rattle.protocol.specs.State.{Marked, Tree, numbered, number-held, seen-by, lasting, undone, unmarked, inserted-by, renamed, written-by}
+use Rattle.protocol.specs.State.{Marked, Tree, has-number, number-held, seen-by, lasting, undone, unmarked, inserted-by, renamed, written-by}
 use Rattle.protocol.specs.State.{grant, act, commit-tree, abort-tree, tree-of}
 use Rattle.locks.specs.Needs.{Lock}
 use Rattle.table.specs.Lists.{insert}
@@ -63,18 +63,18 @@ unique-between [] v x h k = head-unique x v k h
 unique-between (y ∷ u) v x h k =
     let a = unique-head y (u ++ v) h in
     let n : ℕ = row-number y in
-    let i : eqb (row-number x) n ≡ false = eqb-flip (row-number y) (row-number x) (or-left (numbered (row-number x) (y .1)) _ k) in
+    let i : eqb (row-number x) n ≡ false = eqb-flip (row-number y) (row-number x) (or-left (has-number (row-number x) (y .1)) _ k) in
     let b : Lacks n (u ++ (x ∷ v)) =
-    ap (any (numbered n)) (map-append (λ (z : Entry). z .1) u (x ∷ v))
-    ∙ any-append (numbered n) (items u) (items (x ∷ v))
-    ∙ rw (none-first (numbered n) u v (a .0), i) (none-second (numbered n) u v (a .0)) in
-    head-unique y (u ++ (x ∷ v)) b (unique-between u v x (a .1) (or-right (numbered (row-number x) (y .1)) _ k))
+    ap (any (has-number n)) (map-append (λ (z : Entry). z .1) u (x ∷ v))
+    ∙ any-append (has-number n) (items u) (items (x ∷ v))
+    ∙ rw (none-first (has-number n) u v (a .0), i) (none-second (has-number n) u v (a .0)) in
+    head-unique y (u ++ (x ∷ v)) b (unique-between u v x (a .1) (or-right (has-number (row-number x) (y .1)) _ k))
 
 unique-insert : (i : ℕ) (x : Entry) (l : List Entry) → unique l ≡ true → Lacks (row-number x) l → unique (insert i x l) ≡ true
 unfolding insert
 unique-insert i x l h k =
     let e = take-append-drop i l in
-    unique-between (take i l) (drop i l) x (ap unique e ∙ h) (ap (λ z. any (numbered (row-number x)) (items z)) e ∙ k)
+    unique-between (take i l) (drop i l) x (ap unique e ∙ h) (ap (λ z. any (has-number (row-number x)) (items z)) e ∙ k)
 
 -- a step ----------------------------------------------------------------------------------------
 
@@ -84,12 +84,12 @@ pub unique-act : (t : ℕ) (s : Step) (f : Tree) (p : ℕ) → unique (flat 0 f)
 unique-act t (T n) f p u h e new = u
 unique-act t (C n k) f p u h e new = u
 unique-act t (R n) f p u h e new = u
-unique-act t (U n b) f p u h e new = unique-mark (λ r. numbered n (r .it)) (written-by t b) (λ a. refl) f ∙ u
-unique-act t (D n) f p u h e new = unique-mark (λ r. numbered n (r .it)) _ (λ a. refl) f ∙ u
+unique-act t (U n b) f p u h e new = unique-mark (λ r. has-number n (r .it)) (written-by t b) (λ a. refl) f ∙ u
+unique-act t (D n) f p u h e new = unique-mark (λ r. has-number n (r .it)) _ (λ a. refl) f ∙ u
 unique-act t (I m kind b n k) f p u h e new =
     let x : Marked = inserted-by t (record { number = m; kind = kind; content = b }) in
     ap unique (insert-rows t n k x f p u h e)
-    ∙ unique-insert _ _ (flat 0 f) u (ap (any (numbered m)) (sym (nodes-held f)) ∙ or-left _ _ new)
+    ∙ unique-insert _ _ (flat 0 f) u (ap (any (has-number m)) (sym (nodes-held f)) ∙ or-left _ _ new)
 unique-act t (TT n) f p u h e new = u
 unique-act t (RR n) f p u h e new = u
 unique-act t (UU n a b) f p u h e new = unique-mark (renamed t n a) (written-by t b) (λ a. refl) f ∙ u

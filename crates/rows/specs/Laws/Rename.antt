@@ -11,7 +11,7 @@ use Rattle.tree.specs.Forest.{Forest, nil, node, Row, row, amend}
 use Rattle.tree.specs.Steps.{UU, is-named}
 use Rattle.tree.specs.Laws.Amend.{amend-agree}
 use Rattle.tree.specs.Laws.Rows.{any-below}
-use Rattle.protocol.specs.State.{Marked, Tree, numbered, seen-by, written-by, renamed, act}
+use Rattle.protocol.specs.State.{Marked, Tree, has-number, seen-by, written-by, renamed, act}
 use Rattle.table.specs.Flat.{flat}
 use Rattle.rows.specs.Places.{depth, item, unique, seen-at, below}
 use Rattle.rows.specs.Laws.NodeAt.{not-below}
@@ -116,7 +116,7 @@ module _ (t n : ℕ) (a b : List ℕ) where
   by-line r = cond (renamed t n a r) (written-by t b (r .it)) (r .it)
 
   -- a row without n on its line stays
-  outside : (s : Row Marked Marked) → any (numbered n) (s .it ∷ s .above) ≡ false → by-line s ≡ s .it
+  outside : (s : Row Marked Marked) → any (has-number n) (s .it ∷ s .above) ≡ false → by-line s ≡ s .it
   outside s h = rw h (go (every (seen-by t) (s .it ∷ s .above)))
     where
       go : (x : Bool) → cond (x && false && is-named a (s .it .now)) (written-by t b (s .it)) (s .it) ≡ s .it
@@ -124,7 +124,7 @@ module _ (t n : ℕ) (a b : List ℕ) where
       go false = refl
 
   -- a row with n on its line goes by its name, if it is seen
-  inside : (s : Row Marked Marked) → any (numbered n) (s .it ∷ s .above) ≡ true → by-line s ≡ if-shown (seen-by t) (renamed-by t a b) s
+  inside : (s : Row Marked Marked) → any (has-number n) (s .it ∷ s .above) ≡ true → by-line s ≡ if-shown (seen-by t) (renamed-by t a b) s
   inside s h = rw h (go (every (seen-by t) (s .it ∷ s .above)))
     where
       go : (x : Bool) → cond (x && true && is-named a (s .it .now)) (written-by t b (s .it)) (s .it)
@@ -141,11 +141,11 @@ module _ (t n : ℕ) (a b : List ℕ) where
       let c = o .place in
       let up : List Marked = c .it ∷ (c .above ++ []) in
       let g : Marked → Marked = renamed-by t a b in
-      let i : any (numbered n) up ≡ true = rw (o .number) in
+      let i : any (has-number n) up ≡ true = rw (o .number) in
       let v : every (seen-by t) up ≡ true = rw (append-nil (c .above)) (rw (item-at c, ups-at c) at s) in
       let low : amend (λ a. a) by-line up (c .children) ≡ amend (λ a. a) (if-shown (seen-by t) g) up (c .children) =
       amend-agree (λ a. a) by-line (if-shown (seen-by t) g) up (c .children)
-      (λ v o. inside v (rw (any-below (λ a. a) (numbered n) i o) (or-true (numbered n (v .it))))) in
+      (λ v o. inside v (rw (any-below (λ a. a) (has-number n) i o) (or-true (has-number n (v .it))))) in
       let head : by-line (row (c .it) (c .above ++ [])) ≡ g (item (flat 0 f) p) =
       inside (row (c .it) (c .above ++ [])) i ∙ rw v (ap g (sym (item-at c))) in
       let tail : flat (suc (c .depth)) (amend (λ a. a) by-line up (c .children)) ++ c .behind
@@ -153,5 +153,5 @@ module _ (t n : ℕ) (a b : List ℕ) where
       ap (λ k. flat (suc (c .depth)) k ++ c .behind) low
       ∙ changed-subtree (seen-by t) g (c .depth) up (c .children) (c .behind) v (c .stops)
       ∙ (λ j. changed-below (seen-by t) g (sym (depth-at c) j) 0 (sym (rows-behind c) j)) in
-      c .amends (numbered n) by-line outside [] refl (o .before) (o .behind)
+      c .amends (has-number n) by-line outside [] refl (o .before) (o .behind)
       ∙ (λ j. sym (rows-before c) j ++ ((sym (depth-at c) j, head j) ∷ tail j))

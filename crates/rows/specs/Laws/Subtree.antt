@@ -11,11 +11,11 @@ use lib.Dec.{eqb, leb, ltb}
 use borrow.Author.Tests.{lt-ltb, le-ltb, le-leb, lt-leb}
 use Rattle.tree.specs.Lists.{any, every, keep}
 use Rattle.tree.specs.Forest.{Forest, Row, row, view}
-use Rattle.tree.specs.Document.{under, select}
+use Rattle.tree.specs.Document.{in-subtree, select}
 use Rattle.tree.specs.Laws.Lists.{any-map, map-self, keep-all}
 use Rattle.tree.specs.Laws.View.{rows-rest}
 use Rattle.tree.specs.Laws.Rows.{of-rows, any-below}
-use Rattle.protocol.specs.State.{Marked, Tree, numbered, seen-by, callers-document}
+use Rattle.protocol.specs.State.{Marked, Tree, has-number, seen-by, callers-document}
 use Rattle.table.specs.Flat.{flat, second, prune}
 use Rattle.table.specs.Layout.{Entry, no-entry}
 use Rattle.rows.specs.Places.{depth, item, items, number-of, below, seen-from, subtree, seen-at}
@@ -82,8 +82,8 @@ shown-forest shown up d f u =
 
 -- the lines of the subtree -----------------------------------------------------------------
 
-under-line : (n : ℕ) (r : Row Marked Marked) → under n (plain r) ≡ any (numbered n) (r .it ∷ r .above)
-under-line n r = ap (λ b. numbered n (r .it) || b) (any-map (λ q. eqb q n) number-of (r .above))
+under-line : (n : ℕ) (r : Row Marked Marked) → in-subtree n (plain r) ≡ any (has-number n) (r .it ∷ r .above)
+under-line n r = ap (λ b. has-number n (r .it) || b) (any-map (λ q. eqb q n) number-of (r .above))
 
 module _ {f : Tree} {p : ℕ} (c : NodeAt 0 f p) where
   -- the rows below the place
@@ -93,25 +93,25 @@ module _ {f : Tree} {p : ℕ} (c : NodeAt 0 f p) where
       (append-nil (flat (suc (c .depth)) (c .children)))
 
 module _ {f : Tree} {n p : ℕ} (o : Holder f n p) where
-  rows-under : keep (λ r. under n (plain r)) (lines-of [] f)
+  rows-under : keep (λ r. in-subtree n (plain r)) (lines-of [] f)
       ≡ row (o .place .it) (o .place .above) ∷ lines-of (o .place .it ∷ o .place .above) (o .place .children)
   unfolding keep
   rows-under =
       let c = o .place in
-      c .keeps (numbered n) (λ r. under n (plain r)) (λ r e. sym (under-line n r) ∙ e) [] refl (o .before) (o .behind)
-      ∙ rw (append-nil (c .above), o .number, keep-all (λ r. under n (plain r)) (lines-of (c .it ∷ c .above) (c .children)) inner-rows)
+      c .keeps (has-number n) (λ r. in-subtree n (plain r)) (λ r e. sym (under-line n r) ∙ e) [] refl (o .before) (o .behind)
+      ∙ rw (append-nil (c .above), o .number, keep-all (λ r. in-subtree n (plain r)) (lines-of (c .it ∷ c .above) (c .children)) inner-rows)
     where
       inner-rows : (r : Row Marked Marked) → List·Memᴰ r (lines-of (o .place .it ∷ o .place .above) (o .place .children))
-          → under n (plain r) ≡ true
+          → in-subtree n (plain r) ≡ true
       inner-rows r m =
           under-line n r
-          ∙ rw (any-below (λ a. a) (numbered n) (rw (o .number)) (of-rows (λ a. a) r (o .place .it ∷ o .place .above)
+          ∙ rw (any-below (λ a. a) (has-number n) (rw (o .number)) (of-rows (λ a. a) r (o .place .it ∷ o .place .above)
           (o .place .children) m))
-          (or-true (numbered n (r .it)))
+          (or-true (has-number n (r .it)))
 
   -- n and all below it that t sees, in document order
   pub subtree-lines : (t : ℕ) → seen-at t (flat 0 f) p ≡ true
-      → map (λ r. r .it) (select (under n) (callers-document t f)) ≡ map (λ a. a .now) (subtree t (flat 0 f) p)
+      → map (λ r. r .it) (select (in-subtree n) (callers-document t f)) ≡ map (λ a. a .now) (subtree t (flat 0 f) p)
   unfolding keep seen-from
   subtree-lines t s =
       let c = o .place in
@@ -119,5 +119,5 @@ module _ {f : Tree} {n p : ℕ} (o : Holder f n p) where
       let e : map (λ x. x .it) (keep (seen-line t) (lines-of (c .it ∷ c .above) (c .children))) ≡ items
       (prune (seen-by t) 0 (flat (suc (c .depth)) (c .children))) =
       shown-forest (seen-by t) (c .it ∷ c .above) (suc (c .depth)) (c .children) v in
-      rw (select-seen (under n) t f, rows-under, v, item-at c, rows-below c, ← e)
+      rw (select-seen (in-subtree n) t f, rows-under, v, item-at c, rows-below c, ← e)
       (ap (λ l. c .it .now ∷ l) (plain-nodes (keep (seen-line t) (lines-of (c .it ∷ c .above) (c .children)))))

@@ -8,7 +8,7 @@ use lib.ListN.{length}
 use borrow.Author.Tests.{eq-eqb, ne-eqb}
 use Rattle.tree.specs.Lists.{any, has}
 use Rattle.tree.specs.Laws.Tests.{or-left, or-right}
-use Rattle.protocol.specs.State.{numbered}
+use Rattle.protocol.specs.State.{has-number}
 use Rattle.table.specs.Lists.{modify}
 use Rattle.table.specs.Layout.{Entry}
 use Rattle.rows.specs.Places.{items, number-of, unique}
@@ -16,17 +16,17 @@ use Rattle.rows.specs.Laws.Find.{unique-head, has-items, lacks-at}
 use Rattle.rows.specs.Rows.{row-numbers, number-at, Lacks}
 
 -- the numbers say which numbers there are
-pub same-numbers : (k l : List Entry) → row-numbers k ≡ row-numbers l → (n : ℕ) → any (numbered n) (items k) ≡ any (numbered n) (items l)
+pub same-numbers : (k l : List Entry) → row-numbers k ≡ row-numbers l → (n : ℕ) → any (has-number n) (items k) ≡ any (has-number n) (items l)
 same-numbers k l e n = sym (has-items n k) ∙ ap (has n) e ∙ has-items n l
 
 module _ (g : Entry → Entry) where
   -- a change of the rows with a number
   abbrev pub by-number : ℕ → Entry → Entry
-  by-number n x = cond (numbered n (x .1)) (g x) x
+  by-number n x = cond (has-number n (x .1)) (g x) x
 
   pub by-number-none : (n : ℕ) (l : List Entry) → Lacks n l → map (by-number n) l ≡ l
   by-number-none n [] h = refl
-  by-number-none n (x ∷ l) h = rw (or-left (numbered n (x .1)) _ h, by-number-none n l (or-right (numbered n (x .1)) _ h))
+  by-number-none n (x ∷ l) h = rw (or-left (has-number n (x .1)) _ h, by-number-none n l (or-right (has-number n (x .1)) _ h))
 
   pub by-number-one : (n : ℕ) (l : List Entry) (i : ℕ) → unique l ≡ true → i < length l → number-at l i ≡ n
       → map (by-number n) l ≡ modify i g l

@@ -6,7 +6,7 @@ use mathlib.Core.List.{List, [], _∷_, map}
 use lib.ListN.{length, getD, List·getD-map}
 use Rattle.tree.specs.Forest.{Forest, nil, node, amend}
 use Rattle.tree.specs.Laws.Lists.{map-append, map-same}
-use Rattle.protocol.specs.State.{Marked, Tree, numbered, mark-node}
+use Rattle.protocol.specs.State.{Marked, Tree, has-number, mark-node}
 use Rattle.table.specs.Lists.{modify}
 use Rattle.table.specs.Flat.{flat, second}
 use Rattle.table.specs.Layout.{Entry, no-entry}
@@ -40,8 +40,8 @@ pub mark-node-rows : (n : ℕ) (g : Marked → Marked) (f : Tree) (p : ℕ) → 
     → number-at (flat 0 f) p ≡ n
     → flat 0 (mark-node n g f) ≡ modify p (second g) (flat 0 f)
 mark-node-rows n g f p u h e =
-    flat-amend (λ a. a) (λ a. cond (numbered n a) (g a) a) [] 0 f
-    ∙ map-same (second (λ a. cond (numbered n a) (g a) a)) (by-number (second g) n) (flat 0 f) (λ x m. inside (numbered n (x .1)) x)
+    flat-amend (λ a. a) (λ a. cond (has-number n a) (g a) a) [] 0 f
+    ∙ map-same (second (λ a. cond (has-number n a) (g a) a)) (by-number (second g) n) (flat 0 f) (λ x m. inside (has-number n (x .1)) x)
     ∙ by-number-one (second g) n (flat 0 f) p u h e
   where
     inside : (b : Bool) (x : Entry) → second (λ a. cond b (g a) a) x ≡ cond b (second g x) x

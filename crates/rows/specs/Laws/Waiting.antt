@@ -15,7 +15,7 @@ use Rattle.tree.specs.Laws.Lists.{any-map, any-same}
 use Rattle.locks.specs.Modes.{Mode, against}
 use Rattle.locks.specs.Needs.{Need, need, Lock, each, every-one, locks}
 use Rattle.locks.specs.Words.{word}
-use Rattle.protocol.specs.State.{Marked, State, transactions, nodes, numbered, number-held}
+use Rattle.protocol.specs.State.{Marked, State, transactions, nodes, has-number, number-held}
 use Rattle.protocol.specs.Calls.{clashes, blocks, sum-of-bits, wait-set}
 use Rattle.table.specs.Flat.{flat}
 use Rattle.table.specs.Layout.{Entry}
@@ -48,12 +48,12 @@ any-any t (x ∷ l) k = rw (any-any t l k) (sym (any-or (t x) (λ b. any (λ a. 
 
 -- the one node with a number -----------------------------------------------------------
 
-none-with : (n : ℕ) (q : Marked → Bool) (l : List Marked) → any (numbered n) l ≡ false → any (λ a. numbered n a && q a) l ≡ false
+none-with : (n : ℕ) (q : Marked → Bool) (l : List Marked) → any (has-number n) l ≡ false → any (λ a. has-number n a && q a) l ≡ false
 none-with n q [] h = refl
-none-with n q (a ∷ l) h = rw (or-left (numbered n a) _ h) (none-with n q l (or-right (numbered n a) _ h))
+none-with n q (a ∷ l) h = rw (or-left (has-number n a) _ h) (none-with n q l (or-right (has-number n a) _ h))
 
 one-node : (q : Marked → Bool) (l : List Entry) (i : ℕ) → unique l ≡ true → i < length l
-    → any (λ a. numbered (number-of (item l i)) a && q a) (items l) ≡ q (item l i)
+    → any (λ a. has-number (number-of (item l i)) a && q a) (items l) ≡ q (item l i)
 one-node q [] i u h = absurd (omega arith)
 one-node q (x ∷ l) zero u h =
     rw (eq-eqb (number-of (x .1)) (number-of (x .1)) refl, none-with (number-of (x .1)) q (items l) (unique-head x l u .0))
@@ -67,34 +67,34 @@ one-node q (x ∷ l) (suc i) u h =
 
 -- transaction t holds, on some node, a mode that clashes with one of these locks
 meets : List Entry → ℕ → List Lock → Bool
-meets l t ls = any (λ x. any (λ a. numbered (x .0) a && against (a .held t) (x .1)) (items l)) ls
+meets l t ls = any (λ x. any (λ a. has-number (x .0) a && against (a .held t) (x .1)) (items l)) ls
 
 module _ (l : List Entry) (t : ℕ) where
   any-clashes : (ls : List Lock) → any (clashes ls t) (items l) ≡ meets l t ls
   unfolding meets
-  any-clashes ls = any-any (λ (a : Marked) (x : Lock). numbered (x .0) a && against (a .held t) (x .1)) (items l) ls
+  any-clashes ls = any-any (λ (a : Marked) (x : Lock). has-number (x .0) a && against (a .held t) (x .1)) (items l) ls
 
   meets-append : (ls ks : List Lock) → meets l t (ls ++ ks) ≡ (meets l t ls || meets l t ks)
   unfolding meets
-  meets-append ls ks = any-append (λ (x : Lock). any (λ a. numbered (x .0) a && against (a .held t) (x .1)) (items l)) ls ks
+  meets-append ls ks = any-append (λ (x : Lock). any (λ a. has-number (x .0) a && against (a .held t) (x .1)) (items l)) ls ks
 
-  meets-each : (ms : List Mode) (n : ℕ) → meets l t (each ms n) ≡ any (λ m. any (λ a. numbered n a && against (a .held t) m) (items l)) ms
+  meets-each : (ms : List Mode) (n : ℕ) → meets l t (each ms n) ≡ any (λ m. any (λ a. has-number n a && against (a .held t) m) (items l)) ms
   unfolding meets
-  meets-each ms n = any-map (λ (x : Lock). any (λ a. numbered (x .0) a && against (a .held t) (x .1)) (items l)) (λ m. (n, m)) ms
+  meets-each ms n = any-map (λ (x : Lock). any (λ a. has-number (x .0) a && against (a .held t) (x .1)) (items l)) (λ m. (n, m)) ms
 
   meets-nothing : meets l t [] ≡ false
   unfolding meets
   meets-nothing = refl
 
   -- numbers that no node has
-  meets-new : (ms : List Mode) (ns : List ℕ) → any (λ m. any (numbered m) (items l)) ns ≡ false → meets l t (every-one ms ns) ≡ false
+  meets-new : (ms : List Mode) (ns : List ℕ) → any (λ m. any (has-number m) (items l)) ns ≡ false → meets l t (every-one ms ns) ≡ false
   meets-new ms [] h = meets-nothing
   meets-new ms (n ∷ ns) h =
       rw (
         meets-append (each ms n) (every-one ms ns),
-        meets-new ms ns (or-right (any (numbered n) (items l)) _ h),
+        meets-new ms ns (or-right (any (has-number n) (items l)) _ h),
         meets-each ms n,
-        any-same (λ m. any (λ a. numbered n a && against (a .held t) m) (items l)) (λ m. false) ms
+        any-same (λ m. any (λ a. has-number n a && against (a .held t) m) (items l)) (λ m. false) ms
             (λ m x. none-with n (λ a. against (a .held t) m) (items l) (or-left _ _ h)),
         any-never ms,
       )
@@ -103,7 +103,7 @@ module _ (l : List Entry) (t : ℕ) where
     meets-node : (ms : List Mode) (i : ℕ) → i < length l → meets l t (each ms (number-of (item l i))) ≡ blocks-node ms t (item l i)
     meets-node ms i h =
         meets-each ms (number-of (item l i))
-        ∙ any-same (λ m. any (λ a. numbered (number-of (item l i)) a && against (a .held t) m) (items l)) (against (item l i .held t)) ms
+        ∙ any-same (λ m. any (λ a. has-number (number-of (item l i)) a && against (a .held t) m) (items l)) (against (item l i .held t)) ms
         (λ m x. one-node (λ a. against (a .held t) m) l i u h)
 
     meets-along : (ms ms′ ms″ : List Mode) (ps : List ℕ) → ((i : ℕ) → List·Memᴰ i ps → i < length l)
@@ -119,7 +119,7 @@ module _ (l : List Entry) (t : ℕ) where
 
     -- the locks of a step on the node at p: the numbers that it inserts are held by no node
     pub way-blocks : (s : Step) (p : ℕ) → p < length l → number-of (item l p) ≡ target s
-        → any (λ m. any (numbered m) (items l)) (inserts s) ≡ false
+        → any (λ m. any (has-number m) (items l)) (inserts s) ≡ false
         → any (clashes (locks s (numbers-above l p)) t) (items l)
         ≡ blocks-way (need s .node) (need s .parent) (need s .above) t (item l p ∷ ups l p)
     unfolding ups
@@ -165,7 +165,7 @@ pub wait-set-at : (t : ℕ) (s : Step) (M : State) (l : List Entry) (p : ℕ) �
 unfolding wait-set wait-word
 wait-set-at t s M l p e u h n b =
     let g : nodes (M .tree) ≡ items l = nodes-held (M .tree) ∙ ap items e in
-    let k : any (λ m. any (numbered m) (items l)) (inserts s) ≡ false = sym (ap (λ z. any (λ m. any (numbered m) z) (inserts s)) g) ∙ b in
+    let k : any (λ m. any (has-number m) (items l)) (inserts s) ≡ false = sym (ap (λ z. any (λ m. any (has-number m) z) (inserts s)) g) ∙ b in
     bits-transactions (blocks t (locks s (numbers-above l p)) M)
     ∙ ap (λ (q : ℕ → Bool). word q 16 0)
     (fun-ext (λ i. ap (λ c. M .header .is-open (suc i) && not (eqb (suc i) t) && c)

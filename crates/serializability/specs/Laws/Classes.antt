@@ -4,7 +4,7 @@ use mathlib.Core.Path.{_≡_, refl}
 use mathlib.Core.Bool.{Bool, true, false, _&&_, false≢true}
 use mathlib.Core.List.{List, [], _∷_}
 use Rattle.tree.specs.Lists.{has}
-use Rattle.tree.specs.Document.{Document, Line, is, under, here, at}
+use Rattle.tree.specs.Document.{Document, Line, is, in-subtree, here, at}
 use Rattle.tree.specs.Steps.{Step, T, C, R, U, D, I, TT, RR, UU, target, inserts, after, named, rewrite}
 use Rattle.tree.specs.Laws.Tests.{and-left, and-right}
 use Rattle.locks.specs.Modes.{LW, clash}
@@ -37,7 +37,7 @@ class (UU n a b) = rewriting (rename n a b)
 -- the lines that get new contents, and which
 abbrev pub touched : {s : Step} → Rewriting s → Line → Bool
 touched (update n b) r = is n r
-touched (rename n a b) r = under n r && named a r
+touched (rename n a b) r = in-subtree n r && named a r
 
 abbrev pub written : {s : Step} → Rewriting s → List ℕ
 written (update n b) = b

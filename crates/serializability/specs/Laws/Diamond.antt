@@ -8,7 +8,7 @@ use lib.Dec.{eqb}
 use borrow.Author.Tests.{eqb-true, eq-eqb}
 use Rattle.tree.specs.Lists.{leads}
 use Rattle.tree.specs.Forest.{row}
-use Rattle.tree.specs.Document.{Node, Document, Line, is, here, at, some?, first}
+use Rattle.tree.specs.Document.{Node, Document, Line, is, here, at, some?, first-line}
 use Rattle.tree.specs.Steps.{remove, rewrite, Step, D, I, target, fits, after}
 use Rattle.tree.specs.Laws.Tests.{refuted, or-left}
 use Rattle.tree.specs.Laws.Rows.{line}
@@ -186,7 +186,7 @@ module _ (d : Document) (u : Unique d) where
           (compatible-symmetric _ _ c) (LW-excludes s) in
           let i = insert-whole (record { number = m; kind = kind; content = b }) n k (is (target s)) d
           (λ r o' e. eqb-flip (target s) m (or-left _ _ o)) in
-          (sym (ap some? i) ∙ h, ap (λ (l : List Line). first l .above) i)
+          (sym (ap some? i) ∙ h, ap (λ (l : List Line). first-line l .above) i)
 
   -- s after p without a clash, and what it inserts absent before: s could go first, and all is the same
   pub record Swapped (p s : Step) : Type 0 where

@@ -15,7 +15,7 @@ use Rattle.locks.specs.Modes.{Mode, index, no-mode, among}
 use Rattle.locks.specs.Needs.{Lock, locks}
 use Rattle.locks.specs.Laws.Places.{lock-place}
 use Rattle.serializability.specs.Laws.Tests.{cond-same, by-test}
-use Rattle.protocol.specs.State.{Marked, Tree, numbered, seen-by, written-by, deleted-by, inserted-by, mark, renamed, act, modes-on}
+use Rattle.protocol.specs.State.{Marked, Tree, has-number, seen-by, written-by, deleted-by, inserted-by, mark, renamed, act, modes-on}
 use Rattle.protocol.specs.State.{granted-to, grant}
 use Rattle.serializability.specs.Laws.Shown.{Place, Inside, path, numbers-of}
 use Rattle.serializability.specs.Laws.Numbers.{number-of, marked, marked-numbers, mark-in, in-mark}
@@ -49,14 +49,14 @@ new-node t m kind b = inserted-by t (record { number = m; kind = kind; content =
 pub data Deed (t : ℕ) (f : Tree) : Step → Tree → Type 0 where
   looks : {s : Step} → inserts s ≡ [] → Deed t f s f
   marks : {s : Step} (c : Place → Marked) → Keeps c → inserts s ≡ [] → Deed t f s (mark c f)
-  adds : (m kind : ℕ) (b : List ℕ) (n k : ℕ) → Deed t f (I m kind b n k) (put (numbered n) (seen-by t) k (new-node t m kind b) f)
+  adds : (m kind : ℕ) (b : List ℕ) (n k : ℕ) → Deed t f (I m kind b n k) (put (has-number n) (seen-by t) k (new-node t m kind b) f)
 
 pub deed : (t : ℕ) (s : Step) (f : Tree) → Deed t f s (act t s f)
 deed t (T n) f = looks refl
 deed t (C n k) f = looks refl
 deed t (R n) f = looks refl
-deed t (U n b) f = marks _ (keeps-written t b (λ r. numbered n (r .it))) refl
-deed t (D n) f = marks _ (keeps-deleted t (λ r. numbered n (r .it))) refl
+deed t (U n b) f = marks _ (keeps-written t b (λ r. has-number n (r .it))) refl
+deed t (D n) f = marks _ (keeps-deleted t (λ r. has-number n (r .it))) refl
 deed t (I m kind b n k) f = adds m kind b n k
 deed t (TT n) f = looks refl
 deed t (RR n) f = looks refl
@@ -85,7 +85,7 @@ act-carries t s u f r i = go (deed t s f)
     go : {s : Step} {g : Tree} → Deed t f s g → Carried u g r
     go (looks e) = same-place i
     go (marks c k e) = carried-by-mark c (k .number) u (λ x a h. rw (k .held x) h) (k .inserter) f r i
-    go (adds m kind b n k) = same-place (put-in (numbered n) (seen-by t) k (new-node t m kind b) (λ a. a) i)
+    go (adds m kind b n k) = same-place (put-in (has-number n) (seen-by t) k (new-node t m kind b) (λ a. a) i)
 
 -- granting -----------------------------------------------------------------------------------
 
@@ -150,7 +150,7 @@ act-inserts t s m h f r i e = go (deed t s f) h e
     go (adds m' kind b n k) h e =
         let new = new-node t m' kind b in (
           row new (path r),
-          put-new (numbered n) (seen-by t) k new (λ a. a) i (eq-eqb _ n e),
+          put-new (has-number n) (seen-by t) k new (λ a. a) i (eq-eqb _ n e),
           sym
               (List·Memᴰ·eq-of-singleton (has-in m (m' ∷ []) h)),
           refl,
@@ -216,7 +216,7 @@ act-places t s f r i = go (deed t s f) i
               (λ (z : Place). z .it .held) (a .2) ∙ k .held (a .0),
         )
     go (adds m kind b n k) i = ⊎-map (λ x. (r, x, refl, refl, refl)) (λ x. (rw (x .3, eq-eqb m m refl), rw (x .3), rw (x .3)))
-        (in-put (numbered n) (seen-by t) k (new-node t m kind b) (λ a. a) [] f i)
+        (in-put (has-number n) (seen-by t) k (new-node t m kind b) (λ a. a) [] f i)
 
 -- a granted lock changes no number and no inserter
 pub step-place : (t : ℕ) (s : Step) (ls : List Lock) (f : Tree) (r : Place) → Inside r (after-step t s ls f)

@@ -16,7 +16,7 @@ use Rattle.tree.specs.Laws.Put.{in-put, New}
 use Rattle.locks.specs.Needs.{Lock, locks, needs}
 use Rattle.locks.specs.Laws.Places.{insertion-guards, U-locks, UU-locks}
 use Rattle.serializability.specs.Laws.Tests.{by-test, cond-same}
-use Rattle.protocol.specs.State.{nobody, Marked, Tree, numbered, number-held, seen-by, callers-document, written-by, deleted-by}
+use Rattle.protocol.specs.State.{nobody, Marked, Tree, has-number, number-held, seen-by, callers-document, written-by, deleted-by}
 use Rattle.protocol.specs.State.{inserted-by, granted-to, mark, mark-node, renamed, act, grant, writer-of}
 use Rattle.serializability.specs.Laws.Granting.{keeps-written, keeps-deleted}
 use Rattle.serializability.specs.Laws.Shown.{Place, Inside, path, numbers-of}
@@ -76,10 +76,10 @@ module _ (holds holds' : ℕ → List Lock) (more : (u : ℕ) → Within (holds 
         → Within (locks (D (number-of r)) (numbers-of (r .above))) (holds' t)) → Covered holds' (mark-node n (deleted-by t) f)
     unfolding Deleted Written
     delete-covered n h =
-        let k = keeps-deleted t (λ r. numbered n (r .it)) in
+        let k = keeps-deleted t (λ r. has-number n (r .it)) in
         mark-covered _ (k .number) (k .inserter)
-        (λ r i. by-test (numbered n (r .it)) (λ e. rw e (inr (refl, h r i (eqb-true _ n e)))) (λ e. rw e (inl refl)))
-        (λ r i. inl (cond-same (λ (a : Marked). writer-of (a .update)) (numbered n (r .it)) (deleted-by t (r .it)) (r .it) refl))
+        (λ r i. by-test (has-number n (r .it)) (λ e. rw e (inr (refl, h r i (eqb-true _ n e)))) (λ e. rw e (inl refl)))
+        (λ r i. inl (cond-same (λ (a : Marked). writer-of (a .update)) (has-number n (r .it)) (deleted-by t (r .it)) (r .it) refl))
 
     -- other locks, the same marks
     same-covered : Covered holds' f
@@ -93,15 +93,15 @@ module _ (holds holds' : ℕ → List Lock) (more : (u : ℕ) → Within (holds 
     -- t inserted a node whose number nobody had, with the locks for its deletion
     insert-covered : (n k : ℕ) (new : Node) → number-held (new .number) f ≡ false
         → ((r : Place) → Inside r f → number-of r ≡ n → Within (locks (D (new .number)) (n ∷ numbers-of (r .above))) (holds' t))
-        → Covered holds' (put (numbered n) (seen-by t) k (inserted-by t new) f)
+        → Covered holds' (put (has-number n) (seen-by t) k (inserted-by t new) f)
     insert-covered n k new un w = record {
       distinct = inserted-distinct n (seen-by t) k (inserted-by t new) f (cov .distinct) un;
-      guarded = λ r i. gd r (in-put (numbered n) (seen-by t) k (inserted-by t new) (λ a. a) [] f i);
-      authored = λ r i. au r (in-put (numbered n) (seen-by t) k (inserted-by t new) (λ a. a) [] f i);
+      guarded = λ r i. gd r (in-put (has-number n) (seen-by t) k (inserted-by t new) (λ a. a) [] f i);
+      authored = λ r i. au r (in-put (has-number n) (seen-by t) k (inserted-by t new) (λ a. a) [] f i);
     }
       where
         Put : Place → Type 0
-        Put r = New (numbered n) (seen-by t) k (inserted-by t new) (λ a. a) r [] f
+        Put r = New (has-number n) (seen-by t) k (inserted-by t new) (λ a. a) r [] f
 
         inserter-is : (u : ℕ) → (u ≡ nobody → ⊥) → (eqb t u || eqb nobody u) ≡ true → t ≡ u
         inserter-is u nu h = ⊎-elim (eqb-true t u) (λ e. absurd (nu (sym (eqb-true nobody u e)))) (or-cases (eqb t u) (eqb nobody u) h)
@@ -123,7 +123,7 @@ module _ (holds holds' : ℕ → List Lock) (more : (u : ℕ) → Within (holds 
       act-covered (T n) hs c new w = same-covered
       act-covered (C n k) hs c new w = same-covered
       act-covered (R n) hs c new w = same-covered
-      act-covered (U n b) hs c new w = write-covered (λ r. numbered n (r .it)) b
+      act-covered (U n b) hs c new w = write-covered (λ r. has-number n (r .it)) b
           (λ r i e. inl (λ l j. w l (U-locks n [] b _ l (rw (
             eqb-true _ n e,
             above-is holds f cov t (U n b) hs c r i

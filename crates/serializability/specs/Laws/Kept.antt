@@ -7,7 +7,7 @@ use mathlib.Core.Logic.{⊎-elim}
 use lib.Dec.{eqb}
 use borrow.Author.Tests.{eqb-true, eq-eqb, ne-eqb, not-true, not-false}
 use Rattle.tree.specs.Lists.{has, leads}
-use Rattle.tree.specs.Document.{Document, Line, is, child, under, here, at, Node, some?}
+use Rattle.tree.specs.Document.{Document, Line, is, child, in-subtree, here, at, Node, some?}
 use Rattle.tree.specs.Laws.Tests.{refuted, and-left, and-right, or-left, or-right}
 use Rattle.tree.specs.Laws.Rows.{parent-row, nested}
 use Rattle.tree.specs.Forest.{row}
@@ -39,18 +39,18 @@ module _ (d : Document) (u : Unique d) where
   pub path-of : (n : ℕ) → here n d ≡ true → (r : Line) → Of r d → r .it .number ≡ n → r .above ≡ path n d
   path-of n h r m e = ap (λ (x : Line). x .above) (at-only d u n h r m e)
 
-  pub not-under : (n x : ℕ) → here n d ≡ true → has x (n ∷ path n d) ≡ false → (r : Line) → Of r d → is n r ≡ true → under x r ≡ false
+  pub not-under : (n x : ℕ) → here n d ≡ true → has x (n ∷ path n d) ≡ false → (r : Line) → Of r d → is n r ≡ true → in-subtree x r ≡ false
   not-under n x h f r m i = let e = eqb-true _ n i in rw (e, path-of n h r m e) f
 
   child-not-under : (n x : ℕ) → here n d ≡ true → here x d ≡ true → has x (n ∷ path n d) ≡ false → leads n (path x d) ≡ false
-      → (r : Line) → Of r d → child n r ≡ true → under x r ≡ false
+      → (r : Line) → Of r d → child n r ≡ true → in-subtree x r ≡ false
   child-not-under n x hn hx f g r m c = by-test (eqb (r .it .number) x)
       (λ e. absurd (true≢false (sym c ∙ ap (leads n) (path-of x hx r m (eqb-true _ x e)) ∙ g)))
       (λ e. rw e (⊎-elim (λ i. absurd (false≢true (rw i at c)))
       (λ s. rw (s .2) (not-under n x hn f (s .0) (s .1) (rw (s .2) at c))) (parent-row number m)))
 
   pub under-not-under : (n x : ℕ) → here n d ≡ true → here x d ≡ true → has x (n ∷ path n d) ≡ false → has n (x ∷ path x d) ≡ false
-      → (r : Line) → Of r d → under n r ≡ true → under x r ≡ false
+      → (r : Line) → Of r d → in-subtree n r ≡ true → in-subtree x r ≡ false
   under-not-under n x hn hx f g r m v = refuted _ (λ w. ⊎-elim
       (λ s. true≢false (sym (s .3) ∙ not-under n x hn f (s .0) (s .1) (eq-eqb _ n (s .2))))
       (λ s. true≢false (sym (s .3) ∙ not-under x n hx g (s .0) (s .1) (eq-eqb _ x (s .2)))) (nested number n x refl refl m v w))
@@ -62,7 +62,7 @@ module _ (d : Document) (u : Unique d) where
   Clear-of subtree n x = (has x (n ∷ path n d) ≡ false) × (has n (x ∷ path x d) ≡ false)
 
   pub clear-of : (q : Reach) (n x : ℕ) → here n d ≡ true → here x d ≡ true → Clear-of q n x → (r : Line) → Of r d → within q n r ≡ true
-      → under x r ≡ false
+      → in-subtree x r ≡ false
   clear-of itself n x hn hx c = not-under n x hn c
   clear-of children n x hn hx c = child-not-under n x hn hx (c .0) (c .1)
   clear-of subtree n x hn hx c = under-not-under n x hn hx (c .0) (c .1)

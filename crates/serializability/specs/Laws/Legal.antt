@@ -8,7 +8,7 @@ use lib.Dec.{eqb, leb}
 use borrow.Author.Tests.{eqb-true, not-false}
 use Rattle.tree.specs.Forest.{nil, node, row, amend, view, put}
 use Rattle.tree.specs.Content.{document-kind, element-kind, is-name, allowed, children-rule, attributes-first, insert-at}
-use Rattle.tree.specs.Document.{Node, Document, Line, lines, is, child, under, select, here, at, kinds, top-kinds, ruled, rooted, legal}
+use Rattle.tree.specs.Document.{Node, Document, Line, lines, is, child, in-subtree, select, here, at, kinds, top-kinds, ruled, rooted, legal}
 use Rattle.tree.specs.Steps.{Step, U, D, I, UU, fits, after, placed, named, rewrite, remove}
 use Rattle.tree.specs.Laws.Tests.{and-left, and-right, refuted}
 use Rattle.tree.specs.Laws.Rows.{self}
@@ -54,8 +54,8 @@ ruled-rewriting : (d : Document) → Unique d → {s : Step} (w : Rewriting s) �
 unfolding allowed
 ruled-rewriting d u (update n b) g h = ruled-amend (is n) b [] d h
     (λ r m i. rw (at-only d u n (fits-here (U n b) d g) r m (eqb-true _ n i)) (not-false _ (fit-parts (U n b) d g .content)))
-ruled-rewriting d u (rename n a b) g h = ruled-amend (λ r. under n r && named a r) b [] d h
-    (λ r m i. rw (eqb-true (r .it .kind) element-kind (and-left _ _ (and-right (under n r) _ i)))
+ruled-rewriting d u (rename n a b) g h = ruled-amend (λ r. in-subtree n r && named a r) b [] d h
+    (λ r m i. rw (eqb-true (r .it .kind) element-kind (and-left _ _ (and-right (in-subtree n r) _ i)))
     (and-right (is-name a) _ (not-false _ (fit-parts (UU n a b) d g .content))))
 
 childless : (kind : ℕ) → children-rule kind [] ≡ true

@@ -7,7 +7,7 @@ use lib.Dec.{eqb}
 use borrow.Author.Tests.{eqb-true, eq-eqb, not-true}
 use Rattle.tree.specs.Lists.{keep, distinct}
 use Rattle.tree.specs.Forest.{row, rows, put}
-use Rattle.tree.specs.Document.{Node, Document, Line, lines, is, under, select, first, some?, here, at, numbers}
+use Rattle.tree.specs.Document.{Node, Document, Line, lines, is, in-subtree, select, first-line, some?, here, at, numbers}
 use Rattle.tree.specs.Steps.{with-content, rewrite, remove}
 use Rattle.tree.specs.Laws.Lists.{every-not, keep-same, keep-in, in-keep}
 use Rattle.tree.specs.Laws.Rows.{In, to-rows, of-rows}
@@ -40,7 +40,7 @@ pub at-line : (n : ℕ) (d : Document) → here n d ≡ true → Of (at n d) d �
 unfolding select
 at-line n d h = go (keep (is n) (lines d)) refl h
   where
-    go : (l : List Line) → keep (is n) (lines d) ≡ l → some? l ≡ true → Of (first l) d × (first l .it .number ≡ n)
+    go : (l : List Line) → keep (is n) (lines d) ≡ l → some? l ≡ true → Of (first-line l) d × (first-line l .it .number ≡ n)
     go [] e f = absurd (false≢true f)
     go (r ∷ l) e f =
         let i = in-keep (is n) (lines d) {a = r} (rw e (List·Memᴰ·head {x = r} {xs = l} refl)) in
@@ -86,17 +86,17 @@ lines-rewrite t b d = rows-amend-same number (rewritten t b) (rewritten-number t
 
 -- removal --------------------------------------------------------------------------------
 
-pub lines-remove : (n : ℕ) (d : Document) → lines (remove n d) ≡ keep (λ r. not (under n r)) (lines d)
+pub lines-remove : (n : ℕ) (d : Document) → lines (remove n d) ≡ keep (λ r. not (in-subtree n r)) (lines d)
 unfolding lines
 lines-remove n d =
     rows-rest number (λ a. not (eqb (a .number) n)) (λ q. not (eqb q n)) (λ a. refl) [] d refl
     ∙ keep-same _ _ (rows number [] d) (λ r m. every-not (λ q. eqb q n) (r .it .number ∷ r .above))
 
 -- a line that is left was there, and not in the subtree
-pub in-remove : (n : ℕ) (d : Document) {r : Line} → Of r (remove n d) → Of r d × (under n r ≡ false)
+pub in-remove : (n : ℕ) (d : Document) {r : Line} → Of r (remove n d) → Of r d × (in-subtree n r ≡ false)
 in-remove n d {r} m =
-    let i = in-keep (λ (x : Line). not (under n x)) (lines d) {a = r} (rw (lines-remove n d) at (to-lines (remove n d) m)) in
-    (of-lines d r (i .0), not-true (under n r) (i .1))
+    let i = in-keep (λ (x : Line). not (in-subtree n x)) (lines d) {a = r} (rw (lines-remove n d) at (to-lines (remove n d) m)) in
+    (of-lines d r (i .0), not-true (in-subtree n r) (i .1))
 
 -- insertion ------------------------------------------------------------------------------
 

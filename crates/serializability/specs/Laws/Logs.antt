@@ -14,7 +14,7 @@ use Rattle.protocol.specs.History.{Log, with-log, logged}
 module _ {X E : Type 0} (g : X → E) where
   -- each entry replaced by what g reads off it
   abbrev pub read-off : Log X → Log E
-  read-off L = record { first = L .first; committed = map (map g) (L .committed); open-log = λ u. map g (L .open-log u) }
+  read-off L = record { initial = L .initial; committed = map (map g) (L .committed); open-log = λ u. map g (L .open-log u) }
 
   map-log : (t : ℕ) (l : List X) (log : ℕ → List X) → _≡_ {A = ℕ → List E} (λ u. map g (with-log t l log u))
       (with-log t (map g l) (λ u. map g (log u)))

@@ -12,7 +12,7 @@ use Rattle.tree.specs.Laws.Rows.{to-rows, of-rows}
 use Rattle.tree.specs.Laws.Amend.{rows-amend, in-amend, amend-in}
 use Rattle.tree.specs.Laws.View.{rows-view, in-view, view-in}
 use Rattle.serializability.specs.Laws.Uniqueness.{put-distinct}
-use Rattle.protocol.specs.State.{Marked, Tree, nodes, numbered, number-held, mark}
+use Rattle.protocol.specs.State.{Marked, Tree, nodes, has-number, number-held, mark}
 use Rattle.serializability.specs.Laws.Shown.{Place, Inside, path, numbers-of}
 
 abbrev pub number-of : Place → ℕ
@@ -34,7 +34,7 @@ one-place f h i j e = distinct-one number-of (rows (λ a. a) [] f) h (to-rows (�
 -- a number that has a place is held
 pub place-held : (n : ℕ) (f : Tree) {r : Place} → Inside r f → number-of r ≡ n → number-held n f ≡ true
 unfolding nodes
-place-held n f {r} i e = at-any (numbered n) (map (λ (x : Place). x .it) (rows (λ a. a) [] f))
+place-held n f {r} i e = at-any (has-number n) (map (λ (x : Place). x .it) (rows (λ a. a) [] f))
     (map-in (λ (x : Place). x .it) (to-rows (λ a. a) i)) (eq-eqb _ n e)
 
 -- a node of the tree, whose place is among the nodes
@@ -102,7 +102,7 @@ module _ (stays : Marked → Bool) (g : Marked → Marked) where
 -- a new node -------------------------------------------------------------------------------
 
 pub inserted-distinct : (n : ℕ) (counts : Marked → Bool) (k : ℕ) (new : Marked) (f : Tree) → Distinct f
-    → number-held (new .now .number) f ≡ false → Distinct (put (numbered n) counts k new f)
+    → number-held (new .now .number) f ≡ false → Distinct (put (has-number n) counts k new f)
 unfolding Distinct
 inserted-distinct n counts k new f d h = put-distinct (λ (a : Marked). a .now .number) (λ a. a) n counts k new [] f d
     (λ r m e. true≢false (sym (place-held (new .now .number) f (of-rows (λ a. a) r [] f m) e) ∙ h))

@@ -21,7 +21,7 @@ use Rattle.serializability.specs.Laws.Classes.{update, rename, write, ba
 use Rattle.serializability.specs.Laws.Classes.{bars-writing, writing-barred}
 use Rattle.serializability.specs.Laws.Lines.{at-line}
 use Rattle.serializability.specs.Laws.Views.{shape, Shapes, Whole, Reach, itself, children, subtree, within, reach, Views}
-use Rattle.protocol.specs.State.{nobody, Marked, Tree, numbered, seen-by, callers-document, document-of, renamed, act, number-held, done-by}
+use Rattle.protocol.specs.State.{nobody, Marked, Tree, has-number, seen-by, callers-document, document-of, renamed, act, number-held, done-by}
 use Rattle.protocol.specs.State.{shown, as-shown, writer-of}
 use Rattle.serializability.specs.Laws.Shown.{Place, path, numbers-of, local, U-shown, D-shown, I-shown, UU-shown, write-hidden}
 use Rattle.serializability.specs.Laws.Shown.{D-hidden, I-hidden, Inside}
@@ -32,7 +32,7 @@ use Rattle.serializability.specs.Laws.Numbers.{number-of, place-held}
 pub renamed-under : (t n : ℕ) (a : List ℕ) (r : Place) → renamed t n a r ≡ true → has n (numbers-of (path r)) ≡ true
 renamed-under t n a r h =
     any-map (λ q. eqb q n) (λ (x : Marked). x .now .number) (path r)
-    ∙ and-right (every (seen-by t) (path r)) (any (numbered n) (path r)) (and-left _ _ h)
+    ∙ and-right (every (seen-by t) (path r)) (any (has-number n) (path r)) (and-left _ _ h)
 
 -- the places that a step sees from its node, as lines of a document and in the tree
 abbrev pub places : Reach → ℕ → Place → Bool
@@ -184,7 +184,7 @@ module _ (holds : ℕ → List Lock) (f : Tree) (cov : Covered holds f) (t : ℕ
     act-hidden st (T n) hs c = refl
     act-hidden st (C n k) hs c = refl
     act-hidden st (R n) hs c = refl
-    act-hidden st (U n b) hs c = write-hidden t nz S st (λ r. numbered n (r .it)) b f
+    act-hidden st (U n b) hs c = write-hidden t nz S st (λ r. has-number n (r .it)) b f
         (λ r i e. own-read (write (update n b)) hs c r i e)
     act-hidden st (D n) hs c = D-hidden t nz S st n f
         (λ r i e. and-right (local t (r .it .inserter)) _ (and-left _ _ (own-node holds f cov t (D n) hs c r i e)))

@@ -8,7 +8,7 @@ use lib.Dec.{eqb}
 use borrow.Author.Tests.{eqb-true, eq-eqb, ne-eqb}
 use Rattle.tree.specs.Lists.{any, every, has}
 use Rattle.tree.specs.Forest.{nil, node, Row, row, amend, view, put}
-use Rattle.tree.specs.Document.{Node, Document, is, under}
+use Rattle.tree.specs.Document.{Node, Document, is, in-subtree}
 use Rattle.tree.specs.Steps.{with-content, is-named, named, rewrite, remove}
 use Rattle.tree.specs.Laws.Tests.{and-left, or-cases}
 use Rattle.tree.specs.Laws.Lists.{any-map}
@@ -17,7 +17,7 @@ use Rattle.tree.specs.Laws.View.{view-view, view-agree, view-amend}
 use Rattle.tree.specs.Laws.Put.{view-put, view-put-hidden}
 use Rattle.locks.specs.Needs.{Lock}
 use Rattle.serializability.specs.Laws.Tests.{by-test, cond-same}
-use Rattle.protocol.specs.State.{nobody, Marked, Tree, numbered, seen-by, done-by, shown, as-shown, document-of, written-by, deleted-by}
+use Rattle.protocol.specs.State.{nobody, Marked, Tree, has-number, seen-by, done-by, shown, as-shown, document-of, written-by, deleted-by}
 use Rattle.protocol.specs.State.{inserted-by, granted-to, writer-of, Update, update-without, without, lasting, undone, mark, mark-node}
 use Rattle.protocol.specs.State.{renamed, grant, commit-tree, abort-tree, tree-of}
 
@@ -92,12 +92,12 @@ module _ (t : ℕ) (nz : t ≡ nobody → ⊥) (S : ℕ → Bool) where
         words a false = refl
 
     pub U-shown : (n : ℕ) (b : List ℕ) (f : Tree) → document-of S (mark-node n (written-by t b) f) ≡ rewrite (is n) b (document-of S f)
-    U-shown n b f = write-shown (λ r. numbered n (r .it)) (is n) b f (λ r i e. refl)
+    U-shown n b f = write-shown (λ r. has-number n (r .it)) (is n) b f (λ r i e. refl)
 
     pub D-shown : (n : ℕ) (f : Tree) → document-of S (mark-node n (deleted-by t) f) ≡ remove n (document-of S f)
     unfolding document-of
     D-shown n f = view-mark (λ a. shown S a && not (eqb (a .now .number) n)) (shown S) (as-shown S) (as-shown S) _ [] f
-        (λ r i. sight (r .it) (numbered n (r .it))) (λ r i e. cond-same (as-shown S) (numbered n (r .it)) (deleted-by t (r .it))
+        (λ r i. sight (r .it) (has-number n (r .it))) (λ r i e. cond-same (as-shown S) (has-number n (r .it)) (deleted-by t (r .it))
         (r .it) refl)
         ∙ sym (view-view (shown S) (as-shown S) (λ a. not (eqb (a .number) n)) (λ a. a) f)
       where
@@ -109,10 +109,10 @@ module _ (t : ℕ) (nz : t ≡ nobody → ⊥) (S : ℕ → Bool) where
     pub I-shown : (n k : ℕ) (new : Node) (f : Tree)
         → ((r : Place) (a : Marked) (p : List Marked) → Inside r f → r .above ≡ a ∷ p → a .now .number ≡ n
         → shown S (r .it) ≡ seen-by t (r .it))
-        → document-of S (put (numbered n) (seen-by t) k (inserted-by t new) f) ≡ put (λ a. eqb (a .number) n) (λ a. true) k new
+        → document-of S (put (has-number n) (seen-by t) k (inserted-by t new) f) ≡ put (λ a. eqb (a .number) n) (λ a. true) k new
         (document-of S f)
     unfolding document-of
-    I-shown n k new f h = view-put (numbered n) (seen-by t) k (inserted-by t new) (shown S) (as-shown S) (λ a. a) (λ a. eqb (a .number) n)
+    I-shown n k new f h = view-put (has-number n) (seen-by t) k (inserted-by t new) (shown S) (as-shown S) (λ a. a) (λ a. eqb (a .number) n)
         (λ a. true)
         (rw (done-own t S st)) (λ a e. refl) [] f (λ s r i e j o. sym (h r (s .it) (s .above) j o (eqb-true (s .it .now .number) n e))
         ∙ sym (and-true (shown S (r .it))))
@@ -120,13 +120,13 @@ module _ (t : ℕ) (nz : t ≡ nobody → ⊥) (S : ℕ → Bool) where
     -- in the subtree of n t sees what is shown, with the contents as they are now
     pub UU-shown : (n : ℕ) (a b : List ℕ) (f : Tree) → ((r : Place) → Inside r f → has n (numbers-of (path r)) ≡ true
         → (every (shown S) (path r) ≡ every (seen-by t) (path r)) × (as-shown S (r .it) ≡ r .it .now))
-        → document-of S (mark (λ r. cond (renamed t n a r) (written-by t b (r .it)) (r .it)) f) ≡ rewrite (λ r. under n r && named a r) b
+        → document-of S (mark (λ r. cond (renamed t n a r) (written-by t b (r .it)) (r .it)) f) ≡ rewrite (λ r. in-subtree n r && named a r) b
         (document-of S f)
-    UU-shown n a b f h = write-shown (renamed t n a) (λ r. under n r && named a r) b f
+    UU-shown n a b f h = write-shown (renamed t n a) (λ r. in-subtree n r && named a r) b f
         (λ r i v. ap (λ x. every (seen-by t) (path r) && x && is-named a (r .it .now)) (numbers (path r)) ∙ test r i v
         (has n (numbers-of (path r))) refl)
       where
-        numbers : (p : List Marked) → any (numbered n) p ≡ has n (numbers-of p)
+        numbers : (p : List Marked) → any (has-number n) p ≡ has n (numbers-of p)
         numbers p = sym (any-map (λ q. eqb q n) (λ x. x .now .number) p)
 
         -- t sees there what is shown, so its test is the plain one
@@ -157,17 +157,17 @@ module _ (t : ℕ) (nz : t ≡ nobody → ⊥) (S : ℕ → Bool) where
         → document-of S (mark-node n (deleted-by t) f) ≡ document-of S f
     unfolding document-of
     D-hidden n f h = view-mark (shown S) (shown S) (as-shown S) (as-shown S) _ [] f
-        (λ r i. by-test (numbered n (r .it)) (λ e. rw e (was-shown (r .it) (h r i (eqb-true _ n e)))) (λ e. rw e))
-        (λ r i e. cond-same (as-shown S) (numbered n (r .it)) (deleted-by t (r .it)) (r .it) refl)
+        (λ r i. by-test (has-number n (r .it)) (λ e. rw e (was-shown (r .it) (h r i (eqb-true _ n e)))) (λ e. rw e))
+        (λ r i e. cond-same (as-shown S) (has-number n (r .it)) (deleted-by t (r .it)) (r .it) refl)
       where
         was-shown : (a : Marked) → local t (a .deleter) ≡ true → shown S (deleted-by t a) ≡ shown S a
         was-shown a l = let u = a .deleter in rw (st, and-false (not (eqb t 0))) (⊎-elim (λ (i : eqb u 0 ≡ true). rw i)
             (λ (i : eqb u t ≡ true). rw (eqb-true u t i, st, and-false (not (eqb t 0)))) (or-cases (eqb u 0) (eqb u t) l))
 
     pub I-hidden : (n k : ℕ) (new : Node) (f : Tree)
-        → document-of S (put (numbered n) (seen-by t) k (inserted-by t new) f) ≡ document-of S f
+        → document-of S (put (has-number n) (seen-by t) k (inserted-by t new) f) ≡ document-of S f
     unfolding document-of
-    I-hidden n k new f = view-put-hidden (numbered n) (seen-by t) k (inserted-by t new) (shown S) (as-shown S) f (rw (done-other t S nz st))
+    I-hidden n k new f = view-put-hidden (has-number n) (seen-by t) k (inserted-by t new) (shown S) (as-shown S) f (rw (done-other t S nz st))
 
 -- the ends of a transaction ----------------------------------------------------------------
 

@@ -19,7 +19,7 @@ use Rattle.locks.specs.Laws.Compatible.{Locked, Compatible, new-locked}
 use Rattle.locks.specs.Laws.Places.{lock-place, path-locked}
 use Rattle.serializability.specs.Laws.Tests.{affirmed}
 use Rattle.serializability.specs.Laws.Classes.{new-need}
-use Rattle.protocol.specs.State.{State, Marked, Tree, numbered, nodes, is-transaction}
+use Rattle.protocol.specs.State.{State, Marked, Tree, has-number, nodes, is-transaction}
 use Rattle.protocol.specs.Calls.{clashes, blocks, wait-set}
 use Rattle.serializability.specs.Laws.Shown.{Place, Inside, path, numbers-of}
 use Rattle.serializability.specs.Laws.Numbers.{number-of, Distinct, one-place, place-node}
@@ -90,7 +90,7 @@ unblocked-compatible : (ls hs : List Lock) (u : ℕ) (f : Tree) → ((l : Lock) 
 unblocked-compatible ls hs u f link h q a b i j = refuted (clash a b) (λ e.
     let r = link (q, b) j in
     let there : clashes ls u (r .0 .it) ≡ true =
-    at-any (λ (l : Lock). numbered (l .0) (r .0 .it) && any (λ m. r .0 .it .held u m && clash (l .1) m) modes) ls i
+    at-any (λ (l : Lock). has-number (l .0) (r .0 .it) && any (λ m. r .0 .it .held u m && clash (l .1) m) modes) ls i
     (rw (eq-eqb (number-of (r .0)) q (r .2)) (any-mode (λ m. r .0 .it .held u m && clash a m) b (rw (r .3, e)))) in
     true≢false (sym (at-any (clashes ls u) (nodes f) (place-node f (r .1)) there) ∙ h))
 

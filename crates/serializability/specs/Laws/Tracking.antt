@@ -85,9 +85,9 @@ load-good d u M n = record {
 
 -- the log's committed transactions lead from its first document, a legal one, to c, which is the committed document
 pub record Tracks (L : Log Entry) (M : State) : Type 0 where
-  pub first-legal : legal (L .first) ≡ true
+  pub first-legal : legal (L .initial) ≡ true
   pub c : Document
-  pub run : Run (L .first) (joined (L .committed)) c
+  pub run : Run (L .initial) (joined (L .committed)) c
   pub good : Good c (L .open-log) M
 
 -- a new document, with no open transaction that did anything
@@ -119,7 +119,7 @@ module _ (L : Log Entry) (M : State) (tr : Tracks L M) where
 
   -- the committed document stays
   stays : (log : ℕ → List Entry) (N : State) → Good (tr .c) log N → Tracks
-      (record { first = L .first; committed = L .committed; open-log = log }) N
+      (record { initial = L .initial; committed = L .committed; open-log = log }) N
   stays log N g = record { first-legal = tr .first-legal; c = tr .c; run = tr .run; good = g }
 
   somebody : (t : ℕ) → is-transaction t ≡ true → t ≡ nobody → ⊥
@@ -142,7 +142,7 @@ module _ (L : Log Entry) (M : State) (tr : Tracks L M) where
         first-legal = tr .first-legal;
         c = e .0;
         run = rw (joined-append (L .committed) (L .open-log t ∷ []), append-nil (L .open-log t))
-            (run-append (L .first) (joined (L .committed)) (L .open-log t) (tr .c) (e .0) (tr .run) (e .1));
+            (run-append (L .initial) (joined (L .committed)) (L .open-log t) (tr .c) (e .0) (tr .run) (e .1));
         good = e .2;
       }
 

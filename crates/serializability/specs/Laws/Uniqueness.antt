@@ -8,7 +8,7 @@ use lib.ListN.{length}
 use lib.Dec.{eqb}
 use borrow.Author.Tests.{eqb-true, eq-eqb}
 use Rattle.tree.specs.Lists.{has, distinct}
-use Rattle.tree.specs.Document.{Document, is, here, some?, Node, Line, lines, under, numbers}
+use Rattle.tree.specs.Document.{Document, is, here, some?, Node, Line, lines, in-subtree, numbers}
 use Rattle.tree.specs.Steps.{Step, inserts, after, I, fits, remove, rewrite}
 use Rattle.tree.specs.Laws.Tests.{or-left, refuted}
 use Rattle.tree.specs.Forest.{Forest, Row, row, rows, put}
@@ -58,7 +58,7 @@ pub unique-rewrite : (t : Line → Bool) (b : List ℕ) (d : Document) → Uniqu
 unique-rewrite t b d u = rw (numbers-rewrite t b d) u
 
 pub unique-remove : (x : ℕ) (d : Document) → Unique d → Unique (remove x d)
-unique-remove x d u = rw (lines-remove x d) (distinct-keep line-number (λ r. not (under x r)) (lines d) u)
+unique-remove x d u = rw (lines-remove x d) (distinct-keep line-number (λ r. not (in-subtree x r)) (lines d) u)
 
 -- a new node with another number than all that are there
 module _ {A K : Type 0} (number-of : A → ℕ) (key : A → K) (n : ℕ) (counts : A → Bool) (k : ℕ) (new : A) (p : List K) (f : Forest A) where

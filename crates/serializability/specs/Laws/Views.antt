@@ -7,7 +7,7 @@ use lib.Dec.{eqb}
 use borrow.Author.Tests.{eqb-true, eq-eqb}
 use Rattle.tree.specs.Lists.{has, keep}
 use Rattle.tree.specs.Forest.{row}
-use Rattle.tree.specs.Document.{Node, Document, Line, lines, is, child, under, select, first, some?, here, at}
+use Rattle.tree.specs.Document.{Node, Document, Line, lines, is, child, in-subtree, select, first-line, some?, here, at}
 use Rattle.tree.specs.Steps.{Step, T, C, R, U, D, I, TT, RR, UU, target, inserts, fits, answer, kth, numbers-are, with-content, rewrite}
 use Rattle.tree.specs.Steps.{remove}
 use Rattle.tree.specs.Laws.Lists.{keep-keep, keep-all, keep-map, in-keep, map-map, map-self}
@@ -39,7 +39,7 @@ pub data Reach : Type 0 where
 abbrev pub within : Reach → ℕ → Line → Bool
 within itself n r = is n r
 within children n r = child n r
-within subtree n r = under n r
+within subtree n r = in-subtree n r
 
 abbrev pub reach : Step → Reach
 reach (T n) = itself
@@ -81,7 +81,7 @@ some-shape : (l : List Line) → some? (map shape l) ≡ some? l
 some-shape [] = refl
 some-shape (r ∷ l) = refl
 
-first-shape : (l : List Line) → first (map shape l) ≡ shape (first l)
+first-shape : (l : List Line) → first-line (map shape l) ≡ shape (first-line l)
 first-shape [] = refl
 first-shape (r ∷ l) = refl
 
@@ -95,13 +95,13 @@ module _ (t : Line → Bool) (d e : Document) (h : Shapes t d e) where
   pub shapes-some : some? (select t e) ≡ some? (select t d)
   shapes-some = sym (some-shape (select t e)) ∙ ap some? h ∙ some-shape (select t d)
 
-  first-same : shape (first (select t e)) ≡ shape (first (select t d))
-  first-same = sym (first-shape (select t e)) ∙ ap first h ∙ first-shape (select t d)
+  first-same : shape (first-line (select t e)) ≡ shape (first-line (select t d))
+  first-same = sym (first-shape (select t e)) ∙ ap first-line h ∙ first-shape (select t d)
 
-  pub shapes-kind : first (select t e) .it .kind ≡ first (select t d) .it .kind
+  pub shapes-kind : first-line (select t e) .it .kind ≡ first-line (select t d) .it .kind
   shapes-kind = ap (λ (r : Line). r .it .kind) first-same
 
-  pub shapes-above : first (select t e) .above ≡ first (select t d) .above
+  pub shapes-above : first-line (select t e) .above ≡ first-line (select t d) .above
   shapes-above = ap (λ (r : Line). r .above) first-same
 
   shapes-kth : (k : ℕ) → kth k (select t e) ≡ kth k (select t d)
@@ -130,7 +130,7 @@ views-same s d e v = record { fit = go s v .0; says = go s v .1; need = ap (lock
       rw (there w, kind w, w .absent m (rw (eq-eqb m m refl)), shapes-map (child n) d e (w .lines) (λ r. r .it .kind) (λ r. refl)),
       refl,
     )
-    go (TT n) w = (rw (there w), ap numbers-are (shapes-map (under n) d e (w .lines) (λ r. r .it .number) (λ r. refl)))
+    go (TT n) w = (rw (there w), ap numbers-are (shapes-map (in-subtree n) d e (w .lines) (λ r. r .it .number) (λ r. refl)))
     go (RR n) w = (rw (there w), rw (w .contents refl))
     go (UU n a b) w = (rw (there w), rw (w .contents refl))
 
@@ -166,13 +166,13 @@ module _ (t : Line → Bool) (b : List ℕ) (u : Line → Bool) (by : By-number 
       (λ r m. let i = in-keep u (lines d) m in rw (h r (of-lines d r (i .0)) (i .1)))
 
 -- removal: nothing changes in lines that are not in the subtree
-pub remove-whole : (x : ℕ) (t : Line → Bool) (d : Document) → ((r : Line) → Of r d → t r ≡ true → under x r ≡ false)
+pub remove-whole : (x : ℕ) (t : Line → Bool) (d : Document) → ((r : Line) → Of r d → t r ≡ true → in-subtree x r ≡ false)
     → Whole t d (remove x d)
 unfolding select
 remove-whole x t d h =
-    rw (lines-remove x d) (keep-keep t (λ r. not (under x r)) (lines d) ∙ keep-all (λ r. not (under x r)) (keep t (lines d)) stays)
+    rw (lines-remove x d) (keep-keep t (λ r. not (in-subtree x r)) (lines d) ∙ keep-all (λ r. not (in-subtree x r)) (keep t (lines d)) stays)
   where
-    stays : (r : Line) → List·Memᴰ r (keep t (lines d)) → not (under x r) ≡ true
+    stays : (r : Line) → List·Memᴰ r (keep t (lines d)) → not (in-subtree x r) ≡ true
     stays r m = let i = in-keep t (lines d) m in rw (h r (of-lines d r (i .0)) (i .1))
 
 -- insertion: nothing changes in lines that pass a test which the new one fails

@@ -185,7 +185,7 @@ module _ (x : Exchange) (xs : List Exchange) (cs : List Call) (g : outcome (x .c
 
   pub feeds : Feeds G (since-start cs)
   feeds = rw codes-are (record {
-    first = sym (ap (λ (F : Log Step). F .first) fed-is);
+    first = sym (ap (λ (F : Log Step). F .initial) fed-is);
     committed = map-map steps (map by-exchange) (map (λ g. g .taken .step)) (K .committed) (λ gs i. steps-are gs)
         ∙ sym (ap (λ (F : Log Step). F .committed) fed-is);
     open-log = λ t. steps-are (K .open-log t) ∙ sym (ap (λ (F : Log Step). F .open-log t) fed-is);
@@ -199,7 +199,7 @@ module _ (x : Exchange) (xs : List Exchange) (cs : List Call) (g : outcome (x .c
       all : List Given
       all = joined (K .committed)
 
-      same : plain-answers (K .first) (steps (map by-exchange all)) ≡ map plain-value (map (λ g. g .taken .value) all)
+      same : plain-answers (K .initial) (steps (map by-exchange all)) ≡ map plain-value (map (λ g. g .taken .value) all)
       same = rw (
         steps-are all,
         ← map-joined (λ (g : Given). g .taken .step) (K .committed),

@@ -7,7 +7,7 @@ use lib.Dec.{eqb}
 use Rattle.tree.specs.Forest.{nil, node}
 use Rattle.tree.specs.Content.{element-kind, attribute-kind, text-kind, name-start, name-byte}
 use Rattle.xml.specs.Bytes.{ampersand, slash, less-than, equals-sign, greater-than, quotation-mark, apostrophe, blank, Quote, double}
-use Rattle.xml.specs.Bytes.{single, mark, value-literal, text-literal, brackets, used}
+use Rattle.xml.specs.Bytes.{single, quote-byte, value-literal, text-literal, brackets, used}
 use Rattle.xml.specs.Shape.{Shape}
 use Rattle.xml.specs.Grammar.{Name}
 use Rattle.xml.specs.Laws.Words.{Words, Found, no-word, whole, begun, follow, entities, declarations}
@@ -86,10 +86,10 @@ step unique (behind-equals n ns seen) b =
 step unique (behind-quote n ns seen q) b =
     cond (value-literal q b) (move (in-value n ns seen q) (born (suc (depth (n ∷ ns))) text-kind ∷ byte b ∷ []))
     (cond (eqb b ampersand) (move (value-reference n ns seen q entities) (born (suc (depth (n ∷ ns))) text-kind ∷ []))
-    (cond (eqb b (mark q)) (to (behind-part n ns seen)) stuck))
+    (cond (eqb b (quote-byte q)) (to (behind-part n ns seen)) stuck))
 step unique (in-value n ns seen q) b =
     cond (value-literal q b) (move (in-value n ns seen q) (byte b ∷ []))
-    (cond (eqb b ampersand) (to (value-reference n ns seen q entities)) (cond (eqb b (mark q)) (to (behind-part n ns seen)) stuck))
+    (cond (eqb b ampersand) (to (value-reference n ns seen q entities)) (cond (eqb b (quote-byte q)) (to (behind-part n ns seen)) stuck))
 step unique (value-reference n ns seen q x) b =
     word-step (follow x b) (λ k. move (in-value n ns seen q) (byte k ∷ [])) (λ y. to (value-reference n ns seen q y))
 step unique (behind-slash ns) b = cond (eqb b greater-than) (to (closed ns)) stuck

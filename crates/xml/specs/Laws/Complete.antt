@@ -4,7 +4,7 @@ use mathlib.Core.Path.{_≡_}
 use mathlib.Core.Bool.{Bool, true, false, _&&_}
 use mathlib.Core.List.{List, [], _∷_, _++_, append-assoc, append-nil}
 use Rattle.tree.specs.Content.{text-kind}
-use Rattle.xml.specs.Bytes.{equals-sign, greater-than, blank, Quote, mark, used}
+use Rattle.xml.specs.Bytes.{equals-sign, greater-than, blank, Quote, quote-byte, used}
 use Rattle.xml.specs.Shape.{Shape}
 use Rattle.xml.specs.Grammar.{Name, Blanks, no-blank, blank-then, NameBytes, no-name-byte, name-byte-then, name, Value, value-close}
 use Rattle.xml.specs.Grammar.{value-byte, value-entity, Chars, chars-end, chars-byte, chars-entity, text-node, Place, unspaced}
@@ -158,7 +158,7 @@ module _ {u : Bool} where
   read-end (b ∷ w) x a = s-end-byte ▸ read-end w x a
 
   read-equals : {n : Name} {ns seen : List Name} (q : Quote) {s t v : List ℕ} {e : List Event} → Blanks s (equals-sign ∷ t)
-      → Blanks t (mark q ∷ v)
+      → Blanks t (quote-byte q ∷ v)
       → Accepts u (behind-quote n ns seen q) v e → Accepts u (before-equals n ns seen) s e
   read-equals {n} {ns} {seen} q x y a =
       over-blanks (before-equals n ns seen) (λ b h. s-before-blank h) x

@@ -9,7 +9,7 @@ use lib.Dec.{eqb}
 use lib.ListN.{length, take, getD}
 use lib.Seq.{take-suc}
 use Rattle.tree.specs.Content.{name-start}
-use Rattle.xml.specs.Bytes.{ampersand, less-than, greater-than, blank, Quote, double, single, mark, value-literal, text-literal}
+use Rattle.xml.specs.Bytes.{ampersand, less-than, greater-than, blank, Quote, double, single, quote-byte, value-literal, text-literal}
 use Rattle.xml.specs.Grammar.{Name}
 use Rattle.xml.specs.Reading.{ManyNodes, FirstForced, opener, node-offset}
 use Rattle.xml.specs.Laws.Automaton.{Config, at-start, behind-first, prolog, behind-root, epilog, declaration, tag-name, behind-part}
@@ -42,7 +42,7 @@ pub data NodeBegins (s : List ℕ) : (i offset : ℕ) → Type 0 where
   -- "the first byte of an attribute's name", which stands behind a blank
   at-attribute : {i : ℕ} → blank (getD s i 0) ≡ true → name-start (getD s (suc i) 0) ≡ true → NodeBegins s (suc i) (suc i)
   -- "an opening quote with a byte after it that a value may begin with"
-  at-quote : {i : ℕ} (q : Quote) → getD s i 0 ≡ mark q → begins-value q (getD s (suc i) 0) ≡ true → NodeBegins s (suc i) i
+  at-quote : {i : ℕ} (q : Quote) → getD s i 0 ≡ quote-byte q → begins-value q (getD s (suc i) 0) ≡ true → NodeBegins s (suc i) i
   -- "the first byte of text", which stands behind the end of a tag
   at-text : {i : ℕ} → getD s i 0 ≡ greater-than → begins-text (getD s (suc i) 0) ≡ true → NodeBegins s (suc i) (suc i)
 
@@ -78,7 +78,7 @@ place (end-name a b c) = none
 abbrev Before : Place → ℕ → Type 0
 Before tag b = b ≡ less-than
 Before attribute b = blank b ≡ true
-Before (quote q) b = b ≡ mark q
+Before (quote q) b = b ≡ quote-byte q
 Before text b = b ≡ greater-than
 Before none b = Unit {0}
 

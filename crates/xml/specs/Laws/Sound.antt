@@ -4,7 +4,7 @@ use mathlib.Core.Path.{_≡_, refl, sym, ap, subst}
 use mathlib.Core.Bool.{Bool, true, false, _&&_}
 use mathlib.Core.List.{List, [], _∷_, _++_, append-assoc, append-nil}
 use Rattle.tree.specs.Content.{element-kind}
-use Rattle.xml.specs.Bytes.{less-than, equals-sign, greater-than, blank, Quote, mark, used}
+use Rattle.xml.specs.Bytes.{less-than, equals-sign, greater-than, blank, Quote, quote-byte, used}
 use Rattle.xml.specs.Shape.{Shape}
 use Rattle.xml.specs.Grammar.{Name, Blanks, no-blank, blank-then, NameBytes, no-name-byte, name-byte-then, Named, name, Value}
 use Rattle.xml.specs.Grammar.{value-close, value-byte, value-entity, Chars, chars-end, chars-byte, chars-entity, text-node, unspaced}
@@ -47,7 +47,7 @@ pub data Rest (u : Bool) : Config → List ℕ → List Event → Type 0 where
   r-before : {n : Name} {ns seen : List Name} {s t : List ℕ} {e : List Event} → Blanks s (equals-sign ∷ t)
       → Rest u (behind-equals n ns seen) t e
       → Rest u (before-equals n ns seen) s e
-  r-equals : {n : Name} {ns seen : List Name} (q : Quote) {s t : List ℕ} {e : List Event} → Blanks s (mark q ∷ t)
+  r-equals : {n : Name} {ns seen : List Name} (q : Quote) {s t : List ℕ} {e : List Event} → Blanks s (quote-byte q ∷ t)
       → Rest u (behind-quote n ns seen q) t e
       → Rest u (behind-equals n ns seen) s e
   r-quote : {n : Name} {ns seen : List Name} {q : Quote} {s t c : List ℕ} {e : List Event} → Value q s t c

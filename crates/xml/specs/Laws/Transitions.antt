@@ -7,7 +7,7 @@ use lib.Dec.{eqb}
 use borrow.Author.Tests.{eqb-true, eq-eqb}
 use Rattle.tree.specs.Content.{element-kind, attribute-kind, text-kind, name-start, name-byte, text-byte}
 use Rattle.xml.specs.Bytes.{ampersand, slash, less-than, equals-sign, greater-than, quotation-mark, apostrophe, blank, Quote, double}
-use Rattle.xml.specs.Bytes.{single, mark, value-literal, text-literal, brackets, used}
+use Rattle.xml.specs.Bytes.{single, quote-byte, value-literal, text-literal, brackets, used}
 use Rattle.xml.specs.Grammar.{Name}
 use Rattle.xml.specs.Laws.Words.{Words, Found, no-word, whole, begun, follow, entities, declarations, fork-on}
 use Rattle.xml.specs.Laws.Automaton.{Config, at-start, behind-first, prolog, behind-root, epilog, declaration, tag-name, behind-part}
@@ -51,17 +51,17 @@ pub data Step (u : Bool) : Config → ℕ → Config → List Event → Type 0 w
   s-before-equals : {n : Name} {ns seen : List Name} → Step u (before-equals n ns seen) equals-sign (behind-equals n ns seen) []
   s-equals-blank : {n : Name} {ns seen : List Name} {b : ℕ} → blank b ≡ true
       → Step u (behind-equals n ns seen) b (behind-equals n ns seen) []
-  s-equals-quote : {n : Name} {ns seen : List Name} (q : Quote) → Step u (behind-equals n ns seen) (mark q) (behind-quote n ns seen q) []
+  s-equals-quote : {n : Name} {ns seen : List Name} (q : Quote) → Step u (behind-equals n ns seen) (quote-byte q) (behind-quote n ns seen q) []
   s-quote-byte : {n : Name} {ns seen : List Name} {q : Quote} {b : ℕ} → value-literal q b ≡ true
       → Step u (behind-quote n ns seen q) b (in-value n ns seen q) (born (suc (depth (n ∷ ns))) text-kind ∷ byte b ∷ [])
   s-quote-reference : {n : Name} {ns seen : List Name} {q : Quote}
       → Step u (behind-quote n ns seen q) ampersand (value-reference n ns seen q entities) (born (suc (depth (n ∷ ns))) text-kind ∷ [])
-  s-quote-end : {n : Name} {ns seen : List Name} {q : Quote} → Step u (behind-quote n ns seen q) (mark q) (behind-part n ns seen) []
+  s-quote-end : {n : Name} {ns seen : List Name} {q : Quote} → Step u (behind-quote n ns seen q) (quote-byte q) (behind-part n ns seen) []
   s-value-byte : {n : Name} {ns seen : List Name} {q : Quote} {b : ℕ} → value-literal q b ≡ true
       → Step u (in-value n ns seen q) b (in-value n ns seen q) (byte b ∷ [])
   s-value-reference : {n : Name} {ns seen : List Name} {q : Quote}
       → Step u (in-value n ns seen q) ampersand (value-reference n ns seen q entities) []
-  s-value-end : {n : Name} {ns seen : List Name} {q : Quote} → Step u (in-value n ns seen q) (mark q) (behind-part n ns seen) []
+  s-value-end : {n : Name} {ns seen : List Name} {q : Quote} → Step u (in-value n ns seen q) (quote-byte q) (behind-part n ns seen) []
   s-value-word-end : {n : Name} {ns seen : List Name} {q : Quote} {x : Words} {b k : ℕ} → follow x b ≡ whole k
       → Step u (value-reference n ns seen q x) b (in-value n ns seen q) (byte k ∷ [])
   s-value-word-on : {n : Name} {ns seen : List Name} {q : Quote} {x y : Words} {b : ℕ} → follow x b ≡ begun y
@@ -134,9 +134,9 @@ view u (before-equals n ns seen) b = on-test b (blank b) s-before-blank (λ _. o
 view u (behind-equals n ns seen) b = on-test b (blank b) s-equals-blank
     (λ _. on-byte b quotation-mark (s-equals-quote double) (on-byte b apostrophe (s-equals-quote single) nowhere))
 view u (behind-quote n ns seen q) b =
-    on-test b (value-literal q b) s-quote-byte (λ _. on-byte b ampersand s-quote-reference (on-byte b (mark q) s-quote-end nowhere))
+    on-test b (value-literal q b) s-quote-byte (λ _. on-byte b ampersand s-quote-reference (on-byte b (quote-byte q) s-quote-end nowhere))
 view u (in-value n ns seen q) b =
-    on-test b (value-literal q b) s-value-byte (λ _. on-byte b ampersand s-value-reference (on-byte b (mark q) s-value-end nowhere))
+    on-test b (value-literal q b) s-value-byte (λ _. on-byte b ampersand s-value-reference (on-byte b (quote-byte q) s-value-end nowhere))
 view u (value-reference n ns seen q x) b = on-word b (follow x b) (λ k h. moved (s-value-word-end h)) (λ y h. moved (s-value-word-on h))
 view u (behind-slash ns) b = on-byte b greater-than s-slash nowhere
 view u (content n ns) b =

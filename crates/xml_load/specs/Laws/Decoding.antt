@@ -8,7 +8,7 @@ use native.Mathlib.Numerals.{add-one}
 use lib.ListN.{length, getD, take, drop, set, length-append, drop-of-length-le}
 use lib.Seq.{drop-cons, drop-drop, take-suc-set, length-take-le}
 use Rattle.tree.specs.Content.{content-limit, text-byte}
-use Rattle.xml.specs.Bytes.{ampersand, less-than, Quote, double, single, mark, value-literal, text-literal}
+use Rattle.xml.specs.Bytes.{ampersand, less-than, Quote, double, single, quote-byte, value-literal, text-literal}
 use Rattle.xml.specs.Grammar.{Entity, entity-amp, entity-apos, entity-gt, entity-lt, entity-quot, Value, value-close, value-byte}
 use Rattle.xml.specs.Grammar.{value-entity, Chars, chars-end, chars-byte, chars-entity}
 use Rattle.xml.specs.Laws.Tokens.{Reach, got, lost}
@@ -24,16 +24,16 @@ use Rattle.xml_load.specs.Fill.{Characters, stop-here, byte-then, refere
 differs : (t : ℕ → Bool) (a b : ℕ) → t a ≡ false → t b ≡ true → b ≡ a → ⊥
 differs t a b p q e = false≢true (sym p ∙ ap t (sym e) ∙ q)
 
-value-differs : (q : Quote) (b : ℕ) → value-literal q b ≡ true → (b ≡ mark q → ⊥) × (b ≡ ampersand → ⊥)
+value-differs : (q : Quote) (b : ℕ) → value-literal q b ≡ true → (b ≡ quote-byte q → ⊥) × (b ≡ ampersand → ⊥)
 unfolding value-literal text-byte
 value-differs double b h = (differs (value-literal double) 34 b refl h, differs (value-literal double) 38 b refl h)
 value-differs single b h = (differs (value-literal single) 39 b refl h, differs (value-literal single) 38 b refl h)
 
-mark-differs : (q : Quote) → ampersand ≡ mark q → ⊥
+mark-differs : (q : Quote) → ampersand ≡ quote-byte q → ⊥
 mark-differs double e = omega arith
 mark-differs single e = omega arith
 
-pub value-characters : {q : Quote} {s t c : List ℕ} → Value q s t c → Characters (mark q) s t c
+pub value-characters : {q : Quote} {s t c : List ℕ} → Value q s t c → Characters (quote-byte q) s t c
 value-characters value-close = stop-here
 value-characters {q} (value-byte {b = b} h v) = let x = value-differs q b h in byte-then (x .0) (x .1) (value-characters v)
 value-characters {q} (value-entity r v) = reference-then (mark-differs q) r (value-characters v)

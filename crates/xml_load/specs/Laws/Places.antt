@@ -13,7 +13,7 @@ use Rattle.protocol.specs.State.{tree-of}
 use Rattle.protocol.specs.Calls.{node-limit}
 use Rattle.table.specs.Flat.{flat}
 use Rattle.table.specs.Layout.{nodes}
-use Rattle.xml.specs.Bytes.{slash, less-than, greater-than, blank, mark}
+use Rattle.xml.specs.Bytes.{slash, less-than, greater-than, blank, quote-byte}
 use Rattle.xml.specs.Shape.{Shape, element, attribute, document}
 use Rattle.xml.specs.Grammar.{Name, Named, name, inside, opened, Derives, derive-text, markup, derive-element, end-tag}
 use Rattle.xml.specs.Laws.Tokens.{span}
@@ -88,9 +88,9 @@ module _ {x s : List ℕ} {at d : ℕ} (F : Filling AtAttribute x s at d) (to : 
 
   module _ {s′ : List ℕ} (p : Put s s′ ((d, record { kind = attribute-kind; content = take (to - at) (drop at x) }) ∷ [])) (c : Cursor)
       (q : QuoteAt x to c) where
-    quote-there : (c .at < length x) × (getD x (c .at) 0 ≡ mark (A .quote)) × (drop (c .at + 1) x ≡ A .behind-quote)
+    quote-there : (c .at < length x) × (getD x (c .at) 0 ≡ quote-byte (A .quote)) × (drop (c .at + 1) x ≡ A .behind-quote)
     quote-there =
-        next-byte x (c .at) (mark (A .quote)) (A .behind-quote) (q .quotes (A .quote) (rw (attribute-name .1) (A .equals)) (A .quoted))
+        next-byte x (c .at) (quote-byte (A .quote)) (A .behind-quote) (q .quotes (A .quote) (rw (attribute-name .1) (A .equals)) (A .quoted))
 
     pub quote-inside : c .at < length x
     quote-inside = quote-there .0

@@ -9,7 +9,7 @@ use Rattle.tree.specs.Lists.{every}
 use Rattle.tree.specs.Forest.{nil, node}
 use Rattle.tree.specs.Content.{name-start, name-byte}
 use Rattle.tree.specs.Laws.Tests.{and-left, and-right}
-use Rattle.xml.specs.Bytes.{slash, equals-sign, greater-than, blank, Quote, double, single, mark}
+use Rattle.xml.specs.Bytes.{slash, equals-sign, greater-than, blank, Quote, double, single, quote-byte}
 use Rattle.xml.specs.Shape.{Shape, attribute}
 use Rattle.xml.specs.Grammar.{Name, Blanks, no-blank, blank-then, NameBytes, no-name-byte, name-byte-then, Named, name, Value, text-node}
 use Rattle.xml.specs.Grammar.{Place, unspaced, spaced, inside, opened, Derives, spacing, empty, full, more, derive-attribute, derive-text}
@@ -53,7 +53,7 @@ pub close-no-name : (v : List ℕ) → span name-byte (greater-than ∷ v) ≡ 0
 unfolding span name-byte name-start
 close-no-name v = refl
 
-pub quote-no-blank : (q : Quote) (v : List ℕ) → span blank (mark q ∷ v) ≡ 0
+pub quote-no-blank : (q : Quote) (v : List ℕ) → span blank (quote-byte q ∷ v) ≡ 0
 unfolding span blank
 quote-no-blank double v = refl
 quote-no-blank single v = refl
@@ -98,7 +98,7 @@ pub data TagRest (n : Name) : (s : List ℕ) (f : Shape) (t : List ℕ) → Type
   rest-open : {s t : List ℕ} {f : Shape} → Derives true (inside n) s f t → TagRest n (greater-than ∷ s) f t
   rest-empty : {t : List ℕ} → TagRest n (slash ∷ greater-than ∷ t) nil t
   rest-attribute : {a : Name} (seen : List Name) (q : Quote) {s u v w x t c : List ℕ} {f : Shape}
-      → Named a s u → Blanks u (equals-sign ∷ v) → Blanks v (mark q ∷ w) → Value q w x c → Derives true (unspaced n seen) x f t
+      → Named a s u → Blanks u (equals-sign ∷ v) → Blanks v (quote-byte q ∷ w) → Value q w x c → Derives true (unspaced n seen) x f t
       → TagRest n s (node (attribute a) (text-node c) f) t
 
 abbrev Rest : Place → List ℕ → Shape → List ℕ → Type 0

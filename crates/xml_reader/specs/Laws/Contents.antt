@@ -8,7 +8,7 @@ use lib.Dec.{eqb}
 use lib.ListN.{length, getD}
 use borrow.Author.Tests.{ne-eqb, eqb-true, eqb-false}
 use Rattle.tree.specs.Content.{content-limit, text-byte, text-kind}
-use Rattle.xml.specs.Bytes.{ampersand, less-than, brackets, Quote, double, single, mark, value-literal, text-literal}
+use Rattle.xml.specs.Bytes.{ampersand, less-than, brackets, Quote, double, single, quote-byte, value-literal, text-literal}
 use Rattle.xml.specs.Grammar.{Name}
 use Rattle.xml.specs.Reading.{node-offset}
 use Rattle.xml.specs.Laws.Words.{Words, entities}
@@ -131,19 +131,19 @@ module _ (n : Name) (ns : List Name) where
   }
 
 -- where the byte is not the quote
-literal-value : (q : Quote) (k b : ℕ) → (b ≡ mark q → ⊥) → literal (mark q) k b ≡ value-literal q b
+literal-value : (q : Quote) (k b : ℕ) → (b ≡ quote-byte q → ⊥) → literal (quote-byte q) k b ≡ value-literal q b
 unfolding literal value-literal
-literal-value double k b o = rw (ne-eqb b (mark double) o)
-literal-value single k b o = rw (ne-eqb b (mark single) o)
+literal-value double k b o = rw (ne-eqb b (quote-byte double) o)
+literal-value single k b o = rw (ne-eqb b (quote-byte single) o)
 
 module _ (n : Name) (ns seen : List Name) where
-  pub value-characters : (q : Quote) → Characters (mark q) (λ k. in-value n ns seen q) (value-reference n ns seen q) (behind-part n ns seen)
+  pub value-characters : (q : Quote) → Characters (quote-byte q) (λ k. in-value n ns seen q) (value-reference n ns seen q) (behind-part n ns seen)
   unfolding step births value-literal text-byte
   value-characters q = record {
     plainly = λ k b o h. rw (sym (literal-value q k b o) ∙ h);
     refers-to = λ k. refers-on q;
     stops = λ k. stops-on q;
-    no-other = λ k b o a h. rw (sym (literal-value q k b o) ∙ h, ne-eqb b ampersand a, ne-eqb b (mark q) o);
+    no-other = λ k b o a h. rw (sym (literal-value q k b o) ∙ h, ne-eqb b ampersand a, ne-eqb b (quote-byte q) o);
     words = record { next = λ x b. refl; calm = λ x. refl; no-node = λ k. refl };
     calm = λ k. refl;
     going = λ k. refl;
@@ -155,12 +155,12 @@ module _ (n : Name) (ns seen : List Name) where
       refers-on double = refl
       refers-on single = refl
 
-      stops-on : (q : Quote) → step true (in-value n ns seen q) (mark q) ≡ to (behind-part n ns seen)
+      stops-on : (q : Quote) → step true (in-value n ns seen q) (quote-byte q) ≡ to (behind-part n ns seen)
       stops-on double = refl
       stops-on single = refl
 
   pub value-contents : (q : Quote)
-      → Contents (mark q) (behind-quote n ns seen q) (λ k. in-value n ns seen q) (value-reference n ns seen q) (behind-part n ns seen)
+      → Contents (quote-byte q) (behind-quote n ns seen q) (λ k. in-value n ns seen q) (value-reference n ns seen q) (behind-part n ns seen)
   unfolding step value-literal text-byte
   value-contents q = record {
     inner = value-characters q;
@@ -169,7 +169,7 @@ module _ (n : Name) (ns seen : List Name) where
     first = λ b o h. rw (sym (literal-value q 0 b o) ∙ h);
     first-refers = refers-on q;
     nothing = stops-on q;
-    no-first = λ b o a h. rw (sym (literal-value q 0 b o) ∙ h, ne-eqb b ampersand a, ne-eqb b (mark q) o);
+    no-first = λ b o a h. rw (sym (literal-value q 0 b o) ∙ h, ne-eqb b ampersand a, ne-eqb b (quote-byte q) o);
     starting = refl;
   }
     where
@@ -179,6 +179,6 @@ module _ (n : Name) (ns seen : List Name) where
       refers-on double = refl
       refers-on single = refl
 
-      stops-on : (q : Quote) → step true (behind-quote n ns seen q) (mark q) ≡ to (behind-part n ns seen)
+      stops-on : (q : Quote) → step true (behind-quote n ns seen q) (quote-byte q) ≡ to (behind-part n ns seen)
       stops-on double = refl
       stops-on single = refl

@@ -9,7 +9,7 @@ use lib.Dec.{eqb}
 use lib.ListN.{length, getD, drop}
 use borrow.Author.Tests.{ne-eqb, eqb-true, eqb-false}
 use Rattle.tree.specs.Content.{name-start}
-use Rattle.xml.specs.Bytes.{blank, slash, greater-than, equals-sign, quotation-mark, apostrophe, Quote, double, single, mark}
+use Rattle.xml.specs.Bytes.{blank, slash, greater-than, equals-sign, quotation-mark, apostrophe, Quote, double, single, quote-byte}
 use Rattle.xml.specs.Grammar.{Name}
 use Rattle.xml.specs.Reading.{opener, node-offset}
 use Rattle.xml.specs.Laws.Automaton.{Config, behind-part, in-tag, before-equals, behind-equals, behind-slash, behind-quote, content, closed}
@@ -186,7 +186,7 @@ module _ (s : List ℕ) (at i : ℕ) (r : Run blank s at i) where
             (stops-stuck s (behind-equals n ns seen) m j k
             (rw (no-blank-here s (i + 1) j q k, ne-eqb (getD s j 0) quotation-mark a, ne-eqb (getD s j 0) apostrophe b))))
 
-        pub quote-read : (x : Quote) (c : Cursor) → getD s j 0 ≡ mark x → c .at ≡ j + 1 → EqualsRead s at (Quoted (mark x) c)
+        pub quote-read : (x : Quote) (c : Cursor) → getD s j 0 ≡ quote-byte x → c .at ≡ j + 1 → EqualsRead s at (Quoted (quote-byte x) c)
         unfolding step blank
         quote-read x c o p =
             let u : j + 1 - 1 ≡ j = omega arith in
@@ -196,13 +196,13 @@ module _ (s : List ℕ) (at i : ℕ) (r : Run blank s at i) where
             (ap (step true (behind-equals n ns seen)) o ∙ opens x n ns seen) refl)))
           where
             opens : (x : Quote) (n : Name) (ns seen : List Name)
-                → step true (behind-equals n ns seen) (mark x) ≡ to (behind-quote n ns seen x)
+                → step true (behind-equals n ns seen) (quote-byte x) ≡ to (behind-quote n ns seen x)
             opens double n ns seen = refl
             opens single n ns seen = refl
 
-            opening : (x : Quote) → opener (mark x) ≡ true
+            opening : (x : Quote) → opener (quote-byte x) ≡ true
             opening double = refl
             opening single = refl
 
-            before : (x : Quote) → getD s j 0 ≡ mark x → node-offset s (j + 1) ≡ j
+            before : (x : Quote) → getD s j 0 ≡ quote-byte x → node-offset s (j + 1) ≡ j
             before x o = let z = offset-before s (suc j) (ap opener o ∙ opening x) .0 in rw add-one (z ∙ omega arith)
