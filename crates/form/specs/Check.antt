@@ -1,24 +1,21 @@
 -- What the parts of the check of the form compute.
-use Prim.Native.Nat.{ℕ, _+_, _/_, _%_, _≤_, _<_}
+use mathlib.Core.Path.{_≡_}
+use Prim.Native.Nat.{ℕ, zero, suc, _*_, _/_, _%_, _≤_, _<_}
 use mathlib.Core.Bool.{Bool, true, false, cond, _&&_, _||_}
 use mathlib.Core.List.{List, [], _∷_}
 use lib.ListN.{length, getD}
-use lib.Dec.{eqb, leb, ltb}
+use lib.Dec.{eqb, leb}
 use Rattle.tree.specs.Lists.{every, same}
 use Rattle.tree.specs.Content.{document-kind, between}
-use Rattle.locks.specs.Modes.{no-mode, bit}
+use Rattle.locks.specs.Modes.{no-mode}
 use Rattle.protocol.specs.State.{nobody}
 use Rattle.protocol.specs.Calls.{node-limit}
-use Rattle.table.specs.Encoding.{tabulate, state-size, format-mark, entry-at, word, part, count, slot, depth, number, cell, decode, nodes}
+use Rattle.table.specs.Encoding.{state-size, format-mark, part, count, slot, depth, number, cell, decode, nodes}
 use Rattle.form.specs.Form.{in-range, valid-rows, cells, sizes-in-range}
 
 -- the first sixteen bytes: length, mark and count
 unfoldable pub valid-header : List ℕ → Bool
 valid-header s = leb state-size (length s) && same (part s 0 8) format-mark && between 1 node-limit (count s)
-
--- the words at offset o of the first n entries of the outline
-unfoldable pub column : List ℕ → ℕ → ℕ → List ℕ
-column s o n = tabulate n (λ i. word s (entry-at i + o))
 
 -- a cell of such a node
 unfoldable pub cell-in-range : ℕ → ℕ → ℕ → List ℕ → Bool
@@ -32,14 +29,31 @@ valid-first s = eqb (depth s 0) 0 && (eqb (number s 0) 0 && cell-in-range docume
 unfoldable pub valid-nodes : List ℕ → Bool
 valid-nodes s = every sizes-in-range (cells s) && valid-rows (nodes s)
 
--- numbers below 65,536 that were met: bit w / 1,024 of word w % 1,024
-unfoldable pub met : List ℕ → ℕ → Bool
-met seen w = bit (getD seen (w % 1024) 0) (w / 1024)
+-- each number passes, was not met, and is not met again
+unfoldable pub fresh : (ℕ → Bool) → (ℕ → Bool) → List ℕ → Bool
+fresh ok old [] = true
+fresh ok old (w ∷ ws) = ok w && (cond (old w) false true && fresh ok (λ k. eqb k w || old k) ws)
 
--- each number is below the limit, was not met, and is not met again
-unfoldable pub fresh : ℕ → (ℕ → Bool) → List ℕ → Bool
-fresh limit old [] = true
-fresh limit old (w ∷ ws) = ltb w limit && (cond (old w) false true && fresh limit (λ k. eqb k w || old k) ws)
+-- the bucket of a number
+unfoldable pub bucket : ℕ → ℕ
+bucket w = w * 2654435761 / 2097152 % 2048
+
+-- a chain of at most n places has one of number w; f has the number of each place. Link j + 1 leads to place j, and 0 ends the chain.
+unfoldable pub chained : (ℕ → ℕ) → List ℕ → ℕ → ℕ → ℕ → Bool
+chained f next w zero link = false
+chained f next w (suc n) zero = false
+chained f next w (suc n) (suc j) = eqb w (f j) || chained f next w n (getD next j 0)
+
+-- numbers of places that were entered: each is in the chain of its bucket
+unfoldable pub entered : (ℕ → ℕ) → List ℕ → List ℕ → ℕ → Bool
+entered f heads next w = chained f next w 1024 (getD heads (bucket w) 0)
+
+-- the first i places are entered: every link leads to one of them, and from a place to a smaller one
+pub record Chains (i : ℕ) (heads next : List ℕ) : Type 0 where
+  pub buckets : length heads ≡ 2048
+  pub places : length next ≡ 1024
+  pub low : (b : ℕ) → getD heads b 0 ≤ i
+  pub falls : (j : ℕ) → getD next j 0 ≤ j
 
 -- bytes long enough for a state, and a slot below 1,024 in each entry of the outline
 pub record Outlined (s : List ℕ) : Type 0 where

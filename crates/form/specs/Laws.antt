@@ -6,6 +6,8 @@ pub mod Steps
 pub mod Cells
 pub mod Begins
 pub mod Fresh
+pub mod Slots
+pub mod Numbers
 pub mod Check
 pub mod Start
 pub mod Free

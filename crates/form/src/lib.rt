@@ -1,15 +1,17 @@
 // The form of the lent bytes (docs/STATE.md): its check, and the bytes of the beginning.
+mod numbers;
+
 use table::layout;
 ghost use mathlib.Core.Path.{_≡_};
-ghost use Prim.Native.Nat.{_+_, _^_, _<_, _≤_};
+ghost use Prim.Native.Nat.{_<_, _≤_};
 ghost use lib.ListN.{length};
 ghost use Rattle.tree.specs.Lists.{same};
-ghost use Rattle.locks.specs.Modes.{bit};
+ghost use Rattle.protocol.specs.Calls.{node-limit};
 ghost use Rattle.table.specs.Layout.{state-size, count, cell, part};
-ghost use Rattle.form.specs.Form.{sizes-in-range, apart, form};
+ghost use Rattle.form.specs.Form.{sizes-in-range, slots, apart, form};
 ghost use Rattle.table.specs.Laws.Bytes.{Filled};
 ghost use Rattle.form.specs.Start.{outline-byte, start-byte, Started};
-ghost use Rattle.form.specs.Check.{valid-header, column, cell-in-range, valid-first, valid-nodes, Outlined};
+ghost use Rattle.form.specs.Check.{valid-header, cell-in-range, valid-first, valid-nodes, Outlined};
 
 // Whether s begins with the bytes of b.
 fn begins(s: &[u8], b: &[u8]) -> bool
@@ -43,39 +45,22 @@ fn header(s: &[u8]) -> bool
     n <= layout::NODES
 }
 
-fn has_bit(w: u64, i: usize) -> bool
-    requires { ⌜ i < 64 ⌝ }
-    ensures { λ r. ⌜ r ≡ bit w i ⌝ }
+// Whether the slots of all entries of the outline are below 1,024, and no two alike. Those met are marked in a byte each: bits take longer.
+fn slots(s: &[u8]) -> bool
+    requires { ⌜ state-size ≤ length (now s) ⌝ }
+    ensures { λ r. ⌜ r ≡ apart node-limit (slots (now (s .entry))) ⌝ }
 {
-    (w >> i) % 2 == 1
-}
-
-fn power(i: usize) -> u64
-    requires { ⌜ i < 64 ⌝ }
-    ensures { λ r. ⌜ r ≡ 2 ^ i ⌝ }
-{
-    1 << i
-}
-
-// Whether the words at offset o of the first n entries of the outline are below the limit, and no two alike.
-// Those met are marked in a map of 65,536 bits.
-fn apart(s: &[u8], o: usize, n: usize, limit: usize) -> bool
-    requires { ⌜ (state-size ≤ length (now s)) × (o ≤ 4) × (n ≤ 1024) ⌝ }
-    ensures { λ r. ⌜ r ≡ apart limit (column (now (s .entry)) o n) ⌝ }
-{
-    let mut seen = [0u64; 1024];
+    let mut met = [false; 1024];
     let mut i: usize = 0;
-    while i < n {
-        let w = layout::word(s, layout::OUTLINE + layout::ENTRY * i + o) as usize;
-        if w >= limit {
+    while i < layout::NODES {
+        let k = layout::word(s, layout::OUTLINE + layout::ENTRY * i) as usize;
+        if k >= layout::NODES {
             return false;
         }
-        let k = w % 1024;
-        let old = seen[k];
-        if has_bit(old, w / 1024) {
+        if met[k] {
             return false;
         }
-        seen[k] = old ^ power(w / 1024);
+        met[k] = true;
         i += 1;
     }
     true
@@ -128,7 +113,7 @@ fn document(s: &[u8]) -> bool
     if layout::word(s, layout::OUTLINE + 2) != 0 {
         return false;
     }
-    if layout::word(s, layout::OUTLINE + 4) != 0 {
+    if numbers::number(s, 0) != 0 {
         return false;
     }
     cell(s, layout::word(s, layout::OUTLINE) as usize, 1, 1, 0)
@@ -175,13 +160,13 @@ pub fn formed(s: &[u8]) -> bool
         return false;
     }
     let n = layout::word(s, layout::COUNT) as usize;
-    if !apart(s, 0, layout::NODES, layout::NODES) {
+    if !slots(s) {
         return false;
     }
     if !nodes(s, n) {
         return false;
     }
-    apart(s, 4, n, 65536)
+    numbers::distinct(s, n)
 }
 
 // The beginning ----------------------------------------------------------------------

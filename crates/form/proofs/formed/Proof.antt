@@ -10,17 +10,16 @@ use Rattle.form.proofs.formed.Tie as tie
 returns : tie.Need-returns
 returns c = formed-header _ (sym (c .before .header .ensures) ∙ not-true _ (c .if1 .taken))
 
-apart-requires : tie.Need-apart-requires
-apart-requires c κs =
-    (header-size _ (sym (c .before .before .header .ensures) ∙ not-false _ (c .before .if1 .left)), omega arith, omega arith)
+slots-requires : tie.Need-slots-requires
+slots-requires c κs = header-size _ (sym (c .before .before .header .ensures) ∙ not-false _ (c .before .if1 .left))
 
 returns-2 : tie.Need-returns-2
 returns-2 c =
     let header = c .before .before .before .before .header in
     let if1 = c .before .before .before .if1 in
-    let apart = c .before .apart in
+    let slots = c .before .slots in
     let headed = sym (header .ensures) ∙ not-false _ (if1 .left) in
-    formed-slots _ headed (sym (apart .ensures) ∙ not-true _ (c .if2 .taken))
+    formed-slots _ headed (sym (slots .ensures) ∙ not-true _ (c .if2 .taken))
 
 nodes-requires : tie.Need-nodes-requires
 unfolding count
@@ -28,45 +27,44 @@ nodes-requires c κs =
     let header = c .before .before .before .before .header in
     let if1 = c .before .before .before .if1 in
     let word = c .before .before .word in
-    let apart = c .before .apart in
+    let slots = c .before .slots in
     let headed = sym (header .ensures) ∙ not-false _ (if1 .left) in
-    let slots-apart = sym (apart .ensures) ∙ not-false _ (c .if2 .left) in
+    let slots-apart = sym (slots .ensures) ∙ not-false _ (c .if2 .left) in
     (outlined _ headed slots-apart, word .ensures)
 
 returns-3 : tie.Need-returns-3
 returns-3 c =
     let header = c .before .before .before .before .before .before .header in
     let if1 = c .before .before .before .before .before .if1 in
-    let apart = c .before .before .before .apart in
+    let slots = c .before .before .before .slots in
     let if2 = c .before .before .if2 in
     let nodes = c .before .nodes in
     let headed = sym (header .ensures) ∙ not-false _ (if1 .left) in
-    formed-nodes _ headed (rw (← apart .ensures) (not-false _ (if2 .left))) (rw (← nodes .ensures) (not-true _ (c .if3 .taken)))
+    formed-nodes _ headed (rw (← slots .ensures) (not-false _ (if2 .left))) (rw (← nodes .ensures) (not-true _ (c .if3 .taken)))
 
-apart-requires-2 : tie.Need-apart-requires-2
+distinct-requires : tie.Need-distinct-requires
 unfolding count
-apart-requires-2 c κs =
+distinct-requires c κs =
     let h = sym (c .before .before .before .before .before .before .header .ensures)
     ∙ not-false _ (c .before .before .before .before .before .if1 .left) in
-    (header-size _ h, omega arith, omega (arith, header-room _ h, c .before .before .before .before .word .ensures))
+    (header-size _ h, omega (arith, header-room _ h, c .before .before .before .before .word .ensures))
 
 returns-4 : tie.Need-returns-4
 unfolding count
 returns-4 c =
-    let shared-slice-known = c .before .before .before .before .before .before .before .before .shared-slice-known in
     let header = c .before .before .before .before .before .before .before .header in
     let if1 = c .before .before .before .before .before .before .if1 in
     let word = c .before .before .before .before .before .word in
-    let apart = c .before .before .before .before .apart in
+    let slots = c .before .before .before .before .slots in
     let if2 = c .before .before .before .if2 in
     let nodes = c .before .before .nodes in
     let if3 = c .before .if3 in
     let headed = sym (header .ensures) ∙ not-false _ (if1 .left) in
-    c .apart2 .ensures
-    ∙ formed-numbers _ headed (rw (← apart .ensures) (not-false _ (if2 .left))) (rw (← nodes .ensures) (not-false _ (if3 .left)))
-    (λ j. omega (arith, shared-slice-known .given j)) _ (word .ensures)
+    c .distinct .ensures
+    ∙ formed-numbers _ headed (rw (← slots .ensures) (not-false _ (if2 .left))) (rw (← nodes .ensures) (not-false _ (if3 .left))) _
+    (word .ensures)
 
 pub formed-spec : {M : Type 1} → statement M
 formed-spec = tie.close (tie.spec (λ c κs. search needs) returns
     (λ c κs. omega (arith, header-size _ (sym (c .before .header .ensures) ∙ not-false _ (c .if1 .left)))) (λ c. search needs)
-    apart-requires returns-2 nodes-requires returns-3 apart-requires-2 returns-4)
+    slots-requires returns-2 nodes-requires returns-3 distinct-requires returns-4)

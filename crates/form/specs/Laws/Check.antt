@@ -4,28 +4,26 @@ use Prim.Native.Nat.{ℕ, suc, _+_, _≤_, _<_}
 use mathlib.Core.Bool.{Bool, true, false, _&&_, and-false}
 use mathlib.Core.List.{List, [], _∷_, map}
 use native.Mathlib.Omega.{arith}
-use native.Mathlib.Nat.{add-zero}
 use native.Mathlib.Numerals.{add-one}
 use lib.ListN.{length, getD, drop, drop-of-length-le}
 use lib.Seq.{drop-cons}
 use lib.Dec.{eqb, leb, ltb}
-use borrow.Author.Tests.{le-leb, lt-leb, leb-true, lt-ltb, ltb-true, eq-eqb, ne-eqb}
-use Rattle.tree.specs.Lists.{every, same}
+use borrow.Author.Tests.{le-leb, lt-leb, leb-true, ltb-true, eq-eqb, ne-eqb}
+use Rattle.tree.specs.Lists.{every, distinct, same}
 use Rattle.tree.specs.Content.{document-kind, element-kind, text-kind, between}
 use Rattle.tree.specs.Laws.Tests.{and-left, and-right}
 use Rattle.locks.specs.Modes.{no-mode}
 use Rattle.protocol.specs.State.{nobody}
 use Rattle.protocol.specs.Calls.{node-limit}
 use Rattle.table.specs.Layout.{state-size, format-mark, entry-at, word, part, count, slot, depth, number, cell, held, decode, Entry, entry}
-use Rattle.table.specs.Layout.{nodes, no-entry}
-use Rattle.table.specs.Laws.Lists.{length-tabulate, getD-tabulate, tabulate-same, map-tabulate}
+use Rattle.table.specs.Layout.{tabulate, nodes, no-entry}
+use Rattle.table.specs.Laws.Lists.{length-tabulate, getD-tabulate, map-tabulate}
 use Rattle.table.specs.Laws.Nodes.{length-nodes, node-at}
 use Rattle.rows.specs.Places.{number-of, unique}
 use Rattle.form.specs.Form.{in-range, valid, valid-document, valid-below, valid-rows, slots, cells, sizes-in-range, apart, form}
-use Rattle.form.specs.Check.{valid-header, column, cell-in-range, valid-first, valid-nodes, Outlined}
+use Rattle.form.specs.Check.{valid-header, cell-in-range, valid-first, valid-nodes, Outlined}
 use Rattle.form.specs.Laws.Rows.{between-of, between-low, between-high}
-use Rattle.form.specs.Laws.Fresh.{apart-distinct}
-use Rattle.form.specs.Laws.Holds.{every-tabulate, tabulate-every}
+use Rattle.form.specs.Laws.Holds.{every-tabulate}
 
 -- lists ------------------------------------------------------------------------------------------
 
@@ -164,14 +162,14 @@ module _ (s : List ℕ) (d : ℕ) (e : d ≡ word s 18) where
   unfolding valid-first depth
   first-deep h = rw (← e, ne-eqb d 0 h)
 
-  module _ (f : d ≡ 0) (n : ℕ) (g : n ≡ word s 20) where
+  module _ (f : d ≡ 0) (n : ℕ) (g : n ≡ number s 0) where
     pub first-numbered : (n ≡ 0 → ⊥) → false ≡ valid-first s
-    unfolding valid-first depth number
+    unfolding valid-first depth
     first-numbered h = rw (← e, eq-eqb d 0 f, ← g, ne-eqb n 0 h)
 
     pub first-cell : n ≡ 0 → (k : ℕ) → k ≡ word s 16 → (r : Bool) → r ≡ cell-in-range document-kind document-kind nobody (cell s k)
         → r ≡ valid-first s
-    unfolding valid-first depth number slot
+    unfolding valid-first depth slot
     first-cell h k i r j = rw (← e, eq-eqb d 0 f, ← g, eq-eqb n 0 h, ← i) j
 
 -- the slot that was read is in range
@@ -181,34 +179,22 @@ slot-small s i k o h e = rw e (o .slots i h)
 
 -- the whole ----------------------------------------------------------------------------------------------
 
-slots-are : (s : List ℕ) → slots s ≡ column s 0 node-limit
-unfolding slots column slot
-slots-are s = tabulate-same node-limit (slot s) (λ i. word s (entry-at i + 0)) (λ i l. ap (word s) (sym (add-zero (entry-at i))))
-
 -- the numbers of the nodes
-numbers-are : (s : List ℕ) → map (λ x. number-of (x .1)) (nodes s) ≡ column s 4 (count s)
-unfolding nodes column entry decode number
-numbers-are s = sym (map-tabulate (count s) (entry s) (λ i. word s (entry-at i + 4)) (λ x. number-of (x .1)) (λ j l. refl))
-
--- words of two bytes are below 65,536
-words-small : (s : List ℕ) (o n : ℕ) → ((k : ℕ) → getD s k 0 < 256) → every (λ k. ltb k 65536) (column s o n) ≡ true
-unfolding column word
-words-small s o n h =
-    tabulate-every (λ k. ltb k 65536) n (λ i. word s (entry-at i + o))
-    (λ i l. lt-ltb (word s (entry-at i + o)) 65536 (omega (arith, h (entry-at i + o), h (entry-at i + o + 1))))
+numbers-are : (s : List ℕ) → map (λ x. number-of (x .1)) (nodes s) ≡ tabulate (count s) (number s)
+unfolding nodes entry decode
+numbers-are s = sym (map-tabulate (count s) (entry s) (number s) (λ x. number-of (x .1)) (λ j l. refl))
 
 -- the form, in the order of the check
-form-is : (s : List ℕ) → form s ≡ (valid-header s && (apart node-limit (column s 0 node-limit) && (valid-nodes s && unique (nodes s))))
+form-is : (s : List ℕ) → form s ≡ (valid-header s && (apart node-limit (slots s) && (valid-nodes s && unique (nodes s))))
 unfolding form valid-header valid-nodes
 form-is s =
-    go (leb state-size (length s) && same (part s 0 8) format-mark && between 1 node-limit (count s)) (apart node-limit (slots s)) _
+    go (leb state-size (length s) && same (part s 0 8) format-mark && between 1 node-limit (count s)) (apart node-limit (slots s))
     (every sizes-in-range (cells s)) (valid-rows (nodes s)) (unique (nodes s))
-    (ap (apart node-limit) (slots-are s))
   where
-    go : (h a b z r u : Bool) → a ≡ b → (h && a && z && r && u) ≡ (h && (b && ((z && r) && u)))
-    go false a b z r u e = refl
-    go true true b z r u e = rw (← e)
-    go true false b z r u e = rw (← e)
+    go : (h a z r u : Bool) → (h && a && z && r && u) ≡ (h && (a && ((z && r) && u)))
+    go false a z r u = refl
+    go true true z r u = refl
+    go true false z r u = refl
 
 module _ (s : List ℕ) where
   header-parts : valid-header s ≡ true → (leb state-size (length s) ≡ true) × (between 1 node-limit (count s) ≡ true)
@@ -224,10 +210,10 @@ module _ (s : List ℕ) where
   pub header-room : valid-header s ≡ true → count s ≤ 1024
   header-room h = between-high 1 node-limit (count s) (header-parts h .1)
 
-  pub outlined : valid-header s ≡ true → apart node-limit (column s 0 node-limit) ≡ true → Outlined s
+  pub outlined : valid-header s ≡ true → apart node-limit (slots s) ≡ true → Outlined s
   unfolding apart slots
   outlined h k =
-      let small = and-left (every (λ k. ltb k node-limit) (slots s)) _ (ap (apart node-limit) (slots-are s) ∙ k) in
+      let small = and-left (every (λ k. ltb k node-limit) (slots s)) _ k in
       record {
         size = header-size h;
         some = between-low 1 node-limit (count s) (header-parts h .1);
@@ -259,14 +245,12 @@ module _ (s : List ℕ) where
   formed-header h = sym (form-is s ∙ rw h)
 
   module _ (h : valid-header s ≡ true) where
-    pub formed-slots : apart node-limit (column s 0 node-limit) ≡ false → false ≡ form s
+    pub formed-slots : apart node-limit (slots s) ≡ false → false ≡ form s
     formed-slots k = sym (form-is s ∙ rw (h, k))
 
-    module _ (k : apart node-limit (column s 0 node-limit) ≡ true) where
+    module _ (k : apart node-limit (slots s) ≡ true) where
       pub formed-nodes : valid-nodes s ≡ false → false ≡ form s
       formed-nodes f = sym (form-is s ∙ rw (h, k, f))
 
-      pub formed-numbers : valid-nodes s ≡ true → ((j : ℕ) → getD s j 0 < 256) → (n : ℕ) → n ≡ count s → apart 65536 (column s 4 n) ≡ form s
-      formed-numbers f b n e =
-          ap (λ (m : ℕ). apart 65536 (column s 4 m)) e ∙ apart-distinct 65536 (column s 4 (count s)) (words-small s 4 (count s) b)
-          ∙ sym (form-is s ∙ rw (h, k, f, numbers-are s))
+      pub formed-numbers : valid-nodes s ≡ true → (n : ℕ) → n ≡ count s → distinct (tabulate n (number s)) ≡ form s
+      formed-numbers f n e = ap (λ (m : ℕ). distinct (tabulate m (number s))) e ∙ sym (form-is s ∙ rw (h, k, f, numbers-are s))

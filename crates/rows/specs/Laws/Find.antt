@@ -164,4 +164,4 @@ module _ {f : Tree} {n p : ℕ} (o : Holder f n p) where
         go false = refl
 
     pub line-at : seen-at t (flat 0 f) p ≡ true → at n (callers-document t f) ≡ row (item (flat 0 f) p .now) (numbers-above (flat 0 f) p)
-    line-at s = ap document.first lines-numbered ∙ rw s
+    line-at s = ap document.first-line lines-numbered ∙ rw s

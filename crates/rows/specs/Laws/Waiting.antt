@@ -166,7 +166,7 @@ unfolding wait-set wait-word
 wait-set-at t s M l p e u h n b =
     let g : nodes (M .tree) ≡ items l = nodes-held (M .tree) ∙ ap items e in
     let k : any (λ m. any (has-number m) (items l)) (inserts s) ≡ false =
-        sym (ap (λ z. any (λ m. any (has-number m) z) (inserts s)) g) ∙ b in
+    sym (ap (λ z. any (λ m. any (has-number m) z) (inserts s)) g) ∙ b in
     bits-transactions (blocks t (locks s (numbers-above l p)) M)
     ∙ ap (λ (q : ℕ → Bool). word q 16 0)
     (fun-ext (λ i. ap (λ c. M .header .is-open (suc i) && not (eqb (suc i) t) && c)

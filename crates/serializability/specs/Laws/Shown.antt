@@ -120,7 +120,7 @@ module _ (t : ℕ) (nz : t ≡ nobody → ⊥) (S : ℕ → Bool) where
     -- in the subtree of n t sees what is shown, with the contents as they are now
     pub UU-shown : (n : ℕ) (a b : List ℕ) (f : Tree) → ((r : Place) → Inside r f → has n (numbers-of (path r)) ≡ true
         → (every (shown S) (path r) ≡ every (seen-by t) (path r)) × (as-shown S (r .it) ≡ r .it .now))
-        → document-of S (mark (λ r. cond (renamed t n a r) (written-by t b (r .it)) (r .it)) f) 
+        → document-of S (mark (λ r. cond (renamed t n a r) (written-by t b (r .it)) (r .it)) f)
         ≡ rewrite (λ r. in-subtree n r && named a r) b (document-of S f)
     UU-shown n a b f h = write-shown (renamed t n a) (λ r. in-subtree n r && named a r) b f
         (λ r i v. ap (λ x. every (seen-by t) (path r) && x && is-named a (r .it .now)) (numbers (path r)) ∙ test r i v
