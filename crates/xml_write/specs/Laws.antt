@@ -1,12 +1,4 @@
-pub mod Lines
-pub mod Selection
-pub mod Contents
 pub mod Documents
-pub mod Walk
-pub mod Costs
-pub mod Tags
-pub mod Names
-pub mod Measure
 pub mod Pieces
 pub mod Rows
 pub mod Calls

@@ -8,8 +8,8 @@ use Rattle.table.specs.Layout.{Entry}
 use Rattle.xml.specs.Shape.{Label}
 use Rattle.xml.specs.Writing.{escaped, is-element}
 use Rattle.xml_text.specs.Rows.{begin, ends, previous-of}
-use Rattle.xml_write.specs.Lines.{label-at}
-use Rattle.xml_write.specs.Walk.{open-labels}
+use Rattle.xml_measure.specs.Lines.{label-at}
+use Rattle.xml_measure.specs.Walk.{open-labels}
 
 -- a parent, of which only the kind counts
 abbrev pub of-kind : ℕ → Label

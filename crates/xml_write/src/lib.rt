@@ -1,4 +1,2 @@
 // Write: the committed document is selected, its text is measured, and it is written into the lent bytes.
-pub mod committed;
-pub mod measuring;
 pub mod writer;

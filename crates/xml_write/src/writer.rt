@@ -1,7 +1,7 @@
 // Write: the committed document as an XML text. Each piece of markup goes behind the last, into the rest of the lent bytes.
-use crate::committed;
-use crate::measuring;
 use protocol::Answer;
+use xml_measure::committed;
+use xml_measure::measuring;
 use xml_text::copying;
 use xml_text::escaping;
 use xml_text::markup;
@@ -13,8 +13,8 @@ ghost use Rattle.xml.specs.Writing.{escaped};
 ghost use Rattle.table.specs.Layout.{nodes, Layout};
 ghost use Rattle.xml_text.specs.Rows.{tag-end, begin, end, ends, body, written-rows};
 ghost use Rattle.xml_text.specs.Lending.{Wrote};
-ghost use Rattle.xml_write.specs.Lines.{label-at, lines, Listed};
-ghost use Rattle.xml_write.specs.Walk.{open-labels, OnPath, OfKinds};
+ghost use Rattle.xml_measure.specs.Lines.{label-at, lines, Listed};
+ghost use Rattle.xml_measure.specs.Walk.{open-labels, OnPath, OfKinds};
 ghost use Rattle.xml_write.specs.Contract.{Written};
 ghost use Rattle.xml_write.specs.Texts.{of-kind, opening, row-text};
 

@@ -22,8 +22,8 @@ use Rattle.xml_text.specs.Rows.{measured, written-rows}
 use Rattle.xml_text.specs.Lending.{Wrote}
 use Rattle.xml_text.specs.Laws.Documents.{written-is, measured-is}
 use Rattle.xml_text.specs.Laws.Rules.{legal-ordered}
-use Rattle.xml_write.specs.declared.committed.Rows.{Rows}
-use Rattle.xml_write.specs.Lines.{lines, Selected}
+use Rattle.xml_measure.specs.declared.committed.Rows.{Rows}
+use Rattle.xml_measure.specs.Lines.{lines, Selected}
 use Rattle.xml_write.specs.Laws.Documents.{root-content, root-below, rooted-shape, lines-of}
 use Rattle.xml_write.specs.Contract.{writable, writing, text-after, write-answer, write-buffer, Written}
 

@@ -21,9 +21,9 @@ use Rattle.form.specs.Laws.Valid.{Root, root-of}
 use Rattle.form.specs.Laws.Rows.{between-of, between-low, between-high}
 use Rattle.xml.specs.Shape.{Label, Shape, shape, unnumbered}
 use Rattle.xml_text.specs.Rows.{Line}
-use Rattle.xml_write.specs.declared.committed.Rows.{Rows}
-use Rattle.xml_write.specs.Lines.{is-committed, committed-label, committed-lines, line-at, lines, Selected, Listed}
-use Rattle.xml_write.specs.Laws.Lines.{length-lines, line-of}
+use Rattle.xml_measure.specs.declared.committed.Rows.{Rows}
+use Rattle.xml_measure.specs.Lines.{is-committed, committed-label, committed-lines, line-at, lines, Selected, Listed}
+use Rattle.xml_measure.specs.Laws.Lines.{length-lines, line-of}
 
 none-shown : (λ (a : Marked). shown (λ u. false) a && true) ≡ is-committed
 none-shown = fun-ext (λ a. go (eqb (a .inserter) nobody) (not (eqb (a .deleter) nobody)))

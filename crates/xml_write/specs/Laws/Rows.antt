@@ -13,10 +13,10 @@ use Rattle.table.specs.Layout.{Entry, Layout, nodes}
 use Rattle.rows.specs.Places.{depth}
 use Rattle.xml.specs.Shape.{Label}
 use Rattle.xml_text.specs.Rows.{begin, end, ends, previous-of, emit, body}
-use Rattle.xml_write.specs.Lines.{label-at, line-at, lines, Listed}
-use Rattle.xml_write.specs.Laws.Lines.{length-lines, lines-from}
-use Rattle.xml_write.specs.Walk.{open-labels, OnPath, OfKinds, previous-kind, Walk}
-use Rattle.xml_write.specs.Laws.Walk.{previous-is, length-open, parent-is, opened-is, walk-below, walk-steps, walk-deep}
+use Rattle.xml_measure.specs.Lines.{label-at, line-at, lines, Listed}
+use Rattle.xml_measure.specs.Laws.Lines.{length-lines, lines-from}
+use Rattle.xml_measure.specs.Walk.{open-labels, OnPath, OfKinds, previous-kind, Walk}
+use Rattle.xml_measure.specs.Laws.Walk.{previous-is, length-open, parent-is, opened-is, walk-below, walk-steps, walk-deep}
 use Rattle.xml_text.specs.Lending.{Wrote, wrote-as, front, inside, room, sum-fits, behind, Partly, partly-start, partly-as, partly-end}
 use Rattle.xml_write.specs.Texts.{of-kind, row-text}
 use Rattle.xml_text.specs.Laws.Next.{Next, next}

@@ -1,7 +1,7 @@
 use Rattle.xml_write.specs.Laws.Pieces.{begin-attribute, tag-end-room, opening-inside, opening-room, opening-fits, opening-behind}
 use Rattle.xml_write.specs.Texts.{of-kind}
 use Rattle.xml_text.specs.Lending.{wrote-as}
-use Rattle.xml_write.specs.Lines.{label-at}
+use Rattle.xml_measure.specs.Lines.{label-at}
 use Rattle.table.specs.Layout.{nodes}
 use mathlib.Core.Path.{sym, _∙_}
 use borrow.Author.Needs.{needs}

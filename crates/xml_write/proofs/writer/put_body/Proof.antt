@@ -1,11 +1,11 @@
 use Rattle.xml_write.specs.Laws.Rows.{from, from-start, next-row, last-ends, next-inside, next-fits, last-inside, last-fits}
-use Rattle.xml_write.specs.Laws.Walk.{walk-start, walk-below, walk-steps, walk-deep, walk-on, row-deep}
-use Rattle.xml_write.specs.Walk.{Walk}
+use Rattle.xml_measure.specs.Laws.Walk.{walk-start, walk-below, walk-steps, walk-deep, walk-on, row-deep}
+use Rattle.xml_measure.specs.Walk.{Walk}
 use Rattle.xml_text.specs.Rows.{body}
 use Rattle.xml_text.specs.Laws.Next.{both}
 use Rattle.xml_text.specs.Lending.{Partly, partly-start, partly-as}
-use Rattle.xml_write.specs.Laws.Contents.{kind-at}
-use Rattle.xml_write.specs.Lines.{lines}
+use Rattle.xml_measure.specs.Laws.Contents.{kind-at}
+use Rattle.xml_measure.specs.Lines.{lines}
 use Rattle.table.specs.Layout.{nodes}
 use lib.ListN.{length, replicate}
 use mathlib.Core.Path.{_≡_, refl, sym, _∙_}

@@ -1,6 +1,6 @@
 use Rattle.xml_write.specs.Laws.Pieces.{end-attribute, end-other, end-empty, end-tag}
 use Rattle.xml_text.specs.Lending.{wrote-as, wrote-none}
-use Rattle.xml_write.specs.Lines.{label-at}
+use Rattle.xml_measure.specs.Lines.{label-at}
 use Rattle.table.specs.Layout.{nodes}
 use mathlib.Core.Path.{sym, _∙_}
 use native.Mathlib.Omega.{arith}

@@ -1,6 +1,6 @@
 use Rattle.xml_write.specs.Laws.Pieces.{opening-element, opening-text}
 use Rattle.xml_text.specs.Lending.{wrote-as}
-use Rattle.xml_write.specs.Lines.{label-at}
+use Rattle.xml_measure.specs.Lines.{label-at}
 use Rattle.table.specs.Layout.{nodes}
 use mathlib.Core.Path.{sym, _∙_}
 use borrow.Author.Needs.{needs}

@@ -1,0 +1,4 @@
+pub mod Lines
+pub mod Walk
+pub mod Names
+pub mod Laws
