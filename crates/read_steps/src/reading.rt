@@ -3,11 +3,9 @@ use protocol::Answer;
 use table::layout;
 use table::layout::Places;
 ghost use mathlib.Core.Path.{_≡_};
-ghost use mathlib.Core.Bool.{_&&_};
 ghost use mathlib.Core.List.{map};
 ghost use Prim.Native.Nat.{_+_, _*_, _<_, _≤_};
 ghost use lib.ListN.{length};
-ghost use lib.Dec.{ltb, leb};
 ghost use Rattle.protocol.specs.Answers.{granted-answer};
 ghost use Rattle.protocol.specs.Lent.{list-bytes, cell, cells, filled};
 ghost use Rattle.table.specs.Layout.{nodes, Layout};
@@ -52,16 +50,6 @@ pub fn kth_child(s: &[u8], t: u8, p: usize, k: u32) -> Answer
     Answer::NoChild
 }
 
-// Whether a node at depth d is left out; hidden is the least depth that is, 0 for none.
-fn is_hidden(hidden: u32, d: u16) -> bool
-    ensures { λ r. ⌜ r ≡ (ltb 0 hidden && leb hidden d) ⌝ }
-{
-    if hidden == 0 {
-        return false;
-    }
-    hidden <= d as u32
-}
-
 // The places of the node at p and of all below it that t sees, in document order; t did not delete the node.
 pub fn select(s: &[u8], t: u8, p: usize) -> Places
     requires { ⌜ (Layout (now s)) × (p < length (nodes (now s))) ⌝ }
@@ -72,7 +60,7 @@ pub fn select(s: &[u8], t: u8, p: usize) -> Places
     let mut places = [0u16; 1024];
     places[0] = p as u16;
     let mut count: usize = 1;
-    let mut hidden: u32 = 0;
+    let mut hidden: usize = 0;
     let mut i = p + 1;
     while i < total {
         let j = i;
@@ -81,11 +69,11 @@ pub fn select(s: &[u8], t: u8, p: usize) -> Places
         if d <= e {
             return Places { places, count };
         }
-        if is_hidden(hidden, d) {
+        if layout::left_out(hidden, d as usize) {
             continue;
         }
         if table::deleter(s, j) == t {
-            hidden = (d as u32) + 1;
+            hidden = (d as usize) + 1;
             continue;
         }
         hidden = 0;

@@ -2,6 +2,7 @@
 ghost use mathlib.Core.Path.{_≡_};
 ghost use Prim.Native.Nat.{ℕ, _+_, _*_, _<_, _≤_};
 ghost use lib.ListN.{length, getD};
+ghost use Rattle.table.specs.Passes.{left-out};
 ghost use Rattle.table.specs.Layout.{word};
 ghost use Rattle.table.specs.Laws.Bytes.{put-word, Filled};
 
@@ -88,6 +89,16 @@ pub fn copy_32(s: &mut [u8], k: usize, m: usize)
         s[m + j] = s[k + j];
         j += 1;
     }
+}
+
+// Whether a pass leaves out a node at depth d: `below` is the least depth that is left out now, 0 for none.
+pub fn left_out(below: usize, d: usize) -> bool
+    ensures { λ r. ⌜ r ≡ left-out below d ⌝ }
+{
+    if below == 0 {
+        return false;
+    }
+    below <= d
 }
 
 // Nodes by their places in document order, in some order: the first `count` of `places`.

@@ -1,4 +1,5 @@
 // What U, UU and I do to the nodes in the lent bytes, and the place of a new child.
+use table::layout;
 use table::outline;
 use table::transactions;
 ghost use mathlib.Core.Path.{_≡_};
@@ -16,7 +17,7 @@ ghost use Rattle.table.specs.Flat.{second};
 ghost use Rattle.table.specs.Layout.{nodes, Layout, Left, Kept, header};
 ghost use Rattle.rows.specs.Places.{item, children};
 ghost use Rattle.rows.specs.Placing.{placed-by};
-ghost use Rattle.rows.specs.Rows.{left-out, new-place};
+ghost use Rattle.rows.specs.Rows.{new-place};
 ghost use Rattle.write_steps.specs.Writing.{new-node, counted, Counted, Renamed, RenamedRest, RenamedBelow};
 
 // Contents ---------------------------------------------------------------------------
@@ -74,16 +75,6 @@ fn rename(s: &mut [u8], p: usize, t: u8, a: &[u8], b: &[u8]) -> usize
     1
 }
 
-// Whether a node at depth d lies below one that is hidden: hidden is the least depth that is, 0 for none.
-fn left_out(hidden: usize, d: usize) -> bool
-    ensures { λ r. ⌜ r ≡ left-out hidden d ⌝ }
-{
-    if hidden == 0 {
-        return false;
-    }
-    hidden <= d
-}
-
 // Each element named a below the node at p that t sees is named b by t; how many.
 fn rename_rest(s: &mut [u8], p: usize, t: u8, a: &[u8], b: &[u8]) -> usize
     requires { ⌜ (Layout (now s)) × (p < length (nodes (now s))) × (length (now b) ≤ 32) × (1 ≤ t) ⌝ }
@@ -101,7 +92,7 @@ fn rename_rest(s: &mut [u8], p: usize, t: u8, a: &[u8], b: &[u8]) -> usize
         }
         let j = i;
         i += 1;
-        if left_out(hidden, d as usize) {
+        if layout::left_out(hidden, d as usize) {
             continue;
         }
         if table::deleter(s, j) == t {

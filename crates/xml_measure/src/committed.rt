@@ -1,4 +1,5 @@
 // The committed document in the lent bytes: the places of its nodes, and their contents.
+use table::layout;
 use xml_text::escaping;
 ghost use mathlib.Core.Path.{_≡_};
 ghost use mathlib.Core.Bool.{true};
@@ -8,23 +9,12 @@ ghost use Rattle.xml.specs.Writing.{escaped};
 ghost use Rattle.table.specs.Layout.{nodes, Layout};
 ghost use Rattle.table.specs.Fields.{has-text, text};
 ghost use Rattle.rows.specs.Places.{item};
-ghost use Rattle.rows.specs.Rows.{left-out};
 ghost use Rattle.xml_measure.specs.Lines.{label-at, Selected};
 
 // Nodes in document order, each by its place.
 pub struct Rows {
     pub places: [u16; 1024],
     pub count: usize,
-}
-
-// Whether a node at depth d lies below one that is hidden: hidden is the least depth that is, 0 for none.
-fn left_out(hidden: usize, d: usize) -> bool
-    ensures { λ r. ⌜ r ≡ left-out hidden d ⌝ }
-{
-    if hidden == 0 {
-        return false;
-    }
-    hidden <= d
 }
 
 // The nodes that no open transaction inserted, themselves or with a node above them.
@@ -41,7 +31,7 @@ pub fn select(s: &[u8]) -> Rows
         let j = i;
         i += 1;
         let d = table::depth(s, j) as usize;
-        if left_out(hidden, d) {
+        if layout::left_out(hidden, d) {
             continue;
         }
         if table::inserter(s, j) != 0 {

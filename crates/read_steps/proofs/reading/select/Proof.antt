@@ -27,8 +27,8 @@ loop-again : tie.Need-loop-again Inv-loop μ-loop
 loop-again c =
     let l = c .before .before .before .before .before .loop in
     let depth2 = c .before .before .before .depth2 in
-    let is-hidden = c .before .is-hidden in
-    selecting-hidden (l .inv) (search needs) (depth2 .ensures) (search needs) (sym (is-hidden .ensures) ∙ c .if2 .taken)
+    let left-out = c .before .left-out in
+    selecting-hidden (l .inv) (search needs) (depth2 .ensures) (search needs) (sym (left-out .ensures) ∙ c .if2 .taken)
 
 deleter-requires : tie.Need-deleter-requires Inv-loop μ-loop
 deleter-requires c κs = (c .before .before .before .before .before .before .before .before .before .pre .0, search needs)
@@ -37,20 +37,20 @@ loop-again-2 : tie.Need-loop-again-2 Inv-loop μ-loop
 loop-again-2 c =
     let l = c .before .before .before .before .before .before .before .loop in
     let depth2 = c .before .before .before .before .before .depth2 in
-    let is-hidden = c .before .before .before .is-hidden in
+    let left-out = c .before .before .before .left-out in
     let if2 = c .before .before .if2 in
     let deleter = c .before .deleter in
-    selecting-deleted (l .inv) (search needs) (depth2 .ensures) (search needs) (sym (is-hidden .ensures) ∙ if2 .left)
+    selecting-deleted (l .inv) (search needs) (depth2 .ensures) (search needs) (sym (left-out .ensures) ∙ if2 .left)
     (deleter .ensures) (c .if3 .taken)
 
 loop-again-3 : tie.Need-loop-again-3 Inv-loop μ-loop
 loop-again-3 c =
     let l = c .before .before .before .before .before .before .before .loop in
     let depth2 = c .before .before .before .before .before .depth2 in
-    let is-hidden = c .before .before .before .is-hidden in
+    let left-out = c .before .before .before .left-out in
     let if2 = c .before .before .if2 in
     let deleter = c .before .deleter in
-    selecting-found (l .inv) (search needs) (depth2 .ensures) (search needs) (sym (is-hidden .ensures) ∙ if2 .left)
+    selecting-found (l .inv) (search needs) (depth2 .ensures) (search needs) (sym (left-out .ensures) ∙ if2 .left)
     (deleter .ensures) (search needs) (c .if3 .left)
 
 returns-2 : tie.Need-returns-2 Inv-loop μ-loop
@@ -58,6 +58,7 @@ returns-2 c = selecting-end (c .before .loop .inv) (search needs) (search needs)
 
 pub select-spec : {M : Type 1} → statement M
 select-spec = tie.close (tie.spec Inv-loop μ-loop (λ c κs. search needs) (λ c κs. search needs) (λ c. search needs) (λ c. search needs)
-    (λ c. search needs) loop-holds (λ c. search needs) depth-requires-2 returns (λ c κs. search needs) (λ c. search needs) loop-again
+    (λ c. search needs) loop-holds (λ c. search needs) depth-requires-2 returns (λ c. search needs) (λ c κs. search needs) (λ c. search needs)
+    loop-again
     deleter-requires (λ c. search needs) (λ c. search needs) (λ c. search needs) loop-again-2 (λ c. search needs) (λ c. search needs)
     (λ c. search needs) (λ c. search needs) (λ c. search needs) loop-again-3 returns-2)
