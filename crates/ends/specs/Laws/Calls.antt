@@ -1,5 +1,5 @@
 -- From what the calls leave to the definitions of protocol.
-use mathlib.Core.Path.{_≡_, refl, sym, ap, _∙_}
+use mathlib.Core.Path.{_≡_, refl, sym, ap, _∙_, subst}
 use Prim.Native.Nat.{ℕ, _≤_, _<_}
 use mathlib.Core.Bool.{Bool, true, false, cond, not, _&&_, _||_}
 use mathlib.Core.List.{List, map}
@@ -116,7 +116,7 @@ module _ {s : List ℕ} {t : ℕ} (f : form s ≡ true) where
         (record {
           formed = f;
           outcome = λ M h. ap (λ (n : Next). n .outcome) (begins e M h);
-          state = λ M h. rw (begins e M h) (record {
+          state = λ M h. subst (λ (n : Next). Holds s′ (n .state)) (sym (begins e M h)) (record {
             layout = k .layout;
             header = k .header ∙ ap (λ (q : Header). with-open (λ u. eqb u t || q .is-open u) q) (h .header);
             rows = k .nodes ∙ h .rows;
@@ -166,7 +166,7 @@ end-done {s} {s′} {t} commits o k =
     (record {
       formed = o .formed;
       outcome = λ M h. ap (λ (n : Next). n .outcome) (n M h);
-      state = λ M h. rw (n M h) (holds-left {s = s} (closed t (end-tree commits t (M .tree)) M)
+      state = λ M h. subst (λ (n : Next). Holds s′ (n .state)) (sym (n M h)) (holds-left {s = s} (closed t (end-tree commits t (M .tree)) M)
           (record {
             layout = k .layout;
             long = k .long;

@@ -1,5 +1,5 @@
 -- The node at a place of a forest: the rows before and behind it, its proper ancestors, and the rows of its subtree.
-use mathlib.Core.Path.{_≡_, refl, sym, ap, _∙_}
+use mathlib.Core.Path.{_≡_, refl, sym, ap, _∙_, subst}
 use Prim.Native.Nat.{ℕ, zero, suc, _+_, _-_, _≤_, _<_}
 use mathlib.Core.Bool.{Bool, true, false, cond, _||_, false≢true, or-assoc}
 use mathlib.Core.List.{List, [], _∷_, _++_, map, reverseAux, append-assoc, append-nil}
@@ -317,4 +317,5 @@ module _ {A : Type 0} where
           let m = length (flat (suc d) ks) in
           let g : m ≤ i = ltb-false i m e in
           let j : m + (i - m) ≡ i = omega arith in
-          rw j at (at-later d a ks fs (i - m) (next (omega (arith, length-append (flat (suc d) ks) (flat d fs)))))
+          subst (λ (n : ℕ). NodeAt d (node a ks fs) (suc n)) j
+          (at-later d a ks fs (i - m) (next (omega (arith, length-append (flat (suc d) ks) (flat d fs)))))
