@@ -42,7 +42,8 @@ pub record Performed (s s′ : List ℕ) (r : Answer) (call : Call) : Type 0 whe
   pub long : length s′ ≡ length s
   pub behind : drop state-size s′ ≡ drop state-size s
 
--- the call was lent a buffer too, which held b and now holds b′; `lent` is first-lent or second-lent
+-- the call was lent a buffer too, which held b and now holds b′; `lent` is first-lent or second-lent. No such call writes, so what
+-- `as-it-was` says of a text plays no part
 pub record Lent (lent : Value → List ℕ) (s b b′ : List ℕ) (call : Call) : Type 0 where
   pub unformed : form s ≡ false → b′ ≡ b
   pub filled : (M : State) → Holds s M → b′ ≡ lent-after lent as-it-was (next call M .outcome) b

@@ -29,7 +29,7 @@ valid-first s = eqb (depth s 0) 0 && (eqb (number s 0) 0 && cell-in-range docume
 unfoldable pub valid-nodes : List ℕ → Bool
 valid-nodes s = every sizes-in-range (cells s) && valid-rows (nodes s)
 
--- each number passes, was not met, and is not met again
+-- each number passes `ok`, was not met, and is not met again
 unfoldable pub fresh : (ℕ → Bool) → (ℕ → Bool) → List ℕ → Bool
 fresh ok old [] = true
 fresh ok old (w ∷ ws) = ok w && (cond (old w) false true && fresh ok (λ k. eqb k w || old k) ws)
@@ -48,7 +48,7 @@ chained f next w (suc n) (suc j) = eqb w (f j) || chained f next w n (getD next 
 unfoldable pub entered : (ℕ → ℕ) → List ℕ → List ℕ → ℕ → Bool
 entered f heads next w = chained f next w 1024 (getD heads (bucket w) 0)
 
--- the first i places are entered: every link leads to one of them, and from a place to a smaller one
+-- links while the first i places are entered: each leads to one of them, and from a place to a smaller one
 pub record Chains (i : ℕ) (heads next : List ℕ) : Type 0 where
   pub buckets : length heads ≡ 2048
   pub places : length next ≡ 1024

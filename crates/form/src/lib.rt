@@ -46,7 +46,7 @@ fn header(s: &[u8]) -> bool
 }
 
 // Whether the slots of all entries of the outline are below 1,024, and no two alike. Those met are marked in a byte each: bits take longer.
-fn slots(s: &[u8]) -> bool
+fn distinct_slots(s: &[u8]) -> bool
     requires { ⌜ state-size ≤ length (now s) ⌝ }
     ensures { λ r. ⌜ r ≡ apart node-limit (slots (now (s .entry))) ⌝ }
 {
@@ -160,7 +160,7 @@ pub fn formed(s: &[u8]) -> bool
         return false;
     }
     let n = layout::word(s, layout::COUNT) as usize;
-    if !slots(s) {
+    if !distinct_slots(s) {
         return false;
     }
     if !nodes(s, n) {

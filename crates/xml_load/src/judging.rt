@@ -104,7 +104,7 @@ fn find_root(s: &[u8]) -> Prolog
     declared(s, &xml::LONG_DECLARATION)
 }
 
-// The whole input, one byte longer than the limit at most. Node 0 and the root element are always there.
+// An input of at most 65,537 bytes, without the limit of 65,536; `limit` is that of nodes. Node 0 and the root element are always there.
 fn unlimited(s: &[u8], limit: usize) -> Judged
     requires { ⌜ (2 ≤ limit) × (limit ≤ 1024) × (length (now s) ≤ 65537) ⌝ }
     ensures { λ r. ⌜ scan at-start (limit - 1) 0 0 0 (now (s .entry)) ≡ verdict r ⌝ }

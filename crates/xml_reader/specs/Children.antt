@@ -22,7 +22,7 @@ opened (n ∷ ns) = behind-open n ns
 -- an offset behind a <
 pub record Behind (s : List ℕ) (at : ℕ) : Type 0 where
   pub inside : at ≤ length s
-  pub some : 1 ≤ at
+  pub not-first : 1 ≤ at
   pub opens : getD s (at - 1) 0 ≡ less-than
 
 -- an offset where a node could begin
@@ -30,14 +30,14 @@ pub record Beginning (s : List ℕ) (at : ℕ) : Type 0 where
   pub inside : at ≤ length s
   pub begins-here : node-offset s at ≡ at
 
--- so many elements are open, their names' offsets at the first places; there is a place for each of the spare nodes
+-- so many elements are open, the offsets before their names at the first places; there is a place for each of the spare nodes
 pub record Deep (s os : List ℕ) (depth spare : ℕ) : Type 0 where
   pub some : 1 ≤ depth
   pub room : depth + 1 + spare ≤ 1024
   pub long : length os ≡ 1024
   pub names : Placed s os depth
 
--- where a part of the content leads from a configuration: to so many open elements, their names' offsets in os
+-- where a part of the content leads from a configuration: to so many open elements, the offsets before their names in os
 pub data ChildRead (s : List ℕ) (from : Config) (at spare : ℕ) (os : List ℕ) : Child → Type 0 where
   child-at : {c : Cursor} {d m : ℕ} → Onward s at spare c m → d + 1 + m ≤ 1024 → length os ≡ 1024 → Placed s os d
       → Goes s from spare at (closed (stack s os 0 d)) m (c .at)

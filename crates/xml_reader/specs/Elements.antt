@@ -30,14 +30,14 @@ unfoldable pub stack : List ℕ → List ℕ → ℕ → ℕ → List Name
 stack s os lo zero = []
 stack s os lo (suc n) = name-behind s (getD os (lo + n) 0) ∷ stack s os lo n
 
--- the first n are offsets in the input, of which no more is read than one byte behind the limit
+-- the first n are offsets in the input, which is at most one byte longer than the limit
 pub record Placed (s os : List ℕ) (n : ℕ) : Type 0 where
   pub short : length s ≤ input-limit + 1
   pub placed : (i : ℕ) → i < n → getD os i 0 + 1 ≤ length s
 
 -- an attribute may begin here
 pub record Attributed (s : List ℕ) (at : ℕ) : Type 0 where
-  pub some : 1 ≤ at
+  pub not-first : 1 ≤ at
   pub inside : at < length s
   pub starts : name-start (getD s at 0) ≡ true
   pub begins-here : node-offset s at ≡ at
@@ -100,7 +100,7 @@ pub data AttributesRead (s : List ℕ) (at spare : ℕ) : Tag → Type 0 where
 
 -- a name begins here
 pub record Named (s : List ℕ) (at : ℕ) : Type 0 where
-  pub some : 1 ≤ at
+  pub not-first : 1 ≤ at
   pub inside : at < length s
   pub starts : name-start (getD s at 0) ≡ true
 

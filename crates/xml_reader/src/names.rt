@@ -1,5 +1,5 @@
-// The names of the attributes of a start tag, kept as offsets in the order of the names: a name is found by halving, whatever they are.
-// What is kept is the offset of the byte before the name: a name may begin at 65,536, one more than 16 bits hold.
+// The names of the attributes of a start tag, kept in their order, so that a name is found by halving, whatever they are. What is kept of a
+// name is the offset of the byte before it: a name may begin at 65,536, one more than 16 bits hold.
 use super::peek;
 use bytes::Order;
 use bytes::Place;
@@ -37,7 +37,7 @@ fn order(s: &[u8], from: usize, to: usize, other: usize) -> Order
     Order::Behind
 }
 
-// Where a name belongs among the count names whose offsets stand from lo on.
+// Where a name belongs among the count names that are kept from lo on.
 fn place(s: &[u8], names: &[u16; 1024], lo: usize, count: usize, from: usize, to: usize) -> Place
     requires { ⌜ (from ≤ to) × Run name-byte (now s) from to × (lo + count ≤ 1024) × Placed (now s) (now names) (lo + count)
         × Increasing (attribute-names (now s) (now names) lo) count ⌝ }
@@ -63,7 +63,7 @@ fn place(s: &[u8], names: &[u16; 1024], lo: usize, count: usize, from: usize, to
     Place::Free(low)
 }
 
-// A name put among the count names whose offsets stand from lo on, unless it is one of them.
+// A name put among the count names that are kept from lo on, unless it is one of them.
 pub fn enter(
     s: &[u8],
     names: &mut [u16; 1024],

@@ -119,7 +119,7 @@ impl Cursor {
         }
     }
 
-    // A start tag from behind its name on; the offsets of its attributes' names are kept from lo on.
+    // A start tag from behind its name on; the names of its attributes are kept from lo on.
     fn attributes(self, s: &[u8], names: &mut [u16; 1024], lo: usize, spare: usize) -> Tag
         requires { ⌜ (self .at ≤ length (now s)) × (lo + 1 + spare ≤ 1024) × Placed (now s) (now names) lo × (length (now names) ≡ 1024) ⌝ }
         ensures { λ r. ⌜ AttributesRead (now (s .entry)) (self .at) spare r × Kept lo (now (names .entry)) (now (names .exit)) ⌝ }

@@ -33,13 +33,14 @@ unfoldable pub may-stand : ℕ → ℕ → ℕ → Bool
 may-stand parent previous kind =
     takes parent kind && cond (eqb parent element-kind) (not (eqb kind attribute-kind) || in-start-tag previous) (eqb previous 0)
 
--- every node may stand where it is, below this parent and behind this sibling: of a document that is `ordered` (law ordered-document)
+-- every node may stand where it is, below this parent and behind this sibling; for the children of the document node this is `ordered`
+-- (law ordered-document)
 unfoldable pub in-order : ℕ → ℕ → Shape → Bool
 in-order parent previous nil = true
 in-order parent previous (node a ks fs) =
     may-stand parent previous (a .kind) && (in-order (a .kind) 0 ks && in-order parent (a .kind) fs)
 
--- the same, and neighbouring texts apart
+-- the rule for one node, and no text right behind a text
 unfoldable pub fits : ℕ → ℕ → ℕ → Bool
 fits parent previous kind = may-stand parent previous kind && not (eqb previous text-kind && eqb kind text-kind)
 

@@ -25,7 +25,7 @@ not-both p q = absurd (false≢true (sym q ∙ p))
 lent-quiet : (lent : Value → List ℕ) (o : Outcome) (b : List ℕ) → is-granted o ≡ false → b ≡ lent-after lent as-it-was o b
 unfolding lent-after
 lent-quiet lent (granted v) b h = absurd (false≢true (sym h))
-lent-quiet lent (written d) b h = refl
+lent-quiet lent (written d) b h = absurd (false≢true (sym h))
 lent-quiet lent (waits w) b h = refl
 lent-quiet lent (refused c) b h = refl
 lent-quiet lent (refused-at c o) b h = refl

@@ -10,14 +10,14 @@ use Rattle.form.proofs.formed.Tie as tie
 returns : tie.Need-returns
 returns c = formed-header _ (sym (c .before .header .ensures) ∙ not-true _ (c .if1 .taken))
 
-slots-requires : tie.Need-slots-requires
-slots-requires c κs = header-size _ (sym (c .before .before .header .ensures) ∙ not-false _ (c .before .if1 .left))
+distinct-slots-requires : tie.Need-distinct-slots-requires
+distinct-slots-requires c κs = header-size _ (sym (c .before .before .header .ensures) ∙ not-false _ (c .before .if1 .left))
 
 returns-2 : tie.Need-returns-2
 returns-2 c =
     let header = c .before .before .before .before .header in
     let if1 = c .before .before .before .if1 in
-    let slots = c .before .slots in
+    let slots = c .before .distinct-slots in
     let headed = sym (header .ensures) ∙ not-false _ (if1 .left) in
     formed-slots _ headed (sym (slots .ensures) ∙ not-true _ (c .if2 .taken))
 
@@ -27,7 +27,7 @@ nodes-requires c κs =
     let header = c .before .before .before .before .header in
     let if1 = c .before .before .before .if1 in
     let word = c .before .before .word in
-    let slots = c .before .slots in
+    let slots = c .before .distinct-slots in
     let headed = sym (header .ensures) ∙ not-false _ (if1 .left) in
     let slots-apart = sym (slots .ensures) ∙ not-false _ (c .if2 .left) in
     (outlined _ headed slots-apart, word .ensures)
@@ -36,7 +36,7 @@ returns-3 : tie.Need-returns-3
 returns-3 c =
     let header = c .before .before .before .before .before .before .header in
     let if1 = c .before .before .before .before .before .if1 in
-    let slots = c .before .before .before .slots in
+    let slots = c .before .before .before .distinct-slots in
     let if2 = c .before .before .if2 in
     let nodes = c .before .nodes in
     let headed = sym (header .ensures) ∙ not-false _ (if1 .left) in
@@ -55,7 +55,7 @@ returns-4 c =
     let header = c .before .before .before .before .before .before .before .header in
     let if1 = c .before .before .before .before .before .before .if1 in
     let word = c .before .before .before .before .before .word in
-    let slots = c .before .before .before .before .slots in
+    let slots = c .before .before .before .before .distinct-slots in
     let if2 = c .before .before .before .if2 in
     let nodes = c .before .before .nodes in
     let if3 = c .before .if3 in
@@ -67,4 +67,4 @@ returns-4 c =
 pub formed-spec : {M : Type 1} → statement M
 formed-spec = tie.close (tie.spec (λ c κs. search needs) returns
     (λ c κs. omega (arith, header-size _ (sym (c .before .header .ensures) ∙ not-false _ (c .if1 .left)))) (λ c. search needs)
-    slots-requires returns-2 nodes-requires returns-3 distinct-requires returns-4)
+    distinct-slots-requires returns-2 nodes-requires returns-3 distinct-requires returns-4)

@@ -101,7 +101,7 @@ module _ (s os : List ℕ) (deep spare at : ℕ) (x : Deep s os deep spare) wher
       pub start-many : Behind s at → spare ≡ 0 → ChildRead s from at spare os (Stopped 6 (at - 1))
       unfolding births tail peak
       start-many y l =
-          let p = offset-before s at (before at (y .some) (y .opens)) .0 in
+          let p = offset-before s at (before at (y .not-first) (y .opens)) .0 in
           stopped os 6 (at - 1)
           (rw p at (stops-many s (behind-open n ns) spare at h (tag-name (n ∷ ns) (b ∷ [])) (depth (n ∷ ns)) element-kind (byte b ∷ [])
           starts l (omega arith)))
@@ -165,7 +165,7 @@ module _ (s os : List ℕ) (deep spare at : ℕ) (x : Deep s os deep spare) wher
 pub behind-text : {s os : List ℕ} {deep at spare m : ℕ} {c : Cursor} → Deep s os deep spare → ContentRead s less-than at spare (Past c m)
     → Behind s (c .at) × Deep s os deep m
 behind-text x (content-past a b d e f) = (
-  record { inside = b; some = omega arith; opens = d },
+  record { inside = b; not-first = omega arith; opens = d },
   record
       { some = x .some; room = omega (arith, x .room); long = x .long; names = x .names },
 )

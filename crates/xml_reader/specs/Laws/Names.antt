@@ -141,7 +141,7 @@ pub enter-new : {s os os′ : List ℕ} {lo count k at : ℕ} → Inserted os os
     → Between (attribute-names s os lo) count k k (name-at s at) → Placed s os (lo + count) → Attributed s at
     → EnterRead s os os′ lo count at true
 enter-new {s} {lo = lo} {at = at} x i b p h =
-    let e : at - 1 + 1 ≡ at = omega (arith, h .some) in
+    let e : at - 1 + 1 ≡ at = omega (arith, h .not-first) in
     is-entered (record {
       placed = record { short = p .short; placed = each-entry x (λ o. o + 1 ≤ length s) (p .placed) (omega (arith, h .inside)) };
       added = rw e at (entry-added (name-behind s) lo refl refl x i (rw e b));

@@ -48,7 +48,7 @@ module _ (s : List ℕ) (at i : ℕ) (r : Run blank s at i) where
 
         pub name-right : (c : Cursor) → name-start (getD s (i + 1) 0) ≡ true → c .at ≡ i + 1 → RootRead s prolog at (Root c)
         unfolding step births tail peak
-        name-right c f p = root-at {c = c} (record { some = omega arith; inside = rw p k; starts = rw p f })
+        name-right c f p = root-at {c = c} (record { not-first = omega arith; inside = rw p k; starts = rw p f })
             (λ m l v y. to-name m .back v (record {
               leads = λ j k′.
                   scan-born s behind-root m (i + 1) k (tag-name [] (getD s (i + 1) 0 ∷ [])) 1 element-kind (byte (getD s (i + 1) 0) ∷ [])

@@ -69,7 +69,7 @@ pub attribute-here : {s : List ℕ} {i : ℕ} {r : Item} {c : Cursor} → TagRea
 attribute-here {s} {i} z ez = go (subst (TagRead s behind-part i) ez z)
   where
     go : {s : List ℕ} {i : ℕ} {c : Cursor} → TagRead s behind-part i (Attribute c) → Attributed s (c .at) × (i < c .at)
-    go (tag-attribute d e g h f) = (record { some = omega arith; inside = e; starts = h; begins-here = g }, d)
+    go (tag-attribute d e g h f) = (record { not-first = omega arith; inside = e; starts = h; begins-here = g }, d)
 
 -- the attributes so far lead here; the names that were seen are those from place lo on
 pub record AttributesTo (s os : List ℕ) (lo count at spare i n : ℕ) : Type 0 where

@@ -19,7 +19,7 @@ returns c =
     let name = c .before .before .name in (
       element-long _ _ _ _ (pre .0) (name .ensures) (c .if1 .taken),
       kept-set _ _ _ _ _ (kept-same _ _) (search needs),
-      omega (arith, pre .0 .some, getD-set-same (a .names .now) (a .depth) (a .self .at - 1) 0 (omega (arith, pre .3))),
+      omega (arith, pre .0 .not-first, getD-set-same (a .names .now) (a .depth) (a .self .at - 1) 0 (omega (arith, pre .3))),
     )
 
 attributes-requires : tie.Need-attributes-requires
@@ -38,7 +38,7 @@ returns-2 c =
           (omega arith),
       omega (
         arith,
-        pre .0 .some,
+        pre .0 .not-first,
         c .attributes .ensures .1 .kept (a .depth) (omega arith),
         getD-set-same (a .names .now) (a .depth) (a .self .at - 1) 0 (omega (arith, pre .3)),
       ),

@@ -37,7 +37,7 @@ start-tag-requires c κs =
     let if3 = c .before .before .if3 in
     let if4 = c .before .if4 in
     let d = pre .1 in (
-      record { some = pre .0 .some; inside = if1 .left; starts = sym (name-start .ensures) ∙ not-false _ (if3 .left) },
+      record { not-first = pre .0 .not-first; inside = if1 .left; starts = sym (name-start .ensures) ∙ not-false _ (if3 .left) },
       omega (arith, d .room, if4 .left),
       d .names,
       d .long,

@@ -5,8 +5,8 @@ use lib.ListN.{length, length-set}
 use Rattle.protocol.specs.Calls.{node-limit}
 use Rattle.form.specs.Form.{slots, apart}
 use Rattle.form.specs.Laws.Slots.{slots-from, slots-begin, slots-high, slots-met, slots-next, slots-end}
-use Rattle.form.proofs.slots.Statement.{statement}
-use Rattle.form.proofs.slots.Tie as tie
+use Rattle.form.proofs.distinct_slots.Statement.{statement}
+use Rattle.form.proofs.distinct_slots.Tie as tie
 
 abbrev Inv-loop : tie.InvT-loop
 Inv-loop s met₀ i₀ met i = (i ≤ 1024) × (length met ≡ 1024) × (apart node-limit (slots s) ≡ slots-from s met i)
@@ -36,7 +36,7 @@ loop-again c =
 returns-3 : tie.Need-returns-3 Inv-loop μ-loop
 returns-3 c = slots-end _ _ _ (c .before .loop .inv .2) (search needs)
 
-pub slots-spec : {M : Type 1} → statement M
-slots-spec = tie.close (tie.spec Inv-loop μ-loop loop-holds (λ c. search needs) (λ c. search needs) (λ c κs. search needs)
+pub distinct-slots-spec : {M : Type 1} → statement M
+distinct-slots-spec = tie.close (tie.spec Inv-loop μ-loop loop-holds (λ c. search needs) (λ c. search needs) (λ c κs. search needs)
     (λ c. search needs) returns (λ c. search needs) returns-2 (λ c. search needs) (λ c. search needs) (λ c. search needs) loop-again
     returns-3)
