@@ -21,8 +21,8 @@ use Rattle.locks.specs.Modes.{clash}
 use Rattle.locks.specs.Needs.{locks}
 use Rattle.protocol.specs.State.{start-state, nodes, callers-document, document-of, grant, commit-tree, abort-tree, tree-of}
 use Rattle.protocol.specs.Lent.{first-lent, second-lent}
-use Rattle.protocol.specs.Calls.{node-limit, ascending-from, loadable, unreadable, stands-for, Call, start, load, begin, commit, abort, step}
-use Rattle.protocol.specs.Calls.{Outcome, granted, waits, refused, refused-at, wait-set, judged, next}
+use Rattle.protocol.specs.Calls.{node-limit, ascending-from, loadable, unreadable, stands-for, Call, start, load, begin}
+use Rattle.protocol.specs.Calls.{commit, abort, step, Outcome, granted, waits, refused, refused-at, wait-set, judged, next}
 use Rattle.protocol.specs.Answers.{lent-after}
 use Rattle.protocol.specs.History.{history, state-after}
 use Rattle.protocol.specs.Examples.{Item, gives, fills, does, played, from-E}

@@ -58,7 +58,6 @@ returns-2 c = selecting-end (c .before .loop .inv) (search needs) (search needs)
 
 pub select-spec : {M : Type 1} → statement M
 select-spec = tie.close (tie.spec Inv-loop μ-loop (λ c κs. search needs) (λ c κs. search needs) (λ c. search needs) (λ c. search needs)
-    (λ c. search needs) loop-holds (λ c. search needs) depth-requires-2 returns (λ c. search needs) (λ c κs. search needs) (λ c. search needs)
-    loop-again
-    deleter-requires (λ c. search needs) (λ c. search needs) (λ c. search needs) loop-again-2 (λ c. search needs) (λ c. search needs)
-    (λ c. search needs) (λ c. search needs) (λ c. search needs) loop-again-3 returns-2)
+    (λ c. search needs) loop-holds (λ c. search needs) depth-requires-2 returns (λ c. search needs) (λ c κs. search needs)
+    (λ c. search needs) loop-again deleter-requires (λ c. search needs) (λ c. search needs) (λ c. search needs) loop-again-2
+    (λ c. search needs) (λ c. search needs) (λ c. search needs) (λ c. search needs) (λ c. search needs) loop-again-3 returns-2)
