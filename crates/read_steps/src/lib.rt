@@ -40,7 +40,7 @@ pub fn read(s: &mut [u8], t: u32, n: u16, out: &mut [u8]) -> Answer
     if out.len() < size {
         return Answer::Refused(causes::SHORT_BUFFER);
     }
-    reading::content(s, at.place, size, out);
+    reading::content(s, at.place, out);
     engine::grant(s, at, need);
     Answer::Count(size as u32)
 }

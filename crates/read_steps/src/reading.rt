@@ -83,26 +83,21 @@ pub fn select(s: &[u8], t: u8, p: usize) -> Places
     Places { places, count }
 }
 
-// The content of the node at i, n bytes, to the bytes from k on.
-fn copy(s: &[u8], i: usize, n: usize, out: &mut [u8], k: usize)
-    requires { ⌜ (Layout (now s)) × (i < length (nodes (now s))) × (n ≡ length (item (nodes (now s)) i .now .content))
-        × (k + n ≤ length (now out)) ⌝ }
+// The content of the node at i to the bytes from k on.
+fn copy(s: &[u8], i: usize, out: &mut [u8], k: usize)
+    requires { ⌜ (Layout (now s)) × (i < length (nodes (now s)))
+        × (k + length (item (nodes (now s)) i .now .content) ≤ length (now out)) ⌝ }
     ensures { λ r. ⌜ Stored k (item (nodes (now (s .entry))) i .now .content) (now (out .entry)) (now (out .exit)) ⌝ }
 {
-    let mut j: usize = 0;
-    while j < n {
-        out[k + j] = table::content(s, i, 0, j);
-        j += 1;
-    }
+    layout::store(out, k, table::content_bytes(s, i, 0));
 }
 
-// The content of the node at i, n bytes, to a lent buffer.
-pub fn content(s: &[u8], i: usize, n: usize, out: &mut [u8])
-    requires { ⌜ (Layout (now s)) × (i < length (nodes (now s))) × (n ≡ length (item (nodes (now s)) i .now .content))
-        × (n ≤ length (now out)) ⌝ }
+// The content of the node at i to a lent buffer.
+pub fn content(s: &[u8], i: usize, out: &mut [u8])
+    requires { ⌜ (Layout (now s)) × (i < length (nodes (now s))) × (length (item (nodes (now s)) i .now .content) ≤ length (now out)) ⌝ }
     ensures { λ r. ⌜ now (out .exit) ≡ filled (item (nodes (now (s .entry))) i .now .content) (now (out .entry)) ⌝ }
 {
-    copy(s, i, n, out, 0);
+    copy(s, i, out, 0);
 }
 
 // The cell of the node at i to the bytes from k on: length, content, zeros.
@@ -113,7 +108,7 @@ fn put_cell(s: &[u8], i: usize, out: &mut [u8], k: usize)
 {
     let n = table::size(s, i, 0);
     out[k] = n as u8;
-    copy(s, i, n, out, k + 1);
+    copy(s, i, out, k + 1);
     layout::clear(out, k + 1 + n, 32 - n);
 }
 

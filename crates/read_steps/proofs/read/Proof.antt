@@ -1,4 +1,5 @@
 use borrow.Author.Needs.{needs}
+use native.Mathlib.Omega.{arith}
 use mathlib.Core.Path.{refl}
 use Rattle.locks.specs.declared.StepName.the-variants as name
 use Rattle.table.specs.Laws.Kept.{left-kept}
@@ -57,7 +58,7 @@ content-requires c κs =
     let at-admit = at-document-cause .before .before in
     let f = step-free name.R (R _) refl (at-admit .admit .ensures) (at-document-cause .document-cause .ensures)
     (at-needed .needed .ensures) (at-judge .judge .ensures) (at-if1 .if1 .left) in
-    (f .standing .layout, f .standing .inside, at-size .size .ensures .0, search needs)
+    (f .standing .layout, f .standing .inside, omega (arith, at-size .size .ensures .0))
 
 grant-requires : tie.Need-grant-requires
 grant-requires c κs =

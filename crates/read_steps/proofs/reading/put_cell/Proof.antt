@@ -9,7 +9,7 @@ copy-requires : tie.Need-copy-requires
 copy-requires c κs =
     let pre = c .before .before .before .before .pre in
     let size = c .before .size in
-    (pre .0, pre .1, size .ensures .0, simp length-set (omega arith))
+    (pre .0, pre .1, simp length-set (omega (arith, size .ensures .0, size .ensures .1)))
 
 clear-requires : tie.Need-clear-requires
 clear-requires c κs =
