@@ -15,8 +15,8 @@ pub fn number(s: &[u8], i: usize) -> u32
     layout::word(s, layout::OUTLINE + layout::ENTRY * i + 4) as u32
 }
 
-// The bucket of a number: bits 21 to 31 of its product with a prime near 2^32 divided by the golden ratio, which spreads numbers of any
-// regular step.
+// The bucket of a number: bits 21 to 31 of its product with a prime near 2^32 divided by the golden ratio, so that numbers in regular steps
+// seldom share one.
 fn bucket(w: u32) -> usize
     ensures { λ r. ⌜ (r ≡ bucket w) × (r < 2048) ⌝ }
 {

@@ -1,13 +1,12 @@
 use Rattle.xml_load.specs.Laws.Whole.{taken-length, judged-long, judged-short}
 use native.Mathlib.Omega.{arith}
+use lib.ListN.{length-take}
 use borrow.Author.Needs.{needs}
 use Rattle.xml_load.proofs.judging.judge.Statement.{statement}
 use Rattle.xml_load.proofs.judging.judge.Tie as tie
 
 unlimited-requires : tie.Need-unlimited-requires
-unlimited-requires c κs =
-    let c1 = c .before in
-    (search needs, search needs, omega (arith, taken-length 65537 (c1 .before .before .args .x .now) (omega (arith, c1 .if1 .taken))))
+unlimited-requires c κs = (search needs, search needs, simp length-take (omega arith))
 
 pub judge-spec : {M : Type 1} → statement M
 judge-spec = tie.close (tie.spec (λ c. taken-length _ (c .before .before .before .args .x .now) (omega (arith, c .before .if1 .taken)))

@@ -17,6 +17,11 @@ Inv-loop s names₀ spare i₀ depth₀ n₀ names i depth n = (i ≤ length s) 
 abbrev μ-loop : tie.MeasureT-loop
 μ-loop s names₀ spare i₀ depth₀ n₀ names i depth n = length s - i
 
+child-requires : tie.Need-child-requires Inv-loop μ-loop
+child-requires c κs =
+    let l = c .before .before .loop in
+    (l .inv .1 .begins-here, content-deep _ _ _ _ _ _ _ _ (l .inv .1) (omega arith))
+
 returns : tie.Need-returns Inv-loop μ-loop
 returns c =
     let a = c .before .before .before .before .before .before .before .before .args in
@@ -54,6 +59,6 @@ loop-again c =
 
 pub root-content-spec : {M : Type 1} → statement M
 root-content-spec = tie.close (tie.spec Inv-loop μ-loop
-    (λ c. (c .before .pre .0 .inside, content-start _ _ _ _ (c .before .pre .0) (c .before .pre .1))) (λ c κs. search (content-deep, needs))
+    (λ c. (c .before .pre .0 .inside, content-start _ _ _ _ (c .before .pre .0) (c .before .pre .1))) child-requires
     (λ c. search needs) returns (λ c. search needs) loop-less loop-again (λ c κs. c .before .loop .inv .0)
     (λ c. content-over _ _ _ _ _ _ _ _ (c .before .before .loop .inv .1) (c .before .loop-test .left) _ (c .behind-root .ensures)))
