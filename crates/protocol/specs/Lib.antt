@@ -8,3 +8,4 @@ pub mod Examples
 pub mod Mistakes
 pub mod Refusals
 pub mod PlainRun
+pub mod Laws

@@ -1,20 +1,17 @@
 -- The order of causes: document 01, "Refused calls": "Order: 1, 2 or 3, 7, 8, 9, 10, wait, 11, 12, 13. Load: 15, then the earliest offset".
 -- Two tables, one theorem; where a line says "before", both causes apply to the call. Load's offsets are in xml/specs/Laws/Examples.
-use Prim.Native.Nat.{ℕ, zero, suc, _+_, _<_}
+use Prim.Native.Nat.{ℕ, zero, suc}
 use mathlib.Core.Path.{_≡_, refl}
-use mathlib.Core.Bool.{true, false, _&&_}
+use mathlib.Core.Bool.{true, _&&_}
 use mathlib.Core.List.{List, [], _∷_, map}
-use native.Mathlib.Omega.{arith}
 use lib.ListN.{length}
-use lib.Dec.{eqb, leb}
-use borrow.Author.Tests.{eqb-true, ne-eqb}
+use lib.Dec.{leb}
 use Rattle.tree.specs.Text.{bytes}
-use Rattle.tree.specs.Lists.{has, distinct, keep}
+use Rattle.tree.specs.Lists.{keep}
 use Rattle.tree.specs.Forest.{nil, node, rows, amend, view, place, put}
 use Rattle.tree.specs.Content.{name-start, name-byte, text-byte, is-name, is-text, allowed, takes, attributes-first, children-rule}
 use Rattle.tree.specs.Content.{insert-at}
 use Rattle.tree.specs.Document.{Document, node-0-alone, lines, numbers, select, ruled, rooted, legal}
-use Rattle.tree.specs.Laws.Tests.{and-left, and-right}
 use Rattle.tree.specs.Steps.{Step, T, C, R, U, D, I, TT, RR, UU, placed, done, child-is, none, content-is, numbers-are, cells-are, how-many}
 use Rattle.tree.specs.Examples.{tree-E}
 use Rattle.locks.specs.Modes.{clash}
@@ -26,6 +23,7 @@ use Rattle.protocol.specs.Calls.{commit, abort, step, Outcome, granted, 
 use Rattle.protocol.specs.Answers.{lent-after}
 use Rattle.protocol.specs.History.{history, state-after}
 use Rattle.protocol.specs.Examples.{Item, gives, fills, does, played, from-E}
+use Rattle.protocol.specs.Laws.Ascending.{ascending-distinct}
 
 -- t does s with one lent buffer, which holds these bytes before and after; with two lent buffers of these lengths
 abbrev lends : ℕ → Step → List ℕ → Outcome → List ℕ → Item
@@ -157,19 +155,6 @@ elements i (suc n) below = node (record { number = i; kind = 2; content = bytes 
 -- node 0, the root 1, and 1,022 elements under it
 unfoldable pub full : Document
 full = node (record { number = 0; kind = 1; content = [] }) (elements 1 1 (elements 2 1022 nil)) nil
-
--- numbers that count up are distinct: computed for 1,024 of them, that takes half a million comparisons
-ascending-new : (q i : ℕ) (l : List ℕ) → q < i → ascending-from i l ≡ true → has q l ≡ false
-ascending-new q i [] h a = refl
-ascending-new q i (n ∷ l) h a =
-    let e = eqb-true n i (and-left (eqb n i) _ a) in
-    rw (ne-eqb n q (λ x. omega (arith, e))) (ascending-new q (i + 1) l (omega arith) (and-right (eqb n i) _ a))
-
-ascending-distinct : (i : ℕ) (l : List ℕ) → ascending-from i l ≡ true → distinct l ≡ true
-ascending-distinct i [] a = refl
-ascending-distinct i (n ∷ l) a =
-    let e = eqb-true n i (and-left (eqb n i) _ a) in
-    let b = and-right (eqb n i) _ a in rw (ascending-new n (i + 1) l (omega (arith, e)) b) (ascending-distinct (i + 1) l b)
 
 counted-loadable : (d : Document) → (rooted d && ruled d) ≡ true → leb (length (lines d)) node-limit ≡ true
     → ascending-from 0 (numbers (lines d)) ≡ true → loadable node-limit d ≡ true

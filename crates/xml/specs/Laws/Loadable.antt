@@ -7,13 +7,14 @@ use native.Mathlib.Omega.{arith}
 use native.Mathlib.Numerals.{add-one}
 use lib.Dec.{eqb, leb}
 use lib.ListN.{length, length-map}
-use borrow.Author.Tests.{le-leb, eq-eqb, ne-eqb}
-use Rattle.tree.specs.Lists.{every, has, distinct}
+use borrow.Author.Tests.{le-leb, eq-eqb}
+use Rattle.tree.specs.Lists.{every}
 use Rattle.tree.specs.Forest.{nil, node, rows}
 use Rattle.tree.specs.Content.{content-limit, attribute-kind, element-kind, text-byte, is-name, is-text, spells-name, allowed, takes}
 use Rattle.tree.specs.Content.{attributes-first, children-rule}
 use Rattle.tree.specs.Document.{lines, numbers, top-kinds, ruled, legal}
 use Rattle.protocol.specs.Calls.{node-limit, ascending-from, loadable}
+use Rattle.protocol.specs.Laws.Ascending.{ascending-distinct}
 use Rattle.xml.specs.Shape.{Shape, size, longest, numbered, document}
 use Rattle.xml.specs.Grammar.{Name, text-node, Spells}
 use Rattle.xml.specs.Laws.Structure.{Spot, attributes, children, behind-text, Formed, formed-nil, formed-attribute, formed-text}
@@ -51,16 +52,6 @@ ascending : (i n : ℕ) → ascending-from i (from i n) ≡ true
 unfolding from
 ascending i zero = refl
 ascending i (suc n) = rw (eq-eqb i i refl, add-one i) (ascending (suc i) n)
-
-not-has : (q i n : ℕ) → q < i → has q (from i n) ≡ false
-unfolding from
-not-has q i zero h = refl
-not-has q i (suc n) h = rw (ne-eqb i q (λ e. omega arith)) (not-has q (suc i) n (omega arith))
-
-distinct-from : (i n : ℕ) → distinct (from i n) ≡ true
-unfolding from
-distinct-from i zero = refl
-distinct-from i (suc n) = rw (not-has i (suc i) n (omega arith)) (distinct-from (suc i) n)
 
 length-from : (i n : ℕ) → length (from i n) ≡ n
 unfolding from
@@ -147,8 +138,8 @@ pub spelled-loadable : {s : List ℕ} {f : Shape} → Spells s f → suc (size f
 unfolding loadable legal lines size numbered
 spelled-loadable {s} {f} x few short =
     let p : numbers (lines (document f)) ≡ from 0 (suc (size f + 0)) = numbers-from [] 0 (node (record { kind = 1; content = [] }) f nil) in
-    let d : distinct (numbers (lines (document f))) ≡ true = rw p (distinct-from 0 (suc (size f + 0))) in
     let a : ascending-from 0 (numbers (lines (document f))) ≡ true = rw p (ascending 0 (suc (size f + 0))) in
     let l : leb (length (lines (document f))) node-limit
     ≡ true = le-leb (length (lines (document f))) node-limit (omega (arith, lines-length f)) in
-    both (both (both (both refl (document-ruled (spelled-formed x) short)) d) l) a
+    both (both (both (both refl (document-ruled (spelled-formed x) short))
+    (ascending-distinct 0 (numbers (lines (document f))) a)) l) a
