@@ -56,13 +56,14 @@ pub fn test_tree(s: &mut [u8], t: u32, n: u16, out: &mut [u8]) -> Answer
     if !verdict.free {
         return verdict.answer;
     }
-    let nodes = reading::select(s, at.t, at.place);
-    if out.len() < 2 * nodes.count {
+    let mut nodes = [0u16; 1024];
+    let count = reading::select(s, at.t, at.place, &mut nodes);
+    if out.len() < 2 * count {
         return Answer::Refused(causes::SHORT_BUFFER);
     }
-    reading::numbers(s, nodes, out);
+    reading::numbers(s, &nodes, count, out);
     engine::grant(s, at, need);
-    Answer::Count(nodes.count as u32)
+    Answer::Count(count as u32)
 }
 
 // RR(n): as TT, and a 33-byte cell each to a second lent buffer.
@@ -79,15 +80,16 @@ pub fn read_tree(s: &mut [u8], t: u32, n: u16, out: &mut [u8], cells: &mut [u8])
     if !verdict.free {
         return verdict.answer;
     }
-    let tree = reading::select(s, at.t, at.place);
-    if out.len() < 2 * tree.count {
+    let mut nodes = [0u16; 1024];
+    let count = reading::select(s, at.t, at.place, &mut nodes);
+    if out.len() < 2 * count {
         return Answer::Refused(causes::SHORT_BUFFER);
     }
-    if cells.len() < 33 * tree.count {
+    if cells.len() < 33 * count {
         return Answer::Refused(causes::SHORT_BUFFER);
     }
-    reading::numbers(s, tree, out);
-    reading::cells(s, tree, cells);
+    reading::numbers(s, &nodes, count, out);
+    reading::cells(s, &nodes, count, cells);
     engine::grant(s, at, need);
-    Answer::Count(tree.count as u32)
+    Answer::Count(count as u32)
 }

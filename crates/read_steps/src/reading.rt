@@ -1,7 +1,6 @@
 // What reading steps find in the lent bytes: a child, a content, a subtree as the caller sees it; and what they put into lent buffers.
 use protocol::Answer;
 use table::layout;
-use table::layout::Places;
 ghost use mathlib.Core.Path.{_≡_};
 ghost use mathlib.Core.List.{map};
 ghost use Prim.Native.Nat.{_+_, _*_, _<_, _≤_};
@@ -50,14 +49,13 @@ pub fn kth_child(s: &[u8], t: u8, p: usize, k: u32) -> Answer
     Answer::NoChild
 }
 
-// The places of the node at p and of all below it that t sees, in document order; t did not delete the node.
-pub fn select(s: &[u8], t: u8, p: usize) -> Places
-    requires { ⌜ (Layout (now s)) × (p < length (nodes (now s))) ⌝ }
-    ensures { λ r. ⌜ Selected (nodes (now (s .entry))) t p r ⌝ }
+// The places of the node at p and of all below it that t sees, in document order; how many. t did not delete the node.
+pub fn select(s: &[u8], t: u8, p: usize, places: &mut [u16; 1024]) -> usize
+    requires { ⌜ (Layout (now s)) × (p < length (nodes (now s))) × (length (now places) ≡ 1024) ⌝ }
+    ensures { λ r. ⌜ Selected (nodes (now (s .entry))) t p (record { places = now (places .exit); count = r }) ⌝ }
 {
     let total = table::count(s);
     let e = table::depth(s, p);
-    let mut places = [0u16; 1024];
     places[0] = p as u16;
     let mut count: usize = 1;
     let mut hidden: usize = 0;
@@ -67,7 +65,7 @@ pub fn select(s: &[u8], t: u8, p: usize) -> Places
         i += 1;
         let d = table::depth(s, j);
         if d <= e {
-            return Places { places, count };
+            return count;
         }
         if layout::left_out(hidden, d as usize) {
             continue;
@@ -80,7 +78,7 @@ pub fn select(s: &[u8], t: u8, p: usize) -> Places
         places[count] = j as u16;
         count += 1;
     }
-    Places { places, count }
+    count
 }
 
 // The content of the node at i to the bytes from k on.
@@ -112,30 +110,31 @@ fn put_cell(s: &[u8], i: usize, out: &mut [u8], k: usize)
     layout::clear(out, k + 1 + n, 32 - n);
 }
 
-// The numbers of a subtree to a lent buffer, low byte first.
-pub fn numbers(s: &[u8], tree: Places, out: &mut [u8])
-    requires { ⌜ (Layout (now s)) × Inside (nodes (now s)) tree × (2 * (tree .count) ≤ length (now out)) ⌝ }
-    ensures { λ r. ⌜ now (out .exit) ≡ filled (list-bytes (map number-of (nodes-of (nodes (now (s .entry))) tree))) (now (out .entry)) ⌝ }
+// The numbers of the nodes at these places to a lent buffer, low byte first.
+pub fn numbers(s: &[u8], places: &[u16; 1024], count: usize, out: &mut [u8])
+    requires { ⌜ (Layout (now s)) × Inside (nodes (now s)) (record { places = now places; count = count })
+        × (2 * count ≤ length (now out)) ⌝ }
+    ensures { λ r. ⌜ now (out .exit) ≡ filled (list-bytes (map number-of
+        (nodes-of (nodes (now (s .entry))) (record { places = now (places .entry); count = count })))) (now (out .entry)) ⌝ }
 {
-    let count = tree.count;
     let mut j: usize = 0;
     while j < count {
-        let n = table::number(s, tree.places[j] as usize);
+        let n = table::number(s, places[j] as usize);
         layout::set_word(out, 2 * j, n);
         j += 1;
     }
 }
 
-// The cells of a subtree to a lent buffer, 33 bytes each.
-pub fn cells(s: &[u8], tree: Places, out: &mut [u8])
-    requires { ⌜ (Layout (now s)) × Inside (nodes (now s)) tree × (33 * (tree .count) ≤ length (now out)) ⌝ }
-    ensures { λ r. ⌜ now (out .exit) ≡ filled (cells (map (λ a. (number-of a, a .now .content)) (nodes-of (nodes (now (s .entry))) tree)))
-        (now (out .entry)) ⌝ }
+// The cells of the nodes at these places to a lent buffer, 33 bytes each.
+pub fn cells(s: &[u8], places: &[u16; 1024], count: usize, out: &mut [u8])
+    requires { ⌜ (Layout (now s)) × Inside (nodes (now s)) (record { places = now places; count = count })
+        × (33 * count ≤ length (now out)) ⌝ }
+    ensures { λ r. ⌜ now (out .exit) ≡ filled (cells (map (λ a. (number-of a, a .now .content))
+        (nodes-of (nodes (now (s .entry))) (record { places = now (places .entry); count = count })))) (now (out .entry)) ⌝ }
 {
-    let count = tree.count;
     let mut j: usize = 0;
     while j < count {
-        put_cell(s, tree.places[j] as usize, out, 33 * j);
+        put_cell(s, places[j] as usize, out, 33 * j);
         j += 1;
     }
 }

@@ -22,17 +22,17 @@ returns c =
 
 select-requires : tie.Need-select-requires
 select-requires c κs =
-    let at-judge = c .before .before .before in
+    let at-judge = c .before .before .before .before in
     let at-needed = at-judge .before .before in
     let at-admit = at-needed .before in
     let f = step-free name.RR (RR _) refl (at-admit .admit .ensures) (none-first _) (at-needed .needed .ensures)
-    (at-judge .judge .ensures) (c .before .if1 .left) in
-    (f .standing .layout, f .standing .inside)
+    (at-judge .judge .ensures) (c .before .before .if1 .left) in
+    (f .standing .layout, f .standing .inside, refl)
 
 returns-2 : tie.Need-returns-2
 returns-2 c =
-    let at-select = c .before .before in
-    let at-if1 = at-select .before .before in
+    let at-select = c .before in
+    let at-if1 = at-select .before .before .before in
     let at-judge = at-if1 .before .before in
     let at-needed = at-judge .before .before in
     let at-admit = at-needed .before in
@@ -46,8 +46,8 @@ returns-2 c =
 
 returns-3 : tie.Need-returns-3
 returns-3 c =
-    let at-select = c .before .before .before .before in
-    let at-if1 = at-select .before .before in
+    let at-select = c .before .before in
+    let at-if1 = at-select .before .before .before in
     let at-judge = at-if1 .before .before in
     let at-needed = at-judge .before .before in
     let at-admit = at-needed .before in
@@ -61,8 +61,8 @@ returns-3 c =
 
 numbers-requires : tie.Need-numbers-requires
 numbers-requires c κs =
-    let at-select = c .before .before .before .before .before .before in
-    let at-if1 = at-select .before .before in
+    let at-select = c .before .before .before .before .before in
+    let at-if1 = at-select .before .before .before in
     let at-judge = at-if1 .before .before in
     let at-needed = at-judge .before .before in
     let at-admit = at-needed .before in
@@ -72,19 +72,20 @@ numbers-requires c κs =
 
 cells-requires : tie.Need-cells-requires
 cells-requires c κs =
-    let at-select = c .before .before .before .before .before .before .before .before .before .before .before in
-    let at-if1 = at-select .before .before in
+    let at-if3 = c .before .before .before .before .before .before .before .before .before in
+    let at-select = at-if3 .before .before in
+    let at-if1 = at-select .before .before .before in
     let at-judge = at-if1 .before .before in
     let at-needed = at-judge .before .before in
     let at-admit = at-needed .before in
     let f = step-free name.RR (RR _) refl (at-admit .admit .ensures) (none-first _) (at-needed .needed .ensures)
     (at-judge .judge .ensures) (at-if1 .if1 .left) in
-    (f .standing .layout, at-select .select .ensures .inside, c .before .before .before .before .before .before .before .if3 .left)
+    (f .standing .layout, at-select .select .ensures .inside, at-if3 .if3 .left)
 
 grant-requires : tie.Need-grant-requires
 grant-requires c κs =
     let at-if1 = c .before .before .before .before .before .before .before .before .before .before .before .before .before .before .before
-    .before .before in
+    .before .before .before in
     let at-judge = at-if1 .before .before in
     let at-needed = at-judge .before .before in
     let at-admit = at-needed .before in
@@ -95,13 +96,13 @@ grant-requires c κs =
 returns-4 : tie.Need-returns-4
 unfolding stepped
 returns-4 c =
-    let at-grant = c .before .before .before in
+    let at-grant = c .before .before in
     let at-cells = at-grant .before .before .before .before in
-    let at-numbers = at-cells .before .before .before .before .before in
-    let at-if3 = at-numbers .before .before .before in
-    let at-if2 = at-if3 .before .before in
-    let at-select = at-if2 .before .before in
-    let at-if1 = at-select .before .before in
+    let at-numbers = at-cells .before .before .before .before .before .before in
+    let at-if3 = at-numbers .before .before .before .before in
+    let at-if2 = at-if3 .before in
+    let at-select = at-if2 .before in
+    let at-if1 = at-select .before .before .before in
     let at-judge = at-if1 .before .before in
     let at-needed = at-judge .before .before in
     let at-admit = at-needed .before in

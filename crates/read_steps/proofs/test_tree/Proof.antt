@@ -21,17 +21,17 @@ returns c =
 
 select-requires : tie.Need-select-requires
 select-requires c κs =
-    let at-judge = c .before .before .before in
+    let at-judge = c .before .before .before .before in
     let at-needed = at-judge .before .before in
     let at-admit = at-needed .before in
     let f = step-free name.TT (TT _) refl (at-admit .admit .ensures) (none-first _) (at-needed .needed .ensures)
-    (at-judge .judge .ensures) (c .before .if1 .left) in
-    (f .standing .layout, f .standing .inside)
+    (at-judge .judge .ensures) (c .before .before .if1 .left) in
+    (f .standing .layout, f .standing .inside, refl)
 
 returns-2 : tie.Need-returns-2
 returns-2 c =
-    let at-select = c .before .before in
-    let at-if1 = at-select .before .before in
+    let at-select = c .before in
+    let at-if1 = at-select .before .before .before in
     let at-judge = at-if1 .before .before in
     let at-needed = at-judge .before .before in
     let at-admit = at-needed .before in
@@ -45,17 +45,17 @@ returns-2 c =
 numbers-requires : tie.Need-numbers-requires
 numbers-requires c κs =
     let at-select = c .before .before .before .before in
-    let at-if1 = at-select .before .before in
+    let at-if1 = at-select .before .before .before in
     let at-judge = at-if1 .before .before in
     let at-needed = at-judge .before .before in
     let at-admit = at-needed .before in
     let f = step-free name.TT (TT _) refl (at-admit .admit .ensures) (none-first _) (at-needed .needed .ensures)
     (at-judge .judge .ensures) (at-if1 .if1 .left) in
-    (f .standing .layout, at-select .select .ensures .inside, search needs)
+    (f .standing .layout, at-select .select .ensures .inside, c .before .before .before .if2 .left)
 
 grant-requires : tie.Need-grant-requires
 grant-requires c κs =
-    let at-if1 = c .before .before .before .before .before .before .before .before .before .before in
+    let at-if1 = c .before .before .before .before .before .before .before .before .before .before .before in
     let at-judge = at-if1 .before .before in
     let at-needed = at-judge .before .before in
     let at-admit = at-needed .before in
@@ -66,11 +66,11 @@ grant-requires c κs =
 returns-3 : tie.Need-returns-3
 unfolding stepped
 returns-3 c =
-    let at-grant = c .before .before .before in
+    let at-grant = c .before .before in
     let at-numbers = at-grant .before .before .before .before in
-    let at-if2 = at-numbers .before .before .before in
-    let at-select = at-if2 .before .before in
-    let at-if1 = at-select .before .before in
+    let at-if2 = at-numbers .before .before .before .before in
+    let at-select = at-if2 .before in
+    let at-if1 = at-select .before .before .before in
     let at-judge = at-if1 .before .before in
     let at-needed = at-judge .before .before in
     let at-admit = at-needed .before in

@@ -8,10 +8,10 @@ use Rattle.read_steps.proofs.reading.numbers.Statement.{statement}
 use Rattle.read_steps.proofs.reading.numbers.Tie as tie
 
 abbrev Inv-loop : tie.InvT-loop
-Inv-loop s out₀ tree count j₀ out j = (j ≤ tree .count) × Written number-piece 2 (nodes s) (tree .places) j out₀ out
+Inv-loop s places count out₀ j₀ out j = (j ≤ count) × Written number-piece 2 (nodes s) places j out₀ out
 
 abbrev μ-loop : tie.MeasureT-loop
-μ-loop s out₀ tree count j₀ out j = tree .count - j
+μ-loop s places count out₀ j₀ out j = count - j
 
 loop-holds : tie.Need-loop-holds Inv-loop μ-loop
 loop-holds c = (search needs, written-start _ _ _ _ _)

@@ -1,7 +1,7 @@
 use borrow.Author.Needs.{needs}
 use Prim.Native.Nat.{_-_}
-use mathlib.Core.Path.{refl, sym, _∙_}
-use lib.ListN.{length, replicate}
+use mathlib.Core.Path.{sym, _∙_}
+use lib.ListN.{length}
 use Rattle.table.specs.Layout.{nodes}
 use Rattle.read_steps.specs.Laws.Subtree.{Selecting, selecting-start, selecting-end, selecting-left}
 use Rattle.read_steps.specs.Laws.Subtree.{selecting-hidden, selecting-deleted, selecting-found}
@@ -9,13 +9,15 @@ use Rattle.read_steps.proofs.reading.select.Statement.{statement}
 use Rattle.read_steps.proofs.reading.select.Tie as tie
 
 abbrev Inv-loop : tie.InvT-loop
-Inv-loop s t p total e places₀ count₀ hidden₀ i₀ places count hidden i = Selecting (nodes s) t p e hidden i count places
+Inv-loop s t p places₀ total e count₀ hidden₀ i₀ places count hidden i = Selecting (nodes s) t p e hidden i count places
 
 abbrev μ-loop : tie.MeasureT-loop
-μ-loop s t p total e places₀ count₀ hidden₀ i₀ places count hidden i = length (nodes s) - i
+μ-loop s t p places₀ total e count₀ hidden₀ i₀ places count hidden i = length (nodes s) - i
 
 loop-holds : tie.Need-loop-holds Inv-loop μ-loop
-loop-holds c = selecting-start _ (replicate 1024 0) (search needs) (c .depth .ensures) refl
+loop-holds c =
+    let start = c .before .before .before in
+    selecting-start _ (start .args .places .now) (search needs) (c .depth .ensures) (start .pre .2)
 
 depth-requires-2 : tie.Need-depth-requires-2 Inv-loop μ-loop
 depth-requires-2 c κs = (c .before .before .before .before .before .pre .0, search needs)
