@@ -13,6 +13,7 @@ use Rattle.rows.specs.Places.{item, number-of, seen-at}
 use Rattle.rows.specs.Found.{judged-at}
 use Rattle.engine.specs.Way.{Climbed}
 use Rattle.form.specs.Form.{form, Holds}
+use Rattle.table.specs.declared.layout.Places.{Places}
 use Rattle.engine.specs.declared.Admission.{Admission}
 
 -- the caller ---------------------------------------------------------------------------
@@ -37,13 +38,23 @@ pub record Caller (s : List ℕ) (t cause : ℕ) : Type 0 where
 
 -- the node -----------------------------------------------------------------------------
 
+-- what is found of a step, with the way up from its node, whose places are lent
+pub record Site : Type 0 where
+  pub cause : ℕ
+  pub t : ℕ
+  pub place : ℕ
+  pub way : Places
+
+abbrev pub site : Admission → List ℕ → Site
+site a places = record { cause = a .cause; t = a .t; place = a .place; way = record { places = places; count = a .count } }
+
 -- every step of t on n is refused by this cause: 13, 1, 3 or 7
 pub record Rejected (s : List ℕ) (t n cause : ℕ) : Type 0 where
   pub unformed : form s ≡ false → cause ≡ 13
   pub formed : (M : State) → Holds s M → (st : Step) → target st ≡ n → (room : Room) → next (step t st room) M ≡ unchanged (refused cause) M
 
 -- t is open, and sees node n at the place; every step of t on n is judged there, by what comes behind 7
-pub record Standing (s : List ℕ) (t n : ℕ) (a : Admission) : Type 0 where
+pub record Standing (s : List ℕ) (t n : ℕ) (a : Site) : Type 0 where
   pub formed : form s ≡ true
   pub layout : Layout s
   pub same : a .t ≡ t
@@ -57,6 +68,6 @@ pub record Standing (s : List ℕ) (t n : ℕ) (a : Admission) : Type 0 where
       → next (step t st room) M ≡ judged-at (a .t) st room M (nodes s) (a .place)
 
 -- which of the two, by the cause, 0 for none
-pub record Admitted (s : List ℕ) (t n : ℕ) (a : Admission) : Type 0 where
+pub record Admitted (s : List ℕ) (t n : ℕ) (a : Site) : Type 0 where
   pub rejected : (a .cause ≡ 0 → ⊥) → Rejected s t n (a .cause)
   pub standing : a .cause ≡ 0 → Standing s t n a

@@ -15,8 +15,7 @@ use Rattle.table.specs.Layout.{Entry, nodes, is-open}
 use Rattle.rows.specs.Places.{item, ups, children}
 use Rattle.rows.specs.Found.{kind-of, used-in, limit-reached-in, answer-at, wait-word}
 use Rattle.engine.specs.Contract.{Performed, Lent}
-use Rattle.engine.specs.Admission.{Standing, Admitted}
-use Rattle.engine.specs.declared.Admission.{Admission}
+use Rattle.engine.specs.Admission.{Site, Standing, Admitted}
 use Rattle.engine.specs.declared.Verdict.{Verdict}
 
 -- causes ---------------------------------------------------------------------------------
@@ -60,19 +59,19 @@ pub record Stopped (s : List ℕ) (r : Answer) (call : Call) : Type 0 where
   pub lent : (lent : Value → List ℕ) (b : List ℕ) → Lent lent s b b call
 
 -- step st of t was admitted, has this first cause before the wait, and needs these sets
-pub record Asked (s : List ℕ) (t : ℕ) (a : Admission) (cause : ℕ) (w : NeedWords) (st : Step) : Type 0 where
+pub record Asked (s : List ℕ) (t : ℕ) (a : Site) (cause : ℕ) (w : NeedWords) (st : Step) : Type 0 where
   pub admitted : Admitted s t (target st) a
   pub causes : FirstOf (a .cause) (own-cause st (nodes s) (a .place)) cause
   pub needs : w ≡ words (need st)
 
 -- nothing up to the wait keeps the step from being granted
-pub record Free (s : List ℕ) (t : ℕ) (a : Admission) (w : NeedWords) (st : Step) : Type 0 where
+pub record Free (s : List ℕ) (t : ℕ) (a : Site) (w : NeedWords) (st : Step) : Type 0 where
   pub standing : Standing s t (target st) a
   pub fits : own-cause st (nodes s) (a .place) ≡ 0
   pub none : wait-word (a .t) (need st) (is-open s) (item (nodes s) (a .place) ∷ ups (nodes s) (a .place)) ≡ 0
   pub needs : w ≡ words (need st)
 
 -- whatever the step: what keeps it from being granted, or that nothing does
-pub record Judged (s : List ℕ) (a : Admission) (cause : ℕ) (w : NeedWords) (v : Verdict) : Type 0 where
+pub record Judged (s : List ℕ) (a : Site) (cause : ℕ) (w : NeedWords) (v : Verdict) : Type 0 where
   pub stopped : v .free ≡ false → {t : ℕ} {st : Step} → Asked s t a cause w st → (room : Room) → Stopped s (v .answer) (step t st room)
   pub free : v .free ≡ true → {t : ℕ} {st : Step} → Asked s t a cause w st → Free s t a w st

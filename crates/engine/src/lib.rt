@@ -6,7 +6,6 @@ use locks::NeedWords;
 use locks::StepName;
 use protocol::Answer;
 use protocol::causes;
-use table::layout::Places;
 use table::transactions;
 ghost use mathlib.Core.Path.{_≡_};
 ghost use mathlib.Core.Bool.{cond};
@@ -22,7 +21,7 @@ ghost use Rattle.rows.specs.Places.{item, numbers-above};
 ghost use Rattle.engine.specs.Way.{Climbed, Inside};
 ghost use Rattle.engine.specs.Grants.{Granted};
 ghost use Rattle.engine.specs.Contract.{Performed, no-room};
-ghost use Rattle.engine.specs.Admission.{Caller, Admitted};
+ghost use Rattle.engine.specs.Admission.{Caller, site, Admitted};
 ghost use Rattle.engine.specs.Judgement.{FirstOf, Judged};
 
 // The cause 13, 1 or 3 of a call of transaction t, or 0.
@@ -44,31 +43,31 @@ pub fn caller(s: &[u8], t: u32) -> u8
     0
 }
 
-// A step before its own causes: why it is refused, or 0; then its transaction, the place of its node and the way up from there.
+// A step before its own causes: why it is refused, or 0; then its transaction, the place of its node, and how many nodes the way up from
+// there has. Their places are lent beside it, since copies of them would take the most of the stack and of a small step's time.
 pub struct Admission {
     pub cause: u8,
     pub t: u8,
     pub place: usize,
-    pub way: Places,
+    pub count: usize,
 }
 
 // Refused by this cause.
 fn rejected(cause: u8) -> Admission
     ensures { λ r. ⌜ r .cause ≡ cause ⌝ }
 {
-    let places = [0u16; 1024];
-    let way = Places { places, count: 0 };
     Admission {
         cause,
         t: 0,
         place: 0,
-        way,
+        count: 0,
     }
 }
 
-// A step of transaction t on node n: the cause 13, 1, 3 or 7, or where it stands.
-pub fn admit(s: &[u8], t: u32, n: u16) -> Admission
-    ensures { λ r. ⌜ Admitted (now (s .entry)) t n r ⌝ }
+// A step of transaction t on node n: the cause 13, 1, 3 or 7, or where it stands, with the way up from there.
+pub fn admit(s: &[u8], t: u32, n: u16, way: &mut [u16; 1024]) -> Admission
+    requires { ⌜ length (now way) ≡ 1024 ⌝ }
+    ensures { λ r. ⌜ Admitted (now (s .entry)) t n (site r (now (way .exit))) ⌝ }
 {
     let cause = caller(s, t);
     if cause != 0 {
@@ -79,15 +78,15 @@ pub fn admit(s: &[u8], t: u32, n: u16) -> Admission
         return rejected(causes::NO_SUCH_NODE);
     }
     let u = t as u8;
-    let way = locking::way_up(s, u, place);
-    if way.count == 0 {
+    let count = locking::way_up(s, u, place, way);
+    if count == 0 {
         return rejected(causes::NO_SUCH_NODE);
     }
     Admission {
         cause: 0,
         t: u,
         place,
-        way,
+        count,
     }
 }
 
@@ -112,9 +111,9 @@ pub struct Verdict {
 }
 
 // A step that was admitted, with the first cause before the wait, or 0, and what it needs: refused, or waiting, or free.
-pub fn judge(s: &[u8], at: Admission, cause: u8, w: NeedWords) -> Verdict
-    requires { ⌜ (cause ≡ 0 → ((Layout (now s)) × Inside (nodes (now s)) (at .way))) ⌝ }
-    ensures { λ r. ⌜ Judged (now (s .entry)) at cause w r ⌝ }
+pub fn judge(s: &[u8], at: Admission, way: &[u16; 1024], cause: u8, w: NeedWords) -> Verdict
+    requires { ⌜ (cause ≡ 0 → ((Layout (now s)) × Inside (nodes (now s)) (site at (now way) .way))) ⌝ }
+    ensures { λ r. ⌜ Judged (now (s .entry)) (site at (now (way .entry))) cause w r ⌝ }
 {
     if cause != 0 {
         let answer = Answer::Refused(cause);
@@ -123,7 +122,7 @@ pub fn judge(s: &[u8], at: Admission, cause: u8, w: NeedWords) -> Verdict
             answer,
         };
     }
-    let set = locking::waits(s, at.t as usize, w, at.way);
+    let set = locking::waits(s, at.t as usize, w, way, at.count);
     if set != 0 {
         let answer = Answer::Waits(set);
         return Verdict {
@@ -136,37 +135,37 @@ pub fn judge(s: &[u8], at: Admission, cause: u8, w: NeedWords) -> Verdict
 }
 
 // The locks of a step that is granted.
-pub fn grant(s: &mut [u8], at: Admission, w: NeedWords)
-    requires { ⌜ (Layout (now s)) × (1 ≤ at .t) × (at .t ≤ 16) × Inside (nodes (now s)) (at .way) ⌝ }
-    ensures { λ r. ⌜ Granted (now (s .entry)) (now (s .exit)) (at .t) w (at .way) ⌝ }
+pub fn grant(s: &mut [u8], at: Admission, way: &[u16; 1024], w: NeedWords)
+    requires { ⌜ (Layout (now s)) × (1 ≤ at .t) × (at .t ≤ 16) × Inside (nodes (now s)) (site at (now way) .way) ⌝ }
+    ensures { λ r. ⌜ Granted (now (s .entry)) (now (s .exit)) (at .t) w (site at (now (way .entry)) .way) ⌝ }
 {
-    locking::grant(s, at.t as usize, w, at.way);
+    locking::grant(s, at.t as usize, w, way, at.count);
 }
 
 // The number of the node's parent, the second on the way up, or 0 for the document.
-fn parent(s: &[u8], at: Admission) -> u16
-    requires { ⌜ (Layout (now s)) × Climbed (nodes (now s)) (at .place) (at .way) ⌝ }
+fn parent(s: &[u8], at: Admission, way: &[u16; 1024]) -> u16
+    requires { ⌜ (Layout (now s)) × Climbed (nodes (now s)) (at .place) (site at (now way) .way) ⌝ }
     ensures { λ r. ⌜ r ≡ parent (numbers-above (nodes (now (s .entry))) (at .place)) ⌝ }
 {
-    let way = at.way;
-    if way.count < 2 {
+    if at.count < 2 {
         return 0;
     }
-    table::number(s, way.places[1] as usize)
+    table::number(s, way[1] as usize)
 }
 
 // T(n): the kind and the parent of node n.
 pub fn test(s: &mut [u8], t: u32, n: u16) -> Answer
     ensures { λ r. ⌜ Performed (now (s .entry)) (now (s .exit)) r (step t (T n) no-room) ⌝ }
 {
-    let at = admit(s, t, n);
+    let mut way = [0u16; 1024];
+    let at = admit(s, t, n, &mut way);
     let need = locks::needed(StepName::T);
-    let verdict = judge(s, at, at.cause, need);
+    let verdict = judge(s, at, &way, at.cause, need);
     if !verdict.free {
         return verdict.answer;
     }
     let kind = table::kind(s, at.place);
-    let parent = parent(s, at);
-    grant(s, at, need);
+    let parent = parent(s, at, &way);
+    grant(s, at, &way, need);
     Answer::Node { kind, parent }
 }

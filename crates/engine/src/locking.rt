@@ -1,6 +1,5 @@
 // The way up from a node, the transactions that a step waits for there, and the locks that it is granted.
 use locks::NeedWords;
-use table::layout::Places;
 use table::transactions;
 ghost use mathlib.Core.Path.{_≡_};
 ghost use Prim.Native.Nat.{_<_, _≤_};
@@ -13,14 +12,13 @@ ghost use Rattle.engine.specs.Way.{nodes-of, Inside, Climb};
 ghost use Rattle.engine.specs.Waits.{word-at, masks-of, SmallWords, touches-from, blocks-by, WaitsFor};
 ghost use Rattle.engine.specs.Grants.{with-more, Granted};
 
-// The places of the node at p and of its proper ancestors, the parent first; none where t deleted one of these nodes.
-pub fn way_up(s: &[u8], t: u8, p: usize) -> Places
-    requires { ⌜ (Layout (now s)) × (p < length (nodes (now s))) ⌝ }
-    ensures { λ r. ⌜ Climb (nodes (now (s .entry))) t p r ⌝ }
+// The places of the node at p and of its proper ancestors, the parent first; how many, and 0 where t deleted one of these nodes.
+pub fn way_up(s: &[u8], t: u8, p: usize, places: &mut [u16; 1024]) -> usize
+    requires { ⌜ (Layout (now s)) × (p < length (nodes (now s))) × (length (now places) ≡ 1024) ⌝ }
+    ensures { λ r. ⌜ Climb (nodes (now (s .entry))) t p (record { places = now (places .exit); count = r }) ⌝ }
 {
-    let mut places = [0u16; 1024];
     if table::deleter(s, p) == t {
-        return Places { places, count: 0 };
+        return 0;
     }
     places[0] = p as u16;
     let mut count: usize = 1;
@@ -33,13 +31,13 @@ pub fn way_up(s: &[u8], t: u8, p: usize) -> Places
             continue;
         }
         if table::deleter(s, k) == t {
-            return Places { places, count: 0 };
+            return 0;
         }
         places[count] = k as u16;
         count += 1;
         e = d;
     }
-    Places { places, count }
+    count
 }
 
 // The set for the j-th node of the way.
@@ -125,16 +123,15 @@ fn blocks(
 }
 
 // The set of the transactions that a step of t waits for, by what the step needs: bit u-1 for u.
-pub fn waits(s: &[u8], t: usize, w: NeedWords, way: Places) -> u16
-    requires { ⌜ (Layout (now s)) × Inside (nodes (now s)) way ⌝ }
-    ensures { λ r. ⌜ WaitsFor (now (s .entry)) t w way r ⌝ }
+pub fn waits(s: &[u8], t: usize, w: NeedWords, places: &[u16; 1024], count: usize) -> u16
+    requires { ⌜ (Layout (now s)) × Inside (nodes (now s)) (record { places = now places; count = count }) ⌝ }
+    ensures { λ r. ⌜ WaitsFor (now (s .entry)) t w (record { places = now (places .entry); count = count }) r ⌝ }
 {
     let masks = masks(w);
-    let count = way.count;
     let mut set: u16 = 0;
     let mut u: usize = 16;
     while 0 < u {
-        let b = blocks(s, t, u, masks, &way.places, count);
+        let b = blocks(s, t, u, masks, places, count);
         set = locks::bit_below(set, b);
         u -= 1;
     }
@@ -151,14 +148,13 @@ fn add(s: &mut [u8], t: usize, i: usize, w: u16)
 }
 
 // Transaction t is granted what a step needs on the way.
-pub fn grant(s: &mut [u8], t: usize, w: NeedWords, way: Places)
-    requires { ⌜ (Layout (now s)) × (1 ≤ t) × (t ≤ 16) × Inside (nodes (now s)) way ⌝ }
-    ensures { λ r. ⌜ Granted (now (s .entry)) (now (s .exit)) t w way ⌝ }
+pub fn grant(s: &mut [u8], t: usize, w: NeedWords, places: &[u16; 1024], count: usize)
+    requires { ⌜ (Layout (now s)) × (1 ≤ t) × (t ≤ 16) × Inside (nodes (now s)) (record { places = now places; count = count }) ⌝ }
+    ensures { λ r. ⌜ Granted (now (s .entry)) (now (s .exit)) t w (record { places = now (places .entry); count = count }) ⌝ }
 {
-    let count = way.count;
     let mut j: usize = 0;
     while j < count {
-        add(s, t, way.places[j] as usize, word_at(w, j));
+        add(s, t, places[j] as usize, word_at(w, j));
         j += 1;
     }
 }

@@ -13,14 +13,15 @@ ghost use Rattle.engine.specs.Contract.{Performed, Lent, no-room, room-of, room
 pub fn child(s: &mut [u8], t: u32, n: u16, k: u32) -> Answer
     ensures { λ r. ⌜ Performed (now (s .entry)) (now (s .exit)) r (step t (C n k) no-room) ⌝ }
 {
-    let at = engine::admit(s, t, n);
+    let mut way = [0u16; 1024];
+    let at = engine::admit(s, t, n, &mut way);
     let need = locks::needed(StepName::C);
-    let verdict = engine::judge(s, at, at.cause, need);
+    let verdict = engine::judge(s, at, &way, at.cause, need);
     if !verdict.free {
         return verdict.answer;
     }
     let answer = reading::kth_child(s, at.t, at.place, k);
-    engine::grant(s, at, need);
+    engine::grant(s, at, &way, need);
     answer
 }
 
@@ -29,10 +30,11 @@ pub fn read(s: &mut [u8], t: u32, n: u16, out: &mut [u8]) -> Answer
     ensures { λ r. ⌜ (Performed (now (s .entry)) (now (s .exit)) r (step t (R n) (room-of (now (out .entry)))))
         × (Lent first-lent (now (s .entry)) (now (out .entry)) (now (out .exit)) (step t (R n) (room-of (now (out .entry))))) ⌝ }
 {
-    let at = engine::admit(s, t, n);
+    let mut way = [0u16; 1024];
+    let at = engine::admit(s, t, n, &mut way);
     let cause = engine::document_cause(s, at.cause, at.place);
     let need = locks::needed(StepName::R);
-    let verdict = engine::judge(s, at, cause, need);
+    let verdict = engine::judge(s, at, &way, cause, need);
     if !verdict.free {
         return verdict.answer;
     }
@@ -41,7 +43,7 @@ pub fn read(s: &mut [u8], t: u32, n: u16, out: &mut [u8]) -> Answer
         return Answer::Refused(causes::SHORT_BUFFER);
     }
     reading::content(s, at.place, out);
-    engine::grant(s, at, need);
+    engine::grant(s, at, &way, need);
     Answer::Count(size as u32)
 }
 
@@ -50,9 +52,10 @@ pub fn test_tree(s: &mut [u8], t: u32, n: u16, out: &mut [u8]) -> Answer
     ensures { λ r. ⌜ (Performed (now (s .entry)) (now (s .exit)) r (step t (TT n) (room-of (now (out .entry)))))
         × (Lent first-lent (now (s .entry)) (now (out .entry)) (now (out .exit)) (step t (TT n) (room-of (now (out .entry))))) ⌝ }
 {
-    let at = engine::admit(s, t, n);
+    let mut way = [0u16; 1024];
+    let at = engine::admit(s, t, n, &mut way);
     let need = locks::needed(StepName::TT);
-    let verdict = engine::judge(s, at, at.cause, need);
+    let verdict = engine::judge(s, at, &way, at.cause, need);
     if !verdict.free {
         return verdict.answer;
     }
@@ -62,7 +65,7 @@ pub fn test_tree(s: &mut [u8], t: u32, n: u16, out: &mut [u8]) -> Answer
         return Answer::Refused(causes::SHORT_BUFFER);
     }
     reading::numbers(s, &nodes, count, out);
-    engine::grant(s, at, need);
+    engine::grant(s, at, &way, need);
     Answer::Count(count as u32)
 }
 
@@ -74,9 +77,10 @@ pub fn read_tree(s: &mut [u8], t: u32, n: u16, out: &mut [u8], cells: &mut [u8])
         × (Lent second-lent (now (s .entry)) (now (cells .entry)) (now (cells .exit))
         (step t (RR n) (rooms-of (now (out .entry)) (now (cells .entry))))) ⌝ }
 {
-    let at = engine::admit(s, t, n);
+    let mut way = [0u16; 1024];
+    let at = engine::admit(s, t, n, &mut way);
     let need = locks::needed(StepName::RR);
-    let verdict = engine::judge(s, at, at.cause, need);
+    let verdict = engine::judge(s, at, &way, at.cause, need);
     if !verdict.free {
         return verdict.answer;
     }
@@ -90,6 +94,6 @@ pub fn read_tree(s: &mut [u8], t: u32, n: u16, out: &mut [u8], cells: &mut [u8])
     }
     reading::numbers(s, &nodes, count, out);
     reading::cells(s, &nodes, count, cells);
-    engine::grant(s, at, need);
+    engine::grant(s, at, &way, need);
     Answer::Count(count as u32)
 }

@@ -39,14 +39,15 @@ fn update_cause(s: &[u8], found: u8, place: usize, b: &[u8]) -> u8
 pub fn update(s: &mut [u8], t: u32, n: u16, b: &[u8]) -> Answer
     ensures { λ r. ⌜ Performed (now (s .entry)) (now (s .exit)) r (step t (U n (now (b .entry))) no-room) ⌝ }
 {
-    let at = engine::admit(s, t, n);
+    let mut way = [0u16; 1024];
+    let at = engine::admit(s, t, n, &mut way);
     let cause = update_cause(s, at.cause, at.place, b);
     let need = locks::needed(StepName::U);
-    let verdict = engine::judge(s, at, cause, need);
+    let verdict = engine::judge(s, at, &way, cause, need);
     if !verdict.free {
         return verdict.answer;
     }
-    engine::grant(s, at, need);
+    engine::grant(s, at, &way, need);
     writing::write(s, at.place, at.t, b);
     Answer::Done
 }
@@ -57,14 +58,15 @@ pub fn update(s: &mut [u8], t: u32, n: u16, b: &[u8]) -> Answer
 pub fn delete(s: &mut [u8], t: u32, n: u16) -> Answer
     ensures { λ r. ⌜ Performed (now (s .entry)) (now (s .exit)) r (step t (D n) no-room) ⌝ }
 {
-    let at = engine::admit(s, t, n);
+    let mut way = [0u16; 1024];
+    let at = engine::admit(s, t, n, &mut way);
     let cause = engine::document_cause(s, at.cause, at.place);
     let need = locks::needed(StepName::D);
-    let verdict = engine::judge(s, at, cause, need);
+    let verdict = engine::judge(s, at, &way, cause, need);
     if !verdict.free {
         return verdict.answer;
     }
-    engine::grant(s, at, need);
+    engine::grant(s, at, &way, need);
     table::set_deleter(s, at.place, at.t);
     Answer::Done
 }
@@ -91,14 +93,15 @@ fn rename_cause(found: u8, a: &[u8], b: &[u8]) -> u8
 pub fn rename_tree(s: &mut [u8], t: u32, n: u16, a: &[u8], b: &[u8]) -> Answer
     ensures { λ r. ⌜ Performed (now (s .entry)) (now (s .exit)) r (step t (UU n (now (a .entry)) (now (b .entry))) no-room) ⌝ }
 {
-    let at = engine::admit(s, t, n);
+    let mut way = [0u16; 1024];
+    let at = engine::admit(s, t, n, &mut way);
     let cause = rename_cause(at.cause, a, b);
     let need = locks::needed(StepName::UU);
-    let verdict = engine::judge(s, at, cause, need);
+    let verdict = engine::judge(s, at, &way, cause, need);
     if !verdict.free {
         return verdict.answer;
     }
-    engine::grant(s, at, need);
+    engine::grant(s, at, &way, need);
     let hits = writing::rename_below(s, at.place, at.t, a, b);
     Answer::Count(hits as u32)
 }
@@ -129,10 +132,11 @@ fn insert_cause(s: &[u8], found: u8, place: usize, m: u16, kind: u32, b: &[u8]) 
 pub fn insert(s: &mut [u8], t: u32, m: u16, kind: u32, b: &[u8], n: u16, k: u32) -> Answer
     ensures { λ r. ⌜ Performed (now (s .entry)) (now (s .exit)) r (step t (I m kind (now (b .entry)) n k) no-room) ⌝ }
 {
-    let at = engine::admit(s, t, n);
+    let mut way = [0u16; 1024];
+    let at = engine::admit(s, t, n, &mut way);
     let cause = insert_cause(s, at.cause, at.place, m, kind, b);
     let need = locks::needed(StepName::I);
-    let verdict = engine::judge(s, at, cause, need);
+    let verdict = engine::judge(s, at, &way, cause, need);
     if !verdict.free {
         return verdict.answer;
     }
@@ -144,7 +148,7 @@ pub fn insert(s: &mut [u8], t: u32, m: u16, kind: u32, b: &[u8], n: u16, k: u32)
     }
     let q = writing::new_place(s, at.place, at.t, k);
     let d = table::depth(s, at.place);
-    engine::grant(s, at, need);
+    engine::grant(s, at, &way, need);
     writing::put(s, q, d + 1, m, kind as u8, at.t, b, need.fresh);
     Answer::Done
 }

@@ -27,14 +27,16 @@ cast-u c =
 
 way-up-requires : tie.Need-way-up-requires
 way-up-requires c κs =
-    let at-if1 = c .before .before .before in
+    let at-count = c .before .before in
+    let at-if1 = at-count .before .before in
     let at-caller = at-if1 .before in
-    (at-caller .caller .ensures .opened (at-if1 .if1 .left) .layout, omega (arith, c .before .count .ensures))
+    let start = at-caller .before .before in
+    (at-caller .caller .ensures .opened (at-if1 .if1 .left) .layout, omega (arith, at-count .count .ensures), start .pre)
 
 returns-3 : tie.Need-returns-3
 returns-3 c =
-    let at-way-up = c .before .before .before in
-    let at-count = at-way-up .before .before in
+    let at-way-up = c .before .before in
+    let at-count = at-way-up .before .before .before in
     let at-find = at-count .before in
     let at-if1 = at-find .before in
     let at-caller = at-if1 .before in
@@ -43,8 +45,8 @@ returns-3 c =
 
 returns-4 : tie.Need-returns-4
 returns-4 c =
-    let at-way-up = c .before .before in
-    let at-count = at-way-up .before .before in
+    let at-way-up = c .before in
+    let at-count = at-way-up .before .before .before in
     let at-find = at-count .before in
     let at-if1 = at-find .before in
     let at-caller = at-if1 .before in

@@ -15,7 +15,7 @@ use Rattle.engine.proofs.test.Tie as tie
 returns : tie.Need-returns
 returns c =
     let at-judge = c .before .before in
-    let at-needed = at-judge .before .before in
+    let at-needed = at-judge .before .before .before in
     let at-admit = at-needed .before in
     step-stopped name.T (T _) refl (at-admit .admit .ensures) (none-first _) (at-needed .needed .ensures) (at-judge .judge .ensures)
     (c .if1 .taken) no-room
@@ -24,7 +24,7 @@ returns c =
 kind-requires : tie.Need-kind-requires
 kind-requires c κs =
     let at-judge = c .before .before .before in
-    let at-needed = at-judge .before .before in
+    let at-needed = at-judge .before .before .before in
     let at-admit = at-needed .before in
     let f = step-free name.T (T _) refl (at-admit .admit .ensures) (none-first _) (at-needed .needed .ensures) (at-judge .judge .ensures)
     (c .before .if1 .left) in
@@ -32,9 +32,9 @@ kind-requires c κs =
 
 parent-requires : tie.Need-parent-requires
 parent-requires c κs =
-    let at-if1 = c .before .before .before in
+    let at-if1 = c .before .before .before .before in
     let at-judge = at-if1 .before .before in
-    let at-needed = at-judge .before .before in
+    let at-needed = at-judge .before .before .before in
     let at-admit = at-needed .before in
     let f = step-free name.T (T _) refl (at-admit .admit .ensures) (none-first _) (at-needed .needed .ensures) (at-judge .judge .ensures)
     (at-if1 .if1 .left) in
@@ -42,9 +42,9 @@ parent-requires c κs =
 
 grant-requires : tie.Need-grant-requires
 grant-requires c κs =
-    let at-if1 = c .before .before .before .before .before in
+    let at-if1 = c .before .before .before .before .before .before .before in
     let at-judge = at-if1 .before .before in
-    let at-needed = at-judge .before .before in
+    let at-needed = at-judge .before .before .before in
     let at-admit = at-needed .before in
     let f = step-free name.T (T _) refl (at-admit .admit .ensures) (none-first _) (at-needed .needed .ensures) (at-judge .judge .ensures)
     (at-if1 .if1 .left) in
@@ -54,11 +54,11 @@ returns-2 : tie.Need-returns-2
 unfolding granted-answer first-lent second-lent stepped
 returns-2 c =
     let at-grant = c .before .before in
-    let at-parent = at-grant .before .before in
-    let at-kind = at-parent .before .before in
+    let at-parent = at-grant .before .before .before in
+    let at-kind = at-parent .before .before .before in
     let at-if1 = at-kind .before .before in
     let at-judge = at-if1 .before .before in
-    let at-needed = at-judge .before .before in
+    let at-needed = at-judge .before .before .before in
     let at-admit = at-needed .before in
     let f = step-free name.T (T _) refl (at-admit .admit .ensures) (none-first _) (at-needed .needed .ensures) (at-judge .judge .ensures)
     (at-if1 .if1 .left) in
@@ -67,5 +67,5 @@ returns-2 c =
 
 pub test-spec : {M : Type 1} → statement M
 test-spec = tie.close (tie.spec (λ c κs. search needs) (λ c κs. search needs)
-    (λ c κs. ready (c .before .before .admit .ensures) (none-first _)) (λ c. search needs) returns kind-requires parent-requires
+    (λ c κs. ready (c .before .before .before .admit .ensures) (none-first _)) (λ c. search needs) returns kind-requires parent-requires
     grant-requires (λ c. search needs) returns-2)

@@ -20,8 +20,7 @@ use Rattle.rows.specs.Laws.Judgement.{missing, deleted, found, judged-missing, 
 use Rattle.engine.specs.Way.{Climb}
 use Rattle.form.specs.Form.{form, Holds}
 use Rattle.form.specs.Laws.Holds.{form-layout, holds-form}
-use Rattle.engine.specs.Admission.{Opened, Barred, Caller, Rejected, Admitted}
-use Rattle.engine.specs.declared.Admission.{Admission}
+use Rattle.engine.specs.Admission.{Opened, Barred, Caller, Site, Rejected, Admitted}
 use Rattle.engine.specs.Laws.Outcomes.{not-both}
 
 -- the caller -----------------------------------------------------------------------------
@@ -79,7 +78,7 @@ step-judged : {s : List ℕ} {t : ℕ} → Opened s t → (M : State) → Holds 
 unfolding next
 step-judged o M h st room = open-next o M h (judged _ st room M (callers-document _ (M .tree)))
 
-module _ {s : List ℕ} {t n : ℕ} {a : Admission} where
+module _ {s : List ℕ} {t n : ℕ} {a : Site} where
   rejecting : {c : ℕ} → a .cause ≡ c → (c ≡ 0 → ⊥) → Rejected s t n c → Admitted s t n a
   rejecting e z r = record { rejected = λ x. rw e r; standing = λ x. absurd (z (sym e ∙ x)) }
 

@@ -36,9 +36,8 @@ use Rattle.engine.specs.Way.{Inside}
 use Rattle.engine.specs.Waits.{WaitsFor}
 use Rattle.engine.specs.Grants.{Granted}
 use Rattle.engine.specs.Laws.Way.{climbed-nodes, climbed-grants}
-use Rattle.engine.specs.Admission.{Rejected, Standing, Admitted}
+use Rattle.engine.specs.Admission.{Site, Rejected, Standing, Admitted}
 use Rattle.engine.specs.Judgement.{Cause, first-cause, own-causes, own-cause, late-causes, FirstOf, Stopped, Asked, Free, Judged}
-use Rattle.engine.specs.declared.Admission.{Admission}
 use Rattle.engine.specs.declared.Verdict.{Verdict}
 use Rattle.engine.specs.Laws.Outcomes.{not-both, Grants, stopped-stays}
 
@@ -91,7 +90,7 @@ module _ {found later : ℕ} where
   found-later z e = record { first = λ n. absurd (n z); second = λ x. e }
 
 -- where they look
-pub admitted-place : {s : List ℕ} {t n : ℕ} {a : Admission} → Admitted s t n a → a .cause ≡ 0 → Layout s × (a .place < length (nodes s))
+pub admitted-place : {s : List ℕ} {t n : ℕ} {a : Site} → Admitted s t n a → a .cause ≡ 0 → Layout s × (a .place < length (nodes s))
 admitted-place d z = (d .standing z .layout, d .standing z .inside)
 
 -- the whole judgement, by its lists --------------------------------------------------------
@@ -125,7 +124,7 @@ unfolding answer-of
 stopped-rejected st r room =
     stopped-stays (λ x. ap Refused (r .unformed x)) (λ M h. r .formed M h st refl room) refl (λ writing. refl)
 
-module _ {s : List ℕ} {t : ℕ} {a : Admission} {cause : ℕ} {w : NeedWords} {st : Step} (q : Asked s t a cause w st) where
+module _ {s : List ℕ} {t : ℕ} {a : Site} {cause : ℕ} {w : NeedWords} {st : Step} (q : Asked s t a cause w st) where
   -- without a cause it stands
   standing : cause ≡ 0 → Standing s t (target st) a
   standing z = q .admitted .standing (go (eqb (a .cause) 0) refl)
@@ -172,7 +171,7 @@ module _ {s : List ℕ} {t : ℕ} {a : Admission} {cause : ℕ} {w : NeedWords} 
     asked-free e = record { standing = standing z; fits = fitting; none = sym set-is ∙ e; needs = q .needs }
 
 -- what the judgement can read
-pub ready : {s : List ℕ} {t n : ℕ} {a : Admission} {later cause : ℕ} → Admitted s t n a → FirstOf (a .cause) later cause → cause ≡ 0
+pub ready : {s : List ℕ} {t n : ℕ} {a : Site} {later cause : ℕ} → Admitted s t n a → FirstOf (a .cause) later cause → cause ≡ 0
     → Layout s × Inside (nodes s) (a .way)
 ready {s} {a = a} d f z = go (eqb (a .cause) 0) refl
   where
@@ -180,7 +179,7 @@ ready {s} {a = a} d f z = go (eqb (a .cause) 0) refl
     go true e = let at = d .standing (eqb-true (a .cause) 0 e) in (at .layout, at .climbed .inside)
     go false e = let y = eqb-false (a .cause) 0 e in absurd (y (sym (f .first y) ∙ z))
 
-module _ {s : List ℕ} {a : Admission} {cause : ℕ} {w : NeedWords} where
+module _ {s : List ℕ} {a : Site} {cause : ℕ} {w : NeedWords} where
   pub judged-refused : (cause ≡ 0 → ⊥) → Judged s a cause w (record { free = false; answer = Refused cause })
   judged-refused n = record { stopped = λ f q room. asked-refused q n room; free = λ f. absurd (false≢true f) }
 
@@ -192,7 +191,7 @@ module _ {s : List ℕ} {a : Admission} {cause : ℕ} {w : NeedWords} where
     judged-free e r = record { stopped = λ f. absurd (false≢true (sym f)); free = λ f q. asked-free q z set v e }
 
 -- a step by its name, with the answers of `admit`, of the step's own causes, of `needed` and of `judge`
-module _ {s : List ℕ} {t : ℕ} {a : Admission} {cause : ℕ} {w : NeedWords} {v : Verdict} (k : StepName) (st : Step)
+module _ {s : List ℕ} {t : ℕ} {a : Site} {cause : ℕ} {w : NeedWords} {v : Verdict} (k : StepName) (st : Step)
     (same : need (step-named k) ≡ need st) (d : Admitted s t (target st) a)
     (f : FirstOf (a .cause) (own-cause st (nodes s) (a .place)) cause)
     (e : w ≡ need-words k) (j : Judged s a cause w v) where
@@ -209,7 +208,7 @@ module _ {s : List ℕ} {t : ℕ} {a : Admission} {cause : ℕ} {w : NeedWords} 
 -- behind the wait --------------------------------------------------------------------------
 
 -- none of 8, 9 and 10
-pub free-fits : {s : List ℕ} {t : ℕ} {a : Admission} {w : NeedWords} {st : Step} → Free s t a w st
+pub free-fits : {s : List ℕ} {t : ℕ} {a : Site} {w : NeedWords} {st : Step} → Free s t a w st
     → (wrong-kind-on st (item (nodes s) (a .place) .now .kind) ≡ false) ×
     (wrong-content-on st (item (nodes s) (a .place) .now .kind) ≡ false)
     × (used-in st (nodes s) ≡ false)
@@ -224,7 +223,7 @@ free-fits {s} {a = a} {st = st} f =
     go false false true e = absurd (omega arith)
     go false false false e = (refl, refl, refl)
 
-module _ {s : List ℕ} {t : ℕ} {a : Admission} {w : NeedWords} {st : Step} (f : Free s t a w st) (room : Room) where
+module _ {s : List ℕ} {t : ℕ} {a : Site} {w : NeedWords} {st : Step} (f : Free s t a w st) (room : Room) where
   to-late : (M : State) → Holds s M → next (step t st room) M
       ≡ checked (refusals (late-causes (a .t) st room (nodes s) (a .place))) M (granting (a .t) st M (nodes s) (a .place))
   to-late M h =
@@ -282,6 +281,6 @@ module _ {s : List ℕ} {t : ℕ} {a : Admission} {w : NeedWords} {st : Step} (f
           }
 
 -- what `grant` left, as the rows with the step's locks
-pub free-locked : {s s′ : List ℕ} {t : ℕ} {a : Admission} {w : NeedWords} {st : Step} → Free s t a w st → Granted s s′ (a .t) w (a .way)
+pub free-locked : {s s′ : List ℕ} {t : ℕ} {a : Site} {w : NeedWords} {st : Step} → Free s t a w st → Granted s s′ (a .t) w (a .way)
     → Kept s s′ (granted-up (a .t) (need st) (a .place) (nodes s))
 free-locked {a = a} {st = st} f g = kept-as _ _ (climbed-grants (f .standing .climbed) (a .t) (need st)) (g .kept st (f .needs))

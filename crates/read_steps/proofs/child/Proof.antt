@@ -14,7 +14,7 @@ use Rattle.read_steps.proofs.child.Tie as tie
 returns : tie.Need-returns
 returns c =
     let at-judge = c .before .before in
-    let at-needed = at-judge .before .before in
+    let at-needed = at-judge .before .before .before in
     let at-admit = at-needed .before in
     step-stopped name.C (C _ _) refl (at-admit .admit .ensures) (none-first _) (at-needed .needed .ensures) (at-judge .judge .ensures)
     (c .if1 .taken) no-room .performed
@@ -22,7 +22,7 @@ returns c =
 kth-child-requires : tie.Need-kth-child-requires
 kth-child-requires c κs =
     let at-judge = c .before .before .before in
-    let at-needed = at-judge .before .before in
+    let at-needed = at-judge .before .before .before in
     let at-admit = at-needed .before in
     let f = step-free name.C (C _ 0) refl (at-admit .admit .ensures) (none-first _) (at-needed .needed .ensures)
     (at-judge .judge .ensures) (c .before .if1 .left) in
@@ -30,9 +30,9 @@ kth-child-requires c κs =
 
 grant-requires : tie.Need-grant-requires
 grant-requires c κs =
-    let at-if1 = c .before .before .before in
+    let at-if1 = c .before .before .before .before in
     let at-judge = at-if1 .before .before in
-    let at-needed = at-judge .before .before in
+    let at-needed = at-judge .before .before .before in
     let at-admit = at-needed .before in
     let f = step-free name.C (C _ 0) refl (at-admit .admit .ensures) (none-first _) (at-needed .needed .ensures)
     (at-judge .judge .ensures) (at-if1 .if1 .left) in
@@ -42,10 +42,10 @@ returns-2 : tie.Need-returns-2
 unfolding stepped
 returns-2 c =
     let at-grant = c .before .before in
-    let at-kth-child = at-grant .before .before in
+    let at-kth-child = at-grant .before .before .before in
     let at-if1 = at-kth-child .before .before in
     let at-judge = at-if1 .before .before in
-    let at-needed = at-judge .before .before in
+    let at-needed = at-judge .before .before .before in
     let at-admit = at-needed .before in
     let f = step-free name.C (C _ _) refl (at-admit .admit .ensures) (none-first _) (at-needed .needed .ensures)
     (at-judge .judge .ensures) (at-if1 .if1 .left) in
@@ -54,5 +54,5 @@ returns-2 c =
 
 pub child-spec : {M : Type 1} → statement M
 child-spec = tie.close (tie.spec (λ c κs. search needs) (λ c κs. search needs)
-    (λ c κs. ready (c .before .before .admit .ensures) (none-first _)) (λ c. search needs) returns kth-child-requires grant-requires
+    (λ c κs. ready (c .before .before .before .admit .ensures) (none-first _)) (λ c. search needs) returns kth-child-requires grant-requires
     (λ c. search needs) returns-2)

@@ -12,22 +12,22 @@ use Rattle.read_steps.proofs.read.Statement.{statement}
 use Rattle.read_steps.proofs.read.Tie as tie
 
 judge-requires : tie.Need-judge-requires
-judge-requires c κs = ready (c .before .before .before .before .admit .ensures) (c .before .before .document-cause .ensures)
+judge-requires c κs = ready (c .before .before .before .before .before .admit .ensures) (c .before .before .before .document-cause .ensures)
 
 returns : tie.Need-returns
 returns c =
     let at-judge = c .before .before in
-    let at-needed = at-judge .before .before in
+    let at-needed = at-judge .before .before .before in
     let at-document-cause = at-needed .before in
     let at-admit = at-document-cause .before .before in
-    let start = at-admit .before .before .before .before in
+    let start = at-admit .before .before .before .before .before in
     stopped-one (step-stopped name.R (R _) refl (at-admit .admit .ensures) (at-document-cause .document-cause .ensures)
     (at-needed .needed .ensures) (at-judge .judge .ensures) (c .if1 .taken) (room-of (start .args .out .now))) _
 
 size-requires : tie.Need-size-requires
 size-requires c κs =
     let at-judge = c .before .before .before in
-    let at-needed = at-judge .before .before in
+    let at-needed = at-judge .before .before .before in
     let at-document-cause = at-needed .before in
     let at-admit = at-document-cause .before .before in
     let f = step-free name.R (R _) refl (at-admit .admit .ensures) (at-document-cause .document-cause .ensures)
@@ -38,10 +38,10 @@ returns-2 : tie.Need-returns-2
 returns-2 c =
     let at-if1 = c .before .before .before in
     let at-judge = at-if1 .before .before in
-    let at-needed = at-judge .before .before in
+    let at-needed = at-judge .before .before .before in
     let at-document-cause = at-needed .before in
     let at-admit = at-document-cause .before .before in
-    let start = at-admit .before .before .before .before in
+    let start = at-admit .before .before .before .before .before in
     let out = start .args .out .now in
     let f = step-free name.R (R _) refl (at-admit .admit .ensures) (at-document-cause .document-cause .ensures)
     (at-needed .needed .ensures) (at-judge .judge .ensures) (at-if1 .if1 .left) in
@@ -53,7 +53,7 @@ content-requires c κs =
     let at-size = c .before .before .before in
     let at-if1 = at-size .before .before in
     let at-judge = at-if1 .before .before in
-    let at-needed = at-judge .before .before in
+    let at-needed = at-judge .before .before .before in
     let at-document-cause = at-needed .before in
     let at-admit = at-document-cause .before .before in
     let f = step-free name.R (R _) refl (at-admit .admit .ensures) (at-document-cause .document-cause .ensures)
@@ -62,9 +62,9 @@ content-requires c κs =
 
 grant-requires : tie.Need-grant-requires
 grant-requires c κs =
-    let at-if1 = c .before .before .before .before .before .before .before .before .before in
+    let at-if1 = c .before .before .before .before .before .before .before .before .before .before in
     let at-judge = at-if1 .before .before in
-    let at-needed = at-judge .before .before in
+    let at-needed = at-judge .before .before .before in
     let at-document-cause = at-needed .before in
     let at-admit = at-document-cause .before .before in
     let f = step-free name.R (R _) refl (at-admit .admit .ensures) (at-document-cause .document-cause .ensures)
@@ -75,15 +75,15 @@ returns-3 : tie.Need-returns-3
 unfolding stepped
 returns-3 c =
     let at-grant = c .before .before in
-    let at-content = at-grant .before .before .before .before in
+    let at-content = at-grant .before .before .before .before .before in
     let at-if2 = at-content .before .before .before in
     let at-size = at-if2 .before in
     let at-if1 = at-size .before .before in
     let at-judge = at-if1 .before .before in
-    let at-needed = at-judge .before .before in
+    let at-needed = at-judge .before .before .before in
     let at-document-cause = at-needed .before in
     let at-admit = at-document-cause .before .before in
-    let start = at-admit .before .before .before .before in
+    let start = at-admit .before .before .before .before .before in
     let out = start .args .out .now in
     let f = step-free name.R (R _) refl (at-admit .admit .ensures) (at-document-cause .document-cause .ensures)
     (at-needed .needed .ensures) (at-judge .judge .ensures) (at-if1 .if1 .left) in

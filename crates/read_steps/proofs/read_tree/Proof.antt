@@ -14,16 +14,16 @@ use Rattle.read_steps.proofs.read_tree.Tie as tie
 returns : tie.Need-returns
 returns c =
     let at-judge = c .before .before in
-    let at-needed = at-judge .before .before in
+    let at-needed = at-judge .before .before .before in
     let at-admit = at-needed .before in
-    let start = at-admit .before .before .before .before .before in
+    let start = at-admit .before .before .before .before .before .before in
     stopped-two (step-stopped name.RR (RR _) refl (at-admit .admit .ensures) (none-first _) (at-needed .needed .ensures)
     (at-judge .judge .ensures) (c .if1 .taken) (rooms-of (start .args .out .now) (start .args .cells .now))) _ _
 
 select-requires : tie.Need-select-requires
 select-requires c κs =
     let at-judge = c .before .before .before .before in
-    let at-needed = at-judge .before .before in
+    let at-needed = at-judge .before .before .before in
     let at-admit = at-needed .before in
     let f = step-free name.RR (RR _) refl (at-admit .admit .ensures) (none-first _) (at-needed .needed .ensures)
     (at-judge .judge .ensures) (c .before .before .if1 .left) in
@@ -34,9 +34,9 @@ returns-2 c =
     let at-select = c .before in
     let at-if1 = at-select .before .before .before in
     let at-judge = at-if1 .before .before in
-    let at-needed = at-judge .before .before in
+    let at-needed = at-judge .before .before .before in
     let at-admit = at-needed .before in
-    let start = at-admit .before .before .before .before .before in
+    let start = at-admit .before .before .before .before .before .before in
     let out = start .args .out .now in
     let cells = start .args .cells .now in
     let f = step-free name.RR (RR _) refl (at-admit .admit .ensures) (none-first _) (at-needed .needed .ensures)
@@ -49,9 +49,9 @@ returns-3 c =
     let at-select = c .before .before in
     let at-if1 = at-select .before .before .before in
     let at-judge = at-if1 .before .before in
-    let at-needed = at-judge .before .before in
+    let at-needed = at-judge .before .before .before in
     let at-admit = at-needed .before in
-    let start = at-admit .before .before .before .before .before in
+    let start = at-admit .before .before .before .before .before .before in
     let out = start .args .out .now in
     let cells = start .args .cells .now in
     let f = step-free name.RR (RR _) refl (at-admit .admit .ensures) (none-first _) (at-needed .needed .ensures)
@@ -64,7 +64,7 @@ numbers-requires c κs =
     let at-select = c .before .before .before .before .before in
     let at-if1 = at-select .before .before .before in
     let at-judge = at-if1 .before .before in
-    let at-needed = at-judge .before .before in
+    let at-needed = at-judge .before .before .before in
     let at-admit = at-needed .before in
     let f = step-free name.RR (RR _) refl (at-admit .admit .ensures) (none-first _) (at-needed .needed .ensures)
     (at-judge .judge .ensures) (at-if1 .if1 .left) in
@@ -76,7 +76,7 @@ cells-requires c κs =
     let at-select = at-if3 .before .before in
     let at-if1 = at-select .before .before .before in
     let at-judge = at-if1 .before .before in
-    let at-needed = at-judge .before .before in
+    let at-needed = at-judge .before .before .before in
     let at-admit = at-needed .before in
     let f = step-free name.RR (RR _) refl (at-admit .admit .ensures) (none-first _) (at-needed .needed .ensures)
     (at-judge .judge .ensures) (at-if1 .if1 .left) in
@@ -84,10 +84,10 @@ cells-requires c κs =
 
 grant-requires : tie.Need-grant-requires
 grant-requires c κs =
-    let at-if1 = c .before .before .before .before .before .before .before .before .before .before .before .before .before .before .before
-    .before .before .before in
+    let at-if3 = c .before .before .before .before .before .before .before .before .before .before .before .before .before .before in
+    let at-if1 = at-if3 .before .before .before .before .before in
     let at-judge = at-if1 .before .before in
-    let at-needed = at-judge .before .before in
+    let at-needed = at-judge .before .before .before in
     let at-admit = at-needed .before in
     let f = step-free name.RR (RR _) refl (at-admit .admit .ensures) (none-first _) (at-needed .needed .ensures)
     (at-judge .judge .ensures) (at-if1 .if1 .left) in
@@ -97,16 +97,16 @@ returns-4 : tie.Need-returns-4
 unfolding stepped
 returns-4 c =
     let at-grant = c .before .before in
-    let at-cells = at-grant .before .before .before .before in
+    let at-cells = at-grant .before .before .before .before .before in
     let at-numbers = at-cells .before .before .before .before .before .before in
     let at-if3 = at-numbers .before .before .before .before in
     let at-if2 = at-if3 .before in
     let at-select = at-if2 .before in
     let at-if1 = at-select .before .before .before in
     let at-judge = at-if1 .before .before in
-    let at-needed = at-judge .before .before in
+    let at-needed = at-judge .before .before .before in
     let at-admit = at-needed .before in
-    let start = at-admit .before .before .before .before .before in
+    let start = at-admit .before .before .before .before .before .before in
     let out = start .args .out .now in
     let cells = start .args .cells .now in
     let f = step-free name.RR (RR _) refl (at-admit .admit .ensures) (none-first _) (at-needed .needed .ensures)
@@ -118,6 +118,6 @@ returns-4 c =
 
 pub read-tree-spec : {M : Type 1} → statement M
 read-tree-spec = tie.close (tie.spec (λ c κs. search needs) (λ c κs. search needs)
-    (λ c κs. ready (c .before .before .admit .ensures) (none-first _)) (λ c. search needs) returns select-requires (λ c. search needs)
-    (λ c. search needs) returns-2 (λ c. search needs) (λ c. search needs) returns-3 numbers-requires cells-requires grant-requires
-    (λ c. search needs) (λ c. search needs) (λ c. search needs) (λ c. search needs) returns-4)
+    (λ c κs. ready (c .before .before .before .admit .ensures) (none-first _)) (λ c. search needs) returns select-requires
+    (λ c. search needs) (λ c. search needs) returns-2 (λ c. search needs) (λ c. search needs) returns-3 numbers-requires cells-requires
+    grant-requires (λ c. search needs) (λ c. search needs) (λ c. search needs) (λ c. search needs) returns-4)

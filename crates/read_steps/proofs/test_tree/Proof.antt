@@ -13,16 +13,16 @@ use Rattle.read_steps.proofs.test_tree.Tie as tie
 returns : tie.Need-returns
 returns c =
     let at-judge = c .before .before in
-    let at-needed = at-judge .before .before in
+    let at-needed = at-judge .before .before .before in
     let at-admit = at-needed .before in
-    let start = at-admit .before .before .before .before in
+    let start = at-admit .before .before .before .before .before in
     stopped-one (step-stopped name.TT (TT _) refl (at-admit .admit .ensures) (none-first _) (at-needed .needed .ensures)
     (at-judge .judge .ensures) (c .if1 .taken) (room-of (start .args .out .now))) _
 
 select-requires : tie.Need-select-requires
 select-requires c κs =
     let at-judge = c .before .before .before .before in
-    let at-needed = at-judge .before .before in
+    let at-needed = at-judge .before .before .before in
     let at-admit = at-needed .before in
     let f = step-free name.TT (TT _) refl (at-admit .admit .ensures) (none-first _) (at-needed .needed .ensures)
     (at-judge .judge .ensures) (c .before .before .if1 .left) in
@@ -33,9 +33,9 @@ returns-2 c =
     let at-select = c .before in
     let at-if1 = at-select .before .before .before in
     let at-judge = at-if1 .before .before in
-    let at-needed = at-judge .before .before in
+    let at-needed = at-judge .before .before .before in
     let at-admit = at-needed .before in
-    let start = at-admit .before .before .before .before in
+    let start = at-admit .before .before .before .before .before in
     let out = start .args .out .now in
     let f = step-free name.TT (TT _) refl (at-admit .admit .ensures) (none-first _) (at-needed .needed .ensures)
     (at-judge .judge .ensures) (at-if1 .if1 .left) in
@@ -47,7 +47,7 @@ numbers-requires c κs =
     let at-select = c .before .before .before .before in
     let at-if1 = at-select .before .before .before in
     let at-judge = at-if1 .before .before in
-    let at-needed = at-judge .before .before in
+    let at-needed = at-judge .before .before .before in
     let at-admit = at-needed .before in
     let f = step-free name.TT (TT _) refl (at-admit .admit .ensures) (none-first _) (at-needed .needed .ensures)
     (at-judge .judge .ensures) (at-if1 .if1 .left) in
@@ -55,9 +55,9 @@ numbers-requires c κs =
 
 grant-requires : tie.Need-grant-requires
 grant-requires c κs =
-    let at-if1 = c .before .before .before .before .before .before .before .before .before .before .before in
+    let at-if1 = c .before .before .before .before .before .before .before .before .before .before .before .before in
     let at-judge = at-if1 .before .before in
-    let at-needed = at-judge .before .before in
+    let at-needed = at-judge .before .before .before in
     let at-admit = at-needed .before in
     let f = step-free name.TT (TT _) refl (at-admit .admit .ensures) (none-first _) (at-needed .needed .ensures)
     (at-judge .judge .ensures) (at-if1 .if1 .left) in
@@ -67,14 +67,14 @@ returns-3 : tie.Need-returns-3
 unfolding stepped
 returns-3 c =
     let at-grant = c .before .before in
-    let at-numbers = at-grant .before .before .before .before in
+    let at-numbers = at-grant .before .before .before .before .before in
     let at-if2 = at-numbers .before .before .before .before in
     let at-select = at-if2 .before in
     let at-if1 = at-select .before .before .before in
     let at-judge = at-if1 .before .before in
-    let at-needed = at-judge .before .before in
+    let at-needed = at-judge .before .before .before in
     let at-admit = at-needed .before in
-    let start = at-admit .before .before .before .before in
+    let start = at-admit .before .before .before .before .before in
     let out = start .args .out .now in
     let f = step-free name.TT (TT _) refl (at-admit .admit .ensures) (none-first _) (at-needed .needed .ensures)
     (at-judge .judge .ensures) (at-if1 .if1 .left) in
@@ -84,5 +84,6 @@ returns-3 c =
 
 pub test-tree-spec : {M : Type 1} → statement M
 test-tree-spec = tie.close (tie.spec (λ c κs. search needs) (λ c κs. search needs)
-    (λ c κs. ready (c .before .before .admit .ensures) (none-first _)) (λ c. search needs) returns select-requires (λ c. search needs)
-    (λ c. search needs) returns-2 numbers-requires grant-requires (λ c. search needs) (λ c. search needs) (λ c. search needs) returns-3)
+    (λ c κs. ready (c .before .before .before .admit .ensures) (none-first _)) (λ c. search needs) returns select-requires
+    (λ c. search needs) (λ c. search needs) returns-2 numbers-requires grant-requires (λ c. search needs) (λ c. search needs)
+    (λ c. search needs) returns-3)

@@ -17,12 +17,12 @@ use Rattle.write_steps.proofs.delete.Statement.{statement}
 use Rattle.write_steps.proofs.delete.Tie as tie
 
 judge-requires : tie.Need-judge-requires
-judge-requires c κs = ready (c .before .before .before .before .admit .ensures) (c .before .before .document-cause .ensures)
+judge-requires c κs = ready (c .before .before .before .before .before .admit .ensures) (c .before .before .before .document-cause .ensures)
 
 returns : tie.Need-returns
 returns c =
     let at-judge = c .before .before in
-    let at-needed = at-judge .before .before in
+    let at-needed = at-judge .before .before .before in
     let at-document-cause = at-needed .before in
     let at-admit = at-document-cause .before .before in
     step-stopped name.D (D _) refl (at-admit .admit .ensures) (at-document-cause .document-cause .ensures) (at-needed .needed .ensures)
@@ -30,20 +30,20 @@ returns c =
 
 grant-requires : tie.Need-grant-requires
 grant-requires c κs =
-    let at-judge = c .before .before .before in
-    let at-needed = at-judge .before .before in
+    let at-judge = c .before .before .before .before in
+    let at-needed = at-judge .before .before .before in
     let at-document-cause = at-needed .before in
     let at-admit = at-document-cause .before .before in
     let f = step-free name.D (D _) refl (at-admit .admit .ensures) (at-document-cause .document-cause .ensures)
-    (at-needed .needed .ensures) (at-judge .judge .ensures) (c .before .if1 .left) in
+    (at-needed .needed .ensures) (at-judge .judge .ensures) (c .before .before .if1 .left) in
     (f .standing .layout, f .standing .low, f .standing .high, f .standing .climbed .inside)
 
 set-deleter-requires : tie.Need-set-deleter-requires
 set-deleter-requires c κs =
     let at-grant = c .before .before .before in
-    let at-if1 = at-grant .before .before in
+    let at-if1 = at-grant .before .before .before in
     let at-judge = at-if1 .before .before in
-    let at-needed = at-judge .before .before in
+    let at-needed = at-judge .before .before .before in
     let at-document-cause = at-needed .before in
     let at-admit = at-document-cause .before .before in
     let f = step-free name.D (D _) refl (at-admit .admit .ensures) (at-document-cause .document-cause .ensures)
@@ -56,9 +56,9 @@ unfolding granted-answer first-lent second-lent stepped
 returns-2 c =
     let at-set-deleter = c .before .before in
     let at-grant = at-set-deleter .before .before .before .before in
-    let at-if1 = at-grant .before .before in
+    let at-if1 = at-grant .before .before .before in
     let at-judge = at-if1 .before .before in
-    let at-needed = at-judge .before .before in
+    let at-needed = at-judge .before .before .before in
     let at-document-cause = at-needed .before in
     let at-admit = at-document-cause .before .before in
     let f = step-free name.D (D _) refl (at-admit .admit .ensures) (at-document-cause .document-cause .ensures)

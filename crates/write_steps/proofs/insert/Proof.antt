@@ -7,6 +7,7 @@ use Rattle.locks.specs.Words.{need-words}
 use Rattle.locks.specs.declared.StepName.the-variants as name
 use Rattle.protocol.specs.Answers.{granted-answer}
 use Rattle.engine.specs.Contract.{no-room}
+use Rattle.engine.specs.Admission.{site}
 use Rattle.engine.specs.Judgement.{Free}
 use Rattle.engine.specs.Laws.Outcomes.{performed-grants}
 use Rattle.engine.specs.Laws.Judgement.{ready, admitted-place, step-stopped, step-free, free-fits, free-refused, free-granted, free-locked}
@@ -53,23 +54,24 @@ Behind =
       put.Learnt,
     ) reads.Pre reads.Post
 
-free : (c : Behind) → let a = c .before .before .before .before .before .before .before .before .before .before .before .args in Free
-    (a .s .now) (a .t) (c .before .before .before .before .before .before .before .admit .result)
-    (c .before .before .before .before .needed .result) (I (a .m) (a .kind) (a .b .now) (a .n) (a .k))
+free : (c : Behind) → let at-needed = c .before .before .before .before .before in let at-admit = at-needed .before .before .before in
+    let a = at-admit .before .before .before .before .before .args in
+    Free (a .s .now) (a .t) (site (at-admit .admit .result) (at-admit .admit .last .1 .1 .1 .0)) (at-needed .needed .result)
+    (I (a .m) (a .kind) (a .b .now) (a .n) (a .k))
 free c =
     let at-judge = c .before .before in
-    let at-needed = at-judge .before .before in
+    let at-needed = at-judge .before .before .before in
     let at-cause = at-needed .before in
     step-free name.I (I _ _ _ _ _) refl (at-cause .before .before .admit .ensures) (at-cause .insert-cause .ensures)
     (at-needed .needed .ensures) (at-judge .judge .ensures) (c .if1 .left)
 
 judge-requires : tie.Need-judge-requires
-judge-requires c κs = ready (c .before .before .before .before .admit .ensures) (c .before .before .insert-cause .ensures)
+judge-requires c κs = ready (c .before .before .before .before .before .admit .ensures) (c .before .before .before .insert-cause .ensures)
 
 returns : tie.Need-returns
 returns c =
     let at-judge = c .before .before in
-    let at-needed = at-judge .before .before in
+    let at-needed = at-judge .before .before .before in
     let at-insert-cause = at-needed .before in
     let at-admit = at-insert-cause .before .before in
     step-stopped name.I (I _ _ _ _ _) refl (at-admit .admit .ensures) (at-insert-cause .insert-cause .ensures)
@@ -112,12 +114,12 @@ depth-requires c κs =
 
 grant-requires : tie.Need-grant-requires
 grant-requires c κs =
-    let f = free (c .before .before .before .before .before .before .before .before .before .before .before) in
+    let f = free (c .before .before .before .before .before .before .before .before .before .before .before .before) in
     (f .standing .layout, f .standing .low, f .standing .high, f .standing .climbed .inside)
 
 add-put : tie.Need-add-put
 add-put c =
-    let at-depth = c .before .before .before .before .before in
+    let at-depth = c .before .before .before .before .before .before in
     omega (
       arith,
       at-depth .depth .ensures,
@@ -130,17 +132,17 @@ cast-put c =
       arith,
       kind-small _ _ (not-false _
           (free-fits (free (c .before .before .before .before .before .before .before .before .before .before .before .before .before
-          .before .before)) .1)),
+          .before .before .before)) .1)),
     )
 
 put-requires : tie.Need-put-requires
 unfolding need-words
 put-requires c κs =
     let at-grant = c .before .before .before in
-    let at-new-place = at-grant .before .before .before .before in
+    let at-new-place = at-grant .before .before .before .before .before in
     let at-if3 = at-new-place .before .before in
     let at-count = at-if3 .before in
-    let at-needed = at-count .before .before .before .before .before .before .before .before .before in
+    let at-needed = at-count .before .before .before .before .before .before .before .before .before .before in
     let f = free (at-count .before .before .before .before .before) in
     let g = free-locked f (at-grant .grant .ensures) in (
       g .layout,
@@ -157,7 +159,7 @@ unfolding granted-answer
 returns-4 c =
     let at-put = c .before .before in
     let at-grant = at-put .before .before .before .before in
-    let at-depth = at-grant .before .before in
+    let at-depth = at-grant .before .before .before in
     let at-new-place = at-depth .before .before in
     let at-if3 = at-new-place .before .before in
     let at-count = at-if3 .before in

@@ -19,12 +19,12 @@ use Rattle.write_steps.proofs.rename_tree.Statement.{statement}
 use Rattle.write_steps.proofs.rename_tree.Tie as tie
 
 judge-requires : tie.Need-judge-requires
-judge-requires c κs = ready (c .before .before .before .admit .ensures) (c .before .before .rename-cause .ensures)
+judge-requires c κs = ready (c .before .before .before .before .admit .ensures) (c .before .before .before .rename-cause .ensures)
 
 returns : tie.Need-returns
 returns c =
     let at-judge = c .before .before in
-    let at-needed = at-judge .before .before in
+    let at-needed = at-judge .before .before .before in
     let at-rename-cause = at-needed .before in
     let at-admit = at-rename-cause .before in
     step-stopped name.UU (UU _ _ _) refl (at-admit .admit .ensures) (at-rename-cause .rename-cause .ensures) (at-needed .needed .ensures)
@@ -32,25 +32,25 @@ returns c =
 
 grant-requires : tie.Need-grant-requires
 grant-requires c κs =
-    let at-judge = c .before .before .before in
-    let at-needed = at-judge .before .before in
+    let at-judge = c .before .before .before .before in
+    let at-needed = at-judge .before .before .before in
     let at-rename-cause = at-needed .before in
     let at-admit = at-rename-cause .before in
-    let start = at-admit .before .before .before .before .before in
+    let start = at-admit .before .before .before .before .before .before in
     let args = start .args in
     let f = step-free name.UU (UU _ (args .a .now) (args .b .now)) refl (at-admit .admit .ensures)
-    (at-rename-cause .rename-cause .ensures) (at-needed .needed .ensures) (at-judge .judge .ensures) (c .before .if1 .left) in
+    (at-rename-cause .rename-cause .ensures) (at-needed .needed .ensures) (at-judge .judge .ensures) (c .before .before .if1 .left) in
     (f .standing .layout, f .standing .low, f .standing .high, f .standing .climbed .inside)
 
 rename-below-requires : tie.Need-rename-below-requires
 rename-below-requires c κs =
     let at-grant = c .before .before .before in
-    let at-if1 = at-grant .before .before in
+    let at-if1 = at-grant .before .before .before in
     let at-judge = at-if1 .before .before in
-    let at-needed = at-judge .before .before in
+    let at-needed = at-judge .before .before .before in
     let at-rename-cause = at-needed .before in
     let at-admit = at-rename-cause .before in
-    let start = at-admit .before .before .before .before .before in
+    let start = at-admit .before .before .before .before .before .before in
     let args = start .args in
     let f = step-free name.UU (UU _ (args .a .now) (args .b .now)) refl (at-admit .admit .ensures)
     (at-rename-cause .rename-cause .ensures) (at-needed .needed .ensures) (at-judge .judge .ensures) (at-if1 .if1 .left) in
@@ -67,12 +67,12 @@ unfolding granted-answer first-lent second-lent stepped
 returns-2 c =
     let at-rename-below = c .before .before in
     let at-grant = at-rename-below .before .before .before .before in
-    let at-if1 = at-grant .before .before in
+    let at-if1 = at-grant .before .before .before in
     let at-judge = at-if1 .before .before in
-    let at-needed = at-judge .before .before in
+    let at-needed = at-judge .before .before .before in
     let at-rename-cause = at-needed .before in
     let at-admit = at-rename-cause .before in
-    let start = at-admit .before .before .before .before .before in
+    let start = at-admit .before .before .before .before .before .before in
     let args = start .args in
     let f = step-free name.UU (UU _ (args .a .now) (args .b .now)) refl (at-admit .admit .ensures)
     (at-rename-cause .rename-cause .ensures) (at-needed .needed .ensures) (at-judge .judge .ensures) (at-if1 .if1 .left) in

@@ -19,12 +19,12 @@ use Rattle.write_steps.proofs.update.Statement.{statement}
 use Rattle.write_steps.proofs.update.Tie as tie
 
 judge-requires : tie.Need-judge-requires
-judge-requires c κs = ready (c .before .before .before .before .admit .ensures) (c .before .before .update-cause .ensures)
+judge-requires c κs = ready (c .before .before .before .before .before .admit .ensures) (c .before .before .before .update-cause .ensures)
 
 returns : tie.Need-returns
 returns c =
     let at-judge = c .before .before in
-    let at-needed = at-judge .before .before in
+    let at-needed = at-judge .before .before .before in
     let at-update-cause = at-needed .before in
     let at-admit = at-update-cause .before .before in
     step-stopped name.U (U _ _) refl (at-admit .admit .ensures) (at-update-cause .update-cause .ensures) (at-needed .needed .ensures)
@@ -32,24 +32,24 @@ returns c =
 
 grant-requires : tie.Need-grant-requires
 grant-requires c κs =
-    let at-judge = c .before .before .before in
-    let at-needed = at-judge .before .before in
+    let at-judge = c .before .before .before .before in
+    let at-needed = at-judge .before .before .before in
     let at-update-cause = at-needed .before in
     let at-admit = at-update-cause .before .before in
-    let start = at-admit .before .before .before .before in
+    let start = at-admit .before .before .before .before .before in
     let f = step-free name.U (U _ (start .args .b .now)) refl (at-admit .admit .ensures) (at-update-cause .update-cause .ensures)
-    (at-needed .needed .ensures) (at-judge .judge .ensures) (c .before .if1 .left) in
+    (at-needed .needed .ensures) (at-judge .judge .ensures) (c .before .before .if1 .left) in
     (f .standing .layout, f .standing .low, f .standing .high, f .standing .climbed .inside)
 
 write-requires : tie.Need-write-requires
 write-requires c κs =
     let at-grant = c .before .before .before in
-    let at-if1 = at-grant .before .before in
+    let at-if1 = at-grant .before .before .before in
     let at-judge = at-if1 .before .before in
-    let at-needed = at-judge .before .before in
+    let at-needed = at-judge .before .before .before in
     let at-update-cause = at-needed .before in
     let at-admit = at-update-cause .before .before in
-    let start = at-admit .before .before .before .before in
+    let start = at-admit .before .before .before .before .before in
     let f = step-free name.U (U _ (start .args .b .now)) refl (at-admit .admit .ensures) (at-update-cause .update-cause .ensures)
     (at-needed .needed .ensures) (at-judge .judge .ensures) (at-if1 .if1 .left) in
     let g = free-locked f (at-grant .grant .ensures) in
@@ -60,12 +60,12 @@ unfolding granted-answer first-lent second-lent stepped
 returns-2 c =
     let at-write = c .before .before in
     let at-grant = at-write .before .before .before .before in
-    let at-if1 = at-grant .before .before in
+    let at-if1 = at-grant .before .before .before in
     let at-judge = at-if1 .before .before in
-    let at-needed = at-judge .before .before in
+    let at-needed = at-judge .before .before .before in
     let at-update-cause = at-needed .before in
     let at-admit = at-update-cause .before .before in
-    let start = at-admit .before .before .before .before in
+    let start = at-admit .before .before .before .before .before in
     let f = step-free name.U (U _ (start .args .b .now)) refl (at-admit .admit .ensures) (at-update-cause .update-cause .ensures)
     (at-needed .needed .ensures) (at-judge .judge .ensures) (at-if1 .if1 .left) in
     let written = kept-then _ (modify _ (second (written-by _ _))) (free-locked f (at-grant .grant .ensures)) (at-write .write .ensures) in

@@ -23,10 +23,9 @@ use Rattle.form.specs.Form.{valid, valid-document, valid-below, valid-rows}
 use Rattle.form.specs.Laws.Rows.{between-high}
 use Rattle.form.specs.Laws.Holds.{form-parts}
 use Rattle.engine.specs.Contract.{no-room}
-use Rattle.engine.specs.Admission.{Standing}
+use Rattle.engine.specs.Admission.{Site, Standing}
 use Rattle.engine.specs.Judgement.{first-cause, late-causes, Free}
 use Rattle.engine.specs.Laws.Judgement.{free-locked}
-use Rattle.engine.specs.declared.Admission.{Admission}
 use Rattle.engine.specs.Grants.{Granted}
 
 -- depths are small -------------------------------------------------------------------------
@@ -50,13 +49,13 @@ depth-small (x ∷ l) zero h k = omega (
 )
 depth-small (x ∷ l) (suc i) h k = omega (arith, depth-below 0 l i (and-right (eqb (x .0) 0 && valid-document (x .1)) _ h) (omega arith))
 
-pub standing-depth : {s : List ℕ} {t n : ℕ} {a : Admission} → Standing s t n a → depth (nodes s) (a .place) < 1024
+pub standing-depth : {s : List ℕ} {t n : ℕ} {a : Site} → Standing s t n a → depth (nodes s) (a .place) < 1024
 standing-depth {s} {a = a} f =
     omega (arith, depth-small (nodes s) (a .place) (form-parts (f .formed) .rows) (f .inside), f .inside, f .layout .room, f .layout .many)
 
 -- causes 11 and 12 -------------------------------------------------------------------------
 
-module _ {s : List ℕ} {t : ℕ} {a : Admission} {w : NeedWords} {m kind n k : ℕ} {b : List ℕ} (f : Free s t a w (I m kind b n k)) where
+module _ {s : List ℕ} {t : ℕ} {a : Site} {w : NeedWords} {m kind n k : ℕ} {b : List ℕ} (f : Free s t a w (I m kind b n k)) where
   module _ {r : Bool}
       (e : r ≡ placed (item (nodes s) (a .place) .now .kind) kind k (map (λ c. c .now .kind) (children (a .t) (nodes s) (a .place)))) where
     pub insert-misplaced : r ≡ false → 11 ≡ first-cause (late-causes (a .t) (I m kind b n k) no-room (nodes s) (a .place))

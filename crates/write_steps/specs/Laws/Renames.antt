@@ -23,7 +23,7 @@ use Rattle.locks.specs.declared.NeedWords.{NeedWords}
 use Rattle.engine.specs.Grants.{Granted}
 use Rattle.engine.specs.Judgement.{Free}
 use Rattle.engine.specs.Laws.Judgement.{free-locked}
-use Rattle.engine.specs.declared.Admission.{Admission}
+use Rattle.engine.specs.Admission.{Site}
 
 -- rows without their locks -----------------------------------------------------------------
 
@@ -86,7 +86,7 @@ named-granted t st p a l =
     ∙ named-bare t p a l
 
 -- what was counted with the locks granted is what there was before
-pub named-locked : {s s₁ : List ℕ} {t : ℕ} {at : Admission} {w : NeedWords} {n r : ℕ} {a b : List ℕ} → Free s t at w (UU n a b)
+pub named-locked : {s s₁ : List ℕ} {t : ℕ} {at : Site} {w : NeedWords} {n r : ℕ} {a b : List ℕ} → Free s t at w (UU n a b)
     → Granted s s₁ (at .t) w (at .way)
     → r ≡ named-in (at .t) a (at .place) (nodes s₁)
     → r ≡ named-in (at .t) a (at .place) (nodes s)

@@ -6,10 +6,10 @@ use Rattle.engine.proofs.locking.grant.Statement.{statement}
 use Rattle.engine.proofs.locking.grant.Tie as tie
 
 abbrev Inv-loop : tie.InvT-loop
-Inv-loop s₀ t w way count j₀ s j = (j ≤ way .count) × Granting s₀ s t w way j
+Inv-loop s₀ t w places count j₀ s j = (j ≤ count) × Granting s₀ s t w (record { places = places; count = count }) j
 
 abbrev μ-loop : tie.MeasureT-loop
-μ-loop s₀ t w way count j₀ s j = way .count - j
+μ-loop s₀ t w places count j₀ s j = count - j
 
 cast-add : tie.Need-cast-add Inv-loop μ-loop
 cast-add c =

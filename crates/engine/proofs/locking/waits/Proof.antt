@@ -9,19 +9,20 @@ use Rattle.engine.proofs.locking.waits.Statement.{statement}
 use Rattle.engine.proofs.locking.waits.Tie as tie
 
 abbrev Inv-loop : tie.InvT-loop
-Inv-loop s t way masks count set₀ u₀ set u = (u ≤ 16) × (set ≡ set-of t masks (is-open s) (nodes-of (nodes s) way) u)
+Inv-loop s t places count masks set₀ u₀ set u =
+    (u ≤ 16) × (set ≡ set-of t masks (is-open s) (nodes-of (nodes s) (record { places = places; count = count })) u)
 
 abbrev μ-loop : tie.MeasureT-loop
-μ-loop s t way masks count set₀ u₀ set u = u
+μ-loop s t places count masks set₀ u₀ set u = u
 
 bit-below-requires : tie.Need-bit-below-requires Inv-loop μ-loop
 bit-below-requires c κs =
-    let at-loop = c .before .before .before .before in
+    let at-loop = c .before .before in
     rw (at-loop .loop .inv .1) (set-below _ _ _ _ (at-loop .loop .u) (search needs))
 
 loop-again : tie.Need-loop-again Inv-loop μ-loop
 loop-again c =
-    let at-loop = c .before .before .before .before .before in
+    let at-loop = c .before .before .before in
     let l = at-loop .loop in (
       search needs,
       set-turn _ _ _ _ (l .u) _ _ _ (search needs) (search needs) (l .inv .1) (c .before .blocks2 .ensures)

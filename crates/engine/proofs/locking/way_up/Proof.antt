@@ -1,6 +1,4 @@
 use borrow.Author.Needs.{needs}
-use mathlib.Core.Path.{refl}
-use lib.ListN.{replicate}
 use Rattle.table.specs.Layout.{nodes}
 use Rattle.engine.specs.Laws.Way.{Climbing, climbing-hidden, climbing-start, climbing-passed, climbing-deleted}
 use Rattle.engine.specs.Laws.Way.{climbing-found, climbing-done}
@@ -14,12 +12,14 @@ abbrev μ-loop : tie.MeasureT-loop
 μ-loop s t p places₀ count₀ e₀ k₀ places count e k = k
 
 returns : tie.Need-returns Inv-loop μ-loop
-returns c = climbing-hidden (search needs) _ (c .before .deleter .ensures) (replicate 1024 0) (c .if1 .taken)
+returns c = climbing-hidden (search needs) _ (c .before .deleter .ensures) _ (c .if1 .taken)
 
 loop-holds : tie.Need-loop-holds Inv-loop μ-loop
 loop-holds c =
     let at-deleter = c .before .before in
-    climbing-start (search needs) _ (at-deleter .deleter .ensures) _ (replicate 1024 0) (c .before .if1 .left) (c .depth .ensures) refl
+    let start = at-deleter .before .before in
+    climbing-start (search needs) _ (at-deleter .deleter .ensures) _ (start .args .places .now) (c .before .if1 .left) (c .depth .ensures)
+    (start .pre .2)
 
 loop-again : tie.Need-loop-again Inv-loop μ-loop
 loop-again c =
