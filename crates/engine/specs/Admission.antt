@@ -11,9 +11,8 @@ use Rattle.protocol.specs.Calls.{step, Next, unchanged, refused, if-open, next}
 use Rattle.table.specs.Layout.{nodes, is-open, Layout}
 use Rattle.rows.specs.Places.{item, number-of, seen-at}
 use Rattle.rows.specs.Found.{judged-at}
-use Rattle.engine.specs.Way.{Climbed}
+use Rattle.engine.specs.Way.{Places, Climbed}
 use Rattle.form.specs.Form.{form, Holds}
-use Rattle.table.specs.declared.layout.Places.{Places}
 use Rattle.engine.specs.declared.Admission.{Admission}
 
 -- the caller ---------------------------------------------------------------------------

@@ -13,9 +13,8 @@ use Rattle.protocol.specs.State.{Marked, with-held}
 use Rattle.table.specs.Lists.{modify}
 use Rattle.table.specs.Flat.{second}
 use Rattle.table.specs.Layout.{Entry, nodes, Kept}
-use Rattle.table.specs.declared.layout.Places.{Places}
 use Rattle.rows.specs.Rows.{granted-along}
-use Rattle.engine.specs.Way.{places-of}
+use Rattle.engine.specs.Way.{Places, places-of}
 use Rattle.engine.specs.Waits.{word-at}
 
 -- t is granted the modes of a word on a node

@@ -12,9 +12,8 @@ use Rattle.locks.specs.Words.{mask-of, words}
 use Rattle.locks.specs.declared.NeedWords.{NeedWords}
 use Rattle.protocol.specs.State.{Marked}
 use Rattle.table.specs.Layout.{nodes, is-open}
-use Rattle.table.specs.declared.layout.Places.{Places}
 use Rattle.rows.specs.Found.{wait-word}
-use Rattle.engine.specs.Way.{nodes-of}
+use Rattle.engine.specs.Way.{Places, nodes-of}
 
 -- the set for the j-th node of the way
 abbrev pub word-at : NeedWords → ℕ → ℕ

@@ -1,4 +1,4 @@
--- The way up from a node, by value: the places of the node and of its proper ancestors.
+-- The way up from a node: the places of the node and of its proper ancestors.
 use Prim.Native.Nat.{ℕ, _≤_, _<_}
 use mathlib.Core.Path.{_≡_}
 use mathlib.Core.Bool.{true, false}
@@ -7,13 +7,17 @@ use lib.ListN.{length, getD, take}
 use Rattle.protocol.specs.State.{Marked}
 use Rattle.table.specs.Layout.{Entry}
 use Rattle.rows.specs.Places.{item, above-places, seen-at}
-use Rattle.table.specs.declared.layout.Places.{Places}
 
 -- the places of the node at p and of its proper ancestors, the parent first
 unfoldable pub way-up : List Entry → ℕ → List ℕ
 way-up l p = p ∷ above-places l p
 
--- the places that a value stands for, and the nodes there
+-- nodes by their places in document order, in some order: the first `count` of a list that is lent
+pub record Places : Type 0 where
+  pub places : List ℕ
+  pub count : ℕ
+
+-- the places that it stands for, and the nodes there
 unfoldable pub places-of : Places → List ℕ
 places-of w = take (w .count) (w .places)
 

@@ -100,9 +100,3 @@ pub fn left_out(below: usize, d: usize) -> bool
     }
     below <= d
 }
-
-// Nodes by their places in document order, in some order: the first `count` of `places`.
-pub struct Places {
-    pub places: [u16; 1024],
-    pub count: usize,
-}

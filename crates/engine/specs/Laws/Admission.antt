@@ -13,11 +13,10 @@ use Rattle.protocol.specs.State.{State, is-transaction, callers-document}
 use Rattle.protocol.specs.Lent.{Room}
 use Rattle.protocol.specs.Calls.{step, Next, if-open, judged, next}
 use Rattle.table.specs.Layout.{nodes, is-open}
-use Rattle.table.specs.declared.layout.Places.{Places}
 use Rattle.rows.specs.Places.{item, number-of, place-of}
 use Rattle.rows.specs.Laws.Find.{found-number}
 use Rattle.rows.specs.Laws.Judgement.{missing, deleted, found, judged-missing, judged-found}
-use Rattle.engine.specs.Way.{Climb}
+use Rattle.engine.specs.Way.{Places, Climb}
 use Rattle.form.specs.Form.{form, Holds}
 use Rattle.form.specs.Laws.Holds.{form-layout, holds-form}
 use Rattle.engine.specs.Admission.{Opened, Barred, Caller, Site, Rejected, Admitted}

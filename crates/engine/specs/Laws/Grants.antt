@@ -25,8 +25,7 @@ use Rattle.table.specs.Laws.Lists.{modify-same}
 use Rattle.table.specs.Laws.Kept.{kept-same, kept-then, kept-as}
 use Rattle.rows.specs.Places.{item}
 use Rattle.rows.specs.Rows.{granted-modes, granted-along}
-use Rattle.table.specs.declared.layout.Places.{Places}
-use Rattle.engine.specs.Way.{places-of, Inside}
+use Rattle.engine.specs.Way.{Places, places-of, Inside}
 use Rattle.engine.specs.Waits.{word-at}
 use Rattle.engine.specs.Grants.{with-more, granted-from, granted-on}
 

@@ -23,8 +23,7 @@ use Rattle.table.specs.Layout.{Entry, nodes, slot}
 use Rattle.table.specs.Transaction.{Loaded}
 use Rattle.rows.specs.Places.{item}
 use Rattle.rows.specs.Found.{blocks-at, wait-word}
-use Rattle.table.specs.declared.layout.Places.{Places}
-use Rattle.engine.specs.Way.{places-of, nodes-of, Inside}
+use Rattle.engine.specs.Way.{Places, places-of, nodes-of, Inside}
 use Rattle.engine.specs.Waits.{word-at, masks-of, SmallWords, touches, touches-from, blocks-by}
 use Rattle.engine.specs.Laws.Masks.{blocks-mask}
 

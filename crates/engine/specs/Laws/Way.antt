@@ -17,8 +17,7 @@ use Rattle.rows.specs.Places.{depth, item, number-of, climb, above-places, ups,
 use Rattle.rows.specs.Rows.{granted-along, granted-up}
 use Rattle.rows.specs.Laws.Up.{climb-found, climb-passed, climb-start}
 use Rattle.rows.specs.Laws.Up.{seen-up, seen-up-deleted, seen-up-found, seen-up-passed, seen-up-start, seen-at-up}
-use Rattle.table.specs.declared.layout.Places.{Places}
-use Rattle.engine.specs.Way.{way-up, places-of, nodes-of, Climbed, Climb}
+use Rattle.engine.specs.Way.{Places, way-up, places-of, nodes-of, Climbed, Climb}
 use Rattle.engine.specs.Grants.{granted-on}
 
 -- a place stored behind the others

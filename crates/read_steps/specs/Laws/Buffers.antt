@@ -13,8 +13,7 @@ use Rattle.protocol.specs.Lent.{number-bytes, list-bytes, cell, cells, filled}
 use Rattle.table.specs.Layout.{Entry}
 use Rattle.table.specs.Laws.Bytes.{put-word}
 use Rattle.rows.specs.Places.{item, number-of}
-use Rattle.table.specs.declared.layout.Places.{Places}
-use Rattle.engine.specs.Way.{places-of, nodes-of}
+use Rattle.engine.specs.Way.{Places, places-of, nodes-of}
 use Rattle.read_steps.specs.Laws.Stores.{sets-append, sets-front, word-sets}
 
 -- the pieces of the nodes, one behind the other

@@ -9,8 +9,7 @@ use Rattle.protocol.specs.Lent.{list-bytes, cell, cells}
 use Rattle.table.specs.Layout.{slot, Entry, nodes, Layout}
 use Rattle.table.specs.Laws.Texts.{size-small}
 use Rattle.rows.specs.Places.{item, number-of}
-use Rattle.table.specs.declared.layout.Places.{Places}
-use Rattle.engine.specs.Way.{places-of, nodes-of, Inside}
+use Rattle.engine.specs.Way.{Places, places-of, nodes-of, Inside}
 
 -- two bytes for a number
 pub length-numbers : (l : List Marked) → length (list-bytes (map number-of l)) ≡ 2 * length l
