@@ -44,7 +44,7 @@ pub fn caller(s: &[u8], t: u32) -> u8
 }
 
 // A step before its own causes: why it is refused, or 0; then its transaction, the place of its node, and how many nodes the way up from
-// there has. Their places are lent beside it, since copies of them would take the most of the stack and of a small step's time.
+// there has. Their places, 2 KB, are lent beside it and not copied.
 pub struct Admission {
     pub cause: u8,
     pub t: u8,
