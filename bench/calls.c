@@ -37,7 +37,7 @@ noodlefen_answer bench_begin(uint8_t *s, size_t length, uint32_t t)
 
 static void move_row(uint8_t *s, unsigned from, unsigned to)
 {
-    put16(s + AT_NUMBER + 2 * to, number_of(s, from));
+    put32(s + AT_NUMBER + 4 * to, number_of(s, from));
     put16(s + AT_SLOT + 2 * to, slot_of(s, from));
     put16(s + AT_DEPTH + 2 * to, depth_of(s, from));
     s[AT_KIND + to] = s[AT_KIND + from];

@@ -9,8 +9,6 @@
 
 #include "noodlefen.h"
 
-#define BENCH_STATE_BYTES 110608
-
 #define CALL(name, parameters, arguments) noodlefen_answer bench_##name parameters;
 #include "../host/calls.def"
 

@@ -1,6 +1,6 @@
 #include "state.h"
 
-const uint8_t bench_mark[8] = {'n', 'o', 'o', 'd', 'l', 'e', 'f', 1};
+const uint8_t bench_mark[8] = {'n', 'o', 'o', 'd', 'l', 'e', 'f', 2};
 
 #define L (NAME_FIRST | NAME_LATER | TEXT_BYTE) /* a letter or _ */
 #define N (NAME_LATER | TEXT_BYTE)              /* a digit, - or . */
@@ -51,21 +51,33 @@ static int slots_are_permutation(const uint8_t *s)
     return any < NODES && all == NODES;
 }
 
-/* Numbers by a map that is all zero between calls; only what was set is cleared. */
-static int numbers_are_distinct(const uint8_t *s, unsigned count, unsigned n, unsigned *at)
+/* The place of a number in a table of size 2^bits: where it stands, or the free place where it would. */
+static inline unsigned place_in(const uint8_t *s, const uint16_t *table, unsigned bits, uint32_t number)
 {
-    static uint8_t met[65536];
-    unsigned repeated = 0, found = count;
+    unsigned place = number * 2654435769u >> (32 - bits);
+    while (table[place] != 0 && number_of(s, table[place] - 1u) != number)
+        place = (place + 1) & ((1u << bits) - 1);
+    return place;
+}
+
+/* A table of rows by their numbers, open addressing: row + 1, or 0 where a place is free. It has twice as many places as there are rows
+ * or more, and no more are cleared. */
+static int numbers_are_distinct(const uint8_t *s, unsigned count, uint32_t n, unsigned *at)
+{
+    uint16_t table[2 * NODES];
+    unsigned bits = 5;
+    while (1u << bits < 2 * count)
+        bits++;
+    memset(table, 0, sizeof *table << bits);
     for (unsigned row = 0; row < count; row++) {
-        unsigned number = number_of(s, row);
-        repeated |= met[number];
-        met[number] = 1;
-        found = number == n ? row : found;
+        unsigned place = place_in(s, table, bits, number_of(s, row));
+        if (table[place] != 0)
+            return 0;
+        table[place] = (uint16_t)(row + 1);
     }
-    for (unsigned row = 0; row < count; row++)
-        met[number_of(s, row)] = 0;
-    *at = found;
-    return repeated == 0;
+    unsigned found = table[place_in(s, table, bits, n)];
+    *at = found != 0 ? found - 1 : count;
+    return 1;
 }
 
 /* Each mark is 0 or an open transaction. */
@@ -105,7 +117,7 @@ static int rows_are_of_form(const uint8_t *s, unsigned count)
     return (wrong | deep | strange) == 0;
 }
 
-int bench_form(const uint8_t *s, size_t length, unsigned n, unsigned *row)
+int bench_form(const uint8_t *s, size_t length, uint32_t n, unsigned *row)
 {
     if (length < AT_END || memcmp(s, bench_mark, 8) != 0)
         return 0;

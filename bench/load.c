@@ -269,7 +269,7 @@ noodlefen_answer bench_load(uint8_t *s, size_t length, const uint8_t *xml, size_
     for (unsigned i = 0; i < NODES; i++)
         put16(s + AT_SLOT + 2 * i, i);
     for (unsigned i = 0; i < rows.count; i++) {
-        put16(s + AT_NUMBER + 2 * i, i);
+        put32(s + AT_NUMBER + 4 * i, i);
         put16(s + AT_DEPTH + 2 * i, rows.depths[i]);
     }
     memcpy(s + AT_KIND, rows.kinds, rows.count);

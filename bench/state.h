@@ -15,7 +15,7 @@ enum {
     AT_OPEN = 10,                       /* bit t-1 for each open transaction t */
     AT_REST = 12,                       /* 4 bytes of zero */
     AT_NUMBER = 16,                     /* by row: node number */
-    AT_SLOT = AT_NUMBER + 2 * NODES,    /* by row: slot; a permutation, those of rows not in use are free */
+    AT_SLOT = AT_NUMBER + 4 * NODES,    /* by row: slot; a permutation, those of rows not in use are free */
     AT_DEPTH = AT_SLOT + 2 * NODES,     /* by row: 0 for the document */
     AT_KIND = AT_DEPTH + 2 * NODES,     /* by row */
     AT_INSERTED = AT_KIND + NODES,      /* by row: the open transaction that inserted it, or 0 */
@@ -42,9 +42,21 @@ static inline void put16(uint8_t *bytes, unsigned value)
     memcpy(bytes, &word, 2);
 }
 
+static inline uint32_t get32(const uint8_t *bytes)
+{
+    uint32_t word;
+    memcpy(&word, bytes, 4);
+    return word;
+}
+
+static inline void put32(uint8_t *bytes, uint32_t word)
+{
+    memcpy(bytes, &word, 4);
+}
+
 static inline unsigned count_of(const uint8_t *s) { return get16(s + AT_COUNT); }
 static inline unsigned open_set(const uint8_t *s) { return get16(s + AT_OPEN); }
-static inline unsigned number_of(const uint8_t *s, unsigned row) { return get16(s + AT_NUMBER + 2 * row); }
+static inline uint32_t number_of(const uint8_t *s, unsigned row) { return get32(s + AT_NUMBER + 4 * row); }
 static inline unsigned slot_of(const uint8_t *s, unsigned row) { return get16(s + AT_SLOT + 2 * row); }
 static inline unsigned depth_of(const uint8_t *s, unsigned row) { return get16(s + AT_DEPTH + 2 * row); }
 static inline uint8_t *cell_at(uint8_t *s, unsigned slot) { return s + AT_CELL + CELL * slot; }
@@ -74,6 +86,6 @@ int bench_name(const uint8_t *bytes, size_t length);
 int bench_text(const uint8_t *bytes, size_t length);
 
 /* Whether the bytes are of the form. If so, *row is the row of number n, or count if there is none. */
-int bench_form(const uint8_t *s, size_t length, unsigned n, unsigned *row);
+int bench_form(const uint8_t *s, size_t length, uint32_t n, unsigned *row);
 
 #endif

@@ -79,7 +79,7 @@ static void grant(uint8_t *s, unsigned t, const struct path *path, const struct 
 }
 
 /* The refusals 13 (state), 1, 3 and 7; 0 if there is none. */
-static inline unsigned first_causes(const uint8_t *s, size_t length, uint32_t t, unsigned n, unsigned *row)
+static inline unsigned first_causes(const uint8_t *s, size_t length, uint32_t t, noodlefen_node n, unsigned *row)
 {
     if (!bench_form(s, length, n, row))
         return 13;
@@ -221,17 +221,17 @@ static unsigned place_of(const uint8_t *s, unsigned t, unsigned row, unsigned ki
     return k == children + 1 ? at : place;
 }
 
-static void insert_row(uint8_t *s, unsigned row, unsigned number, unsigned depth, unsigned kind, unsigned t)
+static void insert_row(uint8_t *s, unsigned row, uint32_t number, unsigned depth, unsigned kind, unsigned t)
 {
     unsigned count = count_of(s), after = count - row, slot = slot_of(s, count);
-    memmove(s + AT_NUMBER + 2 * (row + 1), s + AT_NUMBER + 2 * row, 2 * after);
+    memmove(s + AT_NUMBER + 4 * (row + 1), s + AT_NUMBER + 4 * row, 4 * after);
     memmove(s + AT_SLOT + 2 * (row + 1), s + AT_SLOT + 2 * row, 2 * after);
     memmove(s + AT_DEPTH + 2 * (row + 1), s + AT_DEPTH + 2 * row, 2 * after);
     memmove(s + AT_KIND + row + 1, s + AT_KIND + row, after);
     memmove(s + AT_INSERTED + row + 1, s + AT_INSERTED + row, after);
     memmove(s + AT_DELETED + row + 1, s + AT_DELETED + row, after);
     memmove(s + AT_CHANGED + row + 1, s + AT_CHANGED + row, after);
-    put16(s + AT_NUMBER + 2 * row, number);
+    put32(s + AT_NUMBER + 4 * row, number);
     put16(s + AT_SLOT + 2 * row, slot);
     put16(s + AT_DEPTH + 2 * row, depth);
     s[AT_KIND + row] = (uint8_t)kind;
@@ -241,7 +241,7 @@ static void insert_row(uint8_t *s, unsigned row, unsigned number, unsigned depth
     put16(s + AT_COUNT, count + 1);
 }
 
-static int number_held(const uint8_t *s, unsigned number)
+static int number_held(const uint8_t *s, uint32_t number)
 {
     unsigned count = count_of(s), found = 0;
     for (unsigned row = 0; row < count; row++)
@@ -300,11 +300,11 @@ noodlefen_answer bench_test_tree(uint8_t *s, size_t length, uint32_t t, noodlefe
     if ((set = wait_set(s, t, &path, &needs_tt)) != 0)
         return waits(set);
     unsigned listed = list_rows(s, t, row, rows);
-    if (numbers_len < 2 * (size_t)listed)
+    if (numbers_len < 4 * (size_t)listed)
         return refused(13, 0);
     grant(s, t, &path, &needs_tt);
     for (unsigned i = 0; i < listed; i++)
-        put16(numbers + 2 * i, number_of(s, rows[i]));
+        put32(numbers + 4 * i, number_of(s, rows[i]));
     return granted(listed);
 }
 
@@ -320,11 +320,11 @@ noodlefen_answer bench_read_tree(uint8_t *s, size_t length, uint32_t t, noodlefe
     if ((set = wait_set(s, t, &path, &needs_rr)) != 0)
         return waits(set);
     unsigned listed = list_rows(s, t, row, rows);
-    if (numbers_len < 2 * (size_t)listed || cells_len < CELL * (size_t)listed)
+    if (numbers_len < 4 * (size_t)listed || cells_len < CELL * (size_t)listed)
         return refused(13, 0);
     grant(s, t, &path, &needs_rr);
     for (unsigned i = 0; i < listed; i++) {
-        put16(numbers + 2 * i, number_of(s, rows[i]));
+        put32(numbers + 4 * i, number_of(s, rows[i]));
         memcpy(cells + CELL * (size_t)i, cell_in(s, rows[i]), CELL);
     }
     return granted(listed);

@@ -22,8 +22,7 @@ struct places {
 static struct places places_in(unsigned nodes)
 {
     unsigned drives = (nodes - 2) / 5, middle = 2 + 5 * (drives / 2);
-    struct places places = {(noodlefen_node)middle, (noodlefen_node)(middle + 3), (noodlefen_node)(middle + 4),
-                            (noodlefen_node)(nodes - 2)};
+    struct places places = {middle, middle + 3, middle + 4, nodes - 2};
     return places;
 }
 

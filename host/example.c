@@ -62,7 +62,7 @@ static noodlefen_answer show(noodlefen_answer answer, const char *format, ...)
     va_start(values, format);
     vsnprintf(call, sizeof call, format, values);
     va_end(values);
-    printf("%-58s ", call);
+    printf("%-60s ", call);
     if (noodlefen_granted(answer))
         printf("granted\n");
     else
@@ -122,10 +122,10 @@ static struct found look_for(uint32_t t, noodlefen_node parent, const char *name
 {
     char call[80];
     struct found result = child_named(t, parent, name);
-    snprintf(call, sizeof call, "transaction %u: look for <%s> in node %u", (unsigned)t, name, parent);
-    printf("%-58s ", call);
+    snprintf(call, sizeof call, "transaction %u: look for <%s> in node %u", (unsigned)t, name, (unsigned)parent);
+    printf("%-60s ", call);
     if (result.outcome == FOUND)
-        printf("node %u\n", result.node);
+        printf("node %u\n", (unsigned)result.node);
     else if (result.outcome == NONE)
         printf("none\n");
     else
@@ -224,31 +224,37 @@ static int change_and_read(noodlefen_node n, const char *change)
     noodlefen_answer answer;
     int tries = 0;
     answer = noodlefen_update(state, sizeof state, 1, n, bytes_of(change), strlen(change));
-    if (!noodlefen_granted(show(answer, "transaction 1: update node %u to \"%s\"", n, change))) {
+    if (!noodlefen_granted(show(answer, "transaction 1: update node %u to \"%s\"", (unsigned)n, change))) {
         give_up(1);
         return 0;
     }
     do {
-        answer = show(read_content(2, n, &content), "transaction 2: read node %u", n);
+        answer = show(read_content(2, n, &content), "transaction 2: read node %u", (unsigned)n);
     } while (again(answer, &tries, first_engineer_works));
     if (noodlefen_granted(answer))
         printf("    \"%.*s\"\n", (int)content.length, (const char *)content.bytes);
     return noodlefen_granted(answer);
 }
 
-/* Step I with a number that no node has. Load gives numbers below 1,024, so those from there on are free at first. Of 65,536 numbers
- * at most 1,024 are held, so one is soon found. */
+/* The first number of the settings of a device in a cabin of a plant. Cabins, devices and a device's settings have two digits. Load gives
+ * numbers below 1,024, so plants count from 1. */
+static noodlefen_node number_of(unsigned plant, unsigned cabin, unsigned device)
+{
+    return 1000000 * plant + 10000 * cabin + 100 * device;
+}
+
+/* Step I with a number that no node has, for a setting of device 1 in cabin 24 of plant 7. At most 1,024 are held, so one is soon found. */
 static noodlefen_answer insert_new(uint32_t t, uint32_t kind, const char *content, noodlefen_node parent, uint32_t k, noodlefen_node *m)
 {
-    static noodlefen_node next = NOODLEFEN_NODES;
+    static unsigned held;
     noodlefen_answer answer;
-    for (;; next++) {
-        *m = next;
+    for (;; held++) {
+        *m = number_of(7, 24, 1) + held;
         answer = noodlefen_insert(state, sizeof state, t, *m, kind, bytes_of(content), strlen(content), parent, k);
         if (noodlefen_cause(answer) != NOODLEFEN_NUMBER_HELD)
             break;
     }
-    return show(answer, "transaction %u: insert \"%s\" as child %u of node %u", (unsigned)t, content, (unsigned)k, parent);
+    return show(answer, "transaction %u: insert \"%s\" as child %u of node %u", (unsigned)t, content, (unsigned)k, (unsigned)parent);
 }
 
 /* How many children a node has; the answer is that of the last step. */

@@ -47,7 +47,7 @@ static const struct call calls[CALLS] = {
     [CALL_read] = {.t = 1, .n = 4, .room = {5}, .exact = GRANTED(5), .none = REFUSED(13)},
     [CALL_update] = {.t = 1, .n = 5, .input = {"7"}, .exact = GRANTED(0), .none = REFUSED(9)},
     [CALL_delete] = {.t = 1, .n = 4, .exact = GRANTED(0)},
-    [CALL_insert] = {.t = 1, .m = 9, .kind = 2, .n = 1, .k = 4, .input = {"lamp"}, .exact = GRANTED(0), .none = REFUSED(9)},
+    [CALL_insert] = {.t = 1, .m = 4294967295u, .kind = 2, .n = 1, .k = 4, .input = {"lamp"}, .exact = GRANTED(0), .none = REFUSED(9)},
     [CALL_test_tree] = {.t = 1, .n = 1, .room = {6 * NOODLEFEN_NUMBER_BYTES}, .exact = GRANTED(6), .none = REFUSED(13)},
     [CALL_read_tree] = {.t = 1, .n = 1, .room = {6 * NOODLEFEN_NUMBER_BYTES, 6 * NOODLEFEN_CELL_BYTES}, .exact = GRANTED(6),
                         .none = REFUSED(13)},
@@ -166,7 +166,7 @@ static void test_short_buffers(enum call_name what, int at_end)
 
 static void test_short_states(enum call_name what, int at_end)
 {
-    static const size_t lengths[] = {0, 1, 7, 8, 9, 10, 11, 12, 15, 16, 17, 22, 4096, 6160, 6230, 77840, 77842,
+    static const size_t lengths[] = {0, 1, 7, 8, 9, 10, 11, 12, 15, 16, 17, 24, 4096, 8208, 8278, 79888, 79890,
                                      NOODLEFEN_STATE_BYTES - 2, NOODLEFEN_STATE_BYTES - 1};
     for (size_t i = 0; i < sizeof lengths / sizeof *lengths; i++) {
         struct slice slices[SLICES];
@@ -199,7 +199,7 @@ static void test_null(enum call_name what, unsigned set, size_t length)
 
 static void test_nulls(enum call_name what)
 {
-    static const size_t lengths[] = {0, 1, 2, 5, 12, 32, 33, 84, 198, 4096, 65536, NOODLEFEN_STATE_BYTES, 1048576,
+    static const size_t lengths[] = {0, 1, 2, 5, 24, 32, 33, 84, 198, 4096, 65536, NOODLEFEN_STATE_BYTES, 1048576,
                                      SIZE_MAX / 2, SIZE_MAX};
     for (unsigned set = 1; set < 1u << (has_buffer(what, 1) ? 3 : 2); set++)
         for (size_t i = 0; i < sizeof lengths / sizeof *lengths; i++)

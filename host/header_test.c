@@ -24,7 +24,7 @@ extern "C" {
 }
 #endif
 
-#if NOODLEFEN_VERSION != 1000 * NOODLEFEN_VERSION_MAJOR + NOODLEFEN_VERSION_MINOR || NOODLEFEN_VERSION < 1000
+#if NOODLEFEN_VERSION != 1000 * NOODLEFEN_VERSION_MAJOR + NOODLEFEN_VERSION_MINOR || NOODLEFEN_VERSION < 2000
 #error "the version"
 #endif
 
@@ -53,11 +53,20 @@ static noodlefen_answer refused(unsigned cause, uint64_t offset)
 
 static void test_answers(void)
 {
-    noodlefen_answer child = granted(0xFFFE + (3ull << 32));
+    noodlefen_answer child = granted(0xFFFFFFFE + (3ull << 32));
     CHECK(noodlefen_granted(child) && !noodlefen_waits(child) && !noodlefen_refused(child));
-    CHECK(noodlefen_number(child) == 0xFFFE && noodlefen_kind(child) == NOODLEFEN_ATTRIBUTE && noodlefen_cause(child) == 0);
+    CHECK(noodlefen_number(child) == 0xFFFFFFFE && noodlefen_kind(child) == NOODLEFEN_ATTRIBUTE && noodlefen_cause(child) == 0);
     noodlefen_answer refusal = refused(NOODLEFEN_LOADED_NODES, 65535);
     CHECK(noodlefen_refused(refusal) && noodlefen_cause(refusal) == 6 && noodlefen_value(refusal) == 65535);
+}
+
+/* Four bytes each, the low one first. */
+static void test_lists(void)
+{
+    static const uint8_t numbers[] = {1, 0, 0, 0, 0x78, 0x56, 0x34, 0x12, 0xFF, 0xFF, 0xFF, 0xFF, 0, 0, 1, 0};
+    CHECK(NOODLEFEN_NUMBER_BYTES == 4 && sizeof(noodlefen_node) == 4);
+    CHECK(noodlefen_list_number(numbers, 0) == 1 && noodlefen_list_number(numbers, 1) == 0x12345678);
+    CHECK(noodlefen_list_number(numbers, 2) == 0xFFFFFFFF && noodlefen_list_number(numbers, 3) == 65536);
 }
 
 static void test_blocked_by(void)
@@ -124,8 +133,9 @@ static void test_calls(void)
     CHECK(noodlefen_list_number(numbers, 0) == speed && text == 5);
     CHECK(noodlefen_cell_length(cells, 0) == 5 && memcmp(noodlefen_cell_content(cells, 0), "speed", 5) == 0);
     CHECK(noodlefen_cell_length(cells, 1) == 1 && noodlefen_cell_content(cells, 1)[0] == '6');
-    noodlefen_node fresh = 65535;
+    noodlefen_node fresh = 4294967295u;
     CHECK(noodlefen_granted(noodlefen_insert(state, sizeof state, 1, fresh, NOODLEFEN_ELEMENT, (const uint8_t *)"door", 4, lift, 4)));
+    CHECK(noodlefen_number(noodlefen_child(state, sizeof state, 1, lift, 4)) == fresh);
     CHECK(noodlefen_value(noodlefen_test_tree(state, sizeof state, 1, fresh, numbers, sizeof numbers)) == 1);
     CHECK(noodlefen_list_number(numbers, 0) == fresh);
     CHECK(noodlefen_granted(noodlefen_delete(state, sizeof state, 1, text)));
@@ -137,6 +147,7 @@ static void test_calls(void)
 int main(void)
 {
     test_answers();
+    test_lists();
     test_blocked_by();
     test_cause_texts();
     test_positions();

@@ -199,11 +199,11 @@ static void test_steps(void)
     EXPECT(granted(0), .what = C, .t = 1, .n = 1, .k = 0xFFFFFFFFu);
     EXPECT(granted(5), .what = R, .t = 1, .n = 4, .room = 5);
     EXPECT(refused(13, 0), .what = R, .t = 1, .n = 4, .room = 4);
-    EXPECT(refused(13, 0), .what = TT, .t = 1, .n = 1, .room = 11);
-    EXPECT(granted(6), .what = TT, .t = 1, .n = 1, .room = 12);
-    EXPECT(refused(13, 0), .what = RR, .t = 1, .n = 1, .room = 12, .cells_room = 197);
-    EXPECT(refused(13, 0), .what = RR, .t = 1, .n = 1, .room = 11, .cells_room = 198);
-    EXPECT(granted(6), .what = RR, .t = 1, .n = 1, .room = 12, .cells_room = 198);
+    EXPECT(refused(13, 0), .what = TT, .t = 1, .n = 1, .room = 23);
+    EXPECT(granted(6), .what = TT, .t = 1, .n = 1, .room = 24);
+    EXPECT(refused(13, 0), .what = RR, .t = 1, .n = 1, .room = 24, .cells_room = 197);
+    EXPECT(refused(13, 0), .what = RR, .t = 1, .n = 1, .room = 23, .cells_room = 198);
+    EXPECT(granted(6), .what = RR, .t = 1, .n = 1, .room = 24, .cells_room = 198);
     EXPECT(waits(1), .what = U, .t = 2, .n = 5, .a = "7");
     EXPECT(refused(7, 0), .what = R, .t = 1, .n = 7, .room = 32);
     EXPECT(refused(8, 0), .what = D, .t = 1, .n = 0);
@@ -226,6 +226,30 @@ static void test_steps(void)
           "<lift><pace>7</pace><ramp/><x/></lift>") == 0, "the written settings", __LINE__);
 }
 
+/* Numbers past 65,535, in the arguments, in answers and in lists. */
+static void test_numbers(void)
+{
+    static const char listed[] = "\x06\0\0\0\0\0\x01\0\x06\0\x01\0\xFF\xFF\xFF\xFF";
+    char text[32];
+    begin_with(tree_e);
+    EXPECT(refused(7, 0), .what = T, .t = 1, .n = 65536 + 6);
+    EXPECT(granted(0), .what = I, .t = 1, .m = 65536, .kind = 2, .a = "a", .n = 6, .k = 1);
+    EXPECT(granted(0), .what = I, .t = 1, .m = 65536 + 6, .kind = 2, .a = "b", .n = 65536, .k = 1);
+    EXPECT(granted(0), .what = I, .t = 1, .m = 0xFFFFFFFF, .kind = 4, .a = "c", .n = 65536 + 6, .k = 1);
+    EXPECT(refused(10, 0), .what = I, .t = 1, .m = 0xFFFFFFFF, .kind = 2, .a = "d", .n = 6, .k = 1);
+    EXPECT(granted(6 + (2ull << 32)), .what = T, .t = 1, .n = 65536);
+    EXPECT(granted(65536 + 6 + (4ull << 32)), .what = T, .t = 1, .n = 0xFFFFFFFF);
+    EXPECT(granted(0xFFFFFFFF + (4ull << 32)), .what = C, .t = 1, .n = 65536 + 6, .k = 1);
+    EXPECT(refused(7, 0), .what = T, .t = 1, .n = 0xFFFF);
+    EXPECT(refused(13, 0), .what = TT, .t = 1, .n = 6, .room = 15);
+    noodlefen_answer answer = make(&state, &(struct call){.what = TT, .t = 1, .n = 6, .room = 16}, __LINE__, text);
+    check(answer == granted(4) && memcmp(text, listed, 16) == 0, "the listed numbers", __LINE__);
+    EXPECT(granted(0), .what = D, .t = 1, .n = 65536 + 6);
+    EXPECT(refused(7, 0), .what = R, .t = 1, .n = 0xFFFFFFFF, .room = 32);
+    EXPECT(granted(0), .what = COMMIT, .t = 1);
+    EXPECT(granted(2), .what = TT, .t = 2, .n = 6, .room = 8);
+}
+
 static void test_documents(void)
 {
     static char big[70000];
@@ -242,9 +266,11 @@ static void test_documents(void)
     strcpy(big + 4091, "</a>");
     EXPECT(granted(1024), .what = LOAD, .a = big);
     EXPECT(granted(0), .what = BEGIN, .t = 1);
-    EXPECT(refused(12, 0), .what = I, .t = 1, .m = 2000, .kind = 2, .a = "c", .n = 1, .k = 1);
+    EXPECT(refused(13, 0), .what = TT, .t = 1, .n = 0, .room = 4095);
+    EXPECT(granted(1024), .what = TT, .t = 1, .n = 0, .room = 4096);
+    EXPECT(refused(12, 0), .what = I, .t = 1, .m = 4000000000u, .kind = 2, .a = "c", .n = 1, .k = 1);
     EXPECT(granted(0), .what = D, .t = 1, .n = 1023);
-    EXPECT(refused(12, 0), .what = I, .t = 1, .m = 2000, .kind = 2, .a = "c", .n = 1, .k = 1);
+    EXPECT(refused(12, 0), .what = I, .t = 1, .m = 4000000000u, .kind = 2, .a = "c", .n = 1, .k = 1);
     EXPECT(granted(0), .what = COMMIT, .t = 1);
     memset(big, ' ', sizeof big);
     memcpy(big, "<a/>", 4);
@@ -256,18 +282,26 @@ static const char *const contents[] = {"a", "b", "speed", "lift", "x y", "\n", "
                                        "12345678901234567890123456789012", "n2345678901234567890123456789012",
                                        "123456789012345678901234567890123"};
 
+/* Small ones, and ones that agree with them in the low 16 bits. */
+static noodlefen_node random_number(unsigned bound)
+{
+    static const noodlefen_node beyond[] = {65536, 0x80000000u, 0xFFFF0000u};
+    noodlefen_node number = below(bound);
+    return below(6) == 0 ? number + beyond[below(3)] : number;
+}
+
 static struct call random_call(void)
 {
     static const char *const documents[] = {tree_e, "<a/>", "<a b='c'>d<e/>f</a>", "<a", "<a b='' b=''/>", ""};
     struct call c = {.what = below(30) == 0 ? (enum name)below(BEGIN) : (enum name)(BEGIN + below(NAMES - BEGIN))};
     c.t = below(20) == 0 ? below(40) : 1 + below(3);
-    c.n = (noodlefen_node)below(12);
-    c.m = (noodlefen_node)below(14);
+    c.n = random_number(12);
+    c.m = random_number(14);
     c.k = below(20) == 0 ? 0xFFFFFFFFu : below(5);
     c.kind = below(6);
     c.a = c.what == LOAD ? documents[below(6)] : contents[below(12)];
     c.b = contents[below(12)];
-    c.room = below(4) == 0 ? below(20) : 2100;
+    c.room = below(4) == 0 ? below(40) : 4200;
     c.cells_room = below(4) == 0 ? below(200) : 34000;
     return c;
 }
@@ -286,7 +320,7 @@ static struct call plain_call(enum name what)
 {
     static const noodlefen_node nodes[NAMES] = {[U] = 5, [R] = 5, [D] = 6, [I] = 1, [UU] = 1};
     struct call c = {.what = what, .t = what == BEGIN ? 3 : 1, .n = nodes[what], .m = 9, .kind = 2, .k = 2,
-                     .a = what == LOAD ? tree_e : "a", .b = "b", .room = 2100, .cells_room = 34000};
+                     .a = what == LOAD ? tree_e : "a", .b = "b", .room = 4200, .cells_room = 34000};
     return c;
 }
 
@@ -302,6 +336,25 @@ static void test_short_states(void)
             check(make(&shorter, &c, __LINE__, NULL) == refused(13, 0), "a state too short is not refused", __LINE__);
             give_back(&shorter);
         }
+}
+
+/* The form asks that no two nodes have the same number, all four bytes of it; docs/STATE.md says where they are. */
+static void test_repeated_numbers(void)
+{
+    enum { OUTLINE = 16, ENTRY = 8, NUMBER = 4, PLACE = 4 };
+    static const uint8_t same[] = {6, 0, 0, 0};
+    uint8_t *number = state.bytes + OUTLINE + ENTRY * PLACE + NUMBER;
+    begin_with(tree_e);
+    for (int byte = 0; byte < 4; byte++) {
+        memcpy(number, same, sizeof same);
+        number[byte] ^= 0x81;
+        EXPECT(granted(1 + (2ull << 32)), .what = T, .t = 1, .n = noodlefen_list_number(number, 0));
+    }
+    memcpy(number, same, sizeof same);
+    for (int what = LOAD; what < NAMES; what++) {
+        struct call c = plain_call((enum name)what);
+        check(make(&state, &c, __LINE__, NULL) == refused(13, 0), "a repeated number is not refused", __LINE__);
+    }
 }
 
 /* States that no call left: each call answers 13 or goes on, and keeps to the lent bytes. */
@@ -345,6 +398,7 @@ static void test_all(size_t length, size_t shift)
     state = lend(length, shift, NULL);
     test_transactions();
     test_steps();
+    test_numbers();
     test_documents();
     test_random_calls();
     give_back(&state);
@@ -357,6 +411,7 @@ int main(void)
     test_all(1048576, 0);
     state = lend(NOODLEFEN_STATE_BYTES, 3, NULL);
     test_short_states();
+    test_repeated_numbers();
     test_damaged_states();
     give_back(&state);
     check(granted_seen > 0 && waits_seen > 0, "granted or waiting calls are missing", __LINE__);

@@ -59,32 +59,42 @@ static void print_settings(const uint8_t *bytes)
     printf("  %.*s\n", (int)(noodlefen_value(answer) - (uint64_t)(line + 1 - (const char *)out)), line + 1);
 }
 
-/* --- A number for a new node. Load gives numbers below 1,024; the others are shared out, 4,032 to each transaction number, so that two
+/* --- A number that says where a setting belongs: to a device in a cabin of a plant. Cabins, devices and a device's settings have two
+ * digits. Load gives numbers below 1,024, so plants count from 1; those up to 2,146 stay below 2^31. */
+static noodlefen_node number_of(unsigned plant, unsigned cabin, unsigned device, unsigned setting)
+{
+    return 1000000 * plant + 10000 * cabin + 100 * device + setting;
+}
+
+/* --- A number for a new node that needs none of its own. Those from 2^31 on are shared out, 2^27 to each transaction number, so that two
  * engineers never choose the same. A number that is held is refused for cause 10, also while a deletion of its node is not committed. */
 static noodlefen_answer insert_new(uint32_t t, uint32_t kind, const char *content, noodlefen_node n, uint32_t k, noodlefen_node *m)
 {
-    enum { SHARE = (65536 - NOODLEFEN_NODES) / NOODLEFEN_TRANSACTIONS };
-    static unsigned tried[NOODLEFEN_TRANSACTIONS + 1]; /* the first for a t that is not 1 to 16, which is refused */
-    unsigned *next = &tried[t <= NOODLEFEN_TRANSACTIONS ? t : 0];
+    static const noodlefen_node first = 1u << 31, share = 1u << 27;
+    static noodlefen_node tried[NOODLEFEN_TRANSACTIONS + 1]; /* the first for a t that is not 1 to 16, which is refused */
+    noodlefen_node *next = &tried[t <= NOODLEFEN_TRANSACTIONS ? t : 0];
     noodlefen_answer answer;
     do {
-        *m = (noodlefen_node)(NOODLEFEN_NODES + (t - 1) * SHARE + *next);
+        *m = first + (t - 1) * share + *next;
         answer = noodlefen_insert(state, sizeof state, t, *m, kind, (const uint8_t *)content, strlen(content), n, k);
-        *next = (*next + 1) % SHARE;
+        *next = (*next + 1) % share;
     } while (noodlefen_cause(answer) == NOODLEFEN_NUMBER_HELD);
     return answer;
 }
 
 static void numbers(void)
 {
-    noodlefen_node first, second, third;
+    noodlefen_node door = number_of(7, 24, 1, 0), first, second, third;
     printf("a number for a new node\n");
     begin_with("<a><b/><c/></a>");
-    must(noodlefen_insert(state, sizeof state, 2, 5057, NOODLEFEN_ELEMENT, (const uint8_t *)"x", 1, 3, 1));
-    must(insert_new(1, NOODLEFEN_ELEMENT, "d", 2, 1, &first));
+    must(noodlefen_insert(state, sizeof state, 1, door, NOODLEFEN_ELEMENT, (const uint8_t *)"door", 4, 2, 1));
+    printf("  plant 7, cabin 24, device 1, setting 0: %u, in node %u\n", (unsigned)door,
+           (unsigned)noodlefen_number(must(noodlefen_test(state, sizeof state, 1, door))));
+    must(insert_new(1, NOODLEFEN_ELEMENT, "d", door, 1, &first));
+    must(noodlefen_insert(state, sizeof state, 2, 2281701377u, NOODLEFEN_ELEMENT, (const uint8_t *)"x", 1, 3, 1));
     must(insert_new(2, NOODLEFEN_ELEMENT, "e", 3, 1, &second));
     must(insert_new(2, NOODLEFEN_ELEMENT, "f", 3, 1, &third));
-    printf("  numbers %u, %u, %u (5057 was held)\n", first, second, third);
+    printf("  others: %u, %u, %u (2281701377 was held)\n", (unsigned)first, (unsigned)second, (unsigned)third);
 }
 
 /* --- The value of an attribute: its only child is a text, and without one the value is empty. */

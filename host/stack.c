@@ -34,8 +34,13 @@ static void *child(void *unused) { answer = noodlefen_child(state, sizeof state,
 static void *read(void *unused) { answer = noodlefen_read(state, sizeof state, 1, 900, out, sizeof out); return unused; }
 static void *update(void *unused) { answer = noodlefen_update(state, sizeof state, 1, 900, bytes("pace"), 4); return unused; }
 static void *delete(void *unused) { answer = noodlefen_delete(state, sizeof state, 1, 900); return unused; }
-static void *insert(void *unused) { answer = noodlefen_insert(state, sizeof state, 1, 60000, 2, bytes("lamp"), 4, 899, 1); return unused; }
 static void *test_tree(void *unused) { answer = noodlefen_test_tree(state, sizeof state, 1, 0, out, sizeof out); return unused; }
+
+static void *insert(void *unused)
+{
+    answer = noodlefen_insert(state, sizeof state, 1, 4000000000u, 2, bytes("lamp"), 4, 899, 1);
+    return unused;
+}
 
 static void *read_tree(void *unused)
 {

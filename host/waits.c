@@ -29,7 +29,7 @@ static noodlefen_answer make_step(int step, uint32_t t, noodlefen_node n)
     case 2: return noodlefen_read(state, sizeof state, t, n, out, sizeof out);
     case 3: return noodlefen_update(state, sizeof state, t, n, name, 1);
     case 4: return noodlefen_delete(state, sizeof state, t, n);
-    case 5: return noodlefen_insert(state, sizeof state, t, (noodlefen_node)(1023 + t), NOODLEFEN_ELEMENT, name, 1, n, 1);
+    case 5: return noodlefen_insert(state, sizeof state, t, 65535 + t, NOODLEFEN_ELEMENT, name, 1, n, 1);
     case 6: return noodlefen_test_tree(state, sizeof state, t, n, out, sizeof out);
     case 7: return noodlefen_read_tree(state, sizeof state, t, n, out, sizeof out, cells, sizeof cells);
     default: return noodlefen_rename_tree(state, sizeof state, t, n, name, 1, name, 1);

@@ -23,21 +23,21 @@ extern "C" {
 
 /* The version of this interface. MAJOR grows when a program that was right has to be changed or compiled again, MINOR when calls
  * or causes are added. NOODLEFEN_VERSION is a number that #if can compare: 1000 for each MAJOR. */
-#define NOODLEFEN_VERSION_MAJOR 1
+#define NOODLEFEN_VERSION_MAJOR 2
 #define NOODLEFEN_VERSION_MINOR 0
 #define NOODLEFEN_VERSION (1000 * NOODLEFEN_VERSION_MAJOR + NOODLEFEN_VERSION_MINOR)
 
 /* The format mark: the first bytes of every started state. It changes whenever the form of the state bytes does, and a state with
  * another mark is refused for 13 by every call but start. To change the library, write the settings out with the old one and load
  * them with the new one; do not hand over state bytes. */
-#define NOODLEFEN_FORMAT "NFSTATE1"
+#define NOODLEFEN_FORMAT "NFSTATE2"
 
 /* The state's exact need in bytes; 1,048,576 are never too short. */
-#define NOODLEFEN_STATE_BYTES 110608
+#define NOODLEFEN_STATE_BYTES 112656
 
-/* A node number. In a lent list of numbers it takes as many bytes as this type. Keep numbers in variables of this type: C cuts a wider
- * number without a word when it is handed over. */
-typedef uint16_t noodlefen_node;
+/* A node number, 0 to 4,294,967,295. In a lent list of numbers it takes as many bytes as this type, four. Keep numbers in variables of
+ * this type: C cuts a wider number without a word when it is handed over, and an int has no room for the upper half of them. */
+typedef uint32_t noodlefen_node;
 
 #define NOODLEFEN_TRANSACTIONS 16  /* transaction numbers are 1 to 16 */
 #define NOODLEFEN_NODES 1024       /* nodes held at most, the document included */

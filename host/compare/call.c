@@ -115,19 +115,19 @@ void print_call(FILE *file, const struct call *c)
     case CALL_LOAD: fprintf(file, " %lu bytes", (unsigned long)c->xml_length); print_bytes(file, c->xml, c->xml_length); break;
     case CALL_WRITE: fprintf(file, " room %lu", (unsigned long)c->room); break;
     case CALL_T:
-    case CALL_D: fprintf(file, " %u", c->n); break;
-    case CALL_C: fprintf(file, " %u %u", c->n, (unsigned)c->k); break;
+    case CALL_D: fprintf(file, " %u", (unsigned)c->n); break;
+    case CALL_C: fprintf(file, " %u %u", (unsigned)c->n, (unsigned)c->k); break;
     case CALL_R:
-    case CALL_TT: fprintf(file, " %u room %lu", c->n, (unsigned long)c->room); break;
-    case CALL_RR: fprintf(file, " %u room %lu %lu", c->n, (unsigned long)c->room, (unsigned long)c->cells_room); break;
-    case CALL_U: fprintf(file, " %u", c->n); print_bytes(file, c->a, c->a_length); break;
+    case CALL_TT: fprintf(file, " %u room %lu", (unsigned)c->n, (unsigned long)c->room); break;
+    case CALL_RR: fprintf(file, " %u room %lu %lu", (unsigned)c->n, (unsigned long)c->room, (unsigned long)c->cells_room); break;
+    case CALL_U: fprintf(file, " %u", (unsigned)c->n); print_bytes(file, c->a, c->a_length); break;
     case CALL_I:
-        fprintf(file, " %u kind %u", c->m, (unsigned)c->kind);
+        fprintf(file, " %u kind %u", (unsigned)c->m, (unsigned)c->kind);
         print_bytes(file, c->a, c->a_length);
-        fprintf(file, " under %u place %u", c->n, (unsigned)c->k);
+        fprintf(file, " under %u place %u", (unsigned)c->n, (unsigned)c->k);
         break;
     case CALL_UU:
-        fprintf(file, " %u", c->n);
+        fprintf(file, " %u", (unsigned)c->n);
         print_bytes(file, c->a, c->a_length);
         print_bytes(file, c->b, c->b_length);
         break;

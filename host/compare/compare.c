@@ -18,6 +18,7 @@ struct side {
 static struct side left, right;
 static unsigned long passed, failed;
 static unsigned long reached[CALLS][OUTCOMES];
+static unsigned long reached_wide[3]; /* steps on node numbers past 65,535: granted, waits, refused */
 
 /* The calls of this episode, to be shown if one fails. */
 static struct call history[MOST_HISTORY];
@@ -147,6 +148,16 @@ static void print_reached(void)
         }
         printf("\n");
     }
+    printf("steps on numbers past 65,535: %lu granted, %lu wait, %lu refused\n", reached_wide[0], reached_wide[1], reached_wide[2]);
+}
+
+/* So many calls reach every outcome on numbers past 65,535, or the generator has changed. */
+static void check_reached(unsigned long calls)
+{
+    if (calls >= 20000 && failed == 0 && (reached_wide[0] == 0 || reached_wide[1] == 0 || reached_wide[2] == 0)) {
+        printf("FAILED: hardly any number past 65,535\n");
+        failed++;
+    }
 }
 
 static void run(unsigned long calls, uint64_t seed)
@@ -167,6 +178,8 @@ static void run(unsigned long calls, uint64_t seed)
         if (well) {
             generator_learn(&g, &call, answer);
             reached[call.what][outcome_of(answer)]++;
+            if (call.what >= CALL_T && call.n > 65535)
+                reached_wide[answer & 0xFF]++;
             /* Now and then the whole committed document. */
             if (i % 8 == 0) {
                 struct call write = {.what = CALL_WRITE, .room = 65536};
@@ -205,6 +218,7 @@ int main(int count, char **arguments)
     lent_free(&left.lent);
     lent_free(&right.lent);
     print_reached();
+    check_reached(calls);
     printf("%lu passed, %lu failed\n", passed, failed);
     return failed != 0;
 }

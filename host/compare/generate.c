@@ -5,6 +5,9 @@
 
 #include "document.h"
 
+/* Most fresh numbers of an episode are among so many, so that they meet. */
+enum { FRESH = 40 };
+
 void generator_init(struct generator *g, uint64_t seed)
 {
     memset(g, 0, sizeof *g);
@@ -28,12 +31,43 @@ static void forget(struct generator *g)
 {
     g->open = 0;
     g->known = 1;
-    g->numbers[0] = 0;
-    memset(g->kinds, 0, sizeof g->kinds);
-    memset(g->counts, 0, sizeof g->counts);
-    memset(g->lengths, 0, sizeof g->lengths);
-    g->kinds[0] = NOODLEFEN_DOCUMENT;
-    g->counts[0] = 1;
+    g->seen[0] = (struct seen){.number = 0, .kind = NOODLEFEN_DOCUMENT, .count = 1};
+}
+
+static struct seen *find_seen(struct generator *g, noodlefen_node number)
+{
+    for (unsigned i = 0; i < g->known; i++)
+        if (g->seen[i].number == number)
+            return &g->seen[i];
+    return NULL;
+}
+
+/* What is known of a number: nothing, if no node was seen with it. */
+static struct seen known_of(struct generator *g, noodlefen_node number)
+{
+    const struct seen *seen = find_seen(g, number);
+    return seen != NULL ? *seen : (struct seen){.number = number};
+}
+
+/* A new entry; if there is no room, in the place of another one. */
+static struct seen *add_seen(struct generator *g, noodlefen_node number)
+{
+    unsigned place = g->known < MOST_SEEN ? g->known++ : 1 + below(&g->random, MOST_SEEN - 1);
+    g->seen[place] = (struct seen){.number = number, .count = 1};
+    return &g->seen[place];
+}
+
+static struct seen *learn_number(struct generator *g, noodlefen_node number)
+{
+    struct seen *seen = find_seen(g, number);
+    return seen != NULL ? seen : add_seen(g, number);
+}
+
+static void unlearn_number(struct generator *g, noodlefen_node number)
+{
+    struct seen *seen = find_seen(g, number);
+    if (seen != NULL && seen != g->seen)
+        *seen = g->seen[--g->known];
 }
 
 static void begin_episode(struct generator *g)
@@ -52,6 +86,8 @@ static void begin_episode(struct generator *g)
     else
         g->tree = LIMIT_TREE;
     g->range = g->tree == LIMIT_TREE ? 1100 : g->nodes + 8;
+    const noodlefen_node fresh[] = {g->range, 65536 - FRESH / 2, UINT32_MAX - FRESH + 1, (noodlefen_node)random_word(r)};
+    g->fresh = fresh[below(r, 4)];
     g->only_xml = once_in(r, 8);
     g->transactions = once_in(r, 8) ? 16 : 1 + below(r, 4);
 }
@@ -69,20 +105,60 @@ static uint32_t pick_transaction(struct generator *g, int open)
     return t;
 }
 
+/* Often one of those that came last: these were inserted, and may have any number. */
+static noodlefen_node pick_known(struct generator *g)
+{
+    unsigned among = once_in(&g->random, 3) && g->known > 8 ? 8 : g->known;
+    return g->seen[g->known - 1 - below(&g->random, among)].number;
+}
+
+/* Small, around 65,536, close to the greatest, or any. */
+static noodlefen_node pick_any(struct generator *g)
+{
+    struct random *r = &g->random;
+    switch (below(r, 4)) {
+    case 0: return below(r, g->range);
+    case 1: return 65536 - 8 + below(r, 16);
+    case 2: return UINT32_MAX - below(r, 16);
+    default: return (noodlefen_node)random_word(r);
+    }
+}
+
+/* A number that an engine which loses two bytes or a bit takes for that of a node: the same low or high 16 bits, the halves changed, or
+ * another bit. */
+static noodlefen_node pick_alike(struct generator *g)
+{
+    struct random *r = &g->random;
+    noodlefen_node number = pick_known(g), other = (noodlefen_node)random_word(r);
+    switch (below(r, 4)) {
+    case 0: return (once_in(r, 2) ? below(r, 3) << 16 : other & 0xFFFF0000u) | (number & 0xFFFF);
+    case 1: return (number & 0xFFFF0000u) | (other & 0xFFFF);
+    case 2: return number << 16 | number >> 16;
+    default: return number ^ 1u << below(r, 32);
+    }
+}
+
 static noodlefen_node pick_number(struct generator *g)
 {
     struct random *r = &g->random;
     if (once_in(r, 40))
-        return (noodlefen_node)random_word(r);
+        return pick_any(g);
     if (once_in(r, 20))
-        return (noodlefen_node)below(r, g->range);
-    return g->numbers[below(r, g->known)];
+        return below(r, g->range);
+    return once_in(r, 20) ? pick_alike(g) : pick_known(g);
 }
 
 static noodlefen_node pick_fresh(struct generator *g)
 {
     struct random *r = &g->random;
-    return (noodlefen_node)(once_in(r, 4) ? random_word(r) : once_in(r, 3) ? below(r, g->range) : g->range + below(r, 40));
+    switch (below(r, 8)) {
+    case 0:
+    case 1: return pick_any(g);
+    case 2:
+    case 3: return pick_alike(g);
+    case 4: return below(r, g->range);
+    default: return g->fresh + below(r, FRESH);
+    }
 }
 
 /* A length that may be one too few, right or one too many for what was seen last, or quite another. */
@@ -131,7 +207,7 @@ static void pick_insert(struct generator *g, struct call *call)
     unsigned kind = below(r, 20);
     call->kind = kind < 8 ? 2 : kind < 12 ? 3 : kind < 19 ? 4 : wrong[below(r, 8)];
     for (unsigned i = 0; i < 6; i++) {
-        unsigned parent_kind = g->kinds[call->n];
+        unsigned parent_kind = known_of(g, call->n).kind;
         if (parent_kind == 2 || (parent_kind == 0 && once_in(r, 2)) || (parent_kind == 3 && call->kind == 4)
             || (parent_kind == 1 && call->kind == 2) || once_in(r, 12))
             break;
@@ -147,24 +223,25 @@ static void pick_arguments(struct generator *g, struct call *call)
 {
     struct random *r = &g->random;
     call->n = pick_number(g);
+    const struct seen n = known_of(g, call->n);
     call->k = once_in(r, 40) ? 0xFFFFFFFFu : once_in(r, 40) ? (uint32_t)random_word(r)
-            : once_in(r, 3) ? below(r, 2 + g->counts[call->n]) : below(r, 5);
+            : once_in(r, 3) ? below(r, 2u + n.count) : below(r, 5);
     switch (call->what) {
     case CALL_WRITE:
         call->room = pick_room(g, g->written, 65536);
         break;
     case CALL_R:
-        call->room = pick_room(g, g->lengths[call->n], 40);
+        call->room = pick_room(g, n.length, 40);
         break;
     case CALL_TT:
-        call->room = pick_room(g, NOODLEFEN_NUMBER_BYTES * (size_t)g->counts[call->n], 2200);
+        call->room = pick_room(g, NOODLEFEN_NUMBER_BYTES * (size_t)n.count, 4200);
         break;
     case CALL_RR:
-        call->room = pick_room(g, NOODLEFEN_NUMBER_BYTES * (size_t)g->counts[call->n], 2200);
-        call->cells_room = pick_room(g, NOODLEFEN_CELL_BYTES * (size_t)g->counts[call->n], 34000);
+        call->room = pick_room(g, NOODLEFEN_NUMBER_BYTES * (size_t)n.count, 4200);
+        call->cells_room = pick_room(g, NOODLEFEN_CELL_BYTES * (size_t)n.count, 34000);
         break;
     case CALL_U:
-        pick_content(g, call, g->kinds[call->n] == 4);
+        pick_content(g, call, n.kind == 4);
         break;
     case CALL_D:
         /* The root goes seldom, or most of the calls would meet an empty tree. */
@@ -227,19 +304,19 @@ void generate(struct generator *g, struct call *call)
         pick_arguments(g, call);
 }
 
-static void learn_number(struct generator *g, noodlefen_node number, unsigned kind)
+static void learn_load(struct generator *g, uint64_t count)
 {
-    if (g->known < sizeof g->numbers / sizeof g->numbers[0])
-        g->numbers[g->known++] = number;
-    g->kinds[number] = (uint8_t)kind;
-    g->counts[number] = 1;
+    forget(g);
+    for (noodlefen_node number = 1; number < count; number++)
+        add_seen(g, number);
+    g->seen[0].count = (uint16_t)count;
+    g->seen[1].count = (uint16_t)(count - 1);
 }
 
-static void unlearn_number(struct generator *g, noodlefen_node number)
+static void learn_insertion(struct generator *g, const struct call *call)
 {
-    for (unsigned i = 1; i < g->known; i++)
-        if (g->numbers[i] == number)
-            g->numbers[i--] = g->numbers[--g->known];
+    *learn_number(g, call->m) = (struct seen){call->m, (uint8_t)call->kind, (uint8_t)call->a_length, 1};
+    learn_number(g, call->n)->count++;
 }
 
 void generator_learn(struct generator *g, const struct call *call, noodlefen_answer answer)
@@ -253,28 +330,21 @@ void generator_learn(struct generator *g, const struct call *call, noodlefen_ans
     case CALL_START:
         forget(g);
         break;
-    case CALL_LOAD:
-        forget(g);
-        for (unsigned i = 1; i < value; i++)
-            learn_number(g, (noodlefen_node)i, 0);
-        g->counts[0] = (uint16_t)value;
-        g->counts[1] = (uint16_t)(value - 1);
-        break;
+    case CALL_LOAD: learn_load(g, value); break;
     case CALL_WRITE: g->written = value; break;
     case CALL_BEGIN: g->open |= 1u << call->t; break;
     case CALL_COMMIT:
     case CALL_ABORT: g->open &= ~(1u << call->t); break;
-    case CALL_T: g->kinds[call->n] = (uint8_t)noodlefen_kind(answer); break;
-    case CALL_C: g->kinds[noodlefen_number(answer)] = (uint8_t)noodlefen_kind(answer); break;
-    case CALL_R: g->lengths[call->n] = (uint8_t)value; break;
-    case CALL_U: g->lengths[call->n] = (uint8_t)call->a_length; break;
-    case CALL_I:
-        learn_number(g, call->m, call->kind);
-        g->lengths[call->m] = (uint8_t)call->a_length;
-        g->counts[call->n]++;
+    case CALL_T: learn_number(g, call->n)->kind = (uint8_t)noodlefen_kind(answer); break;
+    case CALL_C:
+        if (noodlefen_kind(answer) != 0)
+            learn_number(g, noodlefen_number(answer))->kind = (uint8_t)noodlefen_kind(answer);
         break;
+    case CALL_R: learn_number(g, call->n)->length = (uint8_t)value; break;
+    case CALL_U: learn_number(g, call->n)->length = (uint8_t)call->a_length; break;
+    case CALL_I: learn_insertion(g, call); break;
     case CALL_TT:
-    case CALL_RR: g->counts[call->n] = (uint16_t)value; break;
+    case CALL_RR: learn_number(g, call->n)->count = (uint16_t)value; break;
     case CALL_D:
     case CALL_UU:
     case CALLS: break;

@@ -5,22 +5,27 @@
 #include "call.h"
 #include "random.h"
 
+enum { MOST_SEEN = 2048 };
+
 struct generator {
     struct random random;
     /* The episode: calls from a start on, with trees and transactions of one size. */
     unsigned calls_left, calls_made;
     int only_xml;              /* loads and writes only */
     unsigned transactions;     /* those in use are 1 to this */
-    unsigned range;            /* fresh node numbers are mostly below this */
+    unsigned range;            /* numbers that load gives are mostly below this */
+    noodlefen_node fresh;      /* fresh numbers are mostly from this on */
     unsigned nodes;            /* of the documents to load */
     enum { RANDOM_TREE, LIMIT_TREE } tree;
     /* What the answers so far have shown; only a guess at what comes next. */
     uint32_t open;             /* bit t for an open transaction t */
-    unsigned known;            /* numbers that nodes may have */
-    noodlefen_node numbers[8192];
-    uint8_t kinds[65536];      /* by number, 0 if not known */
-    uint16_t counts[65536];    /* nodes in the subtree when last seen */
-    uint8_t lengths[65536];    /* bytes of content when last seen */
+    unsigned known;            /* nodes that may be there; the first is the document */
+    struct seen {
+        noodlefen_node number;
+        uint8_t kind;          /* 0 if not known */
+        uint8_t length;        /* bytes of content when last seen */
+        uint16_t count;        /* nodes in the subtree when last seen */
+    } seen[MOST_SEEN];
     size_t written;            /* bytes of the document when last written */
     uint8_t *xml;
 };

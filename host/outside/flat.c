@@ -50,24 +50,27 @@ int flat_equal(const struct flat *one, const struct flat *other)
 void flat_of_engine(struct flat *flat, const struct engine *engine, void *e)
 {
     static uint8_t numbers[NOODLEFEN_NUMBER_BYTES * NOODLEFEN_NODES], cells[NOODLEFEN_CELL_BYTES * NOODLEFEN_NODES];
-    static uint16_t depths[65536];
-    static uint8_t kinds[65536];
+    static struct {
+        noodlefen_node number;
+        unsigned kind;
+    } open[NOODLEFEN_NODES]; /* the last node and those above it, by depth; the document first */
+    unsigned depth = 0;
     engine->begin(e, 1);
     noodlefen_answer answer = engine->read_tree(e, 1, 0, numbers, sizeof numbers, cells, sizeof cells);
-    depths[0] = 0;
-    kinds[0] = NOODLEFEN_DOCUMENT;
     for (size_t i = 1; i < noodlefen_value(answer); i++) {
         noodlefen_node number = noodlefen_list_number(numbers, i);
         noodlefen_answer test = engine->test(e, 1, number);
-        noodlefen_node parent = noodlefen_number(test);
         const char *content = (const char *)noodlefen_cell_content(cells, i);
         size_t length = noodlefen_cell_length(cells, i);
-        kinds[number] = (uint8_t)noodlefen_kind(test);
-        depths[number] = (uint16_t)(depths[parent] + 1);
-        if (kinds[parent] == NOODLEFEN_ATTRIBUTE)
-            flat_add_value(flat, depths[number], content, length);
+        while (depth > 0 && open[depth].number != noodlefen_number(test))
+            depth--;
+        depth++;
+        open[depth].number = number;
+        open[depth].kind = noodlefen_kind(test);
+        if (open[depth - 1].kind == NOODLEFEN_ATTRIBUTE)
+            flat_add_value(flat, depth, content, length);
         else
-            flat_add(flat, "  eat"[kinds[number]], depths[number], content, length);
+            flat_add(flat, "  eat"[open[depth].kind], depth, content, length);
     }
     engine->abort(e, 1);
 }

@@ -54,13 +54,13 @@ static void change(const struct engine *engine, void *e, struct random *r, unsig
     uint8_t a[64], b[64];
     engine->begin(e, 1);
     for (unsigned i = below(r, 12); i > 0; i--) {
-        noodlefen_node n = (noodlefen_node)below(r, nodes + 4);
+        noodlefen_node n = below(r, nodes + 4);
         uint32_t kind = 2 + below(r, 3);
         size_t a_length = kind == 4 ? random_text(r, a) : random_name(r, a);
         switch (below(r, 4)) {
         case 0: engine->update(e, 1, n, a, a_length); break;
         case 1: if (n > 1) engine->delete(e, 1, n); break;
-        case 2: engine->insert(e, 1, (noodlefen_node)(nodes + i), kind, a, a_length, n, 1 + below(r, 3)); break;
+        case 2: engine->insert(e, 1, nodes + i + (below(r, 3) << 16), kind, a, a_length, n, 1 + below(r, 3)); break;
         case 3: engine->rename_tree(e, 1, n, a, a_length, b, random_name(r, b)); break;
         }
     }

@@ -13,8 +13,8 @@ static void put_content(struct result *result, const struct node *node)
 static void put_tree(struct result *result, struct node *n, uint32_t viewer, int with_cells)
 {
     for (struct node *node = n; node != NULL; node = node_after(n, node, viewer)) {
-        result->bytes[result->length++] = (uint8_t)(node->number & 0xFF);
-        result->bytes[result->length++] = (uint8_t)(node->number >> 8);
+        for (unsigned byte = 0; byte < NUMBER_BYTES; byte++) /* the low byte first */
+            result->bytes[result->length++] = (uint8_t)(node->number >> 8 * byte & 0xFF);
         if (with_cells) {
             uint8_t *cell = result->cells + result->cells_length;
             memset(cell, 0, 33);

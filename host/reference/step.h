@@ -20,7 +20,7 @@ struct step {
 struct result {
     uint64_t value;
     size_t length, cells_length;
-    uint8_t bytes[2 * MOST_NODES];
+    uint8_t bytes[NUMBER_BYTES * MOST_NODES];
     uint8_t cells[33 * MOST_NODES];
 };
 

@@ -5,7 +5,7 @@
 #include "noodlefen.h"
 
 enum { DOCUMENT = 1, ELEMENT = 2, ATTRIBUTE = 3, TEXT = 4 };
-enum { MOST_NODES = 1024, MOST_CONTENT = 32, MOST_TRANSACTIONS = 16 };
+enum { MOST_NODES = 1024, MOST_CONTENT = 32, MOST_TRANSACTIONS = 16, NUMBER_BYTES = 4 };
 
 struct node {
     noodlefen_node number;

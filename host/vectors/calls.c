@@ -33,7 +33,12 @@ static struct words split(char *text)
 
 static uint32_t number(const struct words *words, int place)
 {
-    return place < words->count ? (uint32_t)strtoul(words->list[place], NULL, 10) : 0;
+    unsigned long long value = place < words->count ? strtoull(words->list[place], NULL, 10) : 0;
+    if (value > UINT32_MAX) {
+        fprintf(stderr, "a vector has the number %s\n", words->list[place]);
+        exit(2);
+    }
+    return (uint32_t)value;
 }
 
 static struct bytes bytes_of(const struct words *words, int place)
@@ -64,7 +69,7 @@ static void list_nodes(char *got, size_t count, int with_cells)
 static noodlefen_answer call(const struct engine *engine, void *e, uint32_t t, const struct words *w, char *value)
 {
     const char *what = w->list[0];
-    noodlefen_node n = (noodlefen_node)number(w, 1);
+    noodlefen_node n = number(w, 1);
     noodlefen_answer answer = 0;
     if (strcmp(what, "begin") == 0)
         return engine->begin(e, t);
@@ -99,7 +104,7 @@ static noodlefen_answer call(const struct engine *engine, void *e, uint32_t t, c
         answer = engine->delete(e, t, n);
     } else if (strcmp(what, "I") == 0) {
         struct bytes bytes = bytes_of(w, 3);
-        answer = engine->insert(e, t, n, number(w, 2), bytes.bytes, bytes.length, (noodlefen_node)number(w, 4), number(w, 5));
+        answer = engine->insert(e, t, n, number(w, 2), bytes.bytes, bytes.length, number(w, 4), number(w, 5));
         free(bytes.bytes);
     } else if (strcmp(what, "TT") == 0) {
         answer = engine->test_tree(e, t, n, numbers, room(w, 2, sizeof numbers));

@@ -37,7 +37,7 @@ pub record Caller (s : List ℕ) (t cause : ℕ) : Type 0 where
 
 -- the node -----------------------------------------------------------------------------
 
--- what is found of a step, with the way up from its node, whose places are lent
+-- what is found of a step: the admission, with the places of the way up, which are lent beside it
 pub record Site : Type 0 where
   pub cause : ℕ
   pub t : ℕ

@@ -12,7 +12,7 @@ use Rattle.rows.specs.Places.{item, above-places, seen-at}
 unfoldable pub way-up : List Entry → ℕ → List ℕ
 way-up l p = p ∷ above-places l p
 
--- nodes by their places in document order, in some order: the first `count` of a list that is lent
+-- nodes by their places: the first `count` of a list that is lent, in any order
 pub record Places : Type 0 where
   pub places : List ℕ
   pub count : ℕ

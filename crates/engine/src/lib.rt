@@ -64,8 +64,9 @@ fn rejected(cause: u8) -> Admission
     }
 }
 
-// A step of transaction t on node n: the cause 13, 1, 3 or 7, or where it stands, with the way up from there.
-pub fn admit(s: &[u8], t: u32, n: u16, way: &mut [u16; 1024]) -> Admission
+// A step of transaction t on node n: the cause 13, 1, 3 or 7, or where it stands, with the way up from there. Of `way` only the first
+// `count` places are meant; the others, and all where the step is refused, may hold anything.
+pub fn admit(s: &[u8], t: u32, n: u32, way: &mut [u16; 1024]) -> Admission
     requires { ⌜ length (now way) ≡ 1024 ⌝ }
     ensures { λ r. ⌜ Admitted (now (s .entry)) t n (site r (now (way .exit))) ⌝ }
 {
@@ -143,7 +144,7 @@ pub fn grant(s: &mut [u8], at: Admission, way: &[u16; 1024], w: NeedWords)
 }
 
 // The number of the node's parent, the second on the way up, or 0 for the document.
-fn parent(s: &[u8], at: Admission, way: &[u16; 1024]) -> u16
+fn parent(s: &[u8], at: Admission, way: &[u16; 1024]) -> u32
     requires { ⌜ (Layout (now s)) × Climbed (nodes (now s)) (at .place) (site at (now way) .way) ⌝ }
     ensures { λ r. ⌜ r ≡ parent (numbers-above (nodes (now (s .entry))) (at .place)) ⌝ }
 {
@@ -154,7 +155,7 @@ fn parent(s: &[u8], at: Admission, way: &[u16; 1024]) -> u16
 }
 
 // T(n): the kind and the parent of node n.
-pub fn test(s: &mut [u8], t: u32, n: u16) -> Answer
+pub fn test(s: &mut [u8], t: u32, n: u32) -> Answer
     ensures { λ r. ⌜ Performed (now (s .entry)) (now (s .exit)) r (step t (T n) no-room) ⌝ }
 {
     let mut way = [0u16; 1024];

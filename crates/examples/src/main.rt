@@ -20,7 +20,7 @@ fn write(state: &[u8]) {
     lines::text(&out, lines::value(answer) as usize);
 }
 
-fn update(state: &mut [u8], what: &[u8], n: u16, bytes: &[u8]) {
+fn update(state: &mut [u8], what: &[u8], n: u32, bytes: &[u8]) {
     lines::line(what, panel::noodlefen_update(state, 1, n, bytes));
 }
 
@@ -74,17 +74,17 @@ fn full(state: &mut [u8]) {
     lines::line(b"begin", panel::noodlefen_begin(state, 1));
     lines::line(
         b"insert",
-        panel::noodlefen_insert(state, 1, 1024, 2, b"b", 1, 1),
+        panel::noodlefen_insert(state, 1, 4294967295, 2, b"b", 1, 1),
     );
     lines::line(b"delete", panel::noodlefen_delete(state, 1, 1023));
     lines::line(
         b"insert",
-        panel::noodlefen_insert(state, 1, 1024, 2, b"b", 1, 1),
+        panel::noodlefen_insert(state, 1, 4294967295, 2, b"b", 1, 1),
     );
 }
 
 fn main() {
-    let mut state = [0u8; 110608];
+    let mut state = [0u8; 112656];
     lines::line(b"start", panel::noodlefen_start(&mut state));
     load_e(&mut state);
     write(&state);

@@ -12,15 +12,15 @@ use Rattle.form.specs.Form.{Holds}
 
 -- byte j of the outline: the entry of each place has the slot of its own number, and zeros
 unfoldable pub outline-byte : ℕ → ℕ
-outline-byte j = cond (eqb (j % 6) 0) (j / 6 % 256) (cond (eqb (j % 6) 1) (j / 6 / 256) 0)
+outline-byte j = cond (eqb (j % 8) 0) (j / 8 % 256) (cond (eqb (j % 8) 1) (j / 8 / 256) 0)
 
 -- the format mark, one node, the outline, the kind of the document in the first cell, and zeros
 unfoldable pub start-byte : ℕ → ℕ
 start-byte j =
     cond (ltb j 8) (getD format-mark j 0)
     (cond (ltb j 16) (cond (eqb j 10) 1 0)
-    (cond (ltb j 6160) (outline-byte (j - 16))
-    (cond (eqb j 6160) document-kind 0)))
+    (cond (ltb j 8208) (outline-byte (j - 16))
+    (cond (eqb j 8208) document-kind 0)))
 
 -- start: bytes that are enough are set to the beginning, others are left as they were
 pub record Started (s s′ : List ℕ) (r : Bool) : Type 0 where

@@ -173,21 +173,21 @@ pub fn formed(s: &[u8]) -> bool
 
 // Byte j of the outline at the beginning.
 fn outline_byte(j: usize) -> u8
-    requires { ⌜ j < 6144 ⌝ }
+    requires { ⌜ j < 8192 ⌝ }
     ensures { λ r. ⌜ r ≡ outline-byte j ⌝ }
 {
-    if j % 6 == 0 {
-        return (j / 6 % 256) as u8;
+    if j % 8 == 0 {
+        return (j / 8 % 256) as u8;
     }
-    if j % 6 == 1 {
-        return (j / 6 / 256) as u8;
+    if j % 8 == 1 {
+        return (j / 8 / 256) as u8;
     }
     0
 }
 
 // Byte j of the header, the outline and the document's kind at the beginning.
 fn start_byte(j: usize) -> u8
-    requires { ⌜ j < 6161 ⌝ }
+    requires { ⌜ j < 8209 ⌝ }
     ensures { λ r. ⌜ r ≡ start-byte j ⌝ }
 {
     if j < 8 {
@@ -205,7 +205,7 @@ fn start_byte(j: usize) -> u8
 // Sets the bytes up to the kind of the first cell.
 fn begin(s: &mut [u8])
     requires { ⌜ state-size ≤ length (now s) ⌝ }
-    ensures { λ r. ⌜ Filled 0 6161 start-byte (now (s .entry)) (now (s .exit)) ⌝ }
+    ensures { λ r. ⌜ Filled 0 8209 start-byte (now (s .entry)) (now (s .exit)) ⌝ }
 {
     let mut j: usize = 0;
     while j < layout::CELLS + 1 {

@@ -12,7 +12,7 @@ pub fn number(s: &[u8], i: usize) -> u32
     requires { ⌜ (state-size ≤ length (now s)) × (i < 1024) ⌝ }
     ensures { λ r. ⌜ r ≡ number (now (s .entry)) i ⌝ }
 {
-    layout::word(s, layout::OUTLINE + layout::ENTRY * i + 4) as u32
+    layout::double_word(s, layout::OUTLINE + layout::ENTRY * i + 4)
 }
 
 // The bucket of a number: bits 21 to 31 of its product with a prime near 2^32 divided by the golden ratio, so that numbers in regular steps

@@ -53,7 +53,7 @@ pub extern "C" fn noodlefen_abort(state: &mut [u8], t: u32) -> u64
 
 // T(n): the kind and the parent of node n.
 #[no_mangle]
-pub extern "C" fn noodlefen_test(state: &mut [u8], t: u32, n: u16) -> u64
+pub extern "C" fn noodlefen_test(state: &mut [u8], t: u32, n: u32) -> u64
     ensures { λ r. ⌜ Contract (with-none (Request.step t (T n)) (now (state .entry)) (now (state .exit)) r) ⌝ }
 {
     read_calls::test(state, t, n)
@@ -61,7 +61,7 @@ pub extern "C" fn noodlefen_test(state: &mut [u8], t: u32, n: u16) -> u64
 
 // C(n, k): the number and the kind of the k-th child of node n, or none.
 #[no_mangle]
-pub extern "C" fn noodlefen_child(state: &mut [u8], t: u32, n: u16, k: u32) -> u64
+pub extern "C" fn noodlefen_child(state: &mut [u8], t: u32, n: u32, k: u32) -> u64
     ensures { λ r. ⌜ Contract (with-none (Request.step t (C n k)) (now (state .entry)) (now (state .exit)) r) ⌝ }
 {
     read_calls::child(state, t, n, k)
@@ -69,7 +69,7 @@ pub extern "C" fn noodlefen_child(state: &mut [u8], t: u32, n: u16, k: u32) -> u
 
 // R(n): the content of node n, into out.
 #[no_mangle]
-pub extern "C" fn noodlefen_read(state: &mut [u8], t: u32, n: u16, out: &mut [u8]) -> u64
+pub extern "C" fn noodlefen_read(state: &mut [u8], t: u32, n: u32, out: &mut [u8]) -> u64
     ensures { λ r. ⌜ Contract
         (with-one (Request.step t (R n)) (now (state .entry)) (now (state .exit)) (now (out .entry)) (now (out .exit)) r) ⌝ }
 {
@@ -78,7 +78,7 @@ pub extern "C" fn noodlefen_read(state: &mut [u8], t: u32, n: u16, out: &mut [u8
 
 // U(n, bytes): node n has the bytes as its content.
 #[no_mangle]
-pub extern "C" fn noodlefen_update(state: &mut [u8], t: u32, n: u16, bytes: &[u8]) -> u64
+pub extern "C" fn noodlefen_update(state: &mut [u8], t: u32, n: u32, bytes: &[u8]) -> u64
     ensures { λ r. ⌜ Contract (with-none (Request.step t (U n (now (bytes .entry)))) (now (state .entry)) (now (state .exit)) r) ⌝ }
 {
     write_calls::update(state, t, n, bytes)
@@ -86,7 +86,7 @@ pub extern "C" fn noodlefen_update(state: &mut [u8], t: u32, n: u16, bytes: &[u8
 
 // D(n): node n and all below it are deleted.
 #[no_mangle]
-pub extern "C" fn noodlefen_delete(state: &mut [u8], t: u32, n: u16) -> u64
+pub extern "C" fn noodlefen_delete(state: &mut [u8], t: u32, n: u32) -> u64
     ensures { λ r. ⌜ Contract (with-none (Request.step t (D n)) (now (state .entry)) (now (state .exit)) r) ⌝ }
 {
     write_calls::delete(state, t, n)
@@ -97,10 +97,10 @@ pub extern "C" fn noodlefen_delete(state: &mut [u8], t: u32, n: u16) -> u64
 pub extern "C" fn noodlefen_insert(
     state: &mut [u8],
     t: u32,
-    m: u16,
+    m: u32,
     kind: u32,
     bytes: &[u8],
-    n: u16,
+    n: u32,
     k: u32,
 ) -> u64
     ensures { λ r. ⌜ Contract (with-none (Request.step t (I m kind (now (bytes .entry)) n k)) (now (state .entry)) (now (state .exit)) r) ⌝ }
@@ -110,7 +110,7 @@ pub extern "C" fn noodlefen_insert(
 
 // TT(n): the numbers of node n and all below it, in document order.
 #[no_mangle]
-pub extern "C" fn noodlefen_test_tree(state: &mut [u8], t: u32, n: u16, numbers: &mut [u8]) -> u64
+pub extern "C" fn noodlefen_test_tree(state: &mut [u8], t: u32, n: u32, numbers: &mut [u8]) -> u64
     ensures { λ r. ⌜ Contract
         (with-one (Request.step t (TT n)) (now (state .entry)) (now (state .exit)) (now (numbers .entry)) (now (numbers .exit)) r) ⌝ }
 {
@@ -122,7 +122,7 @@ pub extern "C" fn noodlefen_test_tree(state: &mut [u8], t: u32, n: u16, numbers:
 pub extern "C" fn noodlefen_read_tree(
     state: &mut [u8],
     t: u32,
-    n: u16,
+    n: u32,
     numbers: &mut [u8],
     cells: &mut [u8],
 ) -> u64
@@ -137,7 +137,7 @@ pub extern "C" fn noodlefen_read_tree(
 pub extern "C" fn noodlefen_rename_tree(
     state: &mut [u8],
     t: u32,
-    n: u16,
+    n: u32,
     from: &[u8],
     to: &[u8],
 ) -> u64

@@ -7,9 +7,9 @@ use lib.Dec.{leb}
 use Rattle.tree.specs.Content.{content-limit}
 use Rattle.tree.specs.Steps.{Value, done, kind-parent, child-is, none, content-is, numbers-are, cells-are, how-many}
 
--- "low byte first": a node number takes two bytes
+-- "low byte first": a node number takes four bytes
 abbrev pub number-bytes : ℕ → List ℕ
-number-bytes n = n % 256 ∷ n / 256 ∷ []
+number-bytes n = n % 256 ∷ n / 256 % 256 ∷ n / 65536 % 256 ∷ n / 16777216 ∷ []
 
 abbrev pub list-bytes : List ℕ → List ℕ
 list-bytes [] = []

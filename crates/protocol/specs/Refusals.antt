@@ -82,11 +82,11 @@ refusals =
     -- 13: one byte less than the answer takes, in either buffer; "bytes of a lent buffer behind the answer keep their values"
     (lends 1 (R 4) (bytes "----") (refused 13) (bytes "----")
     ∷ lends 1 (R 4) (bytes "-------") (granted (content-is (bytes "speed"))) (bytes "speed--")
-    ∷ lends 1 (TT 4) (bytes "---") (refused 13) (bytes "---")
-    ∷ lends 1 (TT 4) (bytes "-----") (granted (numbers-are (4 ∷ 5 ∷ []))) (4 ∷ 0 ∷ 5 ∷ 0 ∷ bytes "-")
-    ∷ lends-two 3 66 1 (RR 4) (refused 13)
-    ∷ lends-two 4 65 1 (RR 4) (refused 13)
-    ∷ lends-two 4 66 1 (RR 4) (granted (cells-are ((4, bytes "speed") ∷ (5, bytes "6") ∷ []))) ∷ []) ∷
+    ∷ lends 1 (TT 4) (bytes "-------") (refused 13) (bytes "-------")
+    ∷ lends 1 (TT 4) (bytes "---------") (granted (numbers-are (4 ∷ 5 ∷ []))) (4 ∷ 0 ∷ 0 ∷ 0 ∷ 5 ∷ 0 ∷ 0 ∷ 0 ∷ bytes "-")
+    ∷ lends-two 7 66 1 (RR 4) (refused 13)
+    ∷ lends-two 8 65 1 (RR 4) (refused 13)
+    ∷ lends-two 8 66 1 (RR 4) (granted (cells-are ((4, bytes "speed") ∷ (5, bytes "6") ∷ []))) ∷ []) ∷
     -- "left as it was: everything": a step that is refused or waits takes no lock and leaves the lent buffer
     (does 1 (I 9 2 (bytes "x") 1 9) (refused 11)
     ∷ lends 1 (R 5) [] (refused 13) []
@@ -134,9 +134,11 @@ refusals =
     ∷ does 1 (U 5 (9 ∷ 10 ∷ 32 ∷ 126 ∷ [])) (granted done)
     ∷ does 1 (U 5 (127 ∷ [])) (refused 9)
     ∷ does 1 (U 5 (13 ∷ [])) (refused 9)
-    -- a number's low byte first
-    ∷ does 1 (I 258 2 (bytes "x") 1 4) (granted done)
-    ∷ lends 1 (TT 258) (bytes "--") (granted (numbers-are (258 ∷ []))) (2 ∷ 1 ∷ []) ∷ []) ∷
+    -- a number's low byte first; 65542 and 6 are two numbers
+    ∷ does 1 (I 67305985 2 (bytes "x") 1 4) (granted done)
+    ∷ lends 1 (TT 67305985) (bytes "----") (granted (numbers-are (67305985 ∷ []))) (1 ∷ 2 ∷ 3 ∷ 4 ∷ [])
+    ∷ does 1 (R 65542) (refused 7)
+    ∷ does 1 (I 65542 2 (bytes "x") 1 4) (granted done) ∷ []) ∷
     -- 15 before 4, 5 and 6, which are given when nothing is open
     (gives (load (unreadable 4 0)) (refused 15)
     ∷ gives (commit 1) (granted done)

@@ -9,9 +9,9 @@ pub enum Answer {
     // start, begin, commit, abort, U, D and I granted
     Done,
     // T granted
-    Node { kind: u8, parent: u16 },
+    Node { kind: u8, parent: u32 },
     // C granted, and there is such a child
-    Child { kind: u8, number: u16 },
+    Child { kind: u8, number: u32 },
     // C granted, and there is none
     NoChild,
     // granted: R with the length, TT and RR with the count of nodes, UU with how many, load with the node count, write with the length

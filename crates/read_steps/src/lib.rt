@@ -10,7 +10,7 @@ ghost use Rattle.protocol.specs.Lent.{first-lent, second-lent};
 ghost use Rattle.engine.specs.Contract.{Performed, Lent, no-room, room-of, rooms-of};
 
 // C(n, k): the number and the kind of the k-th child of node n, or none.
-pub fn child(s: &mut [u8], t: u32, n: u16, k: u32) -> Answer
+pub fn child(s: &mut [u8], t: u32, n: u32, k: u32) -> Answer
     ensures { λ r. ⌜ Performed (now (s .entry)) (now (s .exit)) r (step t (C n k) no-room) ⌝ }
 {
     let mut way = [0u16; 1024];
@@ -26,7 +26,7 @@ pub fn child(s: &mut [u8], t: u32, n: u16, k: u32) -> Answer
 }
 
 // R(n): the content of node n, to a lent buffer.
-pub fn read(s: &mut [u8], t: u32, n: u16, out: &mut [u8]) -> Answer
+pub fn read(s: &mut [u8], t: u32, n: u32, out: &mut [u8]) -> Answer
     ensures { λ r. ⌜ (Performed (now (s .entry)) (now (s .exit)) r (step t (R n) (room-of (now (out .entry)))))
         × (Lent first-lent (now (s .entry)) (now (out .entry)) (now (out .exit)) (step t (R n) (room-of (now (out .entry))))) ⌝ }
 {
@@ -48,7 +48,7 @@ pub fn read(s: &mut [u8], t: u32, n: u16, out: &mut [u8]) -> Answer
 }
 
 // TT(n): the numbers of n and all below, in document order, to a lent buffer.
-pub fn test_tree(s: &mut [u8], t: u32, n: u16, out: &mut [u8]) -> Answer
+pub fn test_tree(s: &mut [u8], t: u32, n: u32, out: &mut [u8]) -> Answer
     ensures { λ r. ⌜ (Performed (now (s .entry)) (now (s .exit)) r (step t (TT n) (room-of (now (out .entry)))))
         × (Lent first-lent (now (s .entry)) (now (out .entry)) (now (out .exit)) (step t (TT n) (room-of (now (out .entry))))) ⌝ }
 {
@@ -61,7 +61,7 @@ pub fn test_tree(s: &mut [u8], t: u32, n: u16, out: &mut [u8]) -> Answer
     }
     let mut nodes = [0u16; 1024];
     let count = reading::select(s, at.t, at.place, &mut nodes);
-    if out.len() < 2 * count {
+    if out.len() < 4 * count {
         return Answer::Refused(causes::SHORT_BUFFER);
     }
     reading::numbers(s, &nodes, count, out);
@@ -70,7 +70,7 @@ pub fn test_tree(s: &mut [u8], t: u32, n: u16, out: &mut [u8]) -> Answer
 }
 
 // RR(n): as TT, and a 33-byte cell each to a second lent buffer.
-pub fn read_tree(s: &mut [u8], t: u32, n: u16, out: &mut [u8], cells: &mut [u8]) -> Answer
+pub fn read_tree(s: &mut [u8], t: u32, n: u32, out: &mut [u8], cells: &mut [u8]) -> Answer
     ensures { λ r. ⌜ (Performed (now (s .entry)) (now (s .exit)) r (step t (RR n) (rooms-of (now (out .entry)) (now (cells .entry)))))
         × (Lent first-lent (now (s .entry)) (now (out .entry)) (now (out .exit))
         (step t (RR n) (rooms-of (now (out .entry)) (now (cells .entry)))))
@@ -86,7 +86,7 @@ pub fn read_tree(s: &mut [u8], t: u32, n: u16, out: &mut [u8], cells: &mut [u8])
     }
     let mut nodes = [0u16; 1024];
     let count = reading::select(s, at.t, at.place, &mut nodes);
-    if out.len() < 2 * count {
+    if out.len() < 4 * count {
         return Answer::Refused(causes::SHORT_BUFFER);
     }
     if cells.len() < 33 * count {

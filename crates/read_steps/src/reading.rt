@@ -113,14 +113,14 @@ fn put_cell(s: &[u8], i: usize, out: &mut [u8], k: usize)
 // The numbers of the nodes at these places to a lent buffer, low byte first.
 pub fn numbers(s: &[u8], places: &[u16; 1024], count: usize, out: &mut [u8])
     requires { ⌜ (Layout (now s)) × Inside (nodes (now s)) (record { places = now places; count = count })
-        × (2 * count ≤ length (now out)) ⌝ }
+        × (4 * count ≤ length (now out)) ⌝ }
     ensures { λ r. ⌜ now (out .exit) ≡ filled (list-bytes (map number-of
         (nodes-of (nodes (now (s .entry))) (record { places = now (places .entry); count = count })))) (now (out .entry)) ⌝ }
 {
     let mut j: usize = 0;
     while j < count {
         let n = table::number(s, places[j] as usize);
-        layout::set_word(out, 2 * j, n);
+        layout::set_double_word(out, 4 * j, n);
         j += 1;
     }
 }

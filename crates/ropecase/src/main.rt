@@ -41,12 +41,12 @@ fn abort(state: &mut [u8], place: u64, t: u32) {
 }
 
 // U
-fn update(state: &mut [u8], place: u64, t: u32, n: u16, bytes: &[u8]) {
+fn update(state: &mut [u8], place: u64, t: u32, n: u32, bytes: &[u8]) {
     line(place, t as u64, panel::noodlefen_update(state, t, n, bytes));
 }
 
 // R
-fn read(state: &mut [u8], place: u64, t: u32, n: u16) {
+fn read(state: &mut [u8], place: u64, t: u32, n: u32) {
     let mut out = [0u8; 32];
     line(
         place,
@@ -56,7 +56,7 @@ fn read(state: &mut [u8], place: u64, t: u32, n: u16) {
 }
 
 // C
-fn child(state: &mut [u8], place: u64, t: u32, n: u16, k: u32) {
+fn child(state: &mut [u8], place: u64, t: u32, n: u32, k: u32) {
     line(place, t as u64, panel::noodlefen_child(state, t, n, k));
 }
 
@@ -76,7 +76,7 @@ fn after_the_wait(state: &mut [u8]) {
 }
 
 fn main() {
-    let mut state = [0u8; 110608];
+    let mut state = [0u8; 112656];
     panel::noodlefen_start(&mut state);
     panel::noodlefen_load(
         &mut state,

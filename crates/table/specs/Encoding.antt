@@ -14,11 +14,11 @@ use Rattle.protocol.specs.State.{nobody, is-transaction, Update, unwritten, wro
 
 -- the bytes that a state takes; those behind are never touched
 abbrev pub state-size : ℕ
-state-size = 110608
+state-size = 112656
 
 -- the first eight bytes
 abbrev pub format-mark : List ℕ
-format-mark = bytes "NFSTATE1"
+format-mark = bytes "NFSTATE2"
 
 abbrev pub open-at : ℕ
 open-at = 8
@@ -28,21 +28,25 @@ count-at = 10
 
 -- the outline's entry for a place in document order: slot, depth, number
 abbrev pub entry-at : ℕ → ℕ
-entry-at i = 16 + 6 * i
+entry-at i = 16 + 8 * i
 
 -- the cell of a slot: kind, writer, inserter, deleter, two sizes, 32 bytes of content, 32 of saved content
 abbrev pub cell-at : ℕ → ℕ
-cell-at k = 6160 + 70 * k
+cell-at k = 8208 + 70 * k
 
 -- the lock word of a transaction (from 1) and a slot
 abbrev pub lock-at : ℕ → ℕ → ℕ
-lock-at t k = 77840 + 2048 * (t - 1) + 2 * k
+lock-at t k = 79888 + 2048 * (t - 1) + 2 * k
 
 -- what they hold -----------------------------------------------------------------------
 
 -- sixteen bits, low byte first
 unfoldable pub word : List ℕ → ℕ → ℕ
 word s k = getD s k 0 + 256 * getD s (k + 1) 0
+
+-- thirty-two bits, low byte first
+unfoldable pub double-word : List ℕ → ℕ → ℕ
+double-word s k = word s k + 65536 * word s (k + 2)
 
 -- n bytes from k on
 unfoldable pub part : List ℕ → ℕ → ℕ → List ℕ
@@ -58,7 +62,7 @@ unfoldable pub depth : List ℕ → ℕ → ℕ
 depth s i = word s (entry-at i + 2)
 
 unfoldable pub number : List ℕ → ℕ → ℕ
-number s i = word s (entry-at i + 4)
+number s i = double-word s (entry-at i + 4)
 
 unfoldable pub cell : List ℕ → ℕ → List ℕ
 cell s k = part s (cell-at k) 70

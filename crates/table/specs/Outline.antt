@@ -14,12 +14,12 @@ use Rattle.table.specs.Laws.Nodes.{Placed, Copy}
 
 -- only the entry at place i may differ, and it is this
 pub record Entered (s s′ : List ℕ) (i k d n : ℕ) : Type 0 where
-  pub only : Only (entry-at i) 6 s s′
+  pub only : Only (entry-at i) 8 s s′
   pub is : Placed s′ i k d n
 
 -- the entries from place p up to n moved up by one place; the one at p is as it was
 pub record Shifted (s s′ : List ℕ) (p n : ℕ) : Type 0 where
-  pub only : Only (entry-at 0) 6144 s s′
+  pub only : Only (entry-at 0) 8192 s s′
   pub low : (i : ℕ) → i ≤ p → Copy s i s′ i
   pub moved : (i : ℕ) → p ≤ i → i < n → Copy s i s′ (i + 1)
   pub high : (i : ℕ) → n < i → i < 1024 → Copy s i s′ i

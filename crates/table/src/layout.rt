@@ -1,15 +1,15 @@
-// The lent bytes: words of sixteen bits, and bytes stored, cleared and copied. Where they hold what is in specs/Encoding.antt.
+// The lent bytes: words of 16 and 32 bits, and bytes stored, cleared and copied. Where they hold what is in specs/Encoding.antt.
 ghost use mathlib.Core.Path.{_≡_};
 ghost use Prim.Native.Nat.{ℕ, _+_, _*_, _<_, _≤_};
 ghost use lib.ListN.{length, getD};
 ghost use Rattle.table.specs.Passes.{left-out};
-ghost use Rattle.table.specs.Layout.{word};
-ghost use Rattle.table.specs.Laws.Bytes.{put-word, Filled};
+ghost use Rattle.table.specs.Layout.{word, double-word};
+ghost use Rattle.table.specs.Laws.Bytes.{put-word, put-double-word, Filled};
 
 // The first bytes of a state, and the bytes that it takes; those behind are never touched.
-pub const MARK: [u8; 8] = *b"NFSTATE1";
+pub const MARK: [u8; 8] = *b"NFSTATE2";
 
-pub const SIZE: usize = 110608;
+pub const SIZE: usize = 112656;
 
 // The most nodes.
 pub const NODES: usize = 1024;
@@ -22,14 +22,14 @@ pub const COUNT: usize = 10;
 // The outline, and the bytes of an entry; the cells, and those of one.
 pub const OUTLINE: usize = 16;
 
-pub const ENTRY: usize = 6;
+pub const ENTRY: usize = 8;
 
-pub const CELLS: usize = 6160;
+pub const CELLS: usize = 8208;
 
 pub const CELL: usize = 70;
 
 // The lock words, and the bytes of those of one transaction.
-pub const LOCKS: usize = 77840;
+pub const LOCKS: usize = 79888;
 
 pub const WORDS: usize = 2048;
 
@@ -53,6 +53,22 @@ pub fn set_word(s: &mut [u8], k: usize, v: u16)
 {
     s[k] = (v % 256) as u8;
     s[k + 1] = (v / 256) as u8;
+}
+
+// Thirty-two bits from k on, low byte first.
+pub fn double_word(s: &[u8], k: usize) -> u32
+    requires { ⌜ k + 3 < length (now s) ⌝ }
+    ensures { λ r. ⌜ r ≡ double-word (now (s .entry)) k ⌝ }
+{
+    (word(s, k) as u32) + 65536 * (word(s, k + 2) as u32)
+}
+
+pub fn set_double_word(s: &mut [u8], k: usize, v: u32)
+    requires { ⌜ k + 3 < length (now s) ⌝ }
+    ensures { λ r. ⌜ now (s .exit) ≡ put-double-word (now (s .entry)) k v ⌝ }
+{
+    set_word(s, k, (v % 65536) as u16);
+    set_word(s, k + 2, (v / 65536) as u16);
 }
 
 // Writes b from k on.

@@ -39,11 +39,11 @@ pub fn depth(s: &[u8], i: usize) -> u16
     layout::word(s, layout::OUTLINE + layout::ENTRY * i + 2)
 }
 
-pub fn number(s: &[u8], i: usize) -> u16
+pub fn number(s: &[u8], i: usize) -> u32
     requires { ⌜ (Layout (now s)) × (i < length (nodes (now s))) ⌝ }
     ensures { λ r. ⌜ r ≡ getD (nodes (now (s .entry))) i no-entry .1 .now .number ⌝ }
 {
-    layout::word(s, layout::OUTLINE + layout::ENTRY * i + 4)
+    layout::double_word(s, layout::OUTLINE + layout::ENTRY * i + 4)
 }
 
 // Byte o of the cell of the node at i: 0 kind, 1 writer, 2 inserter, 3 deleter.
@@ -201,7 +201,7 @@ pub fn restore_content(s: &mut [u8], i: usize)
 }
 
 // The place of the node numbered n, or the count.
-pub fn find(s: &[u8], n: u16) -> usize
+pub fn find(s: &[u8], n: u32) -> usize
     requires { ⌜ Layout (now s) ⌝ }
     ensures { λ r. ⌜ r ≡ first (λ x. eqb (x .1 .now .number) n) (nodes (now (s .entry))) ⌝ }
 {

@@ -12,14 +12,14 @@ ghost use Rattle.table.specs.Flat.{prune};
 ghost use Rattle.table.specs.Outline.{Entered, Shifted, Opened, exchange, next-below, not-marked};
 
 // The outline's entry at place i.
-fn set_entry(s: &mut [u8], i: usize, k: u16, d: u16, n: u16)
+fn set_entry(s: &mut [u8], i: usize, k: u16, d: u16, n: u32)
     requires { ⌜ (state-size ≤ length (now s)) × (i < 1024) ⌝ }
     ensures { λ r. ⌜ Entered (now (s .entry)) (now (s .exit)) i k d n ⌝ }
 {
     let at = layout::OUTLINE + layout::ENTRY * i;
     layout::set_word(s, at, k);
     layout::set_word(s, at + 2, d);
-    layout::set_word(s, at + 4, n);
+    layout::set_double_word(s, at + 4, n);
 }
 
 // The entry at place i copied to the next place.
@@ -31,7 +31,7 @@ fn copy_up(s: &mut [u8], i: usize)
     let at = layout::OUTLINE + layout::ENTRY * i;
     let k = layout::word(s, at);
     let d = layout::word(s, at + 2);
-    let n = layout::word(s, at + 4);
+    let n = layout::double_word(s, at + 4);
     set_entry(s, i + 1, k, d, n);
 }
 
@@ -48,7 +48,7 @@ fn shift(s: &mut [u8], p: usize, n: usize)
 }
 
 // A place opened for a node numbered n at depth d: the first free slot, its old sizes cleared.
-fn open_place(s: &mut [u8], p: usize, d: u16, n: u16)
+fn open_place(s: &mut [u8], p: usize, d: u16, n: u32)
     requires { ⌜ (Layout (now s)) × (length (nodes (now s)) < 1024) × (p ≤ length (nodes (now s))) ⌝ }
     ensures { λ r. ⌜ Opened (now (s .entry)) (now (s .exit)) p d n ⌝ }
 {
@@ -61,7 +61,7 @@ fn open_place(s: &mut [u8], p: usize, d: u16, n: u16)
 }
 
 // A node inserted by t, at place p and depth d.
-pub fn insert(s: &mut [u8], p: usize, d: u16, n: u16, kind: u8, t: u8, content: &[u8])
+pub fn insert(s: &mut [u8], p: usize, d: u16, n: u32, kind: u8, t: u8, content: &[u8])
     requires { ⌜ (Layout (now s)) × (length (nodes (now s)) < 1024) × (p ≤ length (nodes (now s))) × (length (now content) ≤ 32) ⌝ }
     ensures { λ r. ⌜ Left (now (s .entry)) (now (s .exit)) (header (now (s .entry)))
         (insert p (d, inserted-by t (record { number = n; kind = kind; content = now (content .entry) })) (nodes (now (s .entry)))) ⌝ }
@@ -86,11 +86,11 @@ pub fn swap(s: &mut [u8], i: usize, j: usize)
     let a = layout::OUTLINE + layout::ENTRY * i;
     let ki = layout::word(s, a);
     let di = layout::word(s, a + 2);
-    let ni = layout::word(s, a + 4);
+    let ni = layout::double_word(s, a + 4);
     let b = layout::OUTLINE + layout::ENTRY * j;
     let kj = layout::word(s, b);
     let dj = layout::word(s, b + 2);
-    let nj = layout::word(s, b + 4);
+    let nj = layout::double_word(s, b + 4);
     set_entry(s, j, ki, di, ni);
     set_entry(s, i, kj, dj, nj);
 }

@@ -4,7 +4,7 @@ ghost use Rattle.traces.specs.Exchange.{Request, with-none};
 ghost use Rattle.traces.specs.Contract.{Contract};
 
 // U(n, bytes): node n has the bytes as its content.
-pub fn update(state: &mut [u8], t: u32, n: u16, bytes: &[u8]) -> u64
+pub fn update(state: &mut [u8], t: u32, n: u32, bytes: &[u8]) -> u64
     ensures { λ r. ⌜ Contract (with-none (Request.step t (U n (now (bytes .entry)))) (now (state .entry)) (now (state .exit)) r) ⌝ }
 {
     let answer = write_steps::update(state, t, n, bytes);
@@ -12,7 +12,7 @@ pub fn update(state: &mut [u8], t: u32, n: u16, bytes: &[u8]) -> u64
 }
 
 // D(n): node n and all below it are deleted.
-pub fn delete(state: &mut [u8], t: u32, n: u16) -> u64
+pub fn delete(state: &mut [u8], t: u32, n: u32) -> u64
     ensures { λ r. ⌜ Contract (with-none (Request.step t (D n)) (now (state .entry)) (now (state .exit)) r) ⌝ }
 {
     let answer = write_steps::delete(state, t, n);
@@ -20,7 +20,7 @@ pub fn delete(state: &mut [u8], t: u32, n: u16) -> u64
 }
 
 // I(m, kind, bytes, n, k): a new node m becomes the k-th child of node n.
-pub fn insert(state: &mut [u8], t: u32, m: u16, kind: u32, bytes: &[u8], n: u16, k: u32) -> u64
+pub fn insert(state: &mut [u8], t: u32, m: u32, kind: u32, bytes: &[u8], n: u32, k: u32) -> u64
     ensures { λ r. ⌜ Contract (with-none (Request.step t (I m kind (now (bytes .entry)) n k)) (now (state .entry)) (now (state .exit)) r) ⌝ }
 {
     let answer = write_steps::insert(state, t, m, kind, bytes, n, k);
@@ -28,7 +28,7 @@ pub fn insert(state: &mut [u8], t: u32, m: u16, kind: u32, bytes: &[u8], n: u16,
 }
 
 // UU(n, from, to): each element in the subtree of node n that is named so gets the other name.
-pub fn rename_tree(state: &mut [u8], t: u32, n: u16, from: &[u8], to: &[u8]) -> u64
+pub fn rename_tree(state: &mut [u8], t: u32, n: u32, from: &[u8], to: &[u8]) -> u64
     ensures { λ r. ⌜ Contract (with-none (Request.step t (UU n (now (from .entry)) (now (to .entry))))
         (now (state .entry)) (now (state .exit)) r) ⌝ }
 {

@@ -36,7 +36,7 @@ fn update_cause(s: &[u8], found: u8, place: usize, b: &[u8]) -> u8
 }
 
 // U(n, b): the content of node n becomes b.
-pub fn update(s: &mut [u8], t: u32, n: u16, b: &[u8]) -> Answer
+pub fn update(s: &mut [u8], t: u32, n: u32, b: &[u8]) -> Answer
     ensures { λ r. ⌜ Performed (now (s .entry)) (now (s .exit)) r (step t (U n (now (b .entry))) no-room) ⌝ }
 {
     let mut way = [0u16; 1024];
@@ -55,7 +55,7 @@ pub fn update(s: &mut [u8], t: u32, n: u16, b: &[u8]) -> Answer
 // D ----------------------------------------------------------------------------------
 
 // D(n): node n and all below it are deleted. The node alone is marked: what is below it is hidden with it.
-pub fn delete(s: &mut [u8], t: u32, n: u16) -> Answer
+pub fn delete(s: &mut [u8], t: u32, n: u32) -> Answer
     ensures { λ r. ⌜ Performed (now (s .entry)) (now (s .exit)) r (step t (D n) no-room) ⌝ }
 {
     let mut way = [0u16; 1024];
@@ -90,7 +90,7 @@ fn rename_cause(found: u8, a: &[u8], b: &[u8]) -> u8
 }
 
 // UU(n, a, b): each element named a in the subtree of node n is named b; how many.
-pub fn rename_tree(s: &mut [u8], t: u32, n: u16, a: &[u8], b: &[u8]) -> Answer
+pub fn rename_tree(s: &mut [u8], t: u32, n: u32, a: &[u8], b: &[u8]) -> Answer
     ensures { λ r. ⌜ Performed (now (s .entry)) (now (s .exit)) r (step t (UU n (now (a .entry)) (now (b .entry))) no-room) ⌝ }
 {
     let mut way = [0u16; 1024];
@@ -109,7 +109,7 @@ pub fn rename_tree(s: &mut [u8], t: u32, n: u16, a: &[u8], b: &[u8]) -> Answer
 // I ----------------------------------------------------------------------------------
 
 // A cause found already, or else cause 8, 9 or 10 of I, or 0.
-fn insert_cause(s: &[u8], found: u8, place: usize, m: u16, kind: u32, b: &[u8]) -> u8
+fn insert_cause(s: &[u8], found: u8, place: usize, m: u32, kind: u32, b: &[u8]) -> u8
     requires { ⌜ (found ≡ 0 → ((Layout (now s)) × (place < length (nodes (now s))))) ⌝ }
     ensures { λ r. ⌜ FirstOf found (own-cause (I m kind (now (b .entry)) 0 0) (nodes (now (s .entry))) place) r ⌝ }
 {
@@ -129,7 +129,7 @@ fn insert_cause(s: &[u8], found: u8, place: usize, m: u16, kind: u32, b: &[u8]) 
 }
 
 // I(m, kind, b, n, k): a node m of a kind, with the content b, becomes the k-th child of node n.
-pub fn insert(s: &mut [u8], t: u32, m: u16, kind: u32, b: &[u8], n: u16, k: u32) -> Answer
+pub fn insert(s: &mut [u8], t: u32, m: u32, kind: u32, b: &[u8], n: u32, k: u32) -> Answer
     ensures { λ r. ⌜ Performed (now (s .entry)) (now (s .exit)) r (step t (I m kind (now (b .entry)) n k) no-room) ⌝ }
 {
     let mut way = [0u16; 1024];

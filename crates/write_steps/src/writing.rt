@@ -257,7 +257,7 @@ pub fn new_place(s: &[u8], p: usize, t: u8, k: u32) -> usize
 }
 
 // A node put in by t at place q and depth d, with the locks of t on it.
-pub fn put(s: &mut [u8], q: usize, d: u16, m: u16, kind: u8, t: u8, b: &[u8], fresh: u16)
+pub fn put(s: &mut [u8], q: usize, d: u16, m: u32, kind: u8, t: u8, b: &[u8], fresh: u16)
     requires { ⌜ (Layout (now s)) × (length (nodes (now s)) < 1024) × (q ≤ length (nodes (now s))) × (length (now b) ≤ 32)
         × (1 ≤ t) × (t ≤ 16) × (fresh ≡ need-words name.I .fresh) ⌝ }
     ensures { λ r. ⌜ Left (now (s .entry)) (now (s .exit)) (header (now (s .entry)))

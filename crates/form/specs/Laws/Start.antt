@@ -13,8 +13,8 @@ use Rattle.tree.specs.Forest.{view}
 use Rattle.tree.specs.Document.{Node, node-0-alone}
 use Rattle.locks.specs.Modes.{no-mode, in-word}
 use Rattle.protocol.specs.State.{is-transaction, unmarked, tree-of, with-open, start-header, start-state}
-use Rattle.table.specs.Layout.{tabulate, state-size, format-mark, entry-at, lock-at, word, part, count, slot, depth, number, cell, is-open}
-use Rattle.table.specs.Layout.{held, decode, entry, nodes, Layout}
+use Rattle.table.specs.Layout.{tabulate, state-size, format-mark, entry-at, lock-at, word, double-word, part, count, slot, depth, number}
+use Rattle.table.specs.Layout.{cell, is-open, held, decode, entry, nodes, Layout}
 use Rattle.table.specs.Flat.{flat}
 use Rattle.table.specs.Laws.Bytes.{Filled, filled-more, length-part, part-at, drop-high}
 use Rattle.table.specs.Laws.Nodes.{length-nodes}
@@ -35,13 +35,13 @@ byte-header : (j : ℕ) → 8 ≤ j → j < 16 → start-byte j ≡ cond (eqb j 
 unfolding start-byte
 byte-header j a b = rw (le-ltb j 8 a, lt-ltb j 16 b)
 
-pub byte-outline : (j : ℕ) → 16 ≤ j → j < 6160 → start-byte j ≡ outline-byte (j - 16)
+pub byte-outline : (j : ℕ) → 16 ≤ j → j < 8208 → start-byte j ≡ outline-byte (j - 16)
 unfolding start-byte
-byte-outline j a b = rw (le-ltb j 8 (omega arith), le-ltb j 16 a, lt-ltb j 6160 b)
+byte-outline j a b = rw (le-ltb j 8 (omega arith), le-ltb j 16 a, lt-ltb j 8208 b)
 
-byte-cell : (j : ℕ) → 6160 ≤ j → start-byte j ≡ cond (eqb j 6160) 1 0
+byte-cell : (j : ℕ) → 8208 ≤ j → start-byte j ≡ cond (eqb j 8208) 1 0
 unfolding start-byte
-byte-cell j a = rw (le-ltb j 8 (omega arith), le-ltb j 16 (omega arith), le-ltb j 6160 a)
+byte-cell j a = rw (le-ltb j 8 (omega arith), le-ltb j 16 (omega arith), le-ltb j 8208 a)
 
 pub byte-count : (j : ℕ) → j ≡ 10 → 1 ≡ start-byte j
 byte-count j e = rw e (sym (byte-header 10 (omega arith) (omega arith)))
@@ -49,23 +49,23 @@ byte-count j e = rw e (sym (byte-header 10 (omega arith) (omega arith)))
 pub byte-padding : (j : ℕ) → 8 ≤ j → j < 16 → (j ≡ 10 → ⊥) → 0 ≡ start-byte j
 byte-padding j a b e = sym (byte-header j a b ∙ rw (ne-eqb j 10 e))
 
-pub byte-kind : (j : ℕ) → 6160 ≤ j → j < 6161 → 1 ≡ start-byte j
-byte-kind j a b = sym (byte-cell j a ∙ rw (eq-eqb j 6160 (omega arith)))
+pub byte-kind : (j : ℕ) → 8208 ≤ j → j < 8209 → 1 ≡ start-byte j
+byte-kind j a b = sym (byte-cell j a ∙ rw (eq-eqb j 8208 (omega arith)))
 
-byte-behind : (j : ℕ) → 6160 < j → start-byte j ≡ 0
-byte-behind j h = byte-cell j (omega arith) ∙ rw (ne-eqb j 6160 (λ e. omega arith))
+byte-behind : (j : ℕ) → 8208 < j → start-byte j ≡ 0
+byte-behind j h = byte-cell j (omega arith) ∙ rw (ne-eqb j 8208 (λ e. omega arith))
 
-pub outline-low : (j : ℕ) → j % 6 ≡ 0 → outline-byte j ≡ j / 6 % 256
+pub outline-low : (j : ℕ) → j % 8 ≡ 0 → outline-byte j ≡ j / 8 % 256
 unfolding outline-byte
 outline-low j h = rw h
 
-pub outline-high : (j : ℕ) → j % 6 ≡ 1 → outline-byte j ≡ j / 6 / 256
+pub outline-high : (j : ℕ) → j % 8 ≡ 1 → outline-byte j ≡ j / 8 / 256
 unfolding outline-byte
 outline-high j h = rw h
 
-pub outline-zero : (j : ℕ) → (j % 6 ≡ 0 → ⊥) → (j % 6 ≡ 1 → ⊥) → outline-byte j ≡ 0
+pub outline-zero : (j : ℕ) → (j % 8 ≡ 0 → ⊥) → (j % 8 ≡ 1 → ⊥) → outline-byte j ≡ 0
 unfolding outline-byte
-outline-zero j a b = rw (ne-eqb (j % 6) 0 a, ne-eqb (j % 6) 1 b)
+outline-zero j a b = rw (ne-eqb (j % 8) 0 a, ne-eqb (j % 8) 1 b)
 
 -- what bytes by the rule hold ---------------------------------------------------------------------
 
@@ -97,18 +97,18 @@ module _ (s : List ℕ) (l : state-size ≤ length s) (b : (j : ℕ) → j < sta
   slot-is i h =
       word-is (entry-at i) (omega arith)
       ∙ rw (byte-outline (entry-at i) (omega arith) (omega arith), byte-outline (entry-at i + 1) (omega arith) (omega arith))
-      (rw (outline-low (16 + 6 * i - 16) (omega arith), outline-high (16 + 6 * i + 1 - 16) (omega arith)) (omega arith))
+      (rw (outline-low (16 + 8 * i - 16) (omega arith), outline-high (16 + 8 * i + 1 - 16) (omega arith)) (omega arith))
 
   depth-is : depth s 0 ≡ 0
   unfolding depth start-byte outline-byte
   depth-is = word-is 18 (omega arith)
 
   number-is : number s 0 ≡ 0
-  unfolding number start-byte outline-byte
-  number-is = word-is 20 (omega arith)
+  unfolding number double-word start-byte outline-byte
+  number-is = rw (word-is 20 (omega arith), word-is 22 (omega arith))
 
-  cell-is : (o : ℕ) → o < 70 → getD (cell s 0) o 0 ≡ cond (eqb (6160 + o) 6160) 1 0
-  cell-is o h = sym (cell-byte s 0 o h) ∙ b (6160 + o) (omega arith) ∙ byte-cell (6160 + o) (omega arith)
+  cell-is : (o : ℕ) → o < 70 → getD (cell s 0) o 0 ≡ cond (eqb (8208 + o) 8208) 1 0
+  cell-is o h = sym (cell-byte s 0 o h) ∙ b (8208 + o) (omega arith) ∙ byte-cell (8208 + o) (omega arith)
 
   held-is : held s 0 ≡ (λ t. no-mode)
   unfolding held
@@ -190,7 +190,7 @@ started-short s h = record {
   behind = refl;
 }
 
-pub started : (s s′ s″ : List ℕ) → state-size ≤ length s → Filled 0 6161 start-byte s s′ → Filled 6161 104447 (λ j. 0) s′ s″
+pub started : (s s′ s″ : List ℕ) → state-size ≤ length s → Filled 0 8209 start-byte s s′ → Filled 8209 104447 (λ j. 0) s′ s″
     → Started s s″ true
 started s s′ s″ h f g = record {
   answer = sym (le-leb state-size (length s) h);
@@ -202,13 +202,13 @@ started s s′ s″ h f g = record {
 }
   where
     bytes : (j : ℕ) → j < state-size → getD s″ j 0 ≡ start-byte j
-    bytes j k = go (ltb j 6161) refl
+    bytes j k = go (ltb j 8209) refl
       where
-        go : (t : Bool) → ltb j 6161 ≡ t → getD s″ j 0 ≡ start-byte j
+        go : (t : Bool) → ltb j 8209 ≡ t → getD s″ j 0 ≡ start-byte j
         go true e =
-            let a : j < 6161 = ltb-true j 6161 e in
+            let a : j < 8209 = ltb-true j 8209 e in
             g .only .low j a ∙ subst (λ (m : ℕ). getD s′ m 0 ≡ start-byte j) (zero-add j) (f .bytes j a)
         go false e =
-            let a : 6161 ≤ j = ltb-false j 6161 e in
-            let p : 6161 + (j - 6161) ≡ j = omega arith in
-            subst (λ (m : ℕ). getD s″ m 0 ≡ 0) p (g .bytes (j - 6161) (omega arith)) ∙ sym (byte-behind j (omega arith))
+            let a : 8209 ≤ j = ltb-false j 8209 e in
+            let p : 8209 + (j - 8209) ≡ j = omega arith in
+            subst (λ (m : ℕ). getD s″ m 0 ≡ 0) p (g .bytes (j - 8209) (omega arith)) ∙ sym (byte-behind j (omega arith))

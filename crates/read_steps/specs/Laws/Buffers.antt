@@ -11,10 +11,10 @@ use Rattle.tree.specs.Laws.Lists.{map-append}
 use Rattle.protocol.specs.State.{Marked}
 use Rattle.protocol.specs.Lent.{number-bytes, list-bytes, cell, cells, filled}
 use Rattle.table.specs.Layout.{Entry}
-use Rattle.table.specs.Laws.Bytes.{put-word}
+use Rattle.table.specs.Laws.Bytes.{put-double-word}
 use Rattle.rows.specs.Places.{item, number-of}
 use Rattle.engine.specs.Way.{Places, places-of, nodes-of}
-use Rattle.read_steps.specs.Laws.Stores.{sets-append, sets-front, word-sets}
+use Rattle.read_steps.specs.Laws.Stores.{sets-append, sets-front, double-word-sets}
 
 -- the pieces of the nodes, one behind the other
 unfoldable pub pieces : (Marked → List ℕ) → List Marked → List ℕ
@@ -82,14 +82,14 @@ module _ {f : Marked → List ℕ} {w : ℕ} {l : List Entry} {places : List ℕ
       let b : length (pieces f (map (item l) (take j places))) ≤ length o = rw (c .size, e) m in
       c .bytes ∙ sets-front o (pieces f (map (item l) (take j places))) b ∙ rw (e, p)
 
--- numbers take two bytes each
-pub written-number : {l : List Entry} {places : List ℕ} {j : ℕ} {o out out′ : List ℕ} → Written number-piece 2 l places j o out → (i v : ℕ)
+-- numbers take four bytes each
+pub written-number : {l : List Entry} {places : List ℕ} {j : ℕ} {o out out′ : List ℕ} → Written number-piece 4 l places j o out → (i v : ℕ)
     → i ≡ getD places j 0 → j < length places
-    → v ≡ number-of (item l i) → out′ ≡ put-word out (2 * j) v → Written number-piece 2 l places (j + 1) o out′
-written-number {l} {places} {j} {o} {out} c i v e h n q = written-more c i e h refl (q ∙ word-sets out (2 * j) v ∙ rw n)
+    → v ≡ number-of (item l i) → out′ ≡ put-double-word out (4 * j) v → Written number-piece 4 l places (j + 1) o out′
+written-number {l} {places} {j} {o} {out} c i v e h n q = written-more c i e h refl (q ∙ double-word-sets out (4 * j) v ∙ rw n)
 
-pub numbers-done : {l : List Entry} {j : ℕ} {o out : List ℕ} (t : Places) → Written number-piece 2 l (t .places) j o out → j ≡ t .count
-    → 2 * (t .count) ≤ length o
+pub numbers-done : {l : List Entry} {j : ℕ} {o out : List ℕ} (t : Places) → Written number-piece 4 l (t .places) j o out → j ≡ t .count
+    → 4 * (t .count) ≤ length o
     → out ≡ filled (list-bytes (map number-of (nodes-of l t))) o
 numbers-done {l} {j} {o} t c e m = written-done c t refl e m ∙ ap (λ b. filled b o) (pieces-numbers (nodes-of l t))
 

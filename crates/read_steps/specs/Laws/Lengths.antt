@@ -11,8 +11,8 @@ use Rattle.table.specs.Laws.Texts.{size-small}
 use Rattle.rows.specs.Places.{item, number-of}
 use Rattle.engine.specs.Way.{Places, places-of, nodes-of, Inside}
 
--- two bytes for a number
-pub length-numbers : (l : List Marked) → length (list-bytes (map number-of l)) ≡ 2 * length l
+-- four bytes for a number
+pub length-numbers : (l : List Marked) → length (list-bytes (map number-of l)) ≡ 4 * length l
 length-numbers [] = refl
 length-numbers (a ∷ l) = let e = length-numbers l in omega (arith, e)
 

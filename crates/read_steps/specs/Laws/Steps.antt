@@ -82,34 +82,34 @@ numbered a = (number-of a, a .now .content)
 
 -- by the subtree that was selected
 module _ (s : List ℕ) {t p : ℕ} {w : Places} (c : Selected (nodes s) t p w) where
-  numbers-long : length (list-bytes (map number-of (seen s t p))) ≡ 2 * (w .count)
+  numbers-long : length (list-bytes (map number-of (seen s t p))) ≡ 4 * (w .count)
   numbers-long = length-numbers (seen s t p) ∙ rw (← c .many)
 
   module _ (o : List ℕ) where
-    pub numbers-fit : 2 * (w .count) ≤ length o → has-room (numbers-are (map number-of (seen s t p))) (room-of o) ≡ true
+    pub numbers-fit : 4 * (w .count) ≤ length o → has-room (numbers-are (map number-of (seen s t p))) (room-of o) ≡ true
     unfolding first-lent second-lent
     numbers-fit h = fitting (length (list-bytes (map number-of (seen s t p)))) (length o) 0 0 (omega (arith, numbers-long)) (omega arith)
 
-    pub numbers-short : length o < 2 * (w .count) → has-room (numbers-are (map number-of (seen s t p))) (room-of o) ≡ false
+    pub numbers-short : length o < 4 * (w .count) → has-room (numbers-are (map number-of (seen s t p))) (room-of o) ≡ false
     unfolding first-lent second-lent
     numbers-short h = short-first (length (list-bytes (map number-of (seen s t p)))) (length o) 0 0 (omega (arith, numbers-long))
 
   firsts : list-bytes (map (λ x. x .0) (map numbered (seen s t p))) ≡ list-bytes (map number-of (seen s t p))
   firsts = ap list-bytes (map-map (λ x. x .0) numbered number-of (seen s t p) (λ a m. refl))
 
-  firsts-long : length (list-bytes (map (λ x. x .0) (map numbered (seen s t p)))) ≡ 2 * (w .count)
+  firsts-long : length (list-bytes (map (λ x. x .0) (map numbered (seen s t p)))) ≡ 4 * (w .count)
   firsts-long = ap length firsts ∙ numbers-long
 
   module _ (h : Layout s) (o q : List ℕ) where
     cells-long : length (cells (map numbered (seen s t p))) ≡ 33 * (w .count)
     cells-long = sym (ap (λ l. length (cells (map numbered l))) (c .nodes)) ∙ length-cells w h (c .inside)
 
-    pub cells-fit : 2 * (w .count) ≤ length o → 33 * (w .count) ≤ length q
+    pub cells-fit : 4 * (w .count) ≤ length o → 33 * (w .count) ≤ length q
         → has-room (cells-are (map numbered (seen s t p))) (rooms-of o q) ≡ true
     unfolding first-lent second-lent
     cells-fit i j = fitting _ (length o) _ (length q) (omega (arith, firsts-long)) (omega (arith, cells-long))
 
-    pub cells-short-first : length o < 2 * (w .count) → has-room (cells-are (map numbered (seen s t p))) (rooms-of o q) ≡ false
+    pub cells-short-first : length o < 4 * (w .count) → has-room (cells-are (map numbered (seen s t p))) (rooms-of o q) ≡ false
     unfolding first-lent second-lent
     cells-short-first i = short-first _ (length o) _ (length q) (omega (arith, firsts-long))
 

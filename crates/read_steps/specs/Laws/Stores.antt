@@ -1,17 +1,18 @@
 -- Bytes stored one behind the other.
 use mathlib.Core.Path.{_≡_, refl, sym, _∙_}
-use Prim.Native.Nat.{ℕ, zero, suc, _+_, _-_, _≤_, _<_}
+use Prim.Native.Nat.{ℕ, zero, suc, _+_, _-_, _*_, _/_, _%_, _≤_, _<_}
 use mathlib.Core.Bool.{Bool, true, false}
 use mathlib.Core.List.{List, [], _∷_, _++_}
 use native.Mathlib.Omega.{arith}
 use native.Mathlib.Nat.{add-zero, zero-add}
 use native.Mathlib.Numerals.{add-one}
+use lib.Arith.{mod-mul}
 use lib.ListN.{length, getD, set, replicate, length-append, length-set, length-replicate, getD-replicate}
 use lib.Seq.{sets, sets-eq, length-sets, ext-getD, getD-set-same, getD-set-other}
 use lib.Dec.{ltb, leb}
 use borrow.Author.Tests.{ltb-true, ltb-false, leb-true, leb-false}
 use Rattle.protocol.specs.Lent.{number-bytes, cell, filled}
-use Rattle.table.specs.Laws.Bytes.{Filled, put-word}
+use Rattle.table.specs.Laws.Bytes.{Filled, put-word, put-double-word}
 use Rattle.read_steps.specs.Stored.{Stored}
 
 -- two pieces
@@ -23,9 +24,17 @@ sets-append o k (x ∷ a) b = let e : suc k + length a ≡ k + suc (length a) = 
 pub sets-front : (o b : List ℕ) → length b ≤ length o → sets o 0 b ≡ filled b o
 sets-front o b h = sets-eq b o 0 (omega arith) ∙ rw zero-add
 
-pub word-sets : (o : List ℕ) (k v : ℕ) → put-word o k v ≡ sets o k (number-bytes v)
-unfolding put-word
-word-sets o k v = rw add-one
+pub double-word-sets : (o : List ℕ) (k v : ℕ) → put-double-word o k v ≡ sets o k (number-bytes v)
+unfolding put-double-word put-word
+double-word-sets o k v =
+    let low : v % 65536 ≡ (v / 256 % 256) * 256 + v % 256 = mod-mul v (omega arith) (omega arith) in
+    let a : v % 65536 % 256 ≡ v % 256 = omega arith in
+    let b : v % 65536 / 256 ≡ v / 256 % 256 = omega (arith, low) in
+    let c : v / 65536 / 256 ≡ v / 16777216 = omega arith in
+    let p : k + 1 ≡ suc k = omega arith in
+    let q : k + 2 ≡ suc (suc k) = omega arith in
+    let r : suc (suc k) + 1 ≡ suc (suc (suc k)) = omega arith in
+    rw (a, b, c, q, p, r)
 
 -- what stands where
 pub sets-low : (o : List ℕ) (k : ℕ) (b : List ℕ) (i : ℕ) → i < k → getD (sets o k b) i 0 ≡ getD o i 0

@@ -5,7 +5,7 @@ use Rattle.table.proofs.number.Statement.{statement}
 use Rattle.table.proofs.number.Tie as tie
 
 returns : tie.Need-returns
-returns c = c .word .ensures ∙ number-at _ _ (search needs)
+returns c = c .double-word .ensures ∙ number-at _ _ (search needs)
 
 pub number-spec : {M : Type 1} → statement M
 number-spec = tie.close (tie.spec (λ c. search needs) (λ c. search needs) (λ c. search needs) (λ c κs. search needs) returns)

@@ -8,7 +8,7 @@ use lib.ListN.{length, getD, take, drop, set, length-take, length-drop, length-s
 use lib.Seq.{getD-take, getD-drop, ext-getD, getD-set-same, getD-set-other, length-take-le, drop-set-add, take-set-lt}
 use lib.Dec.{eqb, ltb, leb}
 use borrow.Author.Tests.{eqb-true, eqb-false, ltb-true, ltb-false, leb-true, leb-false}
-use Rattle.table.specs.Layout.{word, part}
+use Rattle.table.specs.Layout.{word, double-word, part}
 
 -- only the n bytes from k on may differ
 pub record Only (k n : ℕ) (s s′ : List ℕ) : Type 0 where
@@ -83,6 +83,10 @@ module _ {k n : ℕ} {s s′ : List ℕ} (o : Only k n s s′) where
   unfolding word
   word-off i h = rw (off o i (λ x. h (omega arith)), off o (i + 1) (λ x. let z = h (omega arith) in omega arith))
 
+  pub double-word-off : (i : ℕ) → (k < i + 4 → k + n ≤ i) → double-word s′ i ≡ double-word s i
+  unfolding double-word
+  double-word-off i h = rw (word-off i (λ x. h (omega arith)), word-off (i + 2) (λ x. let z = h (omega arith) in omega arith))
+
   pub part-off : (i m : ℕ) → (k < i + m → k + n ≤ i) → part s′ i m ≡ part s i m
   part-off i m h = part-same s s′ i m (o .long) (λ j a b. off o j (λ x. let z = h (omega arith) in omega arith))
 
@@ -90,6 +94,28 @@ module _ {k n : ℕ} {s s′ : List ℕ} (o : Only k n s s′) where
   drop-high i h =
       ext-getD 0 (drop i s′) (drop i s) (simp length-drop (rw (o .long)))
       (λ j m. getD-drop i s′ j 0 ∙ o .high (i + j) (omega arith) ∙ sym (getD-drop i s j 0))
+
+-- thirty-two bits stored
+unfoldable pub put-double-word : List ℕ → ℕ → ℕ → List ℕ
+put-double-word s k v = put-word (put-word s k (v % 65536)) (k + 2) (v / 65536)
+
+pub only-double-word : (s : List ℕ) (k v : ℕ) → Only k 4 s (put-double-word s k v)
+unfolding put-double-word
+only-double-word s k v =
+    only-both k 4 (only-word s k (v % 65536)) (only-word (put-word s k (v % 65536)) (k + 2) (v / 65536)) (omega arith) (omega arith)
+    (omega arith) (omega arith)
+
+pub double-word-put : (s : List ℕ) (k v : ℕ) → k + 3 < length s → double-word (put-double-word s k v) k ≡ v
+unfolding put-double-word double-word
+double-word-put s k v h =
+    let low = only-word s k (v % 65536) in
+    let high = only-word (put-word s k (v % 65536)) (k + 2) (v / 65536) in
+    rw (
+      word-put (put-word s k (v % 65536)) (k + 2) (v / 65536) (omega (arith, low .long)),
+      word-off high k (λ x. omega arith),
+      word-put s k (v % 65536) (omega arith),
+    )
+    (omega arith)
 
 pub length-part : (s : List ℕ) (k n : ℕ) → k + n ≤ length s → length (part s k n) ≡ n
 unfolding part

@@ -4,9 +4,10 @@ use Prim.Native.Nat.{ℕ, _+_, _≤_, _<_}
 use mathlib.Core.List.{List}
 use native.Mathlib.Omega.{arith}
 use lib.ListN.{length}
-use Rattle.table.specs.Layout.{tabulate, entry-at, word, count, slot, depth, number, cell, held, decode, Entry, entry, Sized, Layout}
-use Rattle.table.specs.Layout.{Left, header}
+use Rattle.table.specs.Layout.{tabulate, entry-at, word, double-word, count, slot, depth, number, cell, held, decode, Entry, entry}
+use Rattle.table.specs.Layout.{Sized, Layout, Left, header}
 use Rattle.table.specs.Laws.Bytes.{Only, only-both, only-word, put-word, word-put, word-off}
+use Rattle.table.specs.Laws.Bytes.{only-double-word, put-double-word, double-word-put}
 use Rattle.table.specs.Laws.Nodes.{Placed, Copy, placed-as, same-place, same-cell, same-held, same-header, left-of}
 use Rattle.table.specs.Outline.{Entered}
 
@@ -17,20 +18,20 @@ other-place j e ne = same-place (e .only) j (λ z. omega (arith, ne))
 pub entered-as : {s s′ : List ℕ} {i k k′ d d′ n n′ : ℕ} → Entered s s′ i k d n → k ≡ k′ → d ≡ d′ → n ≡ n′ → Entered s s′ i k′ d′ n′
 entered-as e a b c = record { only = e .only; is = placed-as (e .is) a b c }
 
--- three words stored
-pub entered-of : (s s₁ s₂ s₃ : List ℕ) (i k d n p q r : ℕ) → s₁ ≡ put-word s p k → s₂ ≡ put-word s₁ q d → s₃ ≡ put-word s₂ r n →
-    p ≡ entry-at i → q ≡ entry-at i + 2 → r ≡ entry-at i + 4 → entry-at i + 6 ≤ length s → Entered s s₃ i k d n
+-- two words and a double word stored
+pub entered-of : (s s₁ s₂ s₃ : List ℕ) (i k d n p q r : ℕ) → s₁ ≡ put-word s p k → s₂ ≡ put-word s₁ q d → s₃ ≡ put-double-word s₂ r n →
+    p ≡ entry-at i → q ≡ entry-at i + 2 → r ≡ entry-at i + 4 → entry-at i + 8 ≤ length s → Entered s s₃ i k d n
 unfolding slot depth number
 entered-of s s₁ s₂ s₃ i k d n p q r a b c x y z h =
     let o₁ : Only p 2 s s₁ = rw a (only-word s p k) in
     let o₂ : Only q 2 s₁ s₂ = rw b (only-word s₁ q d) in
-    let o₃ : Only r 2 s₂ s₃ = rw c (only-word s₂ r n) in
+    let o₃ : Only r 4 s₂ s₃ = rw c (only-double-word s₂ r n) in
     let w₁ : word s₁ p ≡ k = rw a (word-put s p k (omega arith)) in
     let w₂ : word s₂ q ≡ d = rw b (word-put s₁ q d (omega (arith, o₁ .long))) in
-    let w₃ : word s₃ r ≡ n = rw c (word-put s₂ r n (omega (arith, o₁ .long, o₂ .long))) in
-    let first = only-both (entry-at i) 6 o₁ o₂ (omega arith) (omega arith) (omega arith) (omega arith) in
+    let w₃ : double-word s₃ r ≡ n = rw c (double-word-put s₂ r n (omega (arith, o₁ .long, o₂ .long))) in
+    let first = only-both (entry-at i) 8 o₁ o₂ (omega arith) (omega arith) (omega arith) (omega arith) in
     record {
-      only = only-both (entry-at i) 6 first o₃ (omega arith) (omega arith) (omega arith) (omega arith);
+      only = only-both (entry-at i) 8 first o₃ (omega arith) (omega arith) (omega arith) (omega arith);
       is = record {
         slot = rw (← x) (word-off o₃ p (λ t. omega arith) ∙ word-off o₂ p (λ t. omega arith) ∙ w₁);
         depth = rw (← y) (word-off o₃ q (λ t. omega arith) ∙ w₂);
@@ -40,7 +41,7 @@ entered-of s s₁ s₂ s₃ i k d n p q r a b c x y z h =
 
 -- changes of the count and the outline alone --------------------------------------------------
 
-module _ {s s′ : List ℕ} (o : Only 10 6150 s s′) where
+module _ {s s′ : List ℕ} (o : Only 10 8198 s s′) where
   pub placed-entry : (i k d n : ℕ) → Placed s′ i k d n → entry s′ i ≡ (d, decode n (cell s k) (held s k))
   unfolding entry
   placed-entry i k d n c = rw (c .slot, c .depth, c .number, same-cell o k (λ z. omega arith), same-held o (omega arith) k)

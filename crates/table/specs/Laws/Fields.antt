@@ -12,7 +12,7 @@ use Rattle.locks.specs.Modes.{ModeSet}
 use Rattle.protocol.specs.State.{nobody, unwritten, wrote, writer-of, Marked, with-update}
 use Rattle.table.specs.Lists.{modify}
 use Rattle.table.specs.Flat.{second}
-use Rattle.table.specs.Layout.{entry-at, cell-at, word, slot, depth, number, cell, decode, entry, nodes}
+use Rattle.table.specs.Layout.{entry-at, cell-at, word, double-word, slot, depth, number, cell, decode, entry, nodes}
 use Rattle.table.specs.Layout.{stored, update-of, no-entry, Sized, Layout, Kept}
 use Rattle.table.specs.Fields.{field, storable, with-field, saved-bytes, saved-size}
 use Rattle.table.specs.Laws.Lists.{getD-set-eqb}
@@ -24,12 +24,12 @@ pub cell-byte : (s : List ℕ) (k o : ℕ) → o < 70 → getD s (cell-at k + o)
 unfolding cell
 cell-byte s k o h = sym (part-at s (cell-at k) 70 o h)
 
--- an outline entry's words
+-- depth and number in an entry of the outline
 pub depth-at : (s : List ℕ) (i : ℕ) → i < length (nodes s) → word s (entry-at i + 2) ≡ getD (nodes s) i no-entry .0
 unfolding depth entry
 depth-at s i h = rw (node-at s i (omega (arith, length-nodes s)))
 
-pub number-at : (s : List ℕ) (i : ℕ) → i < length (nodes s) → word s (entry-at i + 4) ≡ getD (nodes s) i no-entry .1 .now .number
+pub number-at : (s : List ℕ) (i : ℕ) → i < length (nodes s) → double-word s (entry-at i + 4) ≡ getD (nodes s) i no-entry .1 .now .number
 unfolding number entry decode
 number-at s i h = rw (node-at s i (omega (arith, length-nodes s)))
 

@@ -28,7 +28,7 @@ use Rattle.table.specs.Laws.Entries.{other-place, copied-entry, placed-e
 
 pub shift-start : (s : List ℕ) (n : ℕ) → Shifted s s n n
 shift-start s n = record {
-  only = only-none (entry-at 0) 6144 s;
+  only = only-none (entry-at 0) 8192 s;
   low = λ i h. same i;
   moved = λ i h l. absurd (omega arith);
   high = λ i h l. same i;
@@ -41,7 +41,7 @@ pub shift-turn : {s s′ s″ : List ℕ} (k j n : ℕ) → Shifted s s′ k n �
     → k ≡ j + 1 → k ≤ n
     → n < 1024 → Shifted s s″ j n
 shift-turn {s} {s′} {s″} k j n f e z a b = record {
-  only = only-both (entry-at 0) 6144 (f .only) (e .only) (omega arith) (omega arith) (omega arith) (omega arith);
+  only = only-both (entry-at 0) 8192 (f .only) (e .only) (omega arith) (omega arith) (omega arith) (omega arith);
   low = λ i h. placed-then (f .low i (omega arith)) (other-place i e (λ q. omega arith));
   moved = λ i h l. moved i h l (eqb i j) refl;
   high = λ i h l. placed-then (f .high i h l) (other-place i e (λ q. omega arith));
@@ -87,8 +87,8 @@ module _ (s s₁ s₂ s₃ s₄ : List ℕ) (n p k d m : ℕ) (h : Layout s) (c 
   four : Only count-at 2 s₃ s₄
   four = rw y (only-word s₃ count-at (n + 1))
 
-  only : Only 10 6150 s₁ s₄
-  only = only-both 10 6150 (only-both 10 6150 (g .only) (x .only) (omega arith) (omega arith) (omega arith) (omega arith)) four
+  only : Only 10 8198 s₁ s₄
+  only = only-both 10 8198 (only-both 10 8198 (g .only) (x .only) (omega arith) (omega arith) (omega arith) (omega arith)) four
       (omega arith) (omega arith) (omega arith) (omega arith)
 
   counted : count s₄ ≡ n + 1

@@ -14,7 +14,7 @@ use Rattle.table.specs.Layout.{tabulate, state-size, open-at, count-at, 
 use Rattle.table.specs.Layout.{is-open, held, decode, Entry, entry, nodes, no-entry, Sized, Layout, Left, Kept, header}
 use Rattle.table.specs.Flat.{second}
 use Rattle.table.specs.Laws.Lists.{length-tabulate, getD-tabulate, tabulate-same, modify-tabulate, map-tabulate}
-use Rattle.table.specs.Laws.Bytes.{Only, word-off, part-off, drop-high, length-part}
+use Rattle.table.specs.Laws.Bytes.{Only, word-off, double-word-off, part-off, drop-high, length-part}
 use Rattle.table.specs.Laws.Kept.{kept-left}
 
 pub length-nodes : (s : List ℕ) → length (nodes s) ≡ count s
@@ -60,12 +60,12 @@ module _ {k n : ℕ} {s s′ : List ℕ} (o : Only k n s s′) where
   unfolding count
   same-count h = word-off o count-at (λ z. h (omega arith))
 
-  pub same-place : (i : ℕ) → (k < entry-at i + 6 → k + n ≤ entry-at i) → Copy s i s′ i
+  pub same-place : (i : ℕ) → (k < entry-at i + 8 → k + n ≤ entry-at i) → Copy s i s′ i
   unfolding slot depth number
   same-place i h = record {
     slot = word-off o (entry-at i) (λ z. h (omega arith));
     depth = word-off o (entry-at i + 2) (λ z. let w = h (omega arith) in omega arith);
-    number = word-off o (entry-at i + 4) (λ z. let w = h (omega arith) in omega arith);
+    number = double-word-off o (entry-at i + 4) (λ z. let w = h (omega arith) in omega arith);
   }
 
   pub same-cell : (j : ℕ) → (k < cell-at j + 70 → k + n ≤ cell-at j) → cell s′ j ≡ cell s j

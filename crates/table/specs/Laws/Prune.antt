@@ -33,14 +33,14 @@ module _ (s s′ s″ : List ℕ) (i j : ℕ) (h : Layout s) (l : i < j) (m : j 
   below : j < count s
   below = omega (arith, length-nodes s)
 
-  first : Only 10 6150 s s′
-  first = let r = h .room in only-wider 10 6150 (a .only) (omega arith) (omega (arith, below))
+  first : Only 10 8198 s s′
+  first = let r = h .room in only-wider 10 8198 (a .only) (omega arith) (omega (arith, below))
 
-  later : Only 10 6150 s′ s″
-  later = let r = h .room in only-wider 10 6150 (b .only) (omega arith) (omega (arith, below))
+  later : Only 10 8198 s′ s″
+  later = let r = h .room in only-wider 10 8198 (b .only) (omega arith) (omega (arith, below))
 
-  only : Only 10 6150 s s″
-  only = only-both 10 6150 first later (omega arith) (omega arith) (omega arith) (omega arith)
+  only : Only 10 8198 s s″
+  only = only-both 10 8198 first later (omega arith) (omega arith) (omega arith) (omega arith)
 
   at-j : Copy s i s″ j
   at-j = placed-then (a .is) (other-place j b (λ q. omega arith))
@@ -172,7 +172,7 @@ unfolding count nodes
 cut-left s s′ k e h a b =
     let o : Only count-at 2 s s′ = rw e (only-word s count-at k) in
     let n : k ≤ count s = omega (arith, length-nodes s) in
-    let w : Only 10 6150 s s′ = only-wider 10 6150 o (omega arith) (omega arith) in
+    let w : Only 10 8198 s s′ = only-wider 10 8198 o (omega arith) (omega arith) in
     let same : (i : ℕ) → Copy s i s′ i = λ i. same-place o i (λ z. omega arith) in
     outline-left w h k (rw e (word-put s count-at k (omega (arith, h .size)))) a (omega (arith, h .room)) (λ i. i)
     (λ i z. (i, z, same i .slot, refl, λ x. h .sizes i (omega arith))) (take k (nodes s))

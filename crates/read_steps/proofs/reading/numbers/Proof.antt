@@ -8,7 +8,7 @@ use Rattle.read_steps.proofs.reading.numbers.Statement.{statement}
 use Rattle.read_steps.proofs.reading.numbers.Tie as tie
 
 abbrev Inv-loop : tie.InvT-loop
-Inv-loop s places count out₀ j₀ out j = (j ≤ count) × Written number-piece 2 (nodes s) places j out₀ out
+Inv-loop s places count out₀ j₀ out j = (j ≤ count) × Written number-piece 4 (nodes s) places j out₀ out
 
 abbrev μ-loop : tie.MeasureT-loop
 μ-loop s places count out₀ j₀ out j = count - j
@@ -29,8 +29,8 @@ loop-again : tie.Need-loop-again Inv-loop μ-loop
 loop-again c =
     let l = c .before .before .before .before .before .before .before .loop in
     let number = c .before .before .before .before .number in
-    let set-word = c .before .before .set-word in
-    (search needs, written-number (l .inv .1) _ _ refl (search needs) (number .ensures) (set-word .ensures))
+    let set-double-word = c .before .before .set-double-word in
+    (search needs, written-number (l .inv .1) _ _ refl (search needs) (number .ensures) (set-double-word .ensures))
 
 returns : tie.Need-returns Inv-loop μ-loop
 returns c = numbers-done _ (c .before .loop .inv .1) (search needs) (search needs)

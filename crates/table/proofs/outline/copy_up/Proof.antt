@@ -9,9 +9,9 @@ unfolding slot depth number
 returns c =
     let word = c .before .before .before .before .before .before .before .before .word in
     let word2 = c .before .before .before .before .before .before .word2 in
-    let word3 = c .before .before .before .before .word3 in
+    let double-word = c .before .before .before .before .double-word in
     let set-entry = c .before .before .set-entry in
-    entered-as (set-entry .ensures) (word .ensures) (word2 .ensures) (word3 .ensures)
+    entered-as (set-entry .ensures) (word .ensures) (word2 .ensures) (double-word .ensures)
 
 pub copy-up-spec : {M : Type 1} → statement M
 copy-up-spec = tie.close (tie.spec (λ c. search needs) (λ c. search needs) (λ c κs. search needs) (λ c. search needs) (λ c κs. search needs)

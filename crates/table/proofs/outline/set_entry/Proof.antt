@@ -9,8 +9,8 @@ returns c =
     let c8 = c .before .before .before .before .before .before .before .before in
     let set-word = c8 .before .before .set-word in
     let set-word2 = c .before .before .before .before .before .before .set-word2 in
-    let set-word3 = c .before .before .set-word3 in
-    entered-of _ _ _ _ _ _ _ _ _ _ _ (set-word .ensures) (set-word2 .ensures) (set-word3 .ensures) (omega arith) (omega arith)
+    let set-double-word = c .before .before .set-double-word in
+    entered-of _ _ _ _ _ _ _ _ _ _ _ (set-word .ensures) (set-word2 .ensures) (set-double-word .ensures) (omega arith) (omega arith)
     (omega arith) (omega arith)
 
 pub set-entry-spec : {M : Type 1} → statement M

@@ -18,14 +18,14 @@ returns-2 c =
     let if1 = c16 .before .before .before .before .if1 in
     let word = c16 .before .before .word in
     let word2 = c16 .word2 in
-    let word3 = c8 .before .before .before .before .before .before .word3 in
-    let word4 = c8 .before .before .before .before .word4 in
-    let word5 = c8 .before .before .word5 in
-    let word6 = c8 .word6 in
+    let double-word = c8 .before .before .before .before .before .before .double-word in
+    let word3 = c8 .before .before .before .before .word3 in
+    let word4 = c8 .before .before .word4 in
+    let double-word2 = c8 .double-word2 in
     let set-entry = c .before .before .before .before .before .before .set-entry in
     let set-entry2 = c .before .before .set-entry2 in
-    let first = entered-as (set-entry .ensures) (word .ensures) (word2 .ensures) (word3 .ensures) in
-    let second = entered-as (set-entry2 .ensures) (word4 .ensures) (word5 .ensures) (word6 .ensures) in
+    let first = entered-as (set-entry .ensures) (word .ensures) (word2 .ensures) (double-word .ensures) in
+    let second = entered-as (set-entry2 .ensures) (word3 .ensures) (word4 .ensures) (double-word2 .ensures) in
     exchanged _ _ _ _ _ (pre .0) (omega (arith, if1 .left, pre .1)) (pre .2) first second
 
 pub swap-spec : {M : Type 1} → statement M
