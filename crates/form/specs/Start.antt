@@ -7,7 +7,7 @@ use lib.ListN.{length, getD, drop}
 use lib.Dec.{eqb, leb, ltb}
 use Rattle.tree.specs.Content.{document-kind}
 use Rattle.protocol.specs.State.{start-state}
-use Rattle.table.specs.Encoding.{state-size, format-mark}
+use Rattle.table.specs.Encoding.{state-size, format-mark, count-at, entry-at, cell-at}
 use Rattle.form.specs.Form.{Holds}
 
 -- byte j of the outline: the entry of each place has the slot of its own number, and zeros
@@ -18,9 +18,9 @@ outline-byte j = cond (eqb (j % 8) 0) (j / 8 % 256) (cond (eqb (j % 8) 1) (j / 8
 unfoldable pub start-byte : ℕ → ℕ
 start-byte j =
     cond (ltb j 8) (getD format-mark j 0)
-    (cond (ltb j 16) (cond (eqb j 10) 1 0)
-    (cond (ltb j 8208) (outline-byte (j - 16))
-    (cond (eqb j 8208) document-kind 0)))
+    (cond (ltb j (entry-at 0)) (cond (eqb j count-at) 1 0)
+    (cond (ltb j (cell-at 0)) (outline-byte (j - entry-at 0))
+    (cond (eqb j (cell-at 0)) document-kind 0)))
 
 -- start: bytes that are enough are set to the beginning, others are left as they were
 pub record Started (s s′ : List ℕ) (r : Bool) : Type 0 where

@@ -5,4 +5,5 @@ pub mod Amend
 pub mod Compare
 pub mod View
 pub mod Put
+pub mod PutOrder
 pub mod Distinct

@@ -14,7 +14,7 @@ use Rattle.tree.specs.Laws.Tests.{refuted, or-left}
 use Rattle.tree.specs.Laws.Rows.{line}
 use Rattle.tree.specs.Laws.Amend.{amend-agree, amend-amend-same}
 use Rattle.tree.specs.Laws.View.{view-view, view-agree, view-amend}
-use Rattle.tree.specs.Laws.Put.{amend-put, view-put, put-put}
+use Rattle.tree.specs.Laws.PutOrder.{amend-put, view-put, put-put}
 use Rattle.tree.specs.Laws.Lists.{eqb-flip}
 use Rattle.locks.specs.Modes.{LW}
 use Rattle.locks.specs.Needs.{needs, locks}

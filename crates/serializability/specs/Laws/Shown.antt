@@ -14,7 +14,7 @@ use Rattle.tree.specs.Laws.Tests.{and-left, or-cases}
 use Rattle.tree.specs.Laws.Lists.{any-map}
 use Rattle.tree.specs.Laws.Rows.{In, self, inner, later}
 use Rattle.tree.specs.Laws.View.{view-view, view-agree, view-amend}
-use Rattle.tree.specs.Laws.Put.{view-put, view-put-hidden}
+use Rattle.tree.specs.Laws.PutOrder.{view-put, view-put-hidden}
 use Rattle.locks.specs.Needs.{Lock}
 use Rattle.serializability.specs.Laws.Tests.{by-test, cond-same}
 use Rattle.protocol.specs.State.{nobody, Marked, Tree, has-number, seen-by, done-by, shown, as-shown, document-of, written-by, deleted-by}
