@@ -1,4 +1,4 @@
-/* bench.c: times every step, the ends of transactions, load and write. bench [SETTINGS.xml] */
+/* bench.c: times every step, begin and end of transactions, load and write. bench_run [SETTINGS.xml] */
 #define _POSIX_C_SOURCE 199309L
 #include <stdio.h>
 #include <stdlib.h>
@@ -6,6 +6,11 @@
 #include <time.h>
 
 #include "timing.h"
+
+#ifdef WITH_BEFORE
+#define CALL(name, parameters, arguments) noodlefen_answer before_##name parameters;
+#include "../host/calls.def"
+#endif
 
 const struct timed timed_engines[] = {
     {"bench",
@@ -18,8 +23,19 @@ const struct timed timed_engines[] = {
 #include "../host/calls.def"
     },
 #endif
+#ifdef WITH_BEFORE
+    {"before",
+#define CALL(name, parameters, arguments) before_##name,
+#include "../host/calls.def"
+    },
+#endif
 };
 const int timed_count = sizeof timed_engines / sizeof timed_engines[0];
+
+int engine_at(int turn, int i)
+{
+    return timed_count > BEFORE && turn != C_ENGINE && i % 2 == 1 ? LIBRARY + BEFORE - turn : turn;
+}
 
 double now(void)
 {
@@ -77,16 +93,36 @@ size_t long_document(char *out)
     return (size_t)(at - out);
 }
 
+static void stop(const char *engine, const char *what, const char *wanted, noodlefen_answer answer)
+{
+    fprintf(stderr, "%s: %s is not %s: outcome %u, cause %u\n", engine, what, wanted, (unsigned)(answer & 0xFF), noodlefen_cause(answer));
+    exit(1);
+}
+
 void must_grant(const char *engine, const char *what, noodlefen_answer answer)
 {
-    if (noodlefen_granted(answer))
-        return;
-    fprintf(stderr, "%s: %s is not granted: outcome %u, cause %u\n", engine, what, (unsigned)(answer & 0xFF), noodlefen_cause(answer));
-    exit(1);
+    if (!noodlefen_granted(answer))
+        stop(engine, what, "granted", answer);
+}
+
+void must_refuse(const char *engine, const char *what, unsigned cause, noodlefen_answer answer)
+{
+    if (answer != (NOODLEFEN_REFUSED | (noodlefen_answer)cause << 8))
+        stop(engine, what, "refused as expected", answer);
+}
+
+/* A library of another state size would be timed on other work. */
+static void check_state_size(const struct timed *engine)
+{
+    static uint8_t state[NOODLEFEN_STATE_BYTES];
+    must_grant(engine->name, "start", engine->start(state, sizeof state));
+    must_refuse(engine->name, "start on a byte less", NOODLEFEN_TOO_SHORT, engine->start(state, sizeof state - 1));
 }
 
 int main(int count, char **arguments)
 {
+    for (int e = LIBRARY; e < timed_count; e++)
+        check_state_size(&timed_engines[e]);
     time_steps();
     time_xml(count > 1 ? arguments[1] : "../host/settings.xml");
     return 0;

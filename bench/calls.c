@@ -35,10 +35,13 @@ noodlefen_answer bench_begin(uint8_t *s, size_t length, uint32_t t)
     return granted(0);
 }
 
+/* Moves a row up to the place of one that was taken out, whose slot stays free: the slots change places. */
 static void move_row(uint8_t *s, unsigned from, unsigned to)
 {
+    unsigned freed = slot_of(s, to);
     put32(s + AT_NUMBER + 4 * to, number_of(s, from));
     put16(s + AT_SLOT + 2 * to, slot_of(s, from));
+    put16(s + AT_SLOT + 2 * from, freed);
     put16(s + AT_DEPTH + 2 * to, depth_of(s, from));
     s[AT_KIND + to] = s[AT_KIND + from];
     s[AT_INSERTED + to] = s[AT_INSERTED + from];
@@ -46,33 +49,33 @@ static void move_row(uint8_t *s, unsigned from, unsigned to)
     s[AT_CHANGED + to] = s[AT_CHANGED + from];
 }
 
-/* Takes out the rows with the mark t in one column, clears the other marks t, and ends the transaction. */
+/* Ends t in one pass over the rows: takes out those with the mark t in one column, clears the other marks t and the lock words of t. Free
+ * slots have no locks, on which insert and load rely, so no other words have to be cleared. It stays so: on a row that is taken out there
+ * are no locks of others, since t has LW on it or above it, which clashes with every mode, and a lock comes with one on each row above. */
 static void end_transaction(uint8_t *s, uint32_t t, unsigned removed_mark, unsigned cleared_mark, int restore)
 {
-    unsigned count = count_of(s), kept = 0, freed = 0;
-    uint16_t free_slots[NODES];
+    unsigned count = count_of(s), kept = 0;
+    uint8_t *locks = locks_of(s, t);
     for (unsigned row = 0; row < count; row++) {
-        if (s[removed_mark + row] == t) {
-            free_slots[freed++] = (uint16_t)slot_of(s, row);
-            continue;
-        }
-        if (s[cleared_mark + row] == t)
-            s[cleared_mark + row] = 0;
-        if (s[AT_CHANGED + row] == t) {
-            unsigned slot = slot_of(s, row);
-            s[AT_CHANGED + row] = 0;
-            if (restore)
-                memcpy(cell_at(s, slot), saved_at(s, slot), CELL);
+        unsigned slot = slot_of(s, row);
+        put16(locks + 2 * slot, 0);
+        if ((s[AT_INSERTED + row] | s[AT_DELETED + row] | s[AT_CHANGED + row]) != 0) { /* most rows have no mark */
+            if (s[removed_mark + row] == t)
+                continue;
+            if (s[cleared_mark + row] == t)
+                s[cleared_mark + row] = 0;
+            if (s[AT_CHANGED + row] == t) {
+                s[AT_CHANGED + row] = 0;
+                if (restore)
+                    memcpy(cell_at(s, slot), saved_at(s, slot), CELL);
+            }
         }
         if (kept != row)
             move_row(s, row, kept);
         kept++;
     }
-    for (unsigned i = 0; i < freed; i++)
-        put16(s + AT_SLOT + 2 * (kept + i), free_slots[i]);
     put16(s + AT_COUNT, kept);
     put16(s + AT_OPEN, open_set(s) & ~(1u << (t - 1)));
-    memset(locks_of(s, t), 0, 2 * NODES);
 }
 
 noodlefen_answer bench_commit(uint8_t *s, size_t length, uint32_t t)

@@ -80,24 +80,22 @@ static int numbers_are_distinct(const uint8_t *s, unsigned count, uint32_t n, un
     return 1;
 }
 
-/* Each mark is 0 or an open transaction. */
-static int marks_are_open(const uint8_t *s, unsigned count)
+/* Each mark is 0 or a transaction, and a changed node has its committed content. */
+static int marks_are_of_form(const uint8_t *s, unsigned count)
 {
     const uint8_t *inserted = s + AT_INSERTED, *deleted = s + AT_DELETED, *changed = s + AT_CHANGED;
-    unsigned any = 0, allowed = open_set(s) << 1 | 1u, marks = 0;
-    for (unsigned row = 0; row < count; row++)
-        any |= inserted[row] | deleted[row] | changed[row];
-    if (any == 0)
-        return 1;
-    if (any > 31)
-        return 0;
-    for (unsigned row = 0; row < count; row++)
-        marks |= 1u << inserted[row] | 1u << deleted[row] | 1u << changed[row];
-    if ((marks & ~allowed) != 0 || (inserted[0] | deleted[0] | changed[0]) != 0)
+    uint8_t most = 0, any = 0;
+    for (unsigned row = 0; row < count; row++) {
+        uint8_t ends = inserted[row] > deleted[row] ? inserted[row] : deleted[row];
+        most = most > ends ? most : ends;
+        any = any > changed[row] ? any : changed[row];
+    }
+    if (most > TRANSACTIONS || any > TRANSACTIONS || (inserted[0] | deleted[0] | changed[0]) != 0)
         return 0;
     unsigned wrong = 0;
-    for (unsigned row = 1; row < count; row++)
-        wrong |= changed[row] != 0 && s[AT_SAVED + CELL * slot_of(s, row)] - 1u > 31;
+    if (any != 0)
+        for (unsigned row = 1; row < count; row++)
+            wrong |= changed[row] != 0 && s[AT_SAVED + CELL * slot_of(s, row)] - 1u > 31;
     return wrong == 0;
 }
 
@@ -124,6 +122,6 @@ int bench_form(const uint8_t *s, size_t length, uint32_t n, unsigned *row)
     unsigned count = count_of(s);
     if (count - 1 >= NODES || (s[AT_REST] | s[AT_REST + 1] | s[AT_REST + 2] | s[AT_REST + 3]) != 0)
         return 0;
-    return slots_are_permutation(s) && rows_are_of_form(s, count) && marks_are_open(s, count)
+    return slots_are_permutation(s) && rows_are_of_form(s, count) && marks_are_of_form(s, count)
         && numbers_are_distinct(s, count, n, row);
 }

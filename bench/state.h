@@ -23,7 +23,7 @@ enum {
     AT_CHANGED = AT_DELETED + NODES,    /* by row: the open transaction that changed its committed content, or 0 */
     AT_CELL = AT_CHANGED + NODES,       /* by slot: length, content, zeros */
     AT_SAVED = AT_CELL + CELL * NODES,  /* by slot: the committed content of a changed node */
-    AT_LOCKS = AT_SAVED + CELL * NODES, /* by transaction and slot: set of modes */
+    AT_LOCKS = AT_SAVED + CELL * NODES, /* by transaction and slot: set of modes, empty unless it is open and the slot in use */
     AT_END = AT_LOCKS + 2 * NODES * TRANSACTIONS
 };
 

@@ -5,10 +5,19 @@
 
 #include "timing.h"
 
-enum what { T, C, R, U, D, I, TT, RR, UU, BEGIN_COMMIT, ABORT, WHATS };
-enum { SIZES = 3, OPENS = 3, SAMPLES = 301, MOST_ENGINES = 2 };
+/* COMMIT is one of nothing; COMMIT_CHANGES and ABORT are of an update, an insertion and a deletion. The refused calls are commits of a
+ * transaction that is not open, on a state without and with such changes: they end right behind the form check, and so show its time. From
+ * COMPUTED on come the times of the ends less that of the form check. */
+enum what {
+    T, C, R, U, D, I, TT, RR, UU, BEGIN, COMMIT, COMMIT_CHANGES, ABORT, REFUSED, REFUSED_CHANGES,
+    COMPUTED, COMMIT_BEHIND = COMPUTED, COMMIT_CHANGES_BEHIND, ABORT_BEHIND, WHATS
+};
+enum { SIZES = 3, OPENS = 3, SAMPLES = 301, MOST_CALLS = COMPUTED - BEGIN, WORD = 18 };
 
-static const char *const words[WHATS] = {"T", "C", "R", "U", "D", "I", "TT", "RR", "UU", "begin+commit", "abort"};
+static const char *const words[WHATS] = {
+    "T", "C", "R", "U", "D", "I", "TT", "RR", "UU", "begin", "commit", "commit of changes", "abort", "refused", "refused, changes",
+    "commit", "commit of changes", "abort"
+};
 static const unsigned sizes[SIZES] = {16, 128, 1024};
 static const unsigned opens[OPENS] = {1, 4, 16};
 
@@ -16,13 +25,13 @@ static uint8_t numbers[NOODLEFEN_NUMBER_BYTES * NOODLEFEN_NODES], cells[NOODLEFE
 
 /* Nodes of tree_document: the root is 1; a drive has an attribute, its text, an element, and its text behind it. */
 struct places {
-    noodlefen_node drive, speed, text, last;
+    noodlefen_node drive, text, last;
 };
 
 static struct places places_in(unsigned nodes)
 {
     unsigned drives = (nodes - 2) / 5, middle = 2 + 5 * (drives / 2);
-    struct places places = {middle, middle + 3, middle + 4, nodes - 2};
+    struct places places = {middle, middle + 4, nodes - 2};
     return places;
 }
 
@@ -40,79 +49,125 @@ static noodlefen_answer call(const struct timed *engine, uint8_t *state, enum wh
     case TT: return engine->test_tree(state, length, 1, 0, numbers, sizeof numbers);
     case RR: return engine->read_tree(state, length, 1, 0, numbers, sizeof numbers, cells, sizeof cells);
     case UU: return engine->rename_tree(state, length, 1, 0, speed, 5, name, 5);
-    case BEGIN_COMMIT: {
-        noodlefen_answer begin = engine->begin(state, length, 1);
-        return noodlefen_granted(begin) ? engine->commit(state, length, 1) : begin;
-    }
+    case BEGIN: return engine->begin(state, length, 1);
+    case COMMIT:
+    case COMMIT_CHANGES: return engine->commit(state, length, 1);
     case ABORT: return engine->abort(state, length, 1);
-    case WHATS: break;
+    case REFUSED:
+    case REFUSED_CHANGES: return engine->commit(state, length, NOODLEFEN_TRANSACTIONS);
+    default: abort();
     }
-    abort();
 }
 
-/* The state before the timed call: the tree loaded, transactions 1 to open begun, each other one with locks that do not clash. */
+static int is_refused(enum what what) { return what == REFUSED || what == REFUSED_CHANGES; }
+static int has_changes(enum what what) { return what == COMMIT_CHANGES || what == ABORT || what == REFUSED_CHANGES; }
+
+/* An update and an insertion in one drive, and the next drive deleted. */
+static void make_changes(const struct timed *engine, uint8_t *state, struct places at)
+{
+    struct places kept = {at.drive - 5, at.text - 5, at.last};
+    must_grant(engine->name, "U", call(engine, state, U, kept));
+    must_grant(engine->name, "I", call(engine, state, I, kept));
+    must_grant(engine->name, "D", call(engine, state, D, at));
+}
+
+/* The state before the timed call: the tree loaded, transactions 1 to open begun, each other one with locks that do not clash. The one that
+ * is to begin or to be refused is not open. */
 static void prepare(const struct timed *engine, uint8_t *state, enum what what, unsigned nodes, unsigned open)
 {
     static char xml[NOODLEFEN_XML_BYTES];
     const size_t length = NOODLEFEN_STATE_BYTES;
     struct places at = places_in(nodes);
     /* An insertion needs room for its node. */
-    size_t xml_length = tree_document(xml, nodes - (what == I || what == ABORT));
+    size_t xml_length = tree_document(xml, nodes - (what == I || has_changes(what)));
     must_grant(engine->name, "start", engine->start(state, length));
     must_grant(engine->name, "load", engine->load(state, length, (const uint8_t *)xml, xml_length));
     for (uint32_t t = 1; t <= open; t++)
         must_grant(engine->name, "begin", engine->begin(state, length, t));
     for (uint32_t t = 2; t <= open; t++)
         must_grant(engine->name, "T", engine->test(state, length, t, at.last));
-    if (what == BEGIN_COMMIT)
+    if (what == BEGIN)
         must_grant(engine->name, "abort", engine->abort(state, length, 1));
-    if (what == ABORT) {
-        must_grant(engine->name, "U", call(engine, state, U, at));
-        must_grant(engine->name, "I", call(engine, state, I, at));
-        must_grant(engine->name, "D", call(engine, state, D, at));
-    }
-}
-
-/* Medians for each engine; the engines take turns, so that both meet the same load of the machine. */
-static void time_call(enum what what, unsigned nodes, unsigned open, double *medians)
-{
-    static uint8_t before[MOST_ENGINES][NOODLEFEN_STATE_BYTES], state[MOST_ENGINES][NOODLEFEN_STATE_BYTES];
-    static double samples[MOST_ENGINES][SAMPLES];
-    struct places at = places_in(nodes);
-    for (int e = 0; e < timed_count; e++)
-        prepare(&timed_engines[e], before[e], what, nodes, open);
-    for (int i = 0; i < SAMPLES; i++)
-        for (int e = 0; e < timed_count; e++) {
-            memcpy(state[e], before[e], NOODLEFEN_STATE_BYTES);
-            double from = now();
-            noodlefen_answer answer = call(&timed_engines[e], state[e], what, at);
-            samples[e][i] = now() - from;
-            must_grant(timed_engines[e].name, words[what], answer);
-        }
-    for (int e = 0; e < timed_count; e++)
-        medians[e] = median(samples[e], SAMPLES);
+    if (is_refused(what) && open == NOODLEFEN_TRANSACTIONS)
+        must_grant(engine->name, "abort", engine->abort(state, length, NOODLEFEN_TRANSACTIONS));
+    if (has_changes(what))
+        make_changes(engine, state, at);
 }
 
 static double results[WHATS][SIZES][OPENS][MOST_ENGINES];
 
-static void print_table(const char *title, int engine)
+static double time_call(const struct timed *engine, enum what what, struct places at, const uint8_t *prepared)
 {
-    printf("%s\n%-14s", title, "nodes");
+    static uint8_t state[NOODLEFEN_STATE_BYTES]; /* at the same place for all engines */
+    memcpy(state, prepared, sizeof state);
+    double from = now();
+    noodlefen_answer answer = call(engine, state, what, at);
+    double time = now() - from;
+    if (is_refused(what))
+        must_refuse(engine->name, "commit", NOODLEFEN_NOT_OPEN, answer);
+    else
+        must_grant(engine->name, words[what], answer);
+    return time;
+}
+
+/* Medians of count calls, from first on. Calls and engines take turns, so that all meet the same load of the machine. */
+static void time_calls(int first, int count, int size, int open)
+{
+    static uint8_t prepared[MOST_CALLS][MOST_ENGINES][NOODLEFEN_STATE_BYTES];
+    static double samples[MOST_CALLS][MOST_ENGINES][SAMPLES];
+    struct places at = places_in(sizes[size]);
+    for (int c = 0; c < count; c++)
+        for (int e = 0; e < timed_count; e++)
+            prepare(&timed_engines[e], prepared[c][e], (enum what)(first + c), sizes[size], opens[open]);
+    for (int i = 0; i < SAMPLES; i++)
+        for (int c = 0; c < count; c++)
+            for (int turn = 0; turn < timed_count; turn++) {
+                int e = engine_at(turn, i);
+                samples[c][e][i] = time_call(&timed_engines[e], (enum what)(first + c), at, prepared[c][e]);
+            }
+    for (int c = 0; c < count; c++)
+        for (int e = 0; e < timed_count; e++)
+            results[first + c][size][open][e] = median(samples[c][e], SAMPLES);
+}
+
+static void subtract_check(enum what computed, enum what end, enum what refused)
+{
+    for (int s = 0; s < SIZES; s++)
+        for (int o = 0; o < OPENS; o++)
+            for (int e = 0; e < timed_count; e++)
+                results[computed][s][o][e] = results[end][s][o][e] - results[refused][s][o][e];
+}
+
+/* The time of an engine in microseconds, or its ratio to that of another one; there is none of differences below a tenth of a
+ * microsecond, which say nothing. */
+static void print_cell(const double *times, int engine, int other)
+{
+    if (other < 0)
+        printf("%9.2f", times[engine] / 1000);
+    else if (times[engine] >= 100 && times[other] >= 100)
+        printf("%9.2f", times[engine] / times[other]);
+    else
+        printf("%9s", "-");
+}
+
+static void print_table(const char *title, int engine, int other)
+{
+    printf("%s\n%-*s", title, WORD, "nodes");
     for (int s = 0; s < SIZES; s++)
         for (int o = 0; o < OPENS; o++)
             printf("%9u", sizes[s]);
-    printf("\n%-14s", "open");
+    printf("\n%-*s", WORD, "open");
     for (int s = 0; s < SIZES; s++)
         for (int o = 0; o < OPENS; o++)
             printf("%9u", opens[o]);
     printf("\n");
     for (int what = 0; what < WHATS; what++) {
-        printf("%-14s", words[what]);
+        if (what == COMPUTED)
+            printf("behind the check (less refused):\n");
+        printf("%-*s", WORD, words[what]);
         for (int s = 0; s < SIZES; s++)
-            for (int o = 0; o < OPENS; o++) {
-                const double *r = results[what][s][o];
-                printf("%9.2f", engine < 0 ? r[1] / r[0] : r[engine] / 1000);
-            }
+            for (int o = 0; o < OPENS; o++)
+                print_cell(results[what][s][o], engine, other);
         printf("\n");
     }
     printf("\n");
@@ -120,13 +175,21 @@ static void print_table(const char *title, int engine)
 
 void time_steps(void)
 {
-    for (int what = 0; what < WHATS; what++)
-        for (int s = 0; s < SIZES; s++)
-            for (int o = 0; o < OPENS; o++)
-                time_call((enum what)what, sizes[s], opens[o], results[what][s][o]);
-    print_table("C engine, microseconds", 0);
-    if (timed_count > 1) {
-        print_table("library, microseconds", 1);
-        print_table("library / C engine", -1);
+    time_calls(T, 1, 0, 0); /* until the machine has its speed */
+    for (int s = 0; s < SIZES; s++)
+        for (int o = 0; o < OPENS; o++) {
+            for (int step = T; step <= UU; step++)
+                time_calls(step, 1, s, o);
+            time_calls(BEGIN, MOST_CALLS, s, o);
+        }
+    subtract_check(COMMIT_BEHIND, COMMIT, REFUSED);
+    subtract_check(COMMIT_CHANGES_BEHIND, COMMIT_CHANGES, REFUSED_CHANGES);
+    subtract_check(ABORT_BEHIND, ABORT, REFUSED_CHANGES);
+    print_table("C engine, microseconds", C_ENGINE, -1);
+    if (timed_count > LIBRARY) {
+        print_table("library, microseconds", LIBRARY, -1);
+        print_table("library / C engine", LIBRARY, C_ENGINE);
     }
+    if (timed_count > BEFORE)
+        print_table("library before / library", BEFORE, LIBRARY);
 }

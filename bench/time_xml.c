@@ -9,7 +9,8 @@
 
 #include "timing.h"
 
-enum { SAMPLES = 301, MOST_ENGINES = 2 };
+/* The states of all engines lie alike: each has whole pages. */
+enum { SAMPLES = 301, STATE_ROOM = (NOODLEFEN_STATE_BYTES + 4095) / 4096 * 4096 };
 
 static unsigned long seen; /* so that the handlers do something */
 
@@ -58,13 +59,14 @@ struct times {
 
 static void time_document(const char *xml, size_t length, struct times *times)
 {
-    static uint8_t state[MOST_ENGINES][NOODLEFEN_STATE_BYTES], out[NOODLEFEN_XML_BYTES];
+    static uint8_t state[MOST_ENGINES][STATE_ROOM], out[NOODLEFEN_XML_BYTES];
     static double load[MOST_ENGINES][SAMPLES], write[MOST_ENGINES][SAMPLES], expat[SAMPLES], libxml2[SAMPLES], dump[SAMPLES];
     for (int e = 0; e < timed_count; e++)
         must_grant(timed_engines[e].name, "start", timed_engines[e].start(state[e], NOODLEFEN_STATE_BYTES));
     for (int i = 0; i < SAMPLES; i++) {
         double from;
-        for (int e = 0; e < timed_count; e++) {
+        for (int turn = 0; turn < timed_count; turn++) {
+            int e = engine_at(turn, i);
             const struct timed *engine = &timed_engines[e];
             from = now();
             noodlefen_answer answer = engine->load(state[e], NOODLEFEN_STATE_BYTES, (const uint8_t *)xml, length);
@@ -101,20 +103,23 @@ static void time_document(const char *xml, size_t length, struct times *times)
 
 static void print_row(const char *what, const char *name, size_t length, const double *engines, double expat, double libxml2)
 {
-    const double ours = engines[timed_count - 1];
-    printf("%-6s%-16s%8lu%10.2f", what, name, (unsigned long)length, engines[0] / 1000);
-    if (timed_count > 1)
-        printf("%10.2f", engines[1] / 1000);
+    const double ours = engines[timed_count > LIBRARY ? LIBRARY : C_ENGINE];
+    printf("%-6s%-16s%8lu%10.2f", what, name, (unsigned long)length, engines[C_ENGINE] / 1000);
+    if (timed_count > LIBRARY)
+        printf("%10.2f", engines[LIBRARY] / 1000);
     if (expat > 0)
         printf("%10.2f%10.2f", expat / 1000, libxml2 / 1000);
     else
         printf("%10s%10.2f", "", libxml2 / 1000);
-    if (timed_count > 1)
-        printf("%12.2f", engines[1] / engines[0]);
+    if (timed_count > LIBRARY)
+        printf("%12.2f", ours / engines[C_ENGINE]);
     if (expat > 0)
-        printf("%12.2f%12.2f\n", ours / expat, ours / libxml2);
+        printf("%12.2f%12.2f", ours / expat, ours / libxml2);
     else
-        printf("%12s%12.2f\n", "", ours / libxml2);
+        printf("%12s%12.2f", "", ours / libxml2);
+    if (timed_count > BEFORE)
+        printf("%18.2f", engines[BEFORE] / ours);
+    printf("\n");
 }
 
 static void print_document(const char *name, const char *xml, size_t length)
@@ -140,14 +145,17 @@ void time_xml(const char *settings_path)
 {
     static char xml[NOODLEFEN_XML_BYTES];
     static const unsigned sizes[] = {16, 128, 1024};
-    const char *ours = timed_count > 1 ? "library" : "C engine";
+    const char *ours = timed_count > LIBRARY ? "library" : "C engine";
     printf("load and write, microseconds; ratios are %s / other\n%-22s%8s%10s", ours, "", "bytes", "C engine");
-    if (timed_count > 1)
+    if (timed_count > LIBRARY)
         printf("%10s", "library");
     printf("%10s%10s", "expat", "libxml2");
-    if (timed_count > 1)
+    if (timed_count > LIBRARY)
         printf("%12s", "/ C engine");
-    printf("%12s%12s\n", "/ expat", "/ libxml2");
+    printf("%12s%12s", "/ expat", "/ libxml2");
+    if (timed_count > BEFORE)
+        printf("%18s", "before / library");
+    printf("\n");
     for (int i = 0; i < 3; i++) {
         char name[32];
         sprintf(name, "%u nodes", sizes[i]);

@@ -12,9 +12,14 @@ struct timed {
 #include "../host/calls.def"
 };
 
-/* The C engine first, then the library if it was linked. */
+/* The C engine; the library, and another one from before, are there if they were linked. */
+enum { C_ENGINE, LIBRARY, BEFORE, MOST_ENGINES };
 extern const struct timed timed_engines[];
 extern const int timed_count;
+
+/* The engine at this turn of sample i: the C engine first; the two libraries change places from sample to sample, since a call may gain by
+ * the one just before it. */
+int engine_at(int turn, int i);
 
 /* The time now in nanoseconds. */
 double now(void);
@@ -30,6 +35,9 @@ size_t long_document(char *out);
 
 /* Stops the program if a call that is timed was not granted: its time would mean nothing. */
 void must_grant(const char *engine, const char *what, noodlefen_answer answer);
+
+/* The same if the answer is not the refusal for this cause. */
+void must_refuse(const char *engine, const char *what, unsigned cause, noodlefen_answer answer);
 
 void time_steps(void);
 void time_xml(const char *settings_path);
