@@ -1,9 +1,9 @@
 -- What the parts of the check of the form compute.
 use mathlib.Core.Path.{_≡_}
-use Prim.Native.Nat.{ℕ, zero, suc, _*_, _/_, _%_, _≤_, _<_}
+use Prim.Native.Nat.{ℕ, zero, suc, _+_, _*_, _/_, _%_, _≤_, _<_}
 use mathlib.Core.Bool.{Bool, true, false, cond, _&&_, _||_}
 use mathlib.Core.List.{List, [], _∷_}
-use lib.ListN.{length, getD}
+use lib.ListN.{length, getD, set}
 use lib.Dec.{eqb, leb}
 use Rattle.tree.specs.Lists.{every, same}
 use Rattle.tree.specs.Content.{document-kind, between}
@@ -17,6 +17,15 @@ use Rattle.form.specs.Form.{in-range, valid-rows, cells, sizes-in-range}
 unfoldable pub valid-header : List ℕ → Bool
 valid-header s = leb state-size (length s) && same (part s 0 8) format-mark && between 1 node-limit (count s)
 
+-- marks, with 1 stored at the remainder of each number modulo the limit
+unfoldable pub marked : List ℕ → List ℕ → List ℕ
+marked met [] = met
+marked met (k ∷ ks) = marked (set met (k % node-limit) 1) ks
+
+unfoldable pub sum : List ℕ → ℕ
+sum [] = 0
+sum (x ∷ xs) = x + sum xs
+
 -- a cell of such a node
 unfoldable pub cell-in-range : ℕ → ℕ → ℕ → List ℕ → Bool
 cell-in-range low high most c = in-range low high most (decode 0 c (λ t. no-mode)) && sizes-in-range c
@@ -29,10 +38,10 @@ valid-first s = eqb (depth s 0) 0 && (eqb (number s 0) 0 && cell-in-range docume
 unfoldable pub valid-nodes : List ℕ → Bool
 valid-nodes s = every sizes-in-range (cells s) && valid-rows (nodes s)
 
--- each number passes `ok`, was not met, and is not met again
-unfoldable pub fresh : (ℕ → Bool) → (ℕ → Bool) → List ℕ → Bool
-fresh ok old [] = true
-fresh ok old (w ∷ ws) = ok w && (cond (old w) false true && fresh ok (λ k. eqb k w || old k) ws)
+-- each number was not met, and is not met again
+unfoldable pub fresh : (ℕ → Bool) → List ℕ → Bool
+fresh old [] = true
+fresh old (w ∷ ws) = cond (old w) false true && fresh (λ k. eqb k w || old k) ws
 
 -- the bucket of a number
 unfoldable pub bucket : ℕ → ℕ

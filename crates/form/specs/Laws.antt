@@ -6,8 +6,10 @@ pub mod Steps
 pub mod Cells
 pub mod Begins
 pub mod Fresh
+pub mod Marks
 pub mod Slots
 pub mod Numbers
 pub mod Check
 pub mod Start
 pub mod Free
+pub mod FreeLocks

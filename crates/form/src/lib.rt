@@ -5,13 +5,14 @@ use table::layout;
 ghost use mathlib.Core.Path.{_≡_};
 ghost use Prim.Native.Nat.{_<_, _≤_};
 ghost use lib.ListN.{length};
-ghost use Rattle.tree.specs.Lists.{same};
+ghost use lib.Dec.{ltb};
+ghost use Rattle.tree.specs.Lists.{every, same};
 ghost use Rattle.protocol.specs.Calls.{node-limit};
 ghost use Rattle.table.specs.Layout.{state-size, count, cell, part};
 ghost use Rattle.form.specs.Form.{sizes-in-range, slots, apart, form};
 ghost use Rattle.table.specs.Laws.Bytes.{Filled};
 ghost use Rattle.form.specs.Start.{outline-byte, start-byte, Started};
-ghost use Rattle.form.specs.Check.{valid-header, cell-in-range, valid-first, valid-nodes, Outlined};
+ghost use Rattle.form.specs.Check.{valid-header, marked, sum, cell-in-range, valid-first, valid-nodes, Outlined};
 
 // Whether s begins with the bytes of b.
 fn begins(s: &[u8], b: &[u8]) -> bool
@@ -45,25 +46,51 @@ fn header(s: &[u8]) -> bool
     n <= layout::NODES
 }
 
-// Whether the slots of all entries of the outline are below 1,024, and no two alike. Those met are marked in a byte each: bits take longer.
+// Marks the slots of all entries of the outline, each at its remainder modulo 1,024; whether all are below 1,024. The bits of all slots are
+// joined, so that no turn of the loop branches on a slot.
+fn mark_slots(s: &[u8], met: &mut [u8; 1024]) -> bool
+    requires { ⌜ state-size ≤ length (now s) ⌝ }
+    ensures { λ r. ⌜
+        (r ≡ every (λ k. ltb k node-limit) (slots (now (s .entry))))
+        × (now (met .exit) ≡ marked (now (met .entry)) (slots (now (s .entry))))
+        ⌝ }
+{
+    let mut bits: u16 = 0;
+    let mut i: usize = 0;
+    while i < layout::NODES {
+        let k = layout::word(s, layout::OUTLINE + layout::ENTRY * i);
+        bits = bits | k;
+        met[(k % 1024) as usize] = 1;
+        i += 1;
+    }
+    bits < 1024
+}
+
+// How many slots were met.
+fn count_met(met: &[u8; 1024]) -> u16
+    requires { ⌜ (length (now met) ≡ 1024) × (sum (now met) ≤ 1024) ⌝ }
+    ensures { λ r. ⌜ r ≡ sum (now (met .entry)) ⌝ }
+{
+    let mut n: u16 = 0;
+    let mut i: usize = 0;
+    while i < 1024 {
+        n += met[i] as u16;
+        i += 1;
+    }
+    n
+}
+
+// Whether the slots of all entries of the outline are below 1,024, and no two alike: 1,024 slots leave as many marks only if they are
+// distinct. Marks are bytes: bits take longer.
 fn distinct_slots(s: &[u8]) -> bool
     requires { ⌜ state-size ≤ length (now s) ⌝ }
     ensures { λ r. ⌜ r ≡ apart node-limit (slots (now (s .entry))) ⌝ }
 {
-    let mut met = [false; 1024];
-    let mut i: usize = 0;
-    while i < layout::NODES {
-        let k = layout::word(s, layout::OUTLINE + layout::ENTRY * i) as usize;
-        if k >= layout::NODES {
-            return false;
-        }
-        if met[k] {
-            return false;
-        }
-        met[k] = true;
-        i += 1;
+    let mut met = [0u8; 1024];
+    if !mark_slots(s, &mut met) {
+        return false;
     }
-    true
+    count_met(&met) == 1024
 }
 
 // Whether the size of the content in the cell of slot k is at most 32, and that of the saved one, if there is one.
@@ -81,25 +108,20 @@ fn sizes(s: &[u8], k: usize) -> bool
     s[c + 5] <= 32
 }
 
-// Whether the cell of slot k has a kind from low to high, and marks and sizes in range.
+// Whether the cell of slot k has a kind from low to high, and marks and sizes in range. Kind and marks are read as one word, which is the
+// kind where nobody marked the node: so most nodes take two tests.
 fn cell(s: &[u8], k: usize, low: u8, high: u8, most: u8) -> bool
     requires { ⌜ (state-size ≤ length (now s)) × (k < 1024) ⌝ }
     ensures { λ r. ⌜ r ≡ cell-in-range low high most (cell (now (s .entry)) k) ⌝ }
 {
     let c = layout::CELLS + layout::CELL * k;
-    if s[c] < low {
-        return false;
+    let w = layout::double_word(s, c);
+    if ((low as u32) <= w) & (w <= (high as u32)) {
+        return s[c + 4] <= 32;
     }
-    if high < s[c] {
-        return false;
-    }
-    if 16 < s[c + 1] {
-        return false;
-    }
-    if most < s[c + 2] {
-        return false;
-    }
-    if most < s[c + 3] {
+    let kind = (low <= s[c]) & (s[c] <= high);
+    let marks = (s[c + 1] <= 16) & ((s[c + 2] <= most) & (s[c + 3] <= most));
+    if !(kind & marks) {
         return false;
     }
     sizes(s, k)

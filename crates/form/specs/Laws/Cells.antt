@@ -1,14 +1,15 @@
 -- The check of a cell, test by test.
 use mathlib.Core.Path.{_≡_, sym, ap, _∙_}
-use Prim.Native.Nat.{ℕ, _+_, _≤_, _<_}
-use mathlib.Core.Bool.{Bool, true, false, _&&_, _||_}
+use Prim.Native.Nat.{ℕ, _+_, _*_, _≤_, _<_}
+use mathlib.Core.Bool.{Bool, true, false, _&&_, _||_, and-true}
 use mathlib.Core.List.{List}
 use native.Mathlib.Omega.{arith}
 use native.Mathlib.Nat.{add-zero}
 use lib.ListN.{getD}
 use lib.Dec.{eqb, leb}
-use borrow.Author.Tests.{le-leb, lt-leb, eq-eqb, ne-eqb}
-use Rattle.table.specs.Layout.{cell-at, cell, stored, decode}
+use borrow.Author.Tests.{leb-true, le-leb, lt-leb, eq-eqb, ne-eqb}
+use Rattle.tree.specs.Laws.Tests.{and-left, and-right}
+use Rattle.table.specs.Layout.{cell-at, word, double-word, cell, stored, decode}
 use Rattle.table.specs.Laws.Fields.{cell-byte, writer-update}
 use Rattle.form.specs.Form.{in-range, sizes-in-range}
 use Rattle.form.specs.Check.{cell-in-range}
@@ -36,8 +37,11 @@ module _ (s : List ℕ) (k : ℕ) where
     sizes-saved n = sym (sizes-of ∙ rw (le-leb (byte 4) 32 h, ne-eqb (byte 1) 0 n))
 
   module _ (low high most : ℕ) where
-    cell-of : cell-in-range low high most (cell s k)
-        ≡ (leb low kind && leb kind high && (leb (byte 1) 16 && (leb (byte 2) most && leb (byte 3) most)) && sizes-in-range (cell s k))
+    -- the tests of kind and marks
+    abbrev marks-in-range : Bool
+    marks-in-range = leb low kind && leb kind high && (leb (byte 1) 16 && (leb (byte 2) most && leb (byte 3) most))
+
+    cell-of : cell-in-range low high most (cell s k) ≡ (marks-in-range && sizes-in-range (cell s k))
     unfolding cell-in-range in-range decode
     cell-of =
         rw (
@@ -48,26 +52,28 @@ module _ (s : List ℕ) (k : ℕ) where
           writer-update (getD (cell s k) 1 0) (stored 1 (cell s k)),
         )
 
-    pub cell-low : kind < low → false ≡ cell-in-range low high most (cell s k)
-    cell-low h = sym (cell-of ∙ rw (lt-leb low kind h))
+    -- w is the word of the four bytes
+    pub cell-unmarked : (w : ℕ) → w ≡ double-word s (cell-at k) → (leb low w && leb w high) ≡ true → high ≤ 255
+        → leb (byte 4) 32 ≡ cell-in-range low high most (cell s k)
+    unfolding double-word word
+    cell-unmarked w e t h =
+        let behind : cell-at k + 2 + 1 ≡ cell-at k + 3 = omega arith in
+        let sum : w ≡ kind + 256 * byte 1 + 65536 * (byte 2 + 256 * byte 3) = rw behind at e in
+        let a : low ≤ w = leb-true low w (and-left (leb low w) _ t) in
+        let b : w ≤ high = leb-true w high (and-right (leb low w) _ t) in
+        sym (cell-of ∙ rw (
+          le-leb low kind (omega arith),
+          le-leb kind high (omega arith),
+          le-leb (byte 1) 16 (omega arith),
+          le-leb (byte 2) most (omega arith),
+          le-leb (byte 3) most (omega arith),
+          sizes-of,
+          eq-eqb (byte 1) 0 (omega arith),
+        )
+        (and-true (leb (byte 4) 32)))
 
-    pub cell-high : low ≤ kind → high < kind → false ≡ cell-in-range low high most (cell s k)
-    cell-high a h = sym (cell-of ∙ rw (le-leb low kind a, lt-leb kind high h))
+    pub cell-marks : marks-in-range ≡ false → false ≡ cell-in-range low high most (cell s k)
+    cell-marks f = sym (cell-of ∙ rw f)
 
-    module _ (a : low ≤ kind) (b : kind ≤ high) where
-      pub cell-writer : 16 < byte 1 → false ≡ cell-in-range low high most (cell s k)
-      cell-writer h = sym (cell-of ∙ rw (le-leb low kind a, le-leb kind high b, lt-leb (byte 1) 16 h))
-
-      module _ (w : byte 1 ≤ 16) where
-        cell-then : cell-in-range low high most (cell s k) ≡ ((leb (byte 2) most && leb (byte 3) most) && sizes-in-range (cell s k))
-        cell-then = cell-of ∙ rw (le-leb low kind a, le-leb kind high b, le-leb (byte 1) 16 w)
-
-        pub cell-inserter : most < byte 2 → false ≡ cell-in-range low high most (cell s k)
-        cell-inserter h = sym (cell-then ∙ rw (lt-leb (byte 2) most h))
-
-        module _ (i : byte 2 ≤ most) where
-          pub cell-deleter : most < byte 3 → false ≡ cell-in-range low high most (cell s k)
-          cell-deleter h = sym (cell-then ∙ rw (le-leb (byte 2) most i, lt-leb (byte 3) most h))
-
-          pub cell-sizes : byte 3 ≤ most → (r : Bool) → r ≡ sizes-in-range (cell s k) → r ≡ cell-in-range low high most (cell s k)
-          cell-sizes h r e = e ∙ sym (cell-then ∙ rw (le-leb (byte 2) most i, le-leb (byte 3) most h))
+    pub cell-sizes : marks-in-range ≡ true → (r : Bool) → r ≡ sizes-in-range (cell s k) → r ≡ cell-in-range low high most (cell s k)
+    cell-sizes t r e = e ∙ sym (cell-of ∙ rw t)

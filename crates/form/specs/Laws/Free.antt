@@ -6,13 +6,23 @@ use native.Mathlib.Omega.{arith}
 use lib.ListN.{length, getD, take, drop}
 use Rattle.protocol.specs.State.{nobody, State}
 use Rattle.table.specs.Flat.{second}
-use Rattle.table.specs.Layout.{cell-at, part, slot, cell, decode, nodes, no-entry, Layout, Kept}
+use Rattle.table.specs.Layout.{cell-at, part, slot, cell, header, decode, nodes, no-entry, Layout, Left, Kept}
 use Rattle.table.specs.Laws.Lists.{modify-none}
 use Rattle.table.specs.Laws.Bytes.{Only, part-same}
 use Rattle.table.specs.Laws.Nodes.{length-nodes, length-cell, cell-kept}
 use Rattle.table.specs.Laws.Fields.{cell-byte}
-use Rattle.table.specs.Laws.Kept.{kept-as}
+use Rattle.table.specs.Laws.Kept.{left-kept, kept-as}
 use Rattle.form.specs.Form.{Holds}
+
+-- bytes that leave the header and the nodes hold the same state
+pub holds-same : {s s′ : List ℕ} {M : State} → Left s s′ (header s) (nodes s) → Holds s M → Holds s′ M
+holds-same l h = record {
+  layout = l .layout;
+  header = l .header ∙ h .header;
+  rows = l .nodes ∙ h .rows;
+  unique = rw (l .nodes) (h .unique);
+  valid = h .valid;
+}
 
 -- only the saved content in the cell of slot k and its size may differ
 pub record OnlySaved (k : ℕ) (s s′ : List ℕ) : Type 0 where
@@ -69,12 +79,4 @@ module _ {s s′ : List ℕ} (h : Layout s) (i : ℕ) (l : i < length (nodes s))
 -- bytes that differ only there, in a cell whose writer is 0, hold the same state
 pub saved-free : {s s′ : List ℕ} {M : State} (i : ℕ) → i < length (nodes s) → getD (cell s (slot s i)) 1 0 ≡ nobody
     → OnlySaved (slot s i) s s′ → Holds s M → Holds s′ M
-saved-free i l u d h =
-    let k = kept (h .layout) i l d u in
-    record {
-      layout = k .layout;
-      header = k .header ∙ h .header;
-      rows = k .nodes ∙ h .rows;
-      unique = rw (k .nodes) (h .unique);
-      valid = h .valid;
-    }
+saved-free i l u d h = holds-same (left-kept (kept (h .layout) i l d u)) h

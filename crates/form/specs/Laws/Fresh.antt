@@ -28,43 +28,41 @@ not-met-again w old (k ∷ ws) = rw (not-met-again w old ws) (go (eqb k w) (old 
     go false true false d = refl
     go false false c d = refl
 
-fresh-is : (ok old : ℕ → Bool) (ws : List ℕ) → fresh ok old ws ≡ (every ok ws && (every (λ k. not (old k)) ws && distinct ws))
+fresh-is : (old : ℕ → Bool) (ws : List ℕ) → fresh old ws ≡ (every (λ k. not (old k)) ws && distinct ws)
 unfolding fresh
-fresh-is ok old [] = refl
-fresh-is ok old (w ∷ ws) =
-    rw (fresh-is ok (λ k. eqb k w || old k) ws, not-met-again w old ws)
-    (go (ok w) (old w) (every ok ws) (has w ws) (every (λ k. not (old k)) ws) (distinct ws))
+fresh-is old [] = refl
+fresh-is old (w ∷ ws) =
+    rw (fresh-is (λ k. eqb k w || old k) ws, not-met-again w old ws)
+    (go (old w) (has w ws) (every (λ k. not (old k)) ws) (distinct ws))
   where
-    go : (l o e h n d : Bool) → (l && (cond o false true && (e && ((not h && n) && d)))) ≡ ((l && e) && ((not o && n) && cond h false d))
-    go false o e h n d = refl
-    go true true e h n d = sym (and-false e)
-    go true false false h n d = refl
-    go true false true true n d = sym (and-false n)
-    go true false true false n d = refl
+    go : (o h n d : Bool) → (cond o false true && ((not h && n) && d)) ≡ ((not o && n) && cond h false d)
+    go true h n d = refl
+    go false true n d = sym (and-false n)
+    go false false n d = refl
 
 -- the loop, turn by turn ---------------------------------------------------------------------------
 
 -- the numbers from place i on
-unfoldable pub fresh-from : (ℕ → Bool) → (ℕ → ℕ) → ℕ → (ℕ → Bool) → ℕ → Bool
-fresh-from ok f n old i = fresh ok old (drop i (tabulate n f))
+unfoldable pub fresh-from : (ℕ → ℕ) → ℕ → (ℕ → Bool) → ℕ → Bool
+fresh-from f n old i = fresh old (drop i (tabulate n f))
 
-module _ (ok : ℕ → Bool) (f : ℕ → ℕ) (n : ℕ) (old : ℕ → Bool) where
-  pub fresh-begin : ((k : ℕ) → old k ≡ false) → (every ok (tabulate n f) && distinct (tabulate n f)) ≡ fresh-from ok f n old 0
+module _ (f : ℕ → ℕ) (n : ℕ) (old : ℕ → Bool) where
+  pub fresh-begin : ((k : ℕ) → old k ≡ false) → distinct (tabulate n f) ≡ fresh-from f n old 0
   unfolding fresh-from
-  fresh-begin h = sym (fresh-is ok old (tabulate n f) ∙ rw (none (tabulate n f)))
+  fresh-begin h = sym (fresh-is old (tabulate n f) ∙ rw (none (tabulate n f)))
     where
       none : (ws : List ℕ) → every (λ k. not (old k)) ws ≡ true
       none [] = refl
       none (w ∷ ws) = rw (h w) (none ws)
 
   pub fresh-turn : (i : ℕ) → i < n
-      → fresh-from ok f n old i ≡ (ok (f i) && (cond (old (f i)) false true && fresh-from ok f n (λ k. eqb k (f i) || old k) (i + 1)))
+      → fresh-from f n old i ≡ (cond (old (f i)) false true && fresh-from f n (λ k. eqb k (f i) || old k) (i + 1))
   unfolding fresh fresh-from
   fresh-turn i h =
       let l : i < length (tabulate n f) = omega (arith, length-tabulate n f) in
       rw (drop-cons (tabulate n f) i 0 l, getD-tabulate n f i 0 h, add-one i)
 
-  pub fresh-end : (i : ℕ) → n ≤ i → fresh-from ok f n old i ≡ true
+  pub fresh-end : (i : ℕ) → n ≤ i → fresh-from f n old i ≡ true
   unfolding fresh fresh-from
   fresh-end i h =
       let l : length (tabulate n f) ≤ i = omega (arith, length-tabulate n f) in

@@ -123,26 +123,20 @@ module _ {i : ℕ} {heads next : List ℕ} (h : Chains i heads next) where
 
 -- the numbers from place i on
 unfoldable pub numbers-from : (ℕ → ℕ) → ℕ → List ℕ → List ℕ → ℕ → Bool
-numbers-from f n heads next i = fresh-from (λ k. true) f n (entered f heads next) i
+numbers-from f n heads next i = fresh-from f n (entered f heads next) i
 
 pub numbers-begin : (f : ℕ → ℕ) (n : ℕ) (heads next : List ℕ) → every (λ x. eqb x 0) heads ≡ true
     → distinct (tabulate n f) ≡ numbers-from f n heads next 0
 unfolding numbers-from entered chained
-numbers-begin f n heads next z =
-    ap (λ (b : Bool). b && distinct (tabulate n f)) (sym (all-pass (tabulate n f)))
-    ∙ fresh-begin (λ k. true) f n (entered f heads next) (λ k. rw (zeros heads z (bucket k)))
-  where
-    all-pass : (l : List ℕ) → every (λ k. true) l ≡ true
-    all-pass [] = refl
-    all-pass (x ∷ l) = all-pass l
+numbers-begin f n heads next z = fresh-begin f n (entered f heads next) (λ k. rw (zeros heads z (bucket k)))
 
 module _ (f : ℕ → ℕ) (n : ℕ) (heads next : List ℕ) (i : ℕ) (v : distinct (tabulate n f) ≡ numbers-from f n heads next i) where
   -- w is the number that was read, b its bucket, and r says whether it was found there
   module _ (w b : ℕ) (r : Bool) (l : i < n) (e : w ≡ f i) (g : b ≡ bucket w) (q : r ≡ chained f next w 1024 (getD heads b 0)) where
     numbers-turn : distinct (tabulate n f)
-        ≡ (cond r false true && fresh-from (λ k. true) f n (λ k. eqb k (f i) || entered f heads next k) (i + 1))
+        ≡ (cond r false true && fresh-from f n (λ k. eqb k (f i) || entered f heads next k) (i + 1))
     unfolding numbers-from entered
-    numbers-turn = v ∙ fresh-turn (λ k. true) f n (entered f heads next) i l ∙ rw (← e, ← g, q)
+    numbers-turn = v ∙ fresh-turn f n (entered f heads next) i l ∙ rw (← e, ← g, q)
 
     pub numbers-met : r ≡ true → false ≡ distinct (tabulate n f)
     numbers-met t = sym (numbers-turn ∙ rw t)
@@ -154,4 +148,4 @@ module _ (f : ℕ → ℕ) (n : ℕ) (heads next : List ℕ) (i : ℕ) (v : dist
 
   pub numbers-end : n ≤ i → true ≡ distinct (tabulate n f)
   unfolding numbers-from
-  numbers-end h = sym (v ∙ fresh-end (λ k. true) f n (entered f heads next) i h)
+  numbers-end h = sym (v ∙ fresh-end f n (entered f heads next) i h)
