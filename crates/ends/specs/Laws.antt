@@ -1,2 +1,3 @@
 pub mod Marks
+pub mod Pass
 pub mod Calls

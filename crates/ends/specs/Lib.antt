@@ -1,3 +1,4 @@
 pub mod Ends
 pub mod Marks
+pub mod Pass
 pub mod Laws

@@ -1,13 +1,12 @@
 -- What a commit (true) or an abort (false) of a transaction does to the marks of a node; its locks are released on their own.
-use Prim.Native.Nat.{ℕ, zero, suc}
+use Prim.Native.Nat.{ℕ, _+_}
 use mathlib.Core.Bool.{Bool, true, false, cond, not, _&&_}
-use mathlib.Core.List.{List, [], _∷_, map}
+use mathlib.Core.List.{List}
 use lib.Dec.{eqb}
 use Rattle.protocol.specs.State.{nobody, writer-of, saved-of, Marked, Tree, seen-by, lasting, undone, commit-tree, abort-tree, with-open}
 use Rattle.protocol.specs.Calls.{Call, commit, abort}
 use Rattle.table.specs.Fields.{field, with-field, with-bytes}
-use Rattle.table.specs.Flat.{second, prune}
-use Rattle.table.specs.Layout.{is-open, Entry, nodes, Left, header}
+use Rattle.table.specs.Layout.{is-open, Entry, Left, header}
 use Rattle.rows.specs.Rows.{not-inserted-by}
 
 -- the call, what it keeps, what it leaves of that, and the tree
@@ -40,16 +39,10 @@ abbrev pub ended-marks : Bool → ℕ → Marked → Marked
 ended-marks true t a = without-mark 2 t (without-mark 1 t a)
 ended-marks false t a = without-mark 3 t (without-mark 1 t (rewritten t a))
 
--- the first i of a list by g
-unfoldable pub map-first : {A : Type 0} → ℕ → (A → A) → List A → List A
-map-first zero g l = l
-map-first (suc i) g [] = []
-map-first (suc i) g (x ∷ l) = g x ∷ map-first i g l
+-- the three marks added: 0 where nobody has one
+abbrev pub marks-sum : Marked → ℕ
+marks-sum a = writer-of (a .update) + a .inserter + a .deleter
 
 -- what closing t leaves: these nodes, and the others open as they were
 abbrev pub Closed : ℕ → List ℕ → List ℕ → List Entry → Type 0
 Closed t s s′ ns = Left s s′ (with-open (λ u. not (eqb u t) && is-open s u) (header s)) ns
-
--- what an end of t leaves: the nodes that stay, each as at its end, and t closed
-abbrev pub Ended : Bool → ℕ → List ℕ → List ℕ → Type 0
-Ended commits t s s′ = Closed t s s′ (map (second (at-end commits t)) (prune (stays commits t) 0 (nodes s)))

@@ -10,5 +10,5 @@ pub mod Opens
 pub mod First
 pub mod Entries
 pub mod Insert
-pub mod Prune
+pub mod Removal
 pub mod ListInsertion

@@ -2,13 +2,11 @@
 use crate::layout;
 use crate::transactions;
 ghost use mathlib.Core.Path.{_≡_};
-ghost use mathlib.Core.Bool.{true};
 ghost use Prim.Native.Nat.{_+_, _<_, _≤_};
 ghost use lib.ListN.{length, getD, take};
 ghost use Rattle.protocol.specs.State.{inserted-by};
 ghost use Rattle.table.specs.Lists.{insert};
 ghost use Rattle.table.specs.Layout.{state-size, slot, depth, number, nodes, no-entry, Layout, Left, Kept, header};
-ghost use Rattle.table.specs.Flat.{prune};
 ghost use Rattle.table.specs.Outline.{Entered, Shifted, Opened, exchange, next-below, not-marked};
 
 // The outline's entry at place i.
@@ -104,48 +102,26 @@ pub fn cut(s: &mut [u8], k: usize)
 }
 
 // One more than the depth of the node at j where its mark o is t, else 0.
-fn below_marked(s: &[u8], j: usize, o: usize, t: u8) -> usize
+fn below_marked(s: &[u8], j: usize, o: usize, t: u8) -> u32
     requires { ⌜ (Layout (now s)) × (j < length (nodes (now s))) × (o < 4) ⌝ }
     ensures { λ r. ⌜ r ≡ next-below (not-marked o t) 0 (getD (nodes (now (s .entry))) j no-entry) ⌝ }
 {
     if crate::field(s, j, o) == t {
-        return crate::depth(s, j) as usize + 1;
+        return crate::depth(s, j) as u32 + 1;
     }
     0
 }
 
 // The least depth that is left out behind the node at j, 0 where the node is kept: those whose mark o is t go, with all below them.
-fn next_below(s: &[u8], j: usize, below: usize, o: usize, t: u8) -> usize
+pub fn next_below(s: &[u8], j: usize, below: u32, o: usize, t: u8) -> u32
     requires { ⌜ (Layout (now s)) × (j < length (nodes (now s))) × (o < 4) ⌝ }
     ensures { λ r. ⌜ r ≡ next-below (not-marked o t) below (getD (nodes (now (s .entry))) j no-entry) ⌝ }
 {
     if below == 0 {
         return below_marked(s, j, o, t);
     }
-    if below <= crate::depth(s, j) as usize {
+    if below <= crate::depth(s, j) as u32 {
         return below;
     }
     below_marked(s, j, o, t)
-}
-
-// The nodes with mark o (2 inserter, 3 deleter) of t taken out, with all below them; the first is not one of them.
-pub fn prune(s: &mut [u8], o: usize, t: u8)
-    requires { ⌜ (Layout (now s)) × (o < 4) × (not-marked o t (getD (nodes (now s)) 0 no-entry .1) ≡ true) ⌝ }
-    ensures { λ r. ⌜ Left (now (s .entry)) (now (s .exit)) (header (now (s .entry))) (prune (not-marked o t) 0 (nodes (now (s .entry)))) ⌝ }
-{
-    let m = crate::count(s);
-    let mut k: usize = 1;
-    let mut j: usize = 1;
-    let mut below: usize = 0;
-    while j < m {
-        below = next_below(s, j, below, o, t);
-        if 0 < below {
-            j += 1;
-            continue;
-        }
-        swap(s, k, j);
-        k += 1;
-        j += 1;
-    }
-    cut(s, k);
 }

@@ -2,7 +2,6 @@
 use crate::layout;
 ghost use mathlib.Core.Path.{_≡_};
 ghost use mathlib.Core.Bool.{true, false, cond, not, _&&_, _||_};
-ghost use mathlib.Core.List.{map};
 ghost use Prim.Native.Nat.{_^_, _<_, _≤_};
 ghost use lib.ListN.{length, getD};
 ghost use lib.Dec.{eqb};
@@ -74,12 +73,12 @@ pub fn set_lock(s: &mut [u8], t: usize, i: usize, w: u16)
     layout::set_word(s, layout::LOCKS + layout::WORDS * (t - 1) + 2 * k, w);
 }
 
-// Transaction t holds nothing.
-pub fn release(s: &mut [u8], t: usize)
-    requires { ⌜ (Layout (now s)) × (1 ≤ t) × (t ≤ 16) ⌝ }
-    ensures { λ r. ⌜ Kept (now (s .entry)) (now (s .exit)) (map (second (released t)) (nodes (now (s .entry)))) ⌝ }
+// Transaction t holds nothing on the node at i.
+pub fn release(s: &mut [u8], t: usize, i: usize)
+    requires { ⌜ (Layout (now s)) × (1 ≤ t) × (t ≤ 16) × (i < length (nodes (now s))) ⌝ }
+    ensures { λ r. ⌜ Kept (now (s .entry)) (now (s .exit)) (modify i (second (released t)) (nodes (now (s .entry)))) ⌝ }
 {
-    layout::clear(s, layout::LOCKS + layout::WORDS * (t - 1), layout::WORDS);
+    set_lock(s, t, i, 0);
 }
 
 // A transaction's mode sets: one 16-bit word for each node slot.

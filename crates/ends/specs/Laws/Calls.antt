@@ -2,7 +2,7 @@
 use mathlib.Core.Path.{_≡_, refl, sym, ap, _∙_, subst}
 use Prim.Native.Nat.{ℕ, _≤_, _<_}
 use mathlib.Core.Bool.{Bool, true, false, cond, not, _&&_, _||_}
-use mathlib.Core.List.{List, map}
+use mathlib.Core.List.{List}
 use native.Mathlib.Omega.{arith}
 use lib.ListN.{length, getD}
 use lib.Dec.{eqb, leb}
@@ -12,7 +12,7 @@ use Rattle.protocol.specs.State.{nobody, Header, State, Tree, opened, closed, w
 use Rattle.protocol.specs.Calls.{Call, begin, refused, Next, unchanged, becomes, if-open, next}
 use Rattle.protocol.specs.Answers.{answer-of, granted-answer}
 use Rattle.protocol.specs.declared.Answer.the-variants.{Done, Refused}
-use Rattle.table.specs.Flat.{flat, second, prune}
+use Rattle.table.specs.Flat.{flat}
 use Rattle.table.specs.Layout.{state-size, is-open, Entry, nodes, no-entry, Left, header}
 use Rattle.rows.specs.Places.{unique}
 use Rattle.form.specs.Form.{form, valid-tree, Holds}
@@ -20,13 +20,13 @@ use Rattle.form.specs.Start.{Started}
 use Rattle.form.specs.Laws.Holds.{form-holds}
 use Rattle.form.specs.Laws.Valid.{FineDocument, root-of}
 use Rattle.form.specs.Laws.Steps.{holds-left, holds-unique, valid-commit, valid-abort}
-use Rattle.table.specs.Outline.{not-marked}
 use Rattle.rows.specs.Laws.Ends.{commit-rows, abort-rows}
 use Rattle.rows.specs.Laws.Kept.{unique-commit, unique-abort}
 use Rattle.engine.specs.Contract.{Performed}
 use Rattle.engine.specs.Admission.{Opened, Barred}
 use Rattle.ends.specs.Ends.{Restarted}
-use Rattle.ends.specs.Marks.{end-call, stays, at-end, end-tree, Ended}
+use Rattle.ends.specs.Marks.{end-call, stays, end-tree}
+use Rattle.ends.specs.Pass.{two-passes, Ended}
 use Rattle.engine.specs.Laws.Outcomes.{performed-stays, performed-grants, stopped-stays}
 use Rattle.engine.specs.Laws.Admission.{open-next}
 
@@ -40,13 +40,18 @@ first-document s f =
     let e : getD (nodes s) 0 no-entry .1 ≡ r .it = ap (λ (l : List Entry). getD l 0 no-entry .1) (m .1 .rows ∙ ap (flat 0) (r .whole)) in
     rw e (r .document)
 
--- mark 2 is the inserter's, mark 3 the deleter's
-pub unmarked-document : {s : List ℕ} {t : ℕ} → Opened s t
-    → (not-marked 2 t (getD (nodes s) 0 no-entry .1) ≡ true) × (not-marked 3 t (getD (nodes s) 0 no-entry .1) ≡ true)
-unmarked-document {s} {t} o =
-    let d = first-document s (o .formed) in
-    let n = ne-eqb nobody t (λ e. omega (arith, o .low)) in
-    (rw (d .inserter, n), rw (d .deleter, n))
+pub document-stays : {s : List ℕ} {t : ℕ} (commits : Bool) → Opened s t → stays commits t (getD (nodes s) 0 no-entry .1) ≡ true
+document-stays {s} {t} commits o = go commits
+  where
+    d : FineDocument (getD (nodes s) 0 no-entry .1)
+    d = first-document s (o .formed)
+
+    n : eqb nobody t ≡ false
+    n = ne-eqb nobody t (λ e. omega (arith, o .low))
+
+    go : (commits : Bool) → stays commits t (getD (nodes s) 0 no-entry .1) ≡ true
+    go true = rw (d .deleter, n)
+    go false = rw (d .inserter, n)
 
 -- start ---------------------------------------------------------------------------------------------
 
@@ -137,7 +142,7 @@ next-end true t M = refl
 next-end false t M = refl
 
 end-rows : (commits : Bool) (t : ℕ) (f : Tree)
-    → flat 0 (end-tree commits t f) ≡ map (second (at-end commits t)) (prune (stays commits t) 0 (flat 0 f))
+    → flat 0 (end-tree commits t f) ≡ two-passes commits t (flat 0 f)
 end-rows true t f = commit-rows t f
 end-rows false t f = abort-rows t f
 
@@ -172,7 +177,7 @@ end-done {s} {s′} {t} commits o k =
             long = k .long;
             behind = k .behind;
             header = k .header ∙ ap (λ (q : Header). with-open (λ u. not (eqb u t) && q .is-open u) q) (h .header);
-            nodes = k .nodes ∙ ap (λ (l : List Entry). map (second (at-end commits t)) (prune (stays commits t) 0 l)) (h .rows)
+            nodes = k .nodes ∙ ap (two-passes commits t) (h .rows)
                 ∙ sym (end-rows commits t (M .tree));
           })
           (end-unique commits t (M .tree) (holds-unique h)) (end-valid commits t (M .tree) (o .low) (h .valid)));

@@ -1,26 +1,26 @@
--- The marks of a node cleared one by one, the nodes one after the other, and what an end leaves in all.
+-- The marks of a node cleared one by one, and what an end leaves in all.
 use mathlib.Core.Path.{_≡_, refl, sym, ap, _∙_}
-use Prim.Native.Nat.{ℕ, zero, suc, _+_, _≤_}
+use Prim.Native.Nat.{ℕ, zero, suc, _≤_}
 use mathlib.Core.Bool.{Bool, true, false, not, _&&_}
-use mathlib.Core.List.{List, [], _∷_, map}
+use mathlib.Core.List.{List}
 use native.Mathlib.Omega.{arith}
-use lib.ListN.{length, getD}
+use lib.ListN.{getD}
 use lib.Dec.{eqb}
 use borrow.Author.Tests.{eq-eqb, ne-eqb}
-use Rattle.tree.specs.Laws.Lists.{map-map}
 use Rattle.protocol.specs.State.{nobody, writer-of, Marked, Header, released, with-open}
 use Rattle.table.specs.Lists.{modify}
-use Rattle.table.specs.Flat.{second, prune}
+use Rattle.table.specs.Flat.{second}
 use Rattle.table.specs.Layout.{is-open, Entry, nodes, no-entry, Layout, Left, Kept, header}
 use Rattle.table.specs.Fields.{field, storable, with-field, has-text, restored}
 use Rattle.table.specs.Laws.Lists.{modify-modify, modify-same, modify-none}
-use Rattle.table.specs.Laws.Kept.{kept-same, kept-then, kept-as, left-kept, left-as}
-use Rattle.ends.specs.Marks.{stays, at-end, without-mark, rewritten, ended-marks, map-first, Closed, Ended}
+use Rattle.table.specs.Laws.Kept.{kept-same, kept-then, kept-as}
+use Rattle.ends.specs.Marks.{at-end, without-mark, rewritten, ended-marks, Closed}
+use Rattle.ends.specs.Pass.{OnePass, Ended}
 
 -- one node -------------------------------------------------------------------------------------
 
 -- a change that does nothing to the node at i
-none-kept : (s : List ℕ) (i : ℕ) (g : Marked → Marked) → g (getD (nodes s) i no-entry .1) ≡ getD (nodes s) i no-entry .1 → Layout s
+pub none-kept : (s : List ℕ) (i : ℕ) (g : Marked → Marked) → g (getD (nodes s) i no-entry .1) ≡ getD (nodes s) i no-entry .1 → Layout s
     → Kept s s (modify i (second g) (nodes s))
 none-kept s i g q h =
     kept-as (nodes s) _ (sym (modify-none i (second g) (nodes s) no-entry (ap (λ (b : Marked). (getD (nodes s) i no-entry .0, b)) q)))
@@ -74,60 +74,13 @@ pub both-marks : {s s′ s″ : List ℕ} (i : ℕ) (g h : Marked → Marked) �
 both-marks {s} i g h a b = kept-as _ _ (modify-modify i (second h) (second g) (nodes s))
     (kept-then (modify i (second g) (nodes s)) (modify i (second h)) a b)
 
--- node after node ---------------------------------------------------------------------------------
-
-module _ {A : Type 0} (g : A → A) where
-  first-more : (i : ℕ) (l : List A) → modify i g (map-first i g l) ≡ map-first (suc i) g l
-  unfolding map-first modify
-  first-more zero [] = refl
-  first-more zero (x ∷ l) = refl
-  first-more (suc i) [] = refl
-  first-more (suc i) (x ∷ l) = ap (λ k. g x ∷ k) (first-more i l)
-
-  first-all : (i : ℕ) (l : List A) → length l ≤ i → map-first i g l ≡ map g l
-  unfolding map-first
-  first-all zero [] h = refl
-  first-all zero (x ∷ l) h = absurd (omega arith)
-  first-all (suc i) [] h = refl
-  first-all (suc i) (x ∷ l) h = ap (λ k. g x ∷ k) (first-all i l (omega arith))
-
-module _ (g : Entry → Entry) where
-  pub first-none : (s : List ℕ) → Layout s → Kept s s (map-first 0 g (nodes s))
-  unfolding map-first
-  first-none s h = kept-same s h
-
-  pub first-next : {s s′ s″ : List ℕ} (i : ℕ) → Kept s s′ (map-first i g (nodes s)) → Kept s′ s″ (modify i g (nodes s′))
-      → Kept s s″ (map-first (i + 1) g (nodes s))
-  first-next {s} i a b =
-      let e : suc i ≡ i + 1 = omega arith in
-      kept-as _ (map-first (i + 1) g (nodes s)) (first-more g i (nodes s) ∙ ap (λ (n : ℕ). map-first n g (nodes s)) e)
-      (kept-then (map-first i g (nodes s)) (modify i g) a b)
-
-  pub first-done : {s s′ : List ℕ} (i : ℕ) → length (nodes s) ≤ i → Kept s s′ (map-first i g (nodes s)) → Kept s s′ (map g (nodes s))
-  first-done {s} i h k = kept-as _ _ (first-all g i (nodes s) h) k
-
 -- an end ----------------------------------------------------------------------------------------------
 
 -- t is open until it is closed
 pub left-open : {s s′ : List ℕ} {l : List Entry} (t : ℕ) → Left s s′ (header s) l → is-open s t ≡ true → is-open s′ t ≡ true
 left-open t a e = ap (λ (q : Header). q .is-open t) (a .header) ∙ e
 
-pub kept-open : {s s′ : List ℕ} {l : List Entry} (t : ℕ) → Kept s s′ l → is-open s t ≡ true → is-open s′ t ≡ true
-kept-open t a e = left-open t (left-kept a) e
-
--- closed after another change
-module _ {s s₁ s₂ : List ℕ} (t : ℕ) where
-  pub closed-after : (ns : List Entry) (f : List Entry → List Entry) → Left s s₁ (header s) ns → Closed t s₁ s₂ (f (nodes s₁))
-      → Closed t s s₂ (f ns)
-  closed-after ns f a b = record {
-    layout = b .layout;
-    long = b .long ∙ a .long;
-    behind = b .behind ∙ a .behind;
-    header = b .header ∙ ap (λ (q : Header). with-open (λ u. not (eqb u t) && q .is-open u) q) (a .header);
-    nodes = b .nodes ∙ ap f (a .nodes);
-  }
-
-marks-whole : (commits : Bool) (t : ℕ) (a : Marked) → released t (ended-marks commits t a) ≡ at-end commits t a
+pub marks-whole : (commits : Bool) (t : ℕ) (a : Marked) → released t (ended-marks commits t a) ≡ at-end commits t a
 marks-whole commits t a = go commits (eqb (writer-of (a .update)) t) refl (eqb (a .inserter) t) refl (eqb (a .deleter) t) refl
   where
     go : (b x : Bool) → eqb (writer-of (a .update)) t ≡ x → (y : Bool) → eqb (a .inserter) t ≡ y → (z : Bool) → eqb (a .deleter) t ≡ z
@@ -141,19 +94,14 @@ marks-whole commits t a = go commits (eqb (writer-of (a .update)) t) refl (eqb (
     go false false p y q true r = rw (p, r)
     go false false p y q false r = rw (p, r)
 
--- each mark cleared, the locks released and t closed
-pub finished : {s s₁ s₂ : List ℕ} (commits : Bool) (t : ℕ) → Kept s s₁ (map (second (ended-marks commits t)) (nodes s))
-    → Closed t s₁ s₂ (map (second (released t)) (nodes s₁))
-    → Closed t s s₂ (map (second (at-end commits t)) (nodes s))
-finished {s} commits t b c =
-    let f = ended-marks commits t in
-    let g = at-end commits t in
-    left-as _ (map (second g) (nodes s))
-    (map-map (second (released t)) (second f) (second g) (nodes s) (λ x i. ap (λ (y : Marked). (x .0, y)) (marks-whole commits t (x .1))))
-    (closed-after t _ (map (second (released t))) (left-kept b) c)
-
--- behind what goes
-pub ended : {s s₁ s₂ : List ℕ} (commits : Bool) (t : ℕ) → Left s s₁ (header s) (prune (stays commits t) 0 (nodes s))
-    → Closed t s₁ s₂ (map (second (at-end commits t)) (nodes s₁))
+-- an end: the one pass, and t closed
+pub ended : {s s₁ s₂ : List ℕ} {visits : ℕ} (commits : Bool) (t : ℕ) → OnePass commits t s s₁ visits
+    → Closed t s₁ s₂ (nodes s₁)
     → Ended commits t s s₂
-ended commits t a c = closed-after t _ (map (second (at-end commits t))) a c
+ended commits t a c = record {
+  layout = c .layout;
+  long = c .long ∙ a .left .long;
+  behind = c .behind ∙ a .left .behind;
+  header = c .header ∙ ap (λ (q : Header). with-open (λ u. not (eqb u t) && q .is-open u) q) (a .left .header);
+  nodes = c .nodes ∙ a .left .nodes;
+}

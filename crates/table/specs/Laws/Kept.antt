@@ -1,5 +1,5 @@
 -- What changes leave, one after the other.
-use mathlib.Core.Path.{_≡_, refl, ap, _∙_, subst}
+use mathlib.Core.Path.{_≡_, refl, sym, ap, _∙_, subst}
 use Prim.Native.Nat.{ℕ}
 use mathlib.Core.List.{List}
 use lib.ListN.{length}
@@ -40,3 +40,7 @@ left-then ns f a b = then-left ns f a (left-kept b)
 pub kept-then : {s s′ s″ : List ℕ} (ns : List Entry) (f : List Entry → List Entry) → Kept s s′ ns → Kept s′ s″ (f (nodes s′))
     → Kept s s″ (f ns)
 kept-then ns f a b = kept-left (left-then ns f (left-kept a) b) (b .many ∙ a .many)
+
+-- whatever nodes were left between
+pub kept-on : {s s′ s″ : List ℕ} {ns : List Entry} → Kept s s′ (nodes s′) → Kept s′ s″ ns → Kept s s″ (nodes s″)
+kept-on {s} {s′} {s″} a b = kept-then (nodes s′) (λ l. nodes s″) a (kept-as _ _ (sym (b .nodes)) b)

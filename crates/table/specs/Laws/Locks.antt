@@ -1,9 +1,9 @@
 -- The lock words and the word of open transactions, read and stored.
 use mathlib.Core.Path.{_≡_, refl, sym, ap, _∙_, fun-ext}
-use Prim.Native.Nat.{ℕ, zero, suc, _+_, _*_, _^_, _≤_, _<_}
+use Prim.Native.Nat.{ℕ, zero, suc, _+_, _^_, _≤_, _<_}
 use native.Mathlib.Nat.{zero-div}
 use mathlib.Core.Bool.{Bool, true, false, cond}
-use mathlib.Core.List.{List, map}
+use mathlib.Core.List.{List}
 use native.Mathlib.Omega.{arith}
 use lib.ListN.{length, getD, set}
 use lib.Seq.{getD-set-same, getD-set-other}
@@ -19,9 +19,9 @@ use Rattle.table.specs.Layout.{lock-at, word, count, slot, cell, held, d
 use Rattle.table.specs.Transaction.{Loaded}
 use Rattle.table.specs.Fields.{with-modes, unlocked}
 use Rattle.table.specs.Laws.Lists.{modify-modify, modify-same, modify-none}
-use Rattle.table.specs.Laws.Bytes.{Only, only-none, only-wider, only-word, put-word, word-put, word-off, Filled}
+use Rattle.table.specs.Laws.Bytes.{Only, only-none, only-wider, only-word, put-word, word-put, word-off}
 use Rattle.table.specs.Laws.Kept.{kept-same, kept-then, kept-as}
-use Rattle.table.specs.Laws.Nodes.{node-at, length-nodes, same-cell, kept-of, kept-map}
+use Rattle.table.specs.Laws.Nodes.{node-at, length-nodes, same-cell, kept-of}
 
 -- 1 to 16
 pub transaction-low : (t : ℕ) → is-transaction t ≡ true → 1 ≤ t
@@ -82,24 +82,10 @@ lock-kept s s′ t i k w q e h a b l =
     ))
     (rw (← e, lock-cell t all a b k d) (rw (← e) at (h .sizes i c)))
 
--- all cleared
-pub released-kept : (s s′ : List ℕ) (t p₀ : ℕ) → Filled p₀ 2048 (λ j. 0) s s′ → p₀ ≡ lock-at t 0 → 1 ≤ t → t ≤ 16 → Layout s
-    → Kept s s′ (map (second (released t)) (nodes s))
-unfolding decode word
-released-kept s s′ t p₀ f e a b h =
-    let all : Only (lock-at t 0) 2048 s s′ = only-wider (lock-at t 0) 2048 (f .only) (omega arith) (omega arith) in
-    let empty : (k : ℕ) → k < 1024 → word s′ (lock-at t k) ≡ 0 =
-    λ k l. let p : lock-at t k ≡ p₀ + 2 * k = omega arith in let q : p₀ + 2 * k + 1 ≡ p₀ + (2 * k + 1) = omega arith in
-    rw (p, q, f .bytes (2 * k) (omega arith), f .bytes (2 * k + 1) (omega arith)) in
-    let in-range : (j : ℕ) → j < count s → slot s j < 1024 = λ j x. h .slots j (omega (arith, h .room)) in
-    kept-map all (omega arith) h (omega arith) (released t)
-    (λ j x. rw (
-      lock-cell t all a b (slot s j) (in-range j x),
-      held-after t all a b (slot s j) (in-range j x),
-      empty (slot s j) (in-range j x),
-      no-modes,
-    ))
-    (λ j x. lock-cell t all a b (slot s j) (in-range j x))
+-- the empty word stored: t holds nothing there
+pub released-kept : {s s′ : List ℕ} (t i : ℕ) → Kept s s′ (modify i (second (with-modes t 0)) (nodes s))
+    → Kept s s′ (modify i (second (released t)) (nodes s))
+released-kept {s} t i k = kept-as _ _ (modify-same i (second (with-modes t 0)) (second (released t)) (nodes s) no-entry (rw no-modes)) k
 
 -- the words of t by slots
 pub loaded-of : (s : List ℕ) (t : ℕ) (modes : List ℕ) → Layout s → 1 ≤ t → t ≤ 16

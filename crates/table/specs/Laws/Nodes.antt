@@ -2,7 +2,7 @@
 use mathlib.Core.Path.{_≡_, refl, sym, ap, _∙_, fun-ext}
 use Prim.Native.Nat.{ℕ, _+_, _-_, _≤_, _<_}
 use mathlib.Core.Bool.{Bool, true, false, cond}
-use mathlib.Core.List.{List, map}
+use mathlib.Core.List.{List}
 use native.Mathlib.Omega.{arith}
 use lib.ListN.{length, getD}
 use lib.Dec.{eqb}
@@ -13,7 +13,7 @@ use Rattle.table.specs.Lists.{modify}
 use Rattle.table.specs.Layout.{tabulate, state-size, open-at, count-at, entry-at, cell-at, lock-at, count, slot, depth, number, cell}
 use Rattle.table.specs.Layout.{is-open, held, decode, Entry, entry, nodes, no-entry, Sized, Layout, Left, Kept, header}
 use Rattle.table.specs.Flat.{second}
-use Rattle.table.specs.Laws.Lists.{length-tabulate, getD-tabulate, tabulate-same, modify-tabulate, map-tabulate}
+use Rattle.table.specs.Laws.Lists.{length-tabulate, getD-tabulate, tabulate-same, modify-tabulate}
 use Rattle.table.specs.Laws.Bytes.{Only, word-off, double-word-off, part-off, drop-high, length-part}
 use Rattle.table.specs.Laws.Kept.{kept-left}
 
@@ -162,17 +162,6 @@ module _ {k n : ℕ} {s s′ : List ℕ} (o : Only k n s s′) (low : cell-at 0 
       size-at : (j : ℕ) → j < count s → (t : Bool) → eqb j i ≡ t → Sized (cell s′ (slot s j))
       size-at j x true p = rw (eqb-true j i p) z
       size-at j x false p = rw (there j x (eqb-false j i p) .0) (h .sizes j x)
-
-  -- every node changed
-  pub kept-map :
-      (g : Marked → Marked) →
-      ((j : ℕ) → j < count s → decode (number s j) (cell s′ (slot s j)) (held s′ (slot s j))
-      ≡ g (decode (number s j) (cell s (slot s j)) (held s (slot s j)))) →
-      ((j : ℕ) → j < count s → cell s′ (slot s j) ≡ cell s (slot s j)) → Kept s s′ (map (second g) (nodes s))
-  unfolding nodes entry
-  kept-map g here same =
-      kept-all (map (second g) (nodes s)) (map-tabulate (count s) (entry s) (entry s′) (second g) (λ j x. nodes-as j x ∙ rw (here j x)))
-      (λ j x. rw (same j x) (h .sizes j x))
 
 -- one cell changed -----------------------------------------------------------------------------
 

@@ -4,7 +4,7 @@ use lib.ListN.{getD}
 use mathlib.Core.Bool.{not}
 use borrow.Author.Tests.{eq-eqb, ne-eqb}
 use Rattle.table.specs.Outline.{not-marked}
-use Rattle.table.specs.Laws.Prune.{below-out, below-kept}
+use Rattle.table.specs.Laws.Removal.{below-out, below-kept}
 use borrow.Author.Needs.{needs}
 use Rattle.table.proofs.outline.below_marked.Statement.{statement}
 use Rattle.table.proofs.outline.below_marked.Tie as tie

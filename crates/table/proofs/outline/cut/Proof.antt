@@ -1,4 +1,4 @@
-use Rattle.table.specs.Laws.Prune.{cut-left}
+use Rattle.table.specs.Laws.Removal.{cut-left}
 use borrow.Author.Needs.{needs}
 use Rattle.table.proofs.outline.cut.Statement.{statement}
 use Rattle.table.proofs.outline.cut.Tie as tie

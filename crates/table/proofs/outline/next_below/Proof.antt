@@ -3,7 +3,7 @@ use native.Mathlib.Omega.{arith}
 use mathlib.Core.Path.{_∙_}
 use lib.ListN.{getD}
 use Rattle.table.specs.Outline.{not-marked}
-use Rattle.table.specs.Laws.Prune.{below-deep, below-past}
+use Rattle.table.specs.Laws.Removal.{below-deep, below-past}
 use borrow.Author.Needs.{needs}
 use Rattle.table.proofs.outline.next_below.Statement.{statement}
 use Rattle.table.proofs.outline.next_below.Tie as tie

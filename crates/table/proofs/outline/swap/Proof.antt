@@ -1,7 +1,7 @@
 use native.Mathlib.Omega.{arith}
 use Rattle.table.specs.Layout.{slot, depth, number}
 use Rattle.table.specs.Laws.Entries.{entered-as}
-use Rattle.table.specs.Laws.Prune.{exchanged, exchanged-none}
+use Rattle.table.specs.Laws.Removal.{exchanged, exchanged-none}
 use borrow.Author.Needs.{needs}
 use Rattle.table.proofs.outline.swap.Statement.{statement}
 use Rattle.table.proofs.outline.swap.Tie as tie

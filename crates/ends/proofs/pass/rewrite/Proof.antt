@@ -1,7 +1,7 @@
 use borrow.Author.Needs.{needs}
 use Rattle.ends.specs.Laws.Marks.{own-saved, rewritten-own, not-rewritten}
-use Rattle.ends.proofs.rewrite.Statement.{statement}
-use Rattle.ends.proofs.rewrite.Tie as tie
+use Rattle.ends.proofs.pass.rewrite.Statement.{statement}
+use Rattle.ends.proofs.pass.rewrite.Tie as tie
 
 restore-content-requires : tie.Need-restore-content-requires
 restore-content-requires c κs =

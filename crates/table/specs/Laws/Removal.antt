@@ -1,25 +1,23 @@
 -- Nodes taken out: entries exchanged, so that those kept come first, and the count cut down.
 use mathlib.Core.Path.{_≡_, refl, sym, ap, _∙_}
-use Prim.Native.Nat.{ℕ, suc, _+_, _≤_, _<_}
-use mathlib.Core.Bool.{Bool, true, false, cond, _&&_}
-use mathlib.Core.List.{List, [], _∷_, _++_, append-nil}
+use Prim.Native.Nat.{ℕ, _+_, _≤_, _<_}
+use mathlib.Core.Bool.{Bool, true, false, cond}
+use mathlib.Core.List.{List}
 use native.Mathlib.Omega.{arith}
 use native.Mathlib.Numerals.{add-one}
-use lib.ListN.{length, getD, take, drop, drop-of-length-le}
-use lib.Seq.{take-suc, drop-cons, append-snoc}
-use lib.Dec.{eqb, ltb, leb}
-use borrow.Author.Tests.{ltb-true, lt-ltb, eqb-true, eqb-false, eq-eqb, ne-eqb, le-leb, lt-leb}
+use lib.ListN.{length, getD, take}
+use lib.Dec.{eqb}
+use borrow.Author.Tests.{lt-ltb, eqb-true, eqb-false, eq-eqb, ne-eqb, le-leb, lt-leb}
 use Rattle.protocol.specs.State.{Marked}
 use Rattle.table.specs.Lists.{modify}
 use Rattle.table.specs.Layout.{tabulate, count-at, count, slot, depth, number, cell, Entry, entry, nodes, no-entry, Sized, Layout}
 use Rattle.table.specs.Layout.{Left, Kept, header}
-use Rattle.table.specs.Flat.{prune}
-use Rattle.table.specs.Laws.Lists.{modify-none, length-modify, getD-modify, tabulate-same, modify-tabulate}
+use Rattle.table.specs.Laws.Lists.{modify-none, tabulate-same, modify-tabulate}
 use Rattle.table.specs.Laws.Bytes.{Only, only-wider, only-both, only-word, put-word, word-put}
 use Rattle.table.specs.Laws.Nodes.{Copy, placed-then, length-nodes, node-at, same-place, same-count}
-use Rattle.table.specs.Laws.Kept.{kept-same, kept-as, kept-then, kept-left, left-kept, then-left, left-as}
+use Rattle.table.specs.Laws.Kept.{kept-same, kept-as, kept-left}
 use Rattle.table.specs.Outline.{Entered, exchange, next-below}
-use Rattle.table.specs.Laws.ListInsertion.{take-modify, drop-modify, take-tabulate}
+use Rattle.table.specs.Laws.ListInsertion.{take-tabulate}
 use Rattle.table.specs.Laws.Entries.{other-place, copied-entry, outline-left}
 
 -- two entries exchanged --------------------------------------------------------------------------
@@ -89,82 +87,6 @@ exchanged-none s i h =
     (rw (modify-none i (λ x. getD (nodes s) i no-entry) (nodes s) no-entry refl))
     ∙ modify-none i (λ x. getD (nodes s) i no-entry) (nodes s) no-entry refl)) (kept-same s h)
 
--- the loop ----------------------------------------------------------------------------------------
-
-module _ (shown : Marked → Bool) (l : List Entry) (below j : ℕ) (h : j < length l) where
-  turn : prune shown below (drop j l)
-      ≡ cond (eqb (next-below shown below (getD l j no-entry)) 0) (getD l j no-entry ∷ prune shown 0 (drop (suc j) l))
-      (prune shown (next-below shown below (getD l j no-entry)) (drop (suc j) l))
-  unfolding prune next-below
-  turn = rw (drop-cons l j no-entry h) (go (ltb 0 below) refl (leb below (getD l j no-entry .0)) (shown (getD l j no-entry .1)))
-    where
-      x : Entry
-      x = getD l j no-entry
-
-      xs : List Entry
-      xs = drop (suc j) l
-
-      go : (t : Bool) → ltb 0 below ≡ t → (u v : Bool) →
-          cond (t && u) (prune shown below xs) (cond v (x ∷ prune shown 0 xs) (prune shown (suc (x .0)) xs)) ≡
-          cond (eqb (cond (t && u) below (cond v 0 (suc (x .0)))) 0) (x ∷ prune shown 0 xs)
-          (prune shown (cond (t && u) below (cond v 0 (suc (x .0)))) xs)
-      go true p true v = rw (ne-eqb below 0 (λ z. omega (arith, ltb-true 0 below p)))
-      go true p false true = refl
-      go true p false false = rw (ne-eqb (suc (x .0)) 0 (λ z. omega arith))
-      go false p true true = refl
-      go false p true false = rw (ne-eqb (suc (x .0)) 0 (λ z. omega arith))
-      go false p false true = refl
-      go false p false false = rw (ne-eqb (suc (x .0)) 0 (λ z. omega arith))
-
-  -- element j is left out
-  pub prune-skip : (m : List Entry) (k b : ℕ) → take k l ++ prune shown below (drop j l) ≡ m
-      → b ≡ next-below shown below (getD l j no-entry) → 0 < b
-      → take k l ++ prune shown b (drop (j + 1) l) ≡ m
-  prune-skip m k b v e z =
-      let ne : eqb (next-below shown below (getD l j no-entry)) 0 ≡ false =
-      ne-eqb (next-below shown below (getD l j no-entry)) 0 (λ q. omega arith) in
-      rw (e, add-one j) (ap (λ (r : List Entry). take k l ++ r) (sym (turn ∙ rw ne)) ∙ v)
-
-  -- element j is kept, at place k
-  pub prune-keep : (m l′ : List Entry) (k b : ℕ) → take k l ++ prune shown below (drop j l) ≡ m
-      → b ≡ next-below shown below (getD l j no-entry)
-      → b ≤ 0 → k ≤ j → l′ ≡ exchange k j l →
-      take (k + 1) l′ ++ prune shown b (drop (j + 1) l′) ≡ m
-  unfolding exchange
-  prune-keep m l′ k b v e z q w =
-      let y : next-below shown below (getD l j no-entry) ≡ 0 = omega arith in
-      let f : Entry → Entry = λ x. getD l j no-entry in
-      let g : Entry → Entry = λ x. getD l k no-entry in
-      let n : k < length (modify j g l) = rw length-modify (omega arith) in
-      let p : k < length (modify k f (modify j g l)) = rw (length-modify, length-modify) (omega arith) in
-      rw (
-        w,
-        e,
-        y,
-        add-one k,
-        add-one j,
-        take-suc (modify k f (modify j g l)) k no-entry p,
-        take-modify k k f (modify j g l) (omega arith),
-        take-modify j k g l q,
-        getD-modify k f (modify j g l) no-entry n,
-        drop-modify k (suc j) f (modify j g l) (omega arith),
-        drop-modify j (suc j) g l (omega arith),
-        append-snoc,
-      )
-      (ap (λ (r : List Entry). take k l ++ r) (sym (turn ∙ rw y)) ∙ v)
-
--- the first is kept
-pub prune-start : (shown : Marked → Bool) (l : List Entry) → 0 < length l → shown (getD l 0 no-entry .1) ≡ true
-    → take 1 l ++ prune shown 0 (drop 1 l) ≡ prune shown 0 l
-unfolding prune
-prune-start shown [] h e = absurd (omega arith)
-prune-start shown (x ∷ l) h e = rw e
-
-pub prune-done : (shown : Marked → Bool) (m l : List Entry) (k below j : ℕ) → take k l ++ prune shown below (drop j l) ≡ m → length l ≤ j
-    → take k l ≡ m
-unfolding prune
-prune-done shown m l k below j v h = sym (append-nil (take k l)) ∙ (rw (drop-of-length-le l h) at v)
-
 -- the count cut down
 pub cut-left : (s s′ : List ℕ) (k : ℕ) → s′ ≡ put-word s count-at k → Layout s → 1 ≤ k → k ≤ length (nodes s)
     → Left s s′ (header s) (take k (nodes s))
@@ -195,12 +117,3 @@ module _ (shown : Marked → Bool) (below : ℕ) (x : Entry) where
   pub below-past : x .0 < below → next-below shown 0 x ≡ next-below shown below x
   unfolding next-below
   below-past a = rw (lt-ltb 0 below (omega arith), lt-leb below (x .0) a)
-
-pub pruned-left : {s s′ s″ : List ℕ} (shown : Marked → Bool) (k below j : ℕ) → Kept s s′ (nodes s′)
-    → take k (nodes s′) ++ prune shown below (drop j (nodes s′)) ≡ prune shown 0 (nodes s) →
-    length (nodes s′) ≤ j → Left s′ s″ (header s′) (take k (nodes s′)) → Left s s″ (header s) (prune shown 0 (nodes s))
-pruned-left {s} {s′} shown k below j a v h b =
-    left-as _ _ (prune-done shown (prune shown 0 (nodes s)) (nodes s′) k below j v h) (then-left (nodes s′) (take k) (left-kept a) b)
-
-pub kept-on : {s s′ s″ : List ℕ} {ns : List Entry} → Kept s s′ (nodes s′) → Kept s′ s″ ns → Kept s s″ (nodes s″)
-kept-on {s} {s′} {s″} a b = kept-then (nodes s′) (λ l. nodes s″) a (kept-as _ _ (sym (b .nodes)) b)

@@ -1,7 +1,7 @@
 use borrow.Author.Needs.{needs}
 use Rattle.ends.specs.Laws.Marks.{nobody-storable, cleared, not-cleared}
-use Rattle.ends.proofs.clear_mark.Statement.{statement}
-use Rattle.ends.proofs.clear_mark.Tie as tie
+use Rattle.ends.proofs.pass.clear_mark.Statement.{statement}
+use Rattle.ends.proofs.pass.clear_mark.Tie as tie
 
 set-field-requires : tie.Need-set-field-requires
 set-field-requires c κs =

@@ -3,8 +3,8 @@ use native.Mathlib.Omega.{arith}
 use Rattle.protocol.specs.State.{Marked}
 use Rattle.ends.specs.Marks.{without-mark, rewritten}
 use Rattle.ends.specs.Laws.Marks.{both-marks}
-use Rattle.ends.proofs.end_node.Statement.{statement}
-use Rattle.ends.proofs.end_node.Tie as tie
+use Rattle.ends.proofs.pass.end_node.Statement.{statement}
+use Rattle.ends.proofs.pass.end_node.Tie as tie
 
 returns : tie.Need-returns
 returns c =
