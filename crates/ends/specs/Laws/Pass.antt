@@ -17,7 +17,7 @@ use Rattle.table.specs.Layout.{Entry, nodes, no-entry, Layout, Left, Kept, head
 use Rattle.table.specs.Outline.{next-below, exchange}
 use Rattle.table.specs.Laws.Lists.{modify-same, length-modify, getD-modify}
 use Rattle.table.specs.Laws.ListInsertion.{take-modify, drop-modify}
-use Rattle.table.specs.Laws.Kept.{kept-same, kept-as, kept-then, left-kept, then-left, left-as}
+use Rattle.table.specs.Laws.Kept.{kept-same, left-kept, then-left, left-as}
 use Rattle.ends.specs.Marks.{stays, at-end, ended-marks, marks-sum}
 use Rattle.ends.specs.Pass.{two-passes, IfKept, Moved}
 use Rattle.ends.specs.Laws.Marks.{marks-whole, none-kept, both-marks}
