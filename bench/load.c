@@ -86,8 +86,8 @@ static int read_name(struct reader *r, uint8_t *cell)
     return 1;
 }
 
-/* An entity; the place is at its &. Answers the byte it stands for, or 0. */
-static unsigned read_entity(struct reader *r)
+/* A reference; the place is at its &. Answers the byte it stands for, or 0. */
+static unsigned read_reference(struct reader *r)
 {
     r->at++;
     switch (here(r)) {
@@ -102,14 +102,19 @@ static unsigned read_entity(struct reader *r)
         if (here(r) == 'p')
             return expect(r, "pos;") ? '\'' : 0;
         return expect(r, "mp;") ? '&' : 0;
+    case '#':
+        r->at++;
+        if (here(r) == '9')
+            return expect(r, "9;") ? 9 : 0;
+        return expect(r, "10;") ? 10 : 0;
     }
     return (unsigned)refuse(r, 4, r->at);
 }
 
-/* Bytes up to the stop byte: a quote, or < for a text. */
+/* Bytes up to the stop byte: a quote, or < for a text. Tab and line feed, the only ones below a space, are read as spaces in a value. */
 static int read_bytes(struct reader *r, uint8_t *cell, unsigned stop)
 {
-    unsigned length = 0, brackets = 0;
+    unsigned length = 0, brackets = 0, least = stop == '<' ? 0 : ' ';
     for (;;) {
         unsigned byte = here(r);
         if (byte == stop)
@@ -120,10 +125,11 @@ static int read_bytes(struct reader *r, uint8_t *cell, unsigned stop)
             return refuse(r, 5, r->at);
         brackets = byte == ']' ? brackets + 1 : 0;
         if (byte == '&') {
-            byte = read_entity(r);
+            byte = read_reference(r);
             if (byte == 0)
                 return 0;
         } else {
+            byte = byte < least ? least : byte;
             r->at++;
         }
         cell[++length] = (uint8_t)byte;

@@ -4,8 +4,10 @@ enum { MOST_XML = 65536 };
 
 static const char declaration[] = "<?xml version=\"1.0\" encoding=\"UTF-8\"?>\n";
 
-/* Bytes that a byte of text is written as, less one. */
-static const uint8_t extra[256] = {['&'] = 4, ['<'] = 3, ['>'] = 3, ['"'] = 5};
+/* Bytes that a byte of a text and of a value is written as, less one. */
+#define IN_BOTH ['&'] = 4, ['<'] = 3, ['>'] = 3, ['"'] = 5
+static const uint8_t in_text[256] = {IN_BOTH}, in_value[256] = {IN_BOTH, [9] = 3, [10] = 4};
+#undef IN_BOTH
 
 struct writer {
     const uint8_t *s;
@@ -34,19 +36,22 @@ static inline void put(struct writer *w, const void *bytes, size_t length)
     w->length += length;
 }
 
-static inline void put_text(struct writer *w, const uint8_t *cell)
+static inline void put_text(struct writer *w, const uint8_t *cell, int value)
 {
+    const uint8_t *extra = value ? in_value : in_text;
     if (w->out == NULL) {
         for (unsigned i = 1; i <= cell[0]; i++)
             w->length += 1u + extra[cell[i]];
         return;
     }
     for (unsigned i = 1; i <= cell[0]; i++)
-        switch (cell[i]) {
+        switch (extra[cell[i]] > 0 ? cell[i] : 0) {
         case '&': put(w, "&amp;", 5); break;
         case '<': put(w, "&lt;", 4); break;
         case '>': put(w, "&gt;", 4); break;
         case '"': put(w, "&quot;", 6); break;
+        case 9: put(w, "&#9;", 4); break;
+        case 10: put(w, "&#10;", 5); break;
         default: w->out[w->length++] = cell[i];
         }
 }
@@ -100,7 +105,7 @@ static void open_node(struct writer *w, unsigned row, unsigned depth)
         if (in_element && kind == 4 && w->last_kind[parent] == 4)
             w->expressible = 0;
         if (kind == 4) {
-            put_text(w, cell);
+            put_text(w, cell, !in_element);
         } else {
             w->attributes = 0;
             put(w, "<", 1);

@@ -36,7 +36,7 @@ struct scan {
     size_t depth;         /* elements that are open */
     size_t tag;           /* where the name of the last tag begins */
     size_t name;          /* where the last attribute's name begins */
-    size_t reference;     /* where an entity's name begins, 0 outside of one */
+    size_t reference;     /* where an entity's name or the # begins, 0 outside of a reference */
 };
 
 static int blank(int byte)
@@ -136,7 +136,7 @@ static const char *explain_end(const struct scan *scan)
     if (scan->len == 0)
         return "the input is empty";
     if (scan->reference != 0)
-        return "the input ends too soon, in an entity";
+        return "the input ends too soon, in a reference";
     switch (scan->place) {
     case BEFORE_ROOT:
         return "the input ends too soon, before the root element";
@@ -165,12 +165,21 @@ static const char *explain_byte(const struct scan *scan, int byte)
     return NULL;
 }
 
-static const char *explain_entity(const struct scan *scan, int byte)
+static const char *explain_character_reference(const struct scan *scan, int byte)
+{
+    size_t length = scan->offset - scan->reference;
+    int ends = (length == 2 && stands(scan, scan->reference, "#9")) || (length == 3 && stands(scan, scan->reference, "#10"));
+    if (ends && !name_byte(byte))
+        return "character reference without ; behind its number";
+    return "unknown character reference: only &#9; and &#10; are read";
+}
+
+static const char *explain_reference(const struct scan *scan, int byte)
 {
     static const char *const names[] = {"amp", "lt", "gt", "quot", "apos"};
     size_t length = scan->offset - scan->reference;
-    if (length == 0 && byte == '#')
-        return "character reference: write the character itself";
+    if (length > 0 && stands(scan, scan->reference, "#"))
+        return explain_character_reference(scan, byte);
     if (length == 0 && !name_byte(byte))
         return "& that begins no entity: write &amp;";
     for (size_t i = 0; i < sizeof names / sizeof *names; i++)
@@ -267,7 +276,7 @@ static const char *explain_grammar(const struct scan *scan)
     if (nowhere != NULL)
         return nowhere;
     if (scan->reference != 0)
-        return explain_entity(scan, byte);
+        return explain_reference(scan, byte);
     switch (scan->place) {
     case BEFORE_ROOT: return "text before the root element";
     case DECLARATION: return explain_declaration(scan);

@@ -41,6 +41,7 @@ static void expect(const char *input, size_t length, unsigned cause, uint64_t of
 }
 
 #define COLON "colon in a name: namespaces are not read"
+#define CHARACTER "unknown character reference: only &#9; and &#10; are read"
 #define CONTROL "control byte: only tab, line feed and 0x20 to 0x7E are read"
 #define DECLARED "declaration that is neither <?xml version=\"1.0\"?> nor <?xml version=\"1.0\" encoding=\"UTF-8\"?>, exactly"
 #define LESS "< without a name behind it: in texts and values write &lt;"
@@ -63,7 +64,11 @@ static const struct {
     {"<a b=\"\" b", 9, "the input ends too soon, in a tag"},
     {"<a></", 5, "the input ends too soon, in a tag"},
     {"<a b='c", 7, "the input ends too soon, in an attribute's value"},
-    {"<a>&am", 6, "the input ends too soon, in an entity"},
+    {"<a>&am", 6, "the input ends too soon, in a reference"},
+    {"<a>&", 4, "the input ends too soon, in a reference"},
+    {"<a>&#", 5, "the input ends too soon, in a reference"},
+    {"<a b='&#10", 10, "the input ends too soon, in a reference"},
+    {"<a b='&#10;", 11, "the input ends too soon, in an attribute's value"},
     {"<a>", 3, "the input ends too soon: an element has no end tag"},
     {"<a><b></b>", 10, "the input ends too soon: an element has no end tag"},
 
@@ -128,8 +133,13 @@ static const struct {
     {"<a b = '' c='b' b =''/>", 17, "repeated attribute"},
     {"<a b=\"<\"/>", 6, "< in an attribute's value: write &lt;"},
 
-    {"<a>&#10;</a>", 4, "character reference: write the character itself"},
-    {"<a b='&#x41;'/>", 7, "character reference: write the character itself"},
+    {"<a>&#13;</a>", 6, CHARACTER},
+    {"<a>&#1;</a>", 6, CHARACTER},
+    {"<a>&#100;</a>", 7, CHARACTER},
+    {"<a b='&#x41;'/>", 8, CHARACTER},
+    {"<a b='&#9;&#09;'/>", 12, CHARACTER},
+    {"<a>&#9</a>", 6, "character reference without ; behind its number"},
+    {"<a b='&#10'/>", 10, "character reference without ; behind its number"},
     {"<a>&nbsp;</a>", 4, UNKNOWN},
     {"<a>&amq;</a>", 6, UNKNOWN},
     {"<a>&am;</a>", 6, UNKNOWN},
@@ -190,7 +200,7 @@ static void test_other_causes(void)
 /* Every byte at every place of a document: a reason that speaks of a byte or of the end is given exactly there. */
 static void test_every_byte(void)
 {
-    static const char document[] = "<?xml version=\"1.0\"?>\n<a b='c&lt;' d = \"e\"><f /><g>h]]&amp;</g ></a>\n";
+    static const char document[] = "<?xml version=\"1.0\"?>\n<a b='c&lt;&#10;' d = \"e\"><f /><g>h]]&#9;&amp;</g ></a>\n";
     for (size_t place = 0; place < sizeof document; place++) {
         for (int byte = 0; byte < 256; byte++) {
             char input[sizeof document + 1];

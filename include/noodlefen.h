@@ -22,9 +22,10 @@ extern "C" {
 #endif
 
 /* The version of this interface. MAJOR grows when a program that was right has to be changed or compiled again, MINOR when calls
- * or causes are added. NOODLEFEN_VERSION is a number that #if can compare: 1000 for each MAJOR. */
+ * or causes are added, or when a file is read or written otherwise. NOODLEFEN_VERSION is a number that #if can compare: 1000 for
+ * each MAJOR. */
 #define NOODLEFEN_VERSION_MAJOR 2
-#define NOODLEFEN_VERSION_MINOR 0
+#define NOODLEFEN_VERSION_MINOR 1
 #define NOODLEFEN_VERSION (1000 * NOODLEFEN_VERSION_MAJOR + NOODLEFEN_VERSION_MINOR)
 
 /* The format mark: the first bytes of every started state. It changes whenever the form of the state bytes does, and a state with
@@ -174,11 +175,13 @@ static inline noodlefen_position noodlefen_position_of(const uint8_t *xml, size_
  * Refused only if the state is too short (13). */
 noodlefen_answer noodlefen_start(uint8_t *state, size_t state_len);
 
-/* Replaces the settings by those of an XML document; nodes are numbered in document order from 0. The value is the node count,
- * the document included. Refused for 15, then 4, 5 or 6 at the earliest byte offset. */
+/* Replaces the settings by those of an XML document; nodes are numbered in document order from 0. A tab or line feed that stands in
+ * an attribute's value is read as a space; the references &#9; and &#10; give these bytes. The value is the node count, the document
+ * included. Refused for 15, then 4, 5 or 6 at the earliest byte offset. */
 noodlefen_answer noodlefen_load(uint8_t *state, size_t state_len, const uint8_t *xml, size_t xml_len);
 
-/* Writes the committed settings as XML; the value is the length. It may be called at any time.
+/* Writes the committed settings as XML, with &#9; and &#10; for tabs and line feeds in attributes' values, so that they are read as the
+ * same bytes. The value is the length. It may be called at any time.
  * Refused for 14 or 13. */
 noodlefen_answer noodlefen_write(const uint8_t *state, size_t state_len, uint8_t *out, size_t out_len);
 

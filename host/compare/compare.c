@@ -6,8 +6,9 @@
 
 #include "call.h"
 #include "generate.h"
+#include "reached.h"
 
-enum { MOST_FAILURES = 10, MOST_HISTORY = 512, OUTCOMES = 17 }; /* granted, waits, causes 1 to 15 */
+enum { MOST_FAILURES = 10, MOST_HISTORY = 512 };
 
 struct side {
     const struct engine *engine;
@@ -17,8 +18,6 @@ struct side {
 
 static struct side left, right;
 static unsigned long passed, failed;
-static unsigned long reached[CALLS][OUTCOMES];
-static unsigned long reached_wide[3]; /* steps on node numbers past 65,535: granted, waits, refused */
 
 /* The calls of this episode, to be shown if one fails. */
 static struct call history[MOST_HISTORY];
@@ -72,12 +71,6 @@ static void report(const char *what, const struct call *call, noodlefen_answer o
     printf("\n");
 }
 
-static unsigned outcome_of(noodlefen_answer answer)
-{
-    unsigned cause = noodlefen_cause(answer);
-    return noodlefen_granted(answer) ? 0 : noodlefen_waits(answer) ? 1 : cause < 16 ? 1 + cause : 0;
-}
-
 /* Makes the call on both sides; answers whether they agree. */
 static int agree(const struct call *call, noodlefen_answer *answer)
 {
@@ -102,64 +95,6 @@ static int agree(const struct call *call, noodlefen_answer *answer)
     return wrong == NULL;
 }
 
-/* Which outcomes each call can have, as bits: granted, waits, 1 to 15. */
-static unsigned possible(enum call_name what)
-{
-    enum { G = 1, W = 2 };
-#define CAUSE(n) (4u << ((n) - 1))
-    const unsigned step = G | W | CAUSE(1) | CAUSE(3) | CAUSE(7);
-    switch (what) {
-    case CALL_START: return G;
-    case CALL_LOAD: return G | CAUSE(4) | CAUSE(5) | CAUSE(6) | CAUSE(15);
-    case CALL_WRITE: return G | CAUSE(13) | CAUSE(14);
-    case CALL_BEGIN: return G | CAUSE(1) | CAUSE(2);
-    case CALL_COMMIT:
-    case CALL_ABORT: return G | CAUSE(1) | CAUSE(3);
-    case CALL_T:
-    case CALL_C: return step;
-    case CALL_R: return step | CAUSE(8) | CAUSE(13);
-    case CALL_U: return step | CAUSE(8) | CAUSE(9);
-    case CALL_D: return step | CAUSE(8);
-    case CALL_I: return step | CAUSE(8) | CAUSE(9) | CAUSE(10) | CAUSE(11) | CAUSE(12);
-    case CALL_TT:
-    case CALL_RR: return step | CAUSE(13);
-    case CALL_UU: return step | CAUSE(9);
-    case CALLS: break;
-    }
-#undef CAUSE
-    return 0;
-}
-
-static void print_reached(void)
-{
-    printf("%-7s%9s%8s", "", "granted", "waits");
-    for (int cause = 1; cause <= 15; cause++)
-        printf("%7d", cause);
-    printf("\n");
-    for (int what = 0; what < CALLS; what++) {
-        printf("%-7s", call_word((enum call_name)what));
-        for (int outcome = 0; outcome < OUTCOMES; outcome++) {
-            int can = possible((enum call_name)what) >> outcome & 1;
-            int width = outcome == 0 ? 9 : outcome == 1 ? 8 : 7;
-            if (can || reached[what][outcome] > 0)
-                printf("%*lu", width, reached[what][outcome]);
-            else
-                printf("%*s", width, ".");
-        }
-        printf("\n");
-    }
-    printf("steps on numbers past 65,535: %lu granted, %lu wait, %lu refused\n", reached_wide[0], reached_wide[1], reached_wide[2]);
-}
-
-/* So many calls reach every outcome on numbers past 65,535, or the generator has changed. */
-static void check_reached(unsigned long calls)
-{
-    if (calls >= 20000 && failed == 0 && (reached_wide[0] == 0 || reached_wide[1] == 0 || reached_wide[2] == 0)) {
-        printf("FAILED: hardly any number past 65,535\n");
-        failed++;
-    }
-}
-
 static void run(unsigned long calls, uint64_t seed)
 {
     static struct generator g;
@@ -177,13 +112,13 @@ static void run(unsigned long calls, uint64_t seed)
         int well = agree(&call, &answer);
         if (well) {
             generator_learn(&g, &call, answer);
-            reached[call.what][outcome_of(answer)]++;
-            if (call.what >= CALL_T && call.n > 65535)
-                reached_wide[answer & 0xFF]++;
+            reached_count(&call, answer, &left.lent);
             /* Now and then the whole committed document. */
             if (i % 8 == 0) {
                 struct call write = {.what = CALL_WRITE, .room = 65536};
                 well = agree(&write, &answer);
+                if (well)
+                    reached_count(&write, answer, &left.lent);
             }
         }
         if (well)
@@ -217,8 +152,9 @@ int main(int count, char **arguments)
     right.engine->drop(right.e);
     lent_free(&left.lent);
     lent_free(&right.lent);
-    print_reached();
-    check_reached(calls);
+    reached_print();
+    if (failed == 0)
+        failed += reached_missing(calls);
     printf("%lu passed, %lu failed\n", passed, failed);
     return failed != 0;
 }

@@ -26,10 +26,12 @@ size_t random_name(struct random *r, uint8_t *out)
 
 size_t random_text(struct random *r, uint8_t *out)
 {
-    static const char special[] = "<>&\"'\t\n ]]>ab12";
+    static const char special[] = "<>&\"'\t\n\t\n ]]>ab";
     size_t length = once_in(r, 4) ? 30 + below(r, 5) : below(r, 6);
     for (size_t i = 0; i < length; i++)
         out[i] = (uint8_t)(once_in(r, 3) ? special[below(r, sizeof special - 1)] : (char)(0x20 + below(r, 0x5F)));
+    if (once_in(r, 12))
+        memset(out, special[below(r, sizeof special - 1)], length); /* the longest and the shortest when written */
     if (once_in(r, 20) && length > 0)
         out[below(r, (unsigned)length)] = (uint8_t)below(r, 256);
     return length;
@@ -39,7 +41,7 @@ struct writer {
     struct random *r;
     uint8_t *out;
     size_t length, nodes, most_nodes;
-    int long_contents;
+    int long_contents, wrong_references; /* at times */
 };
 
 static void put(struct writer *w, const char *bytes)
@@ -62,7 +64,7 @@ static void put_blanks(struct writer *w, int at_least)
 
 static size_t content_length(struct writer *w)
 {
-    if (once_in(w->r, 10))
+    if (once_in(w->r, w->long_contents ? 4 : 10))
         return w->long_contents ? 31 + below(w->r, 3) : 31 + below(w->r, 2);
     return 1 + below(w->r, 5);
 }
@@ -79,16 +81,27 @@ static void put_name(struct writer *w, int serial)
             put_byte(w, 'n');
 }
 
+static void put_reference(struct writer *w)
+{
+    static const char *const right[] = {"&amp;", "&lt;", "&gt;", "&quot;", "&apos;", "&#9;", "&#10;", "&#9;", "&#10;"};
+    static const char *const wrong[] = {"&#1;", "&#x9;", "&#09;", "&#11;", "&#13;", "&#90;", "&#99;", "&#100;", "&#;", "&#9", "&#10",
+                                        "&#9 ;", "&#", "&# 9;", "&##9;", "&", "&amp", "&x;"};
+    if (w->wrong_references && once_in(w->r, 8))
+        put(w, wrong[below(w->r, sizeof wrong / sizeof wrong[0])]);
+    else
+        put(w, right[below(w->r, sizeof right / sizeof right[0])]);
+}
+
+/* A value in the quote, or with quote 0 a text. */
 static void put_content(struct writer *w, int quote)
 {
-    static const char *const entities[] = {"&amp;", "&lt;", "&gt;", "&quot;", "&apos;"};
     size_t length = content_length(w);
     int before = 0, before_that = 0;
     for (size_t i = 0; i < length; i++) {
         int byte = once_in(w->r, 8) ? "\t\n ]]>'\""[below(w->r, 8)] : (int)(0x20 + below(w->r, 0x5F));
-        if (once_in(w->r, 10) || byte == '<' || byte == '&' || byte == quote
+        if (once_in(w->r, i < 32 ? 10 : 2) || byte == '<' || byte == '&' || byte == quote
             || (byte == '>' && before == ']' && before_that == ']')) {
-            put(w, entities[below(w->r, 5)]);
+            put_reference(w);
             byte = 0;
         } else {
             put_byte(w, byte);
@@ -151,9 +164,10 @@ static void put_declaration(struct writer *w)
         put(w, "<?xml version=\"1.0\" encoding=\"UTF-8\"?>");
 }
 
-size_t random_document(struct random *r, uint8_t *out, size_t nodes, int long_contents)
+size_t random_document(struct random *r, uint8_t *out, size_t nodes, int rough)
 {
-    struct writer w = {r, out, 0, 1, nodes, long_contents};
+    int long_contents = rough && once_in(r, 2);
+    struct writer w = {r, out, 0, 1, nodes, long_contents, rough && !long_contents};
     put_declaration(&w);
     put_blanks(&w, 0);
     put_element(&w, 0);
@@ -168,13 +182,31 @@ static size_t insert_bytes(uint8_t *out, size_t length, size_t place, const char
     return length + count;
 }
 
+/* A place in or right behind the next reference, often a character reference, or the place itself. */
+static size_t place_in_reference(struct random *r, const uint8_t *out, size_t length, size_t place)
+{
+    const uint8_t *found = memchr(out + place, once_in(r, 3) ? '&' : '#', length - place);
+    size_t inside = found != NULL ? (size_t)(found - out) + below(r, 5) : place;
+    return inside < length ? inside : place;
+}
+
+/* A piece of XML or of what looks like it. */
+static size_t insert_piece(struct random *r, uint8_t *out, size_t length, size_t place)
+{
+    static const char *const pieces[] = {"<!--x-->", "<![CDATA[x]]>", "&#9;", "<?pi?>", "\r\n", "]]>", "&x;", "<!DOCTYPE a>", "&amp;",
+                                         "<a/>", "</a>", " a=\"\"", " b='c'", "\xC3\xA9", "<?xml version=\"1.0\"?>", "x",
+                                         "&#10;", "&#x9;", "&#09;", "&#1;", "&#13;", "&#90;", "&#100;", "&#"};
+    const char *piece = pieces[below(r, sizeof pieces / sizeof pieces[0])];
+    return insert_bytes(out, length, place, piece, strlen(piece));
+}
+
 size_t random_damage(struct random *r, uint8_t *out, size_t length)
 {
-    static const char special[] = "<>&\"'/=?!;] \t\n\rab0:";
-    static const char *const pieces[] = {"<!--x-->", "<![CDATA[x]]>", "&#9;", "<?pi?>", "\r\n", "]]>", "&x;", "<!DOCTYPE a>", "&amp;",
-                                         "<a/>", "</a>", " a=\"\"", " b='c'", "\xC3\xA9", "<?xml version=\"1.0\"?>", "x"};
+    static const char special[] = "<>&\"'/=?!;] \t\n\rab0:#019x";
     for (unsigned times = 1 + below(r, 2); times > 0 && length > 0; times--) {
         size_t place = below(r, (unsigned)length);
+        if (once_in(r, 2))
+            place = place_in_reference(r, out, length, place);
         switch (below(r, 6)) {
         case 0:
             out[place] = (uint8_t)(once_in(r, 3) ? below(r, 256) : (unsigned char)special[below(r, sizeof special - 1)]);
@@ -186,13 +218,11 @@ size_t random_damage(struct random *r, uint8_t *out, size_t length)
         case 2:
             length = insert_bytes(out, length, place, &special[below(r, sizeof special - 1)], 1);
             break;
-        case 3: {
-            const char *piece = pieces[below(r, sizeof pieces / sizeof pieces[0])];
-            length = insert_bytes(out, length, place, piece, strlen(piece));
+        case 3:
+            length = insert_piece(r, out, length, place);
             break;
-        }
         case 4:
-            length = place;
+            length = once_in(r, 2) ? place_in_reference(r, out, length, place) : place;
             break;
         case 5: {
             /* A piece of the document again, at another place. */
@@ -222,13 +252,16 @@ static size_t lengthen(struct random *r, uint8_t *out, size_t length, size_t wan
 
 size_t random_limit_document(struct random *r, uint8_t *out)
 {
-    static const char *const pieces[] = {"<b/>", "<b c=''/>", "<b>x</b>", "<b c='d'/>", "<b></b>"};
-    static const size_t piece_nodes[] = {1, 2, 2, 3, 1};
-    struct writer w = {r, out, 0, 2, 0, 0};
-    unsigned shape = below(r, 6);
+    static const char *const pieces[] = {"<b/>", "<b c=''/>", "<b>x</b>", "<b c='d'/>", "<b></b>", "<b>&#9;</b>", "<b c='&#10;'/>",
+                                         "<b c='\t'/>"};
+    static const size_t piece_nodes[] = {1, 2, 2, 3, 1, 2, 3, 3};
+    static const char *const ends[] = {"</a>", "t</a>", "&#10;</a>"};
+    enum { PIECES = 8 };
+    struct writer w = {r, out, 0, 2, 0, 0, 0};
+    unsigned shape = below(r, PIECES + 1);
     size_t wanted = 1020 + below(r, 8);
     put(&w, "<a>");
-    if (shape == 5) {
+    if (shape == PIECES) {
         /* One inside the other. */
         for (w.nodes = 2; w.nodes < wanted; w.nodes++)
             put(&w, "<a>");
@@ -238,11 +271,11 @@ size_t random_limit_document(struct random *r, uint8_t *out)
         for (; w.nodes + 3 < wanted; w.nodes += piece_nodes[shape])
             put(&w, pieces[shape]);
         while (w.nodes < wanted) {
-            unsigned piece = below(r, 5);
+            unsigned piece = below(r, PIECES);
             put(&w, pieces[piece]);
             w.nodes += piece_nodes[piece];
         }
-        put(&w, once_in(r, 4) ? "t</a>" : "</a>");
+        put(&w, ends[below(r, 3)]);
     }
     if (once_in(r, 3))
         w.length = lengthen(r, out, w.length, 65530 + below(r, 12));

@@ -13,8 +13,9 @@ enum { DOCUMENT_ROOM = 1 << 20 };
 size_t random_name(struct random *r, uint8_t *out);
 size_t random_text(struct random *r, uint8_t *out);
 
-/* A document of the subset with about so many nodes; contents are at most 32 bytes unless long_contents. Answers the length. */
-size_t random_document(struct random *r, uint8_t *out, size_t nodes, int long_contents);
+/* A document of the subset with about so many nodes; a rough one may have contents of 33 bytes, or references that are not read. Answers
+ * the length. */
+size_t random_document(struct random *r, uint8_t *out, size_t nodes, int rough);
 
 /* Changes some bytes at random places; answers the new length. */
 size_t random_damage(struct random *r, uint8_t *out, size_t length);

@@ -186,7 +186,7 @@ static void pick_load(struct generator *g, struct call *call)
     } else {
         /* The first of an episode is mostly right, so that there is a tree. */
         int rough = g->calls_made > 1 && once_in(r, g->only_xml ? 1 : 3);
-        call->xml_length = random_document(r, g->xml, g->nodes, rough && once_in(r, 3));
+        call->xml_length = random_document(r, g->xml, g->nodes, rough && !once_in(r, 3));
         if (rough && once_in(r, 2))
             call->xml_length = random_damage(r, g->xml, call->xml_length);
     }
@@ -200,22 +200,31 @@ static void pick_content(struct generator *g, struct call *call, int text)
     call->a_length = text ? random_text(r, call->a) : random_name(r, call->a);
 }
 
+/* A node for a child of the kind: mostly one that takes such a child, for a text often an attribute. */
+static noodlefen_node pick_parent(struct generator *g, uint32_t kind, noodlefen_node n)
+{
+    struct random *r = &g->random;
+    int value = kind == 4 && once_in(r, 3);
+    for (unsigned i = 0; i < (value ? 20u : 6u); i++) {
+        unsigned parent_kind = known_of(g, n).kind;
+        if ((parent_kind == 2 && !value) || (parent_kind == 0 && once_in(r, value ? 20 : 2)) || (parent_kind == 3 && kind == 4)
+            || (parent_kind == 1 && kind == 2) || once_in(r, value ? 40 : 12))
+            break;
+        n = pick_number(g);
+    }
+    return n;
+}
+
 static void pick_insert(struct generator *g, struct call *call)
 {
     static const uint32_t wrong[] = {0, 1, 5, 6, 256 + 2, 65536 + 3, 0x80000002u, 0xFFFFFFFFu};
     struct random *r = &g->random;
     unsigned kind = below(r, 20);
     call->kind = kind < 8 ? 2 : kind < 12 ? 3 : kind < 19 ? 4 : wrong[below(r, 8)];
-    for (unsigned i = 0; i < 6; i++) {
-        unsigned parent_kind = known_of(g, call->n).kind;
-        if (parent_kind == 2 || (parent_kind == 0 && once_in(r, 2)) || (parent_kind == 3 && call->kind == 4)
-            || (parent_kind == 1 && call->kind == 2) || once_in(r, 12))
-            break;
-        call->n = pick_number(g);
-    }
+    call->n = pick_parent(g, call->kind, call->n);
     call->m = once_in(r, 8) ? pick_number(g) : pick_fresh(g);
     if (once_in(r, 2))
-        call->k = call->kind == 3 ? 1 : 1 + below(r, 3);
+        call->k = call->kind == 3 || known_of(g, call->n).kind == 3 ? 1 : 1 + below(r, 3);
     pick_content(g, call, call->kind == 4);
 }
 
@@ -241,7 +250,7 @@ static void pick_arguments(struct generator *g, struct call *call)
         call->cells_room = pick_room(g, NOODLEFEN_CELL_BYTES * (size_t)n.count, 34000);
         break;
     case CALL_U:
-        pick_content(g, call, n.kind == 4);
+        pick_content(g, call, n.kind == 4 || (n.kind == 0 && once_in(r, 2)));
         break;
     case CALL_D:
         /* The root goes seldom, or most of the calls would meet an empty tree. */

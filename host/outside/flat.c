@@ -28,12 +28,8 @@ void flat_add(struct flat *flat, char kind, unsigned depth, const char *content,
 
 void flat_add_value(struct flat *flat, unsigned depth, const char *content, size_t length)
 {
-    if (length == 0)
-        return;
-    flat_add(flat, 't', depth, content, length);
-    for (char *at = flat->text + flat->length - 1 - length; at < flat->text + flat->length - 1; at++)
-        if (*at == '\t' || *at == '\n')
-            *at = ' ';
+    if (length > 0)
+        flat_add(flat, 't', depth, content, length);
 }
 
 void flat_free(struct flat *flat)
@@ -50,10 +46,7 @@ int flat_equal(const struct flat *one, const struct flat *other)
 void flat_of_engine(struct flat *flat, const struct engine *engine, void *e)
 {
     static uint8_t numbers[NOODLEFEN_NUMBER_BYTES * NOODLEFEN_NODES], cells[NOODLEFEN_CELL_BYTES * NOODLEFEN_NODES];
-    static struct {
-        noodlefen_node number;
-        unsigned kind;
-    } open[NOODLEFEN_NODES]; /* the last node and those above it, by depth; the document first */
+    static noodlefen_node open[NOODLEFEN_NODES]; /* the last node and those above it, by depth; the document first */
     unsigned depth = 0;
     engine->begin(e, 1);
     noodlefen_answer answer = engine->read_tree(e, 1, 0, numbers, sizeof numbers, cells, sizeof cells);
@@ -62,15 +55,11 @@ void flat_of_engine(struct flat *flat, const struct engine *engine, void *e)
         noodlefen_answer test = engine->test(e, 1, number);
         const char *content = (const char *)noodlefen_cell_content(cells, i);
         size_t length = noodlefen_cell_length(cells, i);
-        while (depth > 0 && open[depth].number != noodlefen_number(test))
+        while (depth > 0 && open[depth] != noodlefen_number(test))
             depth--;
         depth++;
-        open[depth].number = number;
-        open[depth].kind = noodlefen_kind(test);
-        if (open[depth - 1].kind == NOODLEFEN_ATTRIBUTE)
-            flat_add_value(flat, depth, content, length);
-        else
-            flat_add(flat, "  eat"[open[depth].kind], depth, content, length);
+        open[depth] = number;
+        flat_add(flat, "  eat"[noodlefen_kind(test)], depth, content, length);
     }
     engine->abort(e, 1);
 }

@@ -14,7 +14,7 @@ struct flat {
 /* Adds a node: its kind e, a or t, its depth and its content. */
 void flat_add(struct flat *flat, char kind, unsigned depth, const char *content, size_t length);
 
-/* The same for an attribute's value: XML readers make blanks of its tabs and line feeds. */
+/* The same for an attribute's value; the empty one is no node. */
 void flat_add_value(struct flat *flat, unsigned depth, const char *content, size_t length);
 
 void flat_free(struct flat *flat);
@@ -27,7 +27,7 @@ void flat_of_engine(struct flat *flat, const struct engine *engine, void *e);
 int flat_by_expat(struct flat *flat, const char *xml, size_t length);
 int flat_by_libxml2(struct flat *flat, const char *xml, size_t length);
 
-/* Whether a document that expat reads has something that the subset has not: comments, CDATA, other bytes, and so on. */
+/* Whether a document that expat reads has something that the subset has not: comments, CDATA, other bytes or references, and so on. */
 int beyond_subset(const char *xml, size_t length);
 
 #endif

@@ -113,13 +113,19 @@ static int begins_with(const char *xml, size_t length, const char *bytes)
     return length >= strlen(bytes) && memcmp(xml, bytes, strlen(bytes)) == 0;
 }
 
+/* Whether a character reference begins here that the subset has not. */
+static int other_reference(const char *xml, size_t length)
+{
+    return begins_with(xml, length, "&#") && !begins_with(xml, length, "&#9;") && !begins_with(xml, length, "&#10;");
+}
+
 int beyond_subset(const char *xml, size_t length)
 {
     struct expat_reader r = {NULL, 0, NULL, 0, 0};
     int beyond = length > NOODLEFEN_XML_BYTES;
     for (size_t i = 0; i < length; i++) {
         unsigned char byte = (unsigned char)xml[i];
-        beyond |= byte == 13 || byte >= 0x7F || (byte == '&' && i + 1 < length && xml[i + 1] == '#');
+        beyond |= byte == 13 || byte >= 0x7F || other_reference(xml + i, length - i);
     }
     beyond |= begins_with(xml, length, "<?xml") && !begins_with(xml, length, "<?xml version=\"1.0\"?>")
         && !begins_with(xml, length, "<?xml version=\"1.0\" encoding=\"UTF-8\"?>");

@@ -96,11 +96,11 @@ static int read_name(struct reader *r, struct node *node)
     return 1;
 }
 
-/* One of the five predefined entities; the place is at its `&`. A 33rd content byte is refused there, before the rest is read. */
-static int read_entity(struct reader *r, struct node *node)
+/* One of the references; the place is at its `&`. A 33rd content byte is refused there, before the rest is read. */
+static int read_reference(struct reader *r, struct node *node)
 {
-    static const struct { const char *bytes; int stands_for; } entities[5] = {
-        {"&amp;", '&'}, {"&lt;", '<'}, {"&gt;", '>'}, {"&quot;", '"'}, {"&apos;", '\''}};
+    static const struct { const char *bytes; int stands_for; } references[7] = {
+        {"&amp;", '&'}, {"&lt;", '<'}, {"&gt;", '>'}, {"&quot;", '"'}, {"&apos;", '\''}, {"&#9;", 9}, {"&#10;", 10}};
     size_t from = r->place;
     if (node->length == MOST_CONTENT)
         return refuse(r, 5, from);
@@ -108,9 +108,9 @@ static int read_entity(struct reader *r, struct node *node)
         size_t read = r->place - from;
         int next = here(r);
         int stands_for = NO_BYTE;
-        for (int i = 0; i < 5; i++)
-            if (strncmp(entities[i].bytes, (const char *)r->xml + from, read) == 0 && entities[i].bytes[read] == next)
-                stands_for = entities[i].stands_for;
+        for (int i = 0; i < 7; i++)
+            if (strncmp(references[i].bytes, (const char *)r->xml + from, read) == 0 && references[i].bytes[read] == next)
+                stands_for = references[i].stands_for;
         if (stands_for == NO_BYTE)
             return refuse(r, 4, r->place);
         r->place++;
@@ -139,10 +139,11 @@ static int read_value(struct reader *r, struct node *attribute)
     while (here(r) != quote) {
         /* At the end or at a byte of no value there may be no text; then neither branch below is taken. */
         if (here(r) == '&') {
-            if (!read_entity(r, text))
+            if (!read_reference(r, text))
                 return 0;
         } else if (value_byte(here(r), quote)) {
-            if (!add_byte(r, text, here(r)))
+            /* A literal tab or line feed of a value is a space (XML 1.0, 3.3.3). */
+            if (!add_byte(r, text, blank(here(r)) ? ' ' : here(r)))
                 return 0;
             r->place++;
         } else {
@@ -188,7 +189,7 @@ static int read_text(struct reader *r, struct node *element)
         if (!text_byte(here(r)) || ends_cdata)
             return refuse(r, 4, r->place);
         if (here(r) == '&') {
-            if (!read_entity(r, text))
+            if (!read_reference(r, text))
                 return 0;
         } else {
             if (!add_byte(r, text, here(r)))

@@ -22,14 +22,18 @@ static void put_name(struct writer *w, const struct node *node)
     w->length += node->length;
 }
 
+/* In a value a tab or line feed is a reference, for a literal one would be read as a space. */
 static void put_text(struct writer *w, const struct node *text)
 {
+    int value = text->parent->kind == ATTRIBUTE;
     for (size_t i = 0; i < text->length; i++)
         switch (text->content[i]) {
         case '&': put(w, "&amp;"); break;
         case '<': put(w, "&lt;"); break;
         case '>': put(w, "&gt;"); break;
         case '"': put(w, "&quot;"); break;
+        case 9: put(w, value ? "&#9;" : "\t"); break;
+        case 10: put(w, value ? "&#10;" : "\n"); break;
         default: w->out[w->length++] = text->content[i];
         }
 }

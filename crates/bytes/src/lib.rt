@@ -1,6 +1,6 @@
 // Byte strings compared: how far two agree, and which comes first in their order. Lists of places, kept in the order of what stands there.
 ghost use mathlib.Core.Path.{_≡_};
-ghost use Prim.Native.Nat.{_<_, _≤_};
+ghost use Prim.Native.Nat.{_<_, _≤_, min};
 ghost use lib.ListN.{length};
 ghost use Rattle.bytes.specs.Agreement.{Agreement};
 ghost use Rattle.bytes.specs.Sorted.{Inserted};
@@ -18,16 +18,24 @@ pub enum Place {
     Free(usize),
 }
 
-// How many bytes of a word stand in the input from an offset on.
+fn shorter(a: usize, b: usize) -> usize
+    ensures { λ r. ⌜ r ≡ min a b ⌝ }
+{
+    if a < b {
+        return a;
+    }
+    b
+}
+
+// How many bytes of a word stand in the input from an offset on. The loop's latest end is taken before it, so that each turn compares with
+// one number.
 pub fn agreement(s: &[u8], at: usize, word: &[u8]) -> usize
     requires { ⌜ at ≤ length (now s) ⌝ }
     ensures { λ r. ⌜ Agreement (now (word .entry)) (now (s .entry)) at r ⌝ }
 {
+    let end = shorter(word.len(), s.len() - at);
     let mut n: usize = 0;
-    while n < word.len() {
-        if at + n >= s.len() {
-            return n;
-        }
+    while n < end {
         if s[at + n] != word[n] {
             return n;
         }

@@ -3,7 +3,7 @@ use mathlib.Core.Path.{_≡_}
 use Prim.Native.Nat.{ℕ, zero, suc, _+_, _≤_}
 use mathlib.Core.Bool.{Bool, true, false, cond, not}
 use mathlib.Core.List.{List}
-use lib.ListN.{getD}
+use lib.ListN.{length, getD, take}
 use lib.Dec.{eqb}
 use Rattle.tree.specs.Steps.{with-content}
 use Rattle.locks.specs.Modes.{no-mode, in-word}
@@ -35,6 +35,11 @@ with-field o v a =
 
 abbrev pub with-kind : ℕ → Marked → Marked
 with-kind v a = with-now (of-kind v (a .now)) a
+
+-- the 32 bytes that a content may take: it stands at their beginning
+pub record Begins (content window : List ℕ) : Type 0 where
+  pub long : length window ≡ 32
+  pub first : take (length content) window ≡ content
 
 -- the bytes of the cell of the node at place i that are its saved content if somebody wrote, and their number
 unfoldable pub saved-bytes : List ℕ → ℕ → List ℕ

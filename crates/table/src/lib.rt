@@ -13,7 +13,7 @@ ghost use Rattle.protocol.specs.State.{unwritten, wrote, writer-of, deleted-by,
 ghost use Rattle.table.specs.Lists.{modify, first};
 ghost use Rattle.table.specs.Flat.{second};
 ghost use Rattle.table.specs.Layout.{slot, nodes, no-entry, Layout, Kept};
-ghost use Rattle.table.specs.Fields.{field, storable, with-field, with-kind};
+ghost use Rattle.table.specs.Fields.{Begins, field, storable, with-field, with-kind};
 ghost use Rattle.table.specs.Fields.{has-text, text, with-bytes, restored, saved-bytes, saved-size, Stored, marked-written};
 
 // How many nodes are held.
@@ -147,6 +147,16 @@ pub fn content_bytes(s: &[u8], i: usize, o: usize) -> &[u8]
     let n = size(s, i, o);
     let at = layout::CELLS + layout::CELL * slot(s, i) + 6 + 32 * o;
     &s[at..at + n]
+}
+
+// The 32 bytes that a content of the node at i may take.
+pub fn content_window(s: &[u8], i: usize, o: usize) -> &[u8]
+    requires { ⌜ (Layout (now s)) × (i < length (nodes (now s))) × (o < 2)
+        × (has-text o (getD (nodes (now s)) i no-entry .1) ≡ true) ⌝ }
+    ensures { λ r. ⌜ Begins (text o (getD (nodes (now (s .entry))) i no-entry .1)) (now r) ⌝ }
+{
+    let at = layout::CELLS + layout::CELL * slot(s, i) + 6 + 32 * o;
+    &s[at..at + 32]
 }
 
 pub fn set_content(s: &mut [u8], i: usize, b: &[u8])

@@ -1,5 +1,5 @@
--- Bytes of markup, classes of bytes and fixed byte strings: document 01, "Reading and writing XML". Numbers in brackets are productions of
--- XML 1.0.
+-- Bytes of markup, classes of bytes and fixed byte strings: document 01, "Reading and writing XML", and document 02, A.3. Numbers in
+-- brackets are productions of XML 1.0.
 use Prim.Native.Nat.{ℕ, zero, suc}
 use mathlib.Core.Bool.{Bool, cond, not, _&&_, _||_}
 use mathlib.Core.List.{List}
@@ -7,6 +7,9 @@ use lib.Dec.{eqb}
 use Rattle.tree.specs.Text.{bytes}
 use Rattle.tree.specs.Lists.{any, same}
 use Rattle.tree.specs.Content.{text-byte}
+
+abbrev pub tab : ℕ
+tab = 9
 
 abbrev pub line-feed : ℕ
 line-feed = 10
@@ -40,7 +43,7 @@ right-bracket = 93
 
 -- [3] S, without byte 13
 unfoldable pub blank : ℕ → Bool
-blank b = eqb b 9 || eqb b line-feed || eqb b space
+blank b = eqb b tab || eqb b line-feed || eqb b space
 
 -- the quotes around a value
 pub data Quote : Type 0 where
@@ -58,6 +61,11 @@ value-literal q b = text-byte b && not (eqb b less-than) && not (eqb b ampersand
 unfoldable pub text-literal : ℕ → ℕ → Bool
 text-literal k b = text-byte b && not (eqb b less-than) && not (eqb b ampersand) && not (eqb b greater-than && eqb k 2)
 
+-- A.3, section 3.3.3: the byte that a literal byte of a value is read as; "a literal tab or line feed in an attribute value is read as a
+-- space"
+unfoldable pub normalized : ℕ → ℕ
+normalized b = cond (blank b) space b
+
 abbrev more-brackets : ℕ → ℕ
 more-brackets zero = 1
 more-brackets (suc k) = 2
@@ -70,7 +78,7 @@ brackets k b = cond (eqb b right-bracket) (more-brackets k) 0
 unfoldable pub used : List (List ℕ) → List ℕ → Bool
 used names a = any (λ n. same n a) names
 
--- the five predefined entities [68], behind the ampersand
+-- the references, behind the ampersand: the five entity references [68]
 abbrev pub amp : List ℕ
 amp = bytes "amp;"
 
@@ -85,6 +93,13 @@ lt = bytes "lt;"
 
 abbrev pub quot : List ℕ
 quot = bytes "quot;"
+
+-- and two character references [66]: document 02, A.3
+abbrev pub tab-reference : List ℕ
+tab-reference = bytes "#9;"
+
+abbrev pub line-feed-reference : List ℕ
+line-feed-reference = bytes "#10;"
 
 -- the two declarations [23]
 abbrev pub short-declaration : List ℕ

@@ -1,4 +1,4 @@
--- The grammar: document 01, "Reading and writing XML"; numbers in brackets are productions of XML 1.0.
+-- The grammar: document 01, "Reading and writing XML", and document 02, A.3; numbers in brackets are productions of XML 1.0.
 -- Each relation says that the bytes s begin with such a part, and t is what stands behind it.
 use Prim.Native.Nat.{ℕ}
 use mathlib.Core.Path.{_≡_}
@@ -7,7 +7,8 @@ use mathlib.Core.List.{List, [], _∷_, _++_}
 use Rattle.tree.specs.Forest.{nil, node}
 use Rattle.tree.specs.Content.{name-start, name-byte}
 use Rattle.xml.specs.Bytes.{ampersand, slash, less-than, equals-sign, greater-than, quotation-mark, apostrophe, blank, Quote}
-use Rattle.xml.specs.Bytes.{quote-byte, value-literal, text-literal, brackets, used, amp, apos, gt, lt, quot}
+use Rattle.xml.specs.Bytes.{tab, line-feed, quote-byte, value-literal, normalized, text-literal, brackets, used}
+use Rattle.xml.specs.Bytes.{amp, apos, gt, lt, quot, tab-reference, line-feed-reference}
 use Rattle.xml.specs.Bytes.{short-declaration, long-declaration}
 use Rattle.xml.specs.Shape.{Shape, element, attribute, text}
 
@@ -28,26 +29,29 @@ pub data NameBytes : (r s t : List ℕ) → Type 0 where
 pub data Named : (n s t : List ℕ) → Type 0 where
   name : {b : ℕ} {r s t : List ℕ} → name-start b ≡ true → NameBytes r s t → Named (b ∷ r) (b ∷ s) t
 
--- EntityRef [68] behind its ampersand, and the byte that it stands for; "only the five predefined entities exist"
-pub data Entity : (s t : List ℕ) → ℕ → Type 0 where
-  entity-amp : {t : List ℕ} → Entity (amp ++ t) t ampersand
-  entity-apos : {t : List ℕ} → Entity (apos ++ t) t apostrophe
-  entity-gt : {t : List ℕ} → Entity (gt ++ t) t greater-than
-  entity-lt : {t : List ℕ} → Entity (lt ++ t) t less-than
-  entity-quot : {t : List ℕ} → Entity (quot ++ t) t quotation-mark
+-- Reference [67] behind its ampersand, and the byte that it stands for; "only the five predefined entities exist" [68], and of the
+-- character references [66] "exactly" those to a tab and a line feed, spelled so (A.3)
+pub data Reference : (s t : List ℕ) → ℕ → Type 0 where
+  entity-amp : {t : List ℕ} → Reference (amp ++ t) t ampersand
+  entity-apos : {t : List ℕ} → Reference (apos ++ t) t apostrophe
+  entity-gt : {t : List ℕ} → Reference (gt ++ t) t greater-than
+  entity-lt : {t : List ℕ} → Reference (lt ++ t) t less-than
+  entity-quot : {t : List ℕ} → Reference (quot ++ t) t quotation-mark
+  character-tab : {t : List ℕ} → Reference (tab-reference ++ t) t tab
+  character-line-feed : {t : List ℕ} → Reference (line-feed-reference ++ t) t line-feed
 
--- AttValue [10] behind its opening quote, the closing quote included; its bytes are c
+-- AttValue [10] behind its opening quote, the closing quote included; its bytes, by Attribute-Value Normalization (3.3.3), are c
 pub data Value (q : Quote) : (s t c : List ℕ) → Type 0 where
   value-close : {t : List ℕ} → Value q (quote-byte q ∷ t) t []
-  value-byte : {b : ℕ} {s t c : List ℕ} → value-literal q b ≡ true → Value q s t c → Value q (b ∷ s) t (b ∷ c)
-  value-entity : {b : ℕ} {s u t c : List ℕ} → Entity s u b → Value q u t c → Value q (ampersand ∷ s) t (b ∷ c)
+  value-byte : {b : ℕ} {s t c : List ℕ} → value-literal q b ≡ true → Value q s t c → Value q (b ∷ s) t (normalized b ∷ c)
+  value-refers : {b : ℕ} {s u t c : List ℕ} → Reference s u b → Value q u t c → Value q (ampersand ∷ s) t (b ∷ c)
 
 -- CharData [14] and references [67] up to the < that ends them, that byte included, k literal bytes ] just before; the bytes of the text
 -- are c
 pub data Chars : ℕ → (s t c : List ℕ) → Type 0 where
   chars-end : {k : ℕ} {t : List ℕ} → Chars k (less-than ∷ t) t []
   chars-byte : {k b : ℕ} {s t c : List ℕ} → text-literal k b ≡ true → Chars (brackets k b) s t c → Chars k (b ∷ s) t (b ∷ c)
-  chars-entity : {k b : ℕ} {s u t c : List ℕ} → Entity s u b → Chars 0 u t c → Chars k (ampersand ∷ s) t (b ∷ c)
+  chars-refers : {k b : ℕ} {s u t c : List ℕ} → Reference s u b → Chars 0 u t c → Chars k (ampersand ∷ s) t (b ∷ c)
 
 -- "an attribute without a text has the empty value"
 abbrev pub text-node : List ℕ → Shape

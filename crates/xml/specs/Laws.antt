@@ -19,5 +19,7 @@ pub mod Expressible
 pub mod Scan
 pub mod Goes
 pub mod Tokens
+pub mod Tells
+pub mod Behind
 pub mod Fixed
 pub mod Examples

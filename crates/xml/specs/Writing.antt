@@ -1,4 +1,4 @@
--- Writing: document 01, "Reading and writing XML". Numbers are not written, so this is about shapes.
+-- Writing: document 01, "Reading and writing XML", and document 02, A.3. Numbers are not written, so this is about shapes.
 use mathlib.Core.Path.{_≡_}
 use Prim.Native.Nat.{ℕ}
 use mathlib.Core.Bool.{Bool, true, false, cond, not, _&&_, _||_}
@@ -9,22 +9,26 @@ use Rattle.tree.specs.Text.{bytes}
 use Rattle.tree.specs.Forest.{nil, node}
 use Rattle.tree.specs.Content.{element-kind, attribute-kind, text-kind}
 use Rattle.tree.specs.Document.{Document}
-use Rattle.xml.specs.Bytes.{line-feed, quotation-mark, ampersand, less-than, greater-than, amp, gt, lt, quot, used, long-declaration}
+use Rattle.xml.specs.Bytes.{tab, line-feed, quotation-mark, ampersand, less-than, greater-than, amp, gt, lt, quot, tab-reference}
+use Rattle.xml.specs.Bytes.{line-feed-reference, used, long-declaration}
 use Rattle.protocol.specs.Calls.{loadable, stands-for, node-limit}
 use Rattle.xml.specs.Shape.{Label, Shape, shape, document}
 use Rattle.xml.specs.Reading.{input-limit, ReadsAs}
 
--- "&amp; &lt; &gt; &quot; in texts and values"
-abbrev pub escape : ℕ → List ℕ
-escape b =
+-- "&amp; &lt; &gt; &quot; in texts and values"; A.3: "Writing uses them for those bytes in values", as read back a literal tab or line
+-- feed would be a space
+abbrev pub escape : (in-value : Bool) → ℕ → List ℕ
+escape in-value b =
     cond (eqb b ampersand) (ampersand ∷ amp)
     (cond (eqb b less-than) (ampersand ∷ lt)
     (cond (eqb b greater-than) (ampersand ∷ gt)
-    (cond (eqb b quotation-mark) (ampersand ∷ quot) (b ∷ []))))
+    (cond (eqb b quotation-mark) (ampersand ∷ quot)
+    (cond (in-value && eqb b tab) (ampersand ∷ tab-reference)
+    (cond (in-value && eqb b line-feed) (ampersand ∷ line-feed-reference) (b ∷ []))))))
 
-unfoldable pub escaped : List ℕ → List ℕ
-escaped [] = []
-escaped (b ∷ c) = escape b ++ escaped c
+unfoldable pub escaped : (in-value : Bool) → List ℕ → List ℕ
+escaped in-value [] = []
+escaped in-value (b ∷ c) = escape in-value b ++ escaped in-value c
 
 abbrev pub is-element : Label → Bool
 is-element a = eqb (a .kind) element-kind
@@ -38,7 +42,7 @@ is-text-node a = eqb (a .kind) text-kind
 -- the value of an attribute with these children
 abbrev pub value : Shape → List ℕ
 value nil = []
-value (node a ks fs) = escaped (a .content)
+value (node a ks fs) = escaped true (a .content)
 
 -- the attributes among the children, for the start tag
 unfoldable pub attributes : Shape → List ℕ
@@ -58,7 +62,7 @@ contents (node a ks fs) =
     cond (is-element a)
     (bytes "<" ++ (a .content ++ (attributes ks ++
     (cond (childless ks) (bytes "/>") (bytes ">" ++ (contents ks ++ (bytes "</" ++ (a .content ++ bytes ">")))) ++ contents fs))))
-    (cond (is-text-node a) (escaped (a .content) ++ contents fs) (contents fs))
+    (cond (is-text-node a) (escaped false (a .content) ++ contents fs) (contents fs))
 
 -- the children of the topmost node
 abbrev pub below : Shape → Shape

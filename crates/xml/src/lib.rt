@@ -13,3 +13,7 @@ pub const GT: [u8; 4] = *b"&gt;";
 pub const LT: [u8; 4] = *b"&lt;";
 
 pub const QUOT: [u8; 6] = *b"&quot;";
+
+pub const TAB: [u8; 4] = *b"&#9;";
+
+pub const LINE_FEED: [u8; 5] = *b"&#10;";

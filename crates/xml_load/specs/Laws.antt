@@ -1,13 +1,11 @@
-pub mod Declaration
 pub mod Element
 pub mod Whole
 pub mod Rows
-pub mod Runs
-pub mod Decoding
 pub mod Tokens
+pub mod Decoding
 pub mod Texts
+pub mod Names
 pub mod Places
-pub mod Prolog
 pub mod Opens
 pub mod Judgement
 pub mod Empty

@@ -1,16 +1,21 @@
-// Fills the lent table with the nodes of an accepted input, in document order: each is put behind the last.
+// Fills the lent table with the nodes of an accepted input, in document order: each is put behind the last. The tokens are those by which
+// the input was judged, but for the bytes of values and texts that stand for themselves; it is accepted, so none of them is refused.
 use table::outline;
 use xml_reader::Cursor;
+use xml_reader::End;
+use xml_reader::Equals;
+use xml_reader::Item;
+use xml_reader::Markup;
+use xml_reader::Prolog;
 use xml_reader::Reference;
+use xml_reader::start;
 ghost use mathlib.Core.Path.{_≡_};
 ghost use mathlib.Core.List.{[], _∷_};
-ghost use Prim.Native.Nat.{_+_, _<_, _≤_};
+ghost use Prim.Native.Nat.{_<_, _≤_, max};
 ghost use lib.ListN.{length};
 ghost use Rattle.table.specs.Layout.{nodes, Layout};
-ghost use Rattle.xml.specs.Shape.{Shape};
-ghost use Rattle.xml.specs.Grammar.{Spells};
-ghost use Rattle.xml_load.specs.Fill.{Put, Decodes, Fits, TextPut, QuoteAt, EndsAt};
-ghost use Rattle.xml_load.specs.Fill.{Behind, InTag, AtAttribute, AtElement, Filling, Same, Undeclared, RootAt, Begun, Filled};
+ghost use Rattle.xml_load.specs.Fill.{Put, least, Decodes, Fits, TextPut, EndsAt, Behind, InTag, AtAttribute, AtElement, Filling};
+ghost use Rattle.xml_load.specs.Fill.{Same, Begun, Filled};
 
 const ELEMENT: u8 = 2;
 
@@ -33,12 +38,33 @@ pub struct Content {
     pub next: Cursor,
 }
 
-// The characters of a value or a text decoded into a buffer, up to the byte that ends it.
+// In a value every byte that may stand there but a tab and a line feed is at least a space, so what is read is the larger of it and a
+// space: one comparison for each byte, in place of three and a test whether it is a value.
+fn least(stop: u8) -> u8
+    ensures { λ r. ⌜ r ≡ least stop ⌝ }
+{
+    if stop == b'<' {
+        return 0;
+    }
+    b' '
+}
+
+fn larger(a: u8, b: u8) -> u8
+    ensures { λ r. ⌜ r ≡ max a b ⌝ }
+{
+    if a < b {
+        return b;
+    }
+    a
+}
+
+// The characters of a value or a text, from the first on, decoded into a buffer, up to the byte that ends it.
 fn decode(from: Cursor, x: &[u8], stop: u8, buffer: &mut [u8; 32]) -> Content
     requires { ⌜ (from .at ≤ length (now x)) × (length (now buffer) ≡ 32) ⌝ }
     ensures { λ r. ⌜ (length (now (buffer .exit)) ≡ 32)
         × Decodes (now (x .entry)) stop (from .at) (now (buffer .exit)) (r .length) (r .next) ⌝ }
 {
+    let low = least(stop);
     let mut i = from.at;
     let mut n: usize = 0;
     while i < x.len() {
@@ -50,23 +76,17 @@ fn decode(from: Cursor, x: &[u8], stop: u8, buffer: &mut [u8; 32]) -> Content
             };
         }
         if n == 32 {
-            return Content {
-                length: n,
-                next: Cursor { at: i },
-            };
+            break;
         }
         if b != b'&' {
-            buffer[n] = b;
+            buffer[n] = larger(b, low);
             n += 1;
             i += 1;
             continue;
         }
         let next = Cursor { at: i + 1 };
         match next.reference(x) {
-            Reference::NoEntity(lost) => return Content {
-                length: n,
-                next: Cursor { at: i },
-            },
+            Reference::NoReference(_) => break,
             Reference::Byte(value, behind) => {
                 buffer[n] = value;
                 n += 1;
@@ -85,41 +105,29 @@ fn text(from: Cursor, s: &mut [u8], x: &[u8], stop: u8, depth: u16) -> Cursor
     requires { ⌜ (from .at ≤ length (now x)) × (Layout (now s)) × Fits (now x) (now s) stop (from .at) depth ⌝ }
     ensures { λ r. ⌜ TextPut (now (x .entry)) stop (from .at) depth (now (s .entry)) (now (s .exit)) r ⌝ }
 {
+    let at = from.at;
+    if xml_reader::peek(x, at) == stop {
+        return Cursor { at: at + 1 };
+    }
     let mut buffer = [0u8; 32];
     let content = decode(from, x, stop, &mut buffer);
     let n = content.length;
     let next = content.next;
-    if n == 0 {
-        return next;
-    }
     let bytes = &buffer[..n];
     put(s, depth, TEXT, bytes);
     next
 }
 
-// From behind the name of an attribute to its opening quote.
-fn quote(from: Cursor, x: &[u8]) -> Cursor
-    requires { ⌜ from .at ≤ length (now x) ⌝ }
-    ensures { λ r. ⌜ QuoteAt (now (x .entry)) (from .at) r ⌝ }
-{
-    let equals = from.blanks(x);
-    let at = equals.at;
-    if at >= x.len() {
-        return equals;
-    }
-    let behind = Cursor { at: at + 1 };
-    behind.blanks(x)
-}
-
-// From the slash of an end tag to behind it.
+// From behind the slash of an end tag to behind the tag.
 fn end_tag(from: Cursor, x: &[u8]) -> Cursor
-    requires { ⌜ from .at < length (now x) ⌝ }
+    requires { ⌜ from .at ≤ length (now x) ⌝ }
     ensures { λ r. ⌜ EndsAt (now (x .entry)) (from .at) r ⌝ }
 {
-    let name = Cursor { at: from.at + 1 };
-    let end = name.name(x);
-    let close = end.blanks(x);
-    Cursor { at: close.at + 1 }
+    let end = from.name(x);
+    match end.close(x) {
+        End::Behind(next) => next,
+        End::Mismatch(j) => Cursor { at: j },
+    }
 }
 
 // An attribute from the first byte of its name to behind its value.
@@ -133,11 +141,10 @@ fn attribute(from: Cursor, s: &mut [u8], x: &[u8], depth: u16) -> Cursor
     let to = end.at;
     let name = &x[at..to];
     put(s, depth, ATTRIBUTE, name);
-    let open = quote(end, x);
-    let i = open.at;
-    let stop = x[i];
-    let value = Cursor { at: i + 1 };
-    text(value, s, x, stop, depth + 1)
+    match end.equals(x) {
+        Equals::NoQuote(j) => Cursor { at: j },
+        Equals::Quoted(quote, value) => text(value, s, x, quote, depth + 1),
+    }
 }
 
 // Behind a tag: the cursor, and the depth of the nodes there.
@@ -155,20 +162,18 @@ fn attributes(from: Cursor, s: &mut [u8], x: &[u8], depth: u16) -> Level
     let mut i = from.at;
     loop {
         let here = Cursor { at: i };
-        let next = here.blanks(x);
-        let at = next.at;
-        let b = xml_reader::peek(x, at);
-        if b == b'>' {
-            return Level { at: at + 1, depth };
-        }
-        if b == b'/' {
-            return Level {
-                at: at + 2,
+        match here.item(x) {
+            Item::Wrong(j) => return Level { at: j, depth },
+            Item::Open(next) => return Level { at: next.at, depth },
+            Item::Empty(next) => return Level {
+                at: next.at,
                 depth: depth - 1,
-            };
+            },
+            Item::Attribute(name) => {
+                let behind = attribute(name, s, x, depth);
+                i = behind.at;
+            }
         }
-        let behind = attribute(next, s, x, depth);
-        i = behind.at;
     }
 }
 
@@ -193,15 +198,17 @@ fn child(from: Cursor, s: &mut [u8], x: &[u8], depth: u16) -> Level
         × (from .at < r .at) ⌝ }
 {
     let tag = text(from, s, x, b'<', depth);
-    let at = tag.at;
-    if xml_reader::peek(x, at) == b'/' {
-        let end = end_tag(tag, x);
-        return Level {
-            at: end.at,
-            depth: depth - 1,
-        };
+    match tag.markup(x) {
+        Markup::NoTag(j) => Level { at: j, depth },
+        Markup::EndTag(name) => {
+            let end = end_tag(name, x);
+            Level {
+                at: end.at,
+                depth: depth - 1,
+            }
+        }
+        Markup::StartTag(name) => start_tag(name, s, x, depth),
     }
-    start_tag(tag, s, x, depth)
 }
 
 // What stands behind an element, up to the end of the root element.
@@ -219,36 +226,16 @@ fn children(from: Level, s: &mut [u8], x: &[u8])
     }
 }
 
-// The offset behind the declaration, 0 where there is none.
-fn declaration(x: &[u8]) -> usize
-    ensures { λ r. ⌜ Undeclared (now (x .entry)) r ⌝ }
-{
-    if xml_reader::peek(x, 1) != b'?' {
-        return 0;
-    }
-    if xml_reader::peek(x, 19) == b'?' {
-        return 21;
-    }
-    38
-}
-
-// The name of the root element.
-fn root(x: &[u8]) -> Cursor
-    requires { ⌜ ((f : Shape) × Spells (now x) f) ⌝ }
-    ensures { λ r. ⌜ RootAt (now (x .entry)) r ⌝ }
-{
-    let at = declaration(x);
-    let start = Cursor { at };
-    let open = start.blanks(x);
-    Cursor { at: open.at + 1 }
-}
-
 // The table with node 0 alone filled with the nodes of the input.
 pub fn fill(s: &mut [u8], x: &[u8])
     requires { ⌜ Begun (now x) (now s) ⌝ }
     ensures { λ r. ⌜ Filled (now (x .entry)) (now (s .entry)) (now (s .exit)) ⌝ }
 {
-    let name = root(x);
-    let first = start_tag(name, s, x, 1);
-    children(first, s, x);
+    match start::find_root(x) {
+        Prolog::NoRoot(_) => {}
+        Prolog::Root(name) => {
+            let first = start_tag(name, s, x, 1);
+            children(first, s, x);
+        }
+    }
 }

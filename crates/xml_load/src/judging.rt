@@ -3,6 +3,7 @@ use xml_reader::Child;
 use xml_reader::Cursor;
 use xml_reader::Prolog;
 use xml_reader::Tag;
+use xml_reader::start;
 ghost use mathlib.Core.Path.{_≡_};
 ghost use mathlib.Core.List.{[], _∷_};
 ghost use Prim.Native.Nat.{_+_, _-_, _≤_};
@@ -11,11 +12,9 @@ ghost use Rattle.xml.specs.Laws.Automaton.{at-start, epilog, closed, tag-name};
 ghost use Rattle.xml.specs.Laws.Judge.{judgement};
 ghost use Rattle.xml.specs.Laws.Scan.{scan, scan-at, limited};
 ghost use Rattle.xml.specs.Laws.Goes.{Leads};
-ghost use Rattle.xml.specs.Laws.Fixed.{word-at};
 ghost use Rattle.xml_reader.specs.Elements.{stack, Named};
 ghost use Rattle.xml_reader.specs.Children.{Beginning, Deep};
-ghost use Rattle.xml_reader.specs.Prolog.{RootRead};
-ghost use Rattle.xml_load.specs.Judged.{verdict, DeclaredRead};
+ghost use Rattle.xml_load.specs.Judged.{verdict};
 
 // How many nodes more there could be; or a cause and its offset.
 pub enum Judged {
@@ -72,44 +71,12 @@ fn root_element(c: Cursor, s: &[u8], spare: usize) -> Judged
     }
 }
 
-// A declaration, compared whole, and the way to the root element.
-fn declared(s: &[u8], word: &[u8]) -> Prolog
-    ensures { λ r. ⌜ DeclaredRead (now (s .entry)) (word-at (now (word .entry)) 0 (now (s .entry))) r ⌝ }
-{
-    let n = bytes::agreement(s, 0, word);
-    if n == word.len() {
-        let behind = Cursor { at: n };
-        return behind.root(s);
-    }
-    Prolog::NoRoot(n)
-}
-
-// From the first byte of the input to the root element's name; the byte behind the version tells which declaration it can be.
-fn find_root(s: &[u8]) -> Prolog
-    ensures { λ r. ⌜ RootRead (now (s .entry)) at-start 0 r ⌝ }
-{
-    let first = xml_reader::peek(s, 0);
-    let second = xml_reader::peek(s, 1);
-    let start = Cursor { at: 0 };
-    if first != b'<' {
-        return start.root(s);
-    }
-    if second != b'?' {
-        return start.root(s);
-    }
-    let behind = xml_reader::peek(s, 19);
-    if behind == b'?' {
-        return declared(s, &xml::SHORT_DECLARATION);
-    }
-    declared(s, &xml::LONG_DECLARATION)
-}
-
 // An input of at most 65,537 bytes, without the limit of 65,536; `limit` is that of nodes. Node 0 and the root element are always there.
 fn unlimited(s: &[u8], limit: usize) -> Judged
     requires { ⌜ (2 ≤ limit) × (limit ≤ 1024) × (length (now s) ≤ 65537) ⌝ }
     ensures { λ r. ⌜ scan at-start (limit - 1) 0 0 0 (now (s .entry)) ≡ verdict r ⌝ }
 {
-    match find_root(s) {
+    match start::find_root(s) {
         Prolog::NoRoot(j) => Judged::Rejected(4, j),
         Prolog::Root(c) => root_element(c, s, limit - 2),
     }

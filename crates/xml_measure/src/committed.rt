@@ -7,7 +7,7 @@ ghost use Prim.Native.Nat.{_<_, _≤_};
 ghost use lib.ListN.{length};
 ghost use Rattle.xml.specs.Writing.{escaped};
 ghost use Rattle.table.specs.Layout.{nodes, Layout};
-ghost use Rattle.table.specs.Fields.{has-text, text};
+ghost use Rattle.table.specs.Fields.{has-text, text, Begins};
 ghost use Rattle.rows.specs.Places.{item};
 ghost use Rattle.xml_measure.specs.Lines.{label-at, Selected};
 
@@ -66,6 +66,15 @@ pub fn content(s: &[u8], p: usize) -> &[u8]
     table::content_bytes(s, p, v)
 }
 
+// The 32 bytes that the committed content of the node at p may take; it stands at their beginning.
+pub fn window(s: &[u8], p: usize) -> &[u8]
+    requires { ⌜ (Layout (now s)) × (p < length (nodes (now s))) ⌝ }
+    ensures { λ r. ⌜ Begins (label-at (nodes (now (s .entry))) p .content) (now r) ⌝ }
+{
+    let v = version(s, p);
+    table::content_window(s, p, v)
+}
+
 // The length of the committed content of the node at p.
 pub fn size(s: &[u8], p: usize) -> usize
     requires { ⌜ (Layout (now s)) × (p < length (nodes (now s))) ⌝ }
@@ -74,10 +83,10 @@ pub fn size(s: &[u8], p: usize) -> usize
     table::size(s, p, version(s, p))
 }
 
-// The same, with the entities that writing it takes.
-pub fn escaped_size(s: &[u8], p: usize) -> usize
+// The same, with the references that writing it takes, in a value or in a text.
+pub fn escaped_size(s: &[u8], p: usize, value: bool) -> usize
     requires { ⌜ (Layout (now s)) × (p < length (nodes (now s))) ⌝ }
-    ensures { λ r. ⌜ (r ≡ length (escaped (label-at (nodes (now (s .entry))) p .content))) × (r ≤ 192) ⌝ }
+    ensures { λ r. ⌜ (r ≡ length (escaped value (label-at (nodes (now (s .entry))) p .content))) × (r ≤ 192) ⌝ }
 {
-    escaping::escaped_length(content(s, p)) as usize
+    escaping::escaped_length(window(s, p), size(s, p), value) as usize
 }

@@ -57,7 +57,7 @@ fn cost(s: &[u8], parent: usize, above: u8, previous: u8, p: usize, kind: u8) ->
     if kind == 2 {
         return more + (committed::size(s, p) + 3);
     }
-    more + committed::escaped_size(s, p)
+    more + committed::escaped_size(s, p, above == 3)
 }
 
 // The names behind the node at p, of kind `kind`, below a node of kind `above` and behind one of kind `before`, if it may be written there.

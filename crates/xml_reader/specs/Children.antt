@@ -6,7 +6,7 @@ use lib.ListN.{length, getD}
 use Rattle.xml.specs.Bytes.{less-than}
 use Rattle.xml.specs.Grammar.{Name}
 use Rattle.xml.specs.Reading.{node-offset}
-use Rattle.xml.specs.Laws.Automaton.{Config, behind-open, epilog, closed}
+use Rattle.xml.specs.Laws.Automaton.{Config, behind-open, end-name, epilog, closed}
 use Rattle.xml.specs.Laws.Judge.{bad}
 use Rattle.xml.specs.Laws.Goes.{Leads, Goes}
 use Rattle.xml_reader.specs.declared.Cursor.{Cursor}
@@ -18,6 +18,11 @@ use Rattle.xml_reader.specs.Elements.{stack, Placed, Onward}
 abbrev pub opened : List Name → Config
 opened [] = epilog
 opened (n ∷ ns) = behind-open n ns
+
+-- behind the slash of an end tag there
+abbrev pub ending : List Name → Config
+ending [] = epilog
+ending (n ∷ ns) = end-name n ns n
 
 -- an offset behind a <
 pub record Behind (s : List ℕ) (at : ℕ) : Type 0 where

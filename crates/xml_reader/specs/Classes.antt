@@ -1,9 +1,9 @@
 -- Bytes that may stand in a value or a text.
 use Prim.Native.Nat.{ℕ}
-use mathlib.Core.Bool.{Bool, not, _&&_, _||_}
+use mathlib.Core.Bool.{Bool, cond, not, _&&_, _||_}
 use lib.Dec.{eqb}
 use Rattle.tree.specs.Content.{text-byte}
-use Rattle.xml.specs.Bytes.{less-than, greater-than, ampersand}
+use Rattle.xml.specs.Bytes.{ampersand, less-than, greater-than, normalized}
 
 -- a byte that stands for itself in a value or a text that ends with stop, k bytes ] just before it, if it is not stop
 unfoldable pub literal : ℕ → ℕ → ℕ → Bool
@@ -13,3 +13,7 @@ literal stop k b =
 -- a byte that begins a character there
 unfoldable pub begins : ℕ → ℕ → ℕ → Bool
 begins stop k b = eqb b ampersand || literal stop k b
+
+-- the byte that a byte which stands for itself there is read as
+unfoldable pub reads-as : ℕ → ℕ → ℕ
+reads-as stop b = cond (eqb stop less-than) b (normalized b)

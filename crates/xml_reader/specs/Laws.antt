@@ -1,4 +1,5 @@
 pub mod Runs
+pub mod Classes
 pub mod Characters
 pub mod Contents
 pub mod Tags
@@ -8,3 +9,4 @@ pub mod StartTags
 pub mod EndTags
 pub mod Children
 pub mod Root
+pub mod Declaration

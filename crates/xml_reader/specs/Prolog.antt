@@ -3,10 +3,13 @@ use Prim.Native.Nat.{ℕ, _+_, _-_, _≤_}
 use mathlib.Core.Path.{_≡_}
 use mathlib.Core.List.{List, [], _∷_}
 use lib.ListN.{getD}
-use Rattle.xml.specs.Laws.Automaton.{Config, tag-name}
+use Rattle.tree.specs.Content.{element-kind}
+use Rattle.xml.specs.Laws.Automaton.{Config, prolog, tag-name, born, byte}
 use Rattle.xml.specs.Laws.Judge.{Verdict, bad}
 use Rattle.xml.specs.Laws.Scan.{scan-at}
 use Rattle.xml.specs.Laws.Goes.{Leads}
+use Rattle.xml.specs.Laws.Tokens.{Reach, got, lost}
+use Rattle.xml.specs.Laws.Tells.{Tells}
 use Rattle.xml_reader.specs.declared.Cursor.{Cursor}
 use Rattle.xml_reader.specs.declared.Prolog.{Prolog}
 use Rattle.xml_reader.specs.declared.Prolog.the-variants.{Root, NoRoot}
@@ -17,5 +20,11 @@ pub data RootRead (s : List ℕ) (from : Config) (at : ℕ) : Prolog → Type 0 
   root-at : {c : Cursor} → Named s (c .at)
       → ((spare : ℕ) → 1 ≤ spare → (v : Verdict) → scan-at s (tag-name [] (getD s (c .at) 0 ∷ [])) (spare - 1) 1 (c .at + 1) ≡ v → Leads s
       from spare at v)
+      → Tells s from at (born 1 element-kind ∷ byte (getD s (c .at) 0) ∷ []) (tag-name [] (getD s (c .at) 0 ∷ [])) (c .at + 1)
       → RootRead s from at (Root c)
   no-root : {j : ℕ} → ((spare : ℕ) → Leads s from spare at (bad 4 j)) → RootRead s from at (NoRoot j)
+
+-- behind a declaration, by how far it agrees
+pub data DeclaredRead (s : List ℕ) : Reach → Prolog → Type 0 where
+  behind-it : {k n : ℕ} {r : Prolog} → RootRead s prolog n r → DeclaredRead s (got k n) r
+  short-of-it : {n : ℕ} → DeclaredRead s (lost n) (NoRoot n)

@@ -1,18 +1,17 @@
-// Values and texts.
+// Values and texts, judged character by character: a byte that stands for itself, or a reference.
 use super::Cursor;
 use super::Read;
 use super::Reference;
-use super::brackets_after;
-use super::may_stand;
+use super::classes;
 ghost use mathlib.Core.Path.{_≡_};
 ghost use Prim.Native.Nat.{_≤_};
 ghost use lib.ListN.{length};
 ghost use Rattle.xml.specs.Reading.{node-offset};
-ghost use Rattle.xml_reader.specs.Steps.{CharactersRead, ContentRead};
+ghost use Rattle.xml_reader.specs.Steps.{CharactersRead, TextRead};
 
 impl Cursor {
     // The characters of a value or a text, from the first on, up to the byte that ends it; spare nodes may still come.
-    pub fn characters(self, s: &[u8], stop: u8, spare: usize) -> Read
+    fn characters(self, s: &[u8], stop: u8, spare: usize) -> Read
         requires { ⌜ self .at ≤ length (now s) ⌝ }
         ensures { λ r. ⌜ CharactersRead (now (s .entry)) stop (self .at) spare r ⌝ }
     {
@@ -24,7 +23,7 @@ impl Cursor {
             if b == stop {
                 return Read::Past(Cursor { at: i + 1 }, spare);
             }
-            if !may_stand(b, stop, k) {
+            if !classes::may_stand(b, stop, k) {
                 return Read::Refused(4, i);
             }
             if count == 32 {
@@ -33,12 +32,12 @@ impl Cursor {
             if b != b'&' {
                 i += 1;
                 count += 1;
-                k = brackets_after(k, b);
+                k = classes::brackets_after(k, b);
                 continue;
             }
             let next = Cursor { at: i + 1 };
             match next.reference(s) {
-                Reference::NoEntity(j) => return Read::Refused(4, j),
+                Reference::NoReference(j) => return Read::Refused(4, j),
                 Reference::Byte(_, behind) => {
                     i = behind.at;
                 }
@@ -50,9 +49,9 @@ impl Cursor {
     }
 
     // A value or a text, which may be empty, up to the byte that ends it; begin is the offset of its node.
-    pub fn content(self, s: &[u8], stop: u8, begin: usize, spare: usize) -> Read
+    pub fn text(self, s: &[u8], stop: u8, begin: usize, spare: usize) -> Read
         requires { ⌜ (self .at ≤ length (now s)) × (begin ≡ node-offset (now s) (self .at)) ⌝ }
-        ensures { λ r. ⌜ ContentRead (now (s .entry)) stop (self .at) spare r ⌝ }
+        ensures { λ r. ⌜ TextRead (now (s .entry)) stop (self .at) spare r ⌝ }
     {
         let at = self.at;
         if at >= s.len() {
@@ -62,7 +61,7 @@ impl Cursor {
         if b == stop {
             return Read::Past(Cursor { at: at + 1 }, spare);
         }
-        if !may_stand(b, stop, 0) {
+        if !classes::may_stand(b, stop, 0) {
             return Read::Refused(4, at);
         }
         if spare == 0 {

@@ -1,23 +1,27 @@
-// Reads an input by its parts: a cursor by value, whose methods hand the new place back.
+// Reads an input by its tokens: a cursor by value, whose methods hand back the token and the place behind it. Judging an input and filling
+// a table with its nodes go over the same tokens, but for the bytes of values and texts that stand for themselves, and for the name in an
+// end tag, which is compared when judging alone.
 mod children;
+mod classes;
 mod contents;
 mod names;
+pub mod start;
 mod start_tags;
+mod tags;
 mod tokens;
 
 ghost use mathlib.Core.Path.{_≡_};
 ghost use lib.ListN.{getD};
-ghost use Rattle.xml.specs.Bytes.{blank, brackets};
-ghost use Rattle.xml_reader.specs.Classes.{begins};
+ghost use Rattle.xml.specs.Bytes.{blank};
 
 pub struct Cursor {
     pub at: usize,
 }
 
-// A reference behind its ampersand: the byte that it stands for, or the offset where no entity goes on.
+// A reference behind its ampersand: the byte that it stands for, or the offset where no reference goes on.
 pub enum Reference {
     Byte(u8, Cursor),
-    NoEntity(usize),
+    NoReference(usize),
 }
 
 // What a part of the input leads to: the cursor behind it and how many nodes may still come; or a cause and its offset.
@@ -38,6 +42,13 @@ pub enum Item {
     Empty(Cursor),
     Attribute(Cursor),
     Wrong(usize),
+}
+
+// Behind a <: the name of a start tag, what stands behind the slash of an end tag, or the offset of another byte.
+pub enum Markup {
+    StartTag(Cursor),
+    EndTag(Cursor),
+    NoTag(usize),
 }
 
 // A start tag: the cursor behind it and how many nodes may still come, where content follows and where the element is empty; or a cause and
@@ -69,13 +80,13 @@ pub enum Prolog {
 pub fn is_blank(b: u8) -> bool
     ensures { λ r. ⌜ r ≡ blank b ⌝ }
 {
+    if b == 32 {
+        return true;
+    }
     if b == 9 {
         return true;
     }
-    if b == 10 {
-        return true;
-    }
-    b == 32
+    b == 10
 }
 
 // The byte at an offset, 0 behind the end.
@@ -83,39 +94,4 @@ pub fn peek(s: &[u8], at: usize) -> u8
     ensures { λ r. ⌜ r ≡ getD (now (s .entry)) at 0 ⌝ }
 {
     if at < s.len() { s[at] } else { 0 }
-}
-
-// Whether a byte may begin a character of a value or a text that ends with stop, k bytes ] just before it. Letters, the most frequent, come
-// first.
-fn may_stand(b: u8, stop: u8, k: usize) -> bool
-    ensures { λ r. ⌜ r ≡ begins stop k b ⌝ }
-{
-    if b > b'>' {
-        return tree::text_byte(b);
-    }
-    if b == b'&' {
-        return true;
-    }
-    if b == b'<' {
-        return false;
-    }
-    if b != b'>' {
-        return tree::text_byte(b);
-    }
-    if stop != b'<' {
-        return true;
-    }
-    k != 2
-}
-
-fn brackets_after(k: usize, b: u8) -> usize
-    ensures { λ r. ⌜ r ≡ brackets k b ⌝ }
-{
-    if b == b']' {
-        if k == 0 {
-            return 1;
-        }
-        return 2;
-    }
-    0
 }

@@ -6,87 +6,15 @@ use super::Read;
 use super::Tag;
 use super::names::enter;
 ghost use mathlib.Core.Path.{_≡_};
-ghost use Prim.Native.Nat.{_+_, _<_, _≤_};
+ghost use Prim.Native.Nat.{_+_, _≤_};
 ghost use lib.ListN.{length, getD};
 ghost use Rattle.bytes.specs.Sorted.{Increasing};
-ghost use Rattle.xml_reader.specs.Steps.{EqualsRead, ItemRead, SlashRead};
 ghost use Rattle.xml_reader.specs.Elements.{Placed, Attributed, Kept, attribute-names, AttributeEnters};
 ghost use Rattle.xml_reader.specs.Elements.{AttributesRead, Named, ElementRead};
 
 impl Cursor {
-    // From behind the name of an attribute to behind its opening quote.
-    pub fn equals(self, s: &[u8]) -> Equals
-        requires { ⌜ self .at ≤ length (now s) ⌝ }
-        ensures { λ r. ⌜ EqualsRead (now (s .entry)) (self .at) r ⌝ }
-    {
-        let before = self.blanks(s);
-        let at = before.at;
-        if at >= s.len() {
-            return Equals::NoQuote(at);
-        }
-        if s[at] != b'=' {
-            return Equals::NoQuote(at);
-        }
-        let sign = Cursor { at: at + 1 };
-        let behind = sign.blanks(s);
-        let i = behind.at;
-        if i >= s.len() {
-            return Equals::NoQuote(i);
-        }
-        let b = s[i];
-        if b == b'"' {
-            return Equals::Quoted(b'"', Cursor { at: i + 1 });
-        }
-        if b == b'\'' {
-            return Equals::Quoted(b'\'', Cursor { at: i + 1 });
-        }
-        Equals::NoQuote(i)
-    }
-
-    // From behind a name or a value in a start tag to behind the tag, or to an attribute's name.
-    pub fn item(self, s: &[u8]) -> Item
-        requires { ⌜ self .at ≤ length (now s) ⌝ }
-        ensures { λ r. ⌜ ItemRead (now (s .entry)) (self .at) r ⌝ }
-    {
-        let from = self.at;
-        let behind = self.blanks(s);
-        let at = behind.at;
-        if at >= s.len() {
-            return Item::Wrong(at);
-        }
-        let b = s[at];
-        if b == b'>' {
-            return Item::Open(Cursor { at: at + 1 });
-        }
-        if b == b'/' {
-            return behind.slash(s);
-        }
-        if at == from {
-            return Item::Wrong(at);
-        }
-        if tree::name_start(b) {
-            return Item::Attribute(behind);
-        }
-        Item::Wrong(at)
-    }
-
-    // An empty-element tag from its slash on.
-    fn slash(self, s: &[u8]) -> Item
-        requires { ⌜ (self .at < length (now s)) × (getD (now s) (self .at) 0 ≡ 47) ⌝ }
-        ensures { λ r. ⌜ SlashRead (now (s .entry)) (self .at) r ⌝ }
-    {
-        let at = self.at + 1;
-        if at >= s.len() {
-            return Item::Wrong(at);
-        }
-        if s[at] != b'>' {
-            return Item::Wrong(at);
-        }
-        Item::Empty(Cursor { at: at + 1 })
-    }
-
     // An attribute from the first byte of its name to behind its value; its name is put among those before it, which stand from lo on.
-    pub fn attribute(
+    fn attribute(
         self,
         s: &[u8],
         names: &mut [u16; 1024],
@@ -114,7 +42,7 @@ impl Cursor {
             Equals::NoQuote(j) => Read::Refused(4, j),
             Equals::Quoted(q, next) => {
                 let begin = next.at - 1;
-                next.content(s, q, begin, spare - 1)
+                next.text(s, q, begin, spare - 1)
             }
         }
     }

@@ -3,11 +3,12 @@ use super::Cursor;
 use super::Reference;
 use super::is_blank;
 use super::peek;
+ghost use mathlib.Core.Path.{_≡_};
 ghost use Prim.Native.Nat.{_≤_};
-ghost use lib.ListN.{length, drop};
+ghost use lib.ListN.{length, getD, drop};
 ghost use Rattle.tree.specs.Content.{name-byte};
 ghost use Rattle.xml.specs.Bytes.{blank};
-ghost use Rattle.xml.specs.Laws.Fixed.{word-at, entity-at};
+ghost use Rattle.xml.specs.Laws.Fixed.{word-at, reference-at};
 ghost use Rattle.xml_reader.specs.Steps.{Run, Refers};
 
 impl Cursor {
@@ -43,8 +44,8 @@ impl Cursor {
         Cursor { at: i }
     }
 
-    // One entity, compared whole.
-    pub fn entity(self, s: &[u8], word: &[u8], value: u8) -> Reference
+    // One reference, compared whole.
+    fn word(self, s: &[u8], word: &[u8], value: u8) -> Reference
         requires { ⌜ self .at ≤ length (now s) ⌝ }
         ensures { λ r. ⌜ Refers (now (s .entry)) (self .at) (word-at (now (word .entry)) value (drop (self .at) (now (s .entry)))) r ⌝ }
     {
@@ -53,29 +54,44 @@ impl Cursor {
         if n == word.len() {
             return Reference::Byte(value, Cursor { at: at + n });
         }
-        Reference::NoEntity(at + n)
+        Reference::NoReference(at + n)
     }
 
-    // A reference, behind its ampersand: the rest of an entity; its first two bytes tell which it can be.
+    // A character reference, from its # on.
+    fn character_reference(self, s: &[u8]) -> Reference
+        requires { ⌜ (self .at ≤ length (now s)) × (getD (now s) (self .at) 0 ≡ 35) ⌝ }
+        ensures { λ r. ⌜ Refers (now (s .entry)) (self .at) (reference-at (drop (self .at) (now (s .entry)))) r ⌝ }
+    {
+        let second = peek(s, self.at + 1);
+        if second == b'1' {
+            return self.word(s, &xml::LINE_FEED[1..], 10);
+        }
+        self.word(s, &xml::TAB[1..], 9)
+    }
+
+    // A reference, behind its ampersand; its first two bytes tell which it can be.
     pub fn reference(self, s: &[u8]) -> Reference
         requires { ⌜ self .at ≤ length (now s) ⌝ }
-        ensures { λ r. ⌜ Refers (now (s .entry)) (self .at) (entity-at (drop (self .at) (now (s .entry)))) r ⌝ }
+        ensures { λ r. ⌜ Refers (now (s .entry)) (self .at) (reference-at (drop (self .at) (now (s .entry)))) r ⌝ }
     {
         let at = self.at;
         let first = peek(s, at);
         if first == b'a' {
             let second = peek(s, at + 1);
             if second == b'm' {
-                return self.entity(s, &xml::AMP[1..], 38);
+                return self.word(s, &xml::AMP[1..], 38);
             }
-            return self.entity(s, &xml::APOS[1..], 39);
+            return self.word(s, &xml::APOS[1..], 39);
         }
         if first == b'g' {
-            return self.entity(s, &xml::GT[1..], 62);
+            return self.word(s, &xml::GT[1..], 62);
         }
         if first == b'l' {
-            return self.entity(s, &xml::LT[1..], 60);
+            return self.word(s, &xml::LT[1..], 60);
         }
-        self.entity(s, &xml::QUOT[1..], 34)
+        if first == b'#' {
+            return self.character_reference(s);
+        }
+        self.word(s, &xml::QUOT[1..], 34)
     }
 }

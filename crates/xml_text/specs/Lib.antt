@@ -1,4 +1,3 @@
 pub mod Rows
 pub mod Lending
-pub mod Plain
 pub mod Laws

@@ -50,11 +50,12 @@ fits parent previous kind = may-stand parent previous kind && not (eqb previous 
 unfoldable pub tag-end : Label → ℕ → List ℕ
 tag-end parent previous = cond (is-element parent && in-start-tag previous) (bytes ">") []
 
--- what stands for a node up to its children, below this parent and behind a sibling of kind `previous`
+-- what stands for a node up to its children, below this parent and behind a sibling of kind `previous`; a text below an attribute is a
+-- value
 unfoldable pub begin : Label → ℕ → Label → List ℕ
 begin parent previous a =
     cond (is-attribute a) ((bytes " " ++ a .content) ++ bytes "=\"")
-    (tag-end parent previous ++ cond (is-element a) (bytes "<" ++ a .content) (escaped (a .content)))
+    (tag-end parent previous ++ cond (is-element a) (bytes "<" ++ a .content) (escaped (is-attribute parent) (a .content)))
 
 -- what stands for a node behind its children, the last of which is of kind `last` (0: there is none)
 unfoldable pub end : Label → ℕ → List ℕ
@@ -69,7 +70,7 @@ extra parent previous = cond (is-element parent && in-start-tag previous) (lengt
 unfoldable pub cost : Label → ℕ → Label → ℕ
 cost parent previous a =
     cond (is-attribute a) (length (a .content) + 4)
-    (extra parent previous + cond (is-element a) (length (a .content) + 3) (length (escaped (a .content))))
+    (extra parent previous + cond (is-element a) (length (a .content) + 3) (length (escaped (is-attribute parent) (a .content))))
 
 -- a pass over rows ---------------------------------------------------------------------------
 

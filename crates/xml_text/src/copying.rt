@@ -1,6 +1,5 @@
 // Copies of pieces of at most 32 bytes. A piece of W to 2 * W bytes is copied by two windows of W bytes, at its start and at its end, which
-// may
-// overlap. Each window goes through a local array, so that it is one load and one store.
+// may overlap. Each window goes through a local array, so that it is one load and one store.
 use crate::markup;
 ghost use mathlib.Core.Path.{_≡_};
 ghost use Prim.Native.Nat.{_≤_};
@@ -62,7 +61,7 @@ fn put_16(out: &mut [u8], p: &[u8]) -> usize
 }
 
 // A copy of a piece of 8 to 16 bytes.
-pub fn put_8(out: &mut [u8], p: &[u8]) -> usize
+fn put_8(out: &mut [u8], p: &[u8]) -> usize
     requires { ⌜ (8 ≤ length (now p)) × (length (now p) ≤ 16) × (length (now p) ≤ length (now out)) ⌝ }
     ensures { λ r. ⌜ Wrote (now (p .entry)) (now (out .entry)) (now (out .exit)) r ⌝ }
 {

@@ -29,10 +29,10 @@ pub fn put_prolog(out: &mut [u8]) -> usize
     at + put(&mut out[at..], b"\n")
 }
 
-// A byte of a text or a value.
-pub fn put_byte(out: &mut [u8], b: u8) -> usize
-    requires { ⌜ length (escape b) ≤ length (now out) ⌝ }
-    ensures { λ r. ⌜ Wrote (escape b) (now (out .entry)) (now (out .exit)) r ⌝ }
+// A byte of a text, or of a value.
+pub fn put_byte(out: &mut [u8], b: u8, value: bool) -> usize
+    requires { ⌜ length (escape value b) ≤ length (now out) ⌝ }
+    ensures { λ r. ⌜ Wrote (escape value b) (now (out .entry)) (now (out .exit)) r ⌝ }
 {
     if b == b'&' {
         return put(out, &xml::AMP);
@@ -46,19 +46,32 @@ pub fn put_byte(out: &mut [u8], b: u8) -> usize
     if b == b'"' {
         return put(out, &xml::QUOT);
     }
+    if !value {
+        out[0] = b;
+        return 1;
+    }
+    if b == b'\t' {
+        return put(out, &xml::TAB);
+    }
+    if b == b'\n' {
+        return put(out, &xml::LINE_FEED);
+    }
     out[0] = b;
     1
 }
 
-// How many bytes stand for one of a text or a value. No branch, so that a loop over many bytes takes several at once.
-pub fn byte_length(b: u8) -> u8
-    ensures { λ r. ⌜ (r ≡ length (escape b)) × (r ≤ 6) ⌝ }
+// How many bytes stand for one of a text, or of a value. No branch, so that a loop over many bytes takes several at once.
+pub fn byte_length(b: u8, value: bool) -> u8
+    ensures { λ r. ⌜ (r ≡ length (escape value b)) × (r ≤ 6) ⌝ }
 {
+    let v = value as u8;
     let amp = (b == b'&') as u8;
     let lt = (b == b'<') as u8;
     let gt = (b == b'>') as u8;
     let quot = (b == b'"') as u8;
-    1 + 4 * amp + 3 * lt + 3 * gt + 5 * quot
+    let tab = (b == b'\t') as u8;
+    let line_feed = (b == b'\n') as u8;
+    1 + 4 * amp + 3 * lt + 3 * gt + 5 * quot + 3 * v * tab + 4 * v * line_feed
 }
 
 // Whether a start tag is still open behind a child of this kind, 0 for none.

@@ -6,7 +6,7 @@ use lib.ListN.{getD}
 use Rattle.tree.specs.Text.{bytes}
 use Rattle.table.specs.Layout.{Entry}
 use Rattle.xml.specs.Shape.{Label}
-use Rattle.xml.specs.Writing.{escaped, is-element}
+use Rattle.xml.specs.Writing.{escaped, is-element, is-attribute}
 use Rattle.xml_text.specs.Rows.{begin, ends, previous-of}
 use Rattle.xml_measure.specs.Lines.{label-at}
 use Rattle.xml_measure.specs.Walk.{open-labels}
@@ -15,9 +15,9 @@ use Rattle.xml_measure.specs.Walk.{open-labels}
 abbrev pub of-kind : ℕ → Label
 of-kind k = record { kind = k; content = [] }
 
--- the beginning of an element's start tag, or a text
-unfoldable pub opening : Label → List ℕ
-opening a = cond (is-element a) (bytes "<" ++ a .content) (escaped (a .content))
+-- the beginning of an element's start tag, or a text, below this parent
+unfoldable pub opening : Label → Label → List ℕ
+opening parent a = cond (is-element a) (bytes "<" ++ a .content) (escaped (is-attribute parent) (a .content))
 
 -- the ends before the node at p, of depth d, and what stands for it up to its children
 unfoldable pub row-text : List Entry → List ℕ → ℕ → ℕ → ℕ → List ℕ

@@ -28,13 +28,13 @@ fn put_content(out: &mut [u8], s: &[u8], p: usize) -> usize
     copying::put_content(out, committed::content(s, p))
 }
 
-// The same, with entities.
-fn put_escaped(out: &mut [u8], s: &[u8], p: usize) -> usize
+// The same with references, in a value or in a text.
+fn put_escaped(out: &mut [u8], s: &[u8], p: usize, value: bool) -> usize
     requires { ⌜ (Layout (now s)) × (p < length (nodes (now s)))
-        × (length (escaped (label-at (nodes (now s)) p .content)) ≤ length (now out)) ⌝ }
-    ensures { λ r. ⌜ Wrote (escaped (label-at (nodes (now (s .entry))) p .content)) (now (out .entry)) (now (out .exit)) r ⌝ }
+        × (length (escaped value (label-at (nodes (now s)) p .content)) ≤ length (now out)) ⌝ }
+    ensures { λ r. ⌜ Wrote (escaped value (label-at (nodes (now (s .entry))) p .content)) (now (out .entry)) (now (out .exit)) r ⌝ }
 {
-    escaping::put_escaped(out, committed::content(s, p))
+    escaping::put_escaped(out, committed::window(s, p), committed::size(s, p), value)
 }
 
 // A name behind a prefix.
@@ -74,16 +74,16 @@ fn put_tag_end(out: &mut [u8], above: u8, previous: u8) -> usize
     markup::put(out, b">")
 }
 
-// The beginning of an element's start tag, or a text; the node at p is of kind `kind`.
-fn put_opening(out: &mut [u8], s: &[u8], p: usize, kind: u8) -> usize
+// The beginning of an element's start tag, or a text; the node at p is of kind `kind`, its parent of kind `above`.
+fn put_opening(out: &mut [u8], s: &[u8], above: u8, p: usize, kind: u8) -> usize
     requires { ⌜ (Layout (now s)) × (p < length (nodes (now s))) × (kind ≡ label-at (nodes (now s)) p .kind)
-        × (length (opening (label-at (nodes (now s)) p)) ≤ length (now out)) ⌝ }
-    ensures { λ r. ⌜ Wrote (opening (label-at (nodes (now (s .entry))) p)) (now (out .entry)) (now (out .exit)) r ⌝ }
+        × (length (opening (of-kind above) (label-at (nodes (now s)) p)) ≤ length (now out)) ⌝ }
+    ensures { λ r. ⌜ Wrote (opening (of-kind above) (label-at (nodes (now (s .entry))) p)) (now (out .entry)) (now (out .exit)) r ⌝ }
 {
     if kind == 2 {
         return put_name(out, s, p, b"<");
     }
-    put_escaped(out, s, p)
+    put_escaped(out, s, p, above == 3)
 }
 
 // What stands for the node at p, of kind `kind`, up to its children; its parent is of kind `above`.
@@ -96,7 +96,7 @@ fn put_begin(out: &mut [u8], s: &[u8], above: u8, previous: u8, p: usize, kind: 
         return put_between(out, s, p, b" ", b"=\"");
     }
     let at = put_tag_end(out, above, previous);
-    at + put_opening(&mut out[at..], s, p, kind)
+    at + put_opening(&mut out[at..], s, above, p, kind)
 }
 
 // What stands for the node at p, of kind `kind`, behind its children, the last of which is of kind `last`.

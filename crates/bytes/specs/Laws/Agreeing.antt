@@ -1,14 +1,14 @@
 -- The loop that compares two byte strings.
-use Prim.Native.Nat.{ℕ, suc, _+_, _≤_, _<_}
-use mathlib.Core.Path.{_≡_}
+use Prim.Native.Nat.{ℕ, suc, _+_, _-_, _≤_, _<_, min}
+use mathlib.Core.Path.{_≡_, refl}
 use mathlib.Core.Bool.{Bool, true, false, cond}
 use mathlib.Core.List.{List, [], _∷_}
 use native.Mathlib.Omega.{arith}
 use native.Mathlib.Numerals.{add-one}
-use lib.Dec.{eqb}
+use lib.Dec.{eqb, leb}
 use lib.ListN.{length, getD, drop, drop-of-length-le}
 use lib.Seq.{drop-cons}
-use borrow.Author.Tests.{eq-eqb, ne-eqb}
+use borrow.Author.Tests.{eq-eqb, ne-eqb, leb-true, leb-false}
 use Rattle.xml.specs.Laws.Fixed.{agree}
 use Rattle.bytes.specs.Agreement.{Agreement}
 
@@ -46,14 +46,22 @@ module _ (w s : List ℕ) (at n : ℕ) (r : Agreeing w s at n) where
       rw (drop-cons w n 0 h, drop-cons s (at + n) 0 k, ne-eqb (getD s (at + n) 0) (getD w n 0) e) in
       record { agrees = omega (arith, r); inside = omega arith; most = omega arith }
 
-  pub agree-short : n < length w → at + n ≤ length s → length s ≤ at + n → Agreement w s at n
+  short : n < length w → length s ≤ at + n → at + n ≤ length s → Agreement w s at n
   unfolding Agreeing agree
-  agree-short h l k =
+  short h k l =
       let q : agree (drop n w) (drop (at + n) s) ≡ 0 = rw (drop-cons w n 0 h, drop-of-length-le s k) in
       record { agrees = omega (arith, r); inside = l; most = omega arith }
 
-  pub agree-whole : n ≤ length w → length w ≤ n → at + n ≤ length s → Agreement w s at n
+  whole : n ≤ length w → length w ≤ n → at + n ≤ length s → Agreement w s at n
   unfolding Agreeing agree
-  agree-whole m h l =
+  whole m h l =
       let q : agree (drop n w) (drop (at + n) s) ≡ 0 = rw (drop-of-length-le w h) in
       record { agrees = omega (arith, r); inside = l; most = m }
+
+  -- the word is at its end, or the input
+  pub agree-end : n ≡ min (length w) (length s - at) → at ≤ length s → Agreement w s at n
+  agree-end e k = go (leb (length w) n) refl
+    where
+      go : (t : Bool) → leb (length w) n ≡ t → Agreement w s at n
+      go true p = whole (omega arith) (leb-true (length w) n p) (omega arith)
+      go false p = let h = leb-false (length w) n p in short h (omega arith) (omega arith)

@@ -7,10 +7,10 @@ use lib.Dec.{eqb}
 use Rattle.tree.specs.Forest.{nil, node}
 use Rattle.tree.specs.Content.{element-kind, attribute-kind, text-kind, name-start, name-byte}
 use Rattle.xml.specs.Bytes.{ampersand, slash, less-than, equals-sign, greater-than, quotation-mark, apostrophe, blank, Quote, double}
-use Rattle.xml.specs.Bytes.{single, quote-byte, value-literal, text-literal, brackets, used}
+use Rattle.xml.specs.Bytes.{single, quote-byte, value-literal, normalized, text-literal, brackets, used}
 use Rattle.xml.specs.Shape.{Shape}
 use Rattle.xml.specs.Grammar.{Name}
-use Rattle.xml.specs.Laws.Words.{Words, Found, no-word, whole, begun, follow, entities, declarations}
+use Rattle.xml.specs.Laws.Words.{Words, Found, no-word, whole, begun, follow, references, declarations}
 
 -- where the reading stands. n is the innermost open element, ns are those around it, the nearest first; p is a name so far
 pub data Config : Type 0 where
@@ -84,22 +84,22 @@ step unique (behind-equals n ns seen) b =
     cond (blank b) (to (behind-equals n ns seen))
     (cond (eqb b quotation-mark) (to (behind-quote n ns seen double)) (cond (eqb b apostrophe) (to (behind-quote n ns seen single)) stuck))
 step unique (behind-quote n ns seen q) b =
-    cond (value-literal q b) (move (in-value n ns seen q) (born (suc (depth (n ∷ ns))) text-kind ∷ byte b ∷ []))
-    (cond (eqb b ampersand) (move (value-reference n ns seen q entities) (born (suc (depth (n ∷ ns))) text-kind ∷ []))
+    cond (value-literal q b) (move (in-value n ns seen q) (born (suc (depth (n ∷ ns))) text-kind ∷ byte (normalized b) ∷ []))
+    (cond (eqb b ampersand) (move (value-reference n ns seen q references) (born (suc (depth (n ∷ ns))) text-kind ∷ []))
     (cond (eqb b (quote-byte q)) (to (behind-part n ns seen)) stuck))
 step unique (in-value n ns seen q) b =
-    cond (value-literal q b) (move (in-value n ns seen q) (byte b ∷ []))
-    (cond (eqb b ampersand) (to (value-reference n ns seen q entities)) (cond (eqb b (quote-byte q)) (to (behind-part n ns seen)) stuck))
+    cond (value-literal q b) (move (in-value n ns seen q) (byte (normalized b) ∷ []))
+    (cond (eqb b ampersand) (to (value-reference n ns seen q references)) (cond (eqb b (quote-byte q)) (to (behind-part n ns seen)) stuck))
 step unique (value-reference n ns seen q x) b =
     word-step (follow x b) (λ k. move (in-value n ns seen q) (byte k ∷ [])) (λ y. to (value-reference n ns seen q y))
 step unique (behind-slash ns) b = cond (eqb b greater-than) (to (closed ns)) stuck
 step unique (content n ns) b =
     cond (text-literal 0 b) (move (in-text n ns (brackets 0 b)) (born (depth (n ∷ ns)) text-kind ∷ byte b ∷ []))
-    (cond (eqb b ampersand) (move (text-reference n ns entities) (born (depth (n ∷ ns)) text-kind ∷ []))
+    (cond (eqb b ampersand) (move (text-reference n ns references) (born (depth (n ∷ ns)) text-kind ∷ []))
     (cond (eqb b less-than) (to (behind-open n ns)) stuck))
 step unique (in-text n ns k) b =
     cond (text-literal k b) (move (in-text n ns (brackets k b)) (byte b ∷ []))
-    (cond (eqb b ampersand) (to (text-reference n ns entities)) (cond (eqb b less-than) (to (behind-open n ns)) stuck))
+    (cond (eqb b ampersand) (to (text-reference n ns references)) (cond (eqb b less-than) (to (behind-open n ns)) stuck))
 step unique (text-reference n ns x) b = word-step (follow x b) (λ k. move (in-text n ns 0) (byte k ∷ [])) (λ y. to (text-reference n ns y))
 step unique (behind-open n ns) b =
     cond (name-start b) (move (tag-name (n ∷ ns) (b ∷ [])) (born (depth (n ∷ ns)) element-kind ∷ byte b ∷ []))

@@ -7,10 +7,10 @@ use Rattle.tree.specs.Content.{text-kind}
 use Rattle.xml.specs.Bytes.{equals-sign, greater-than, blank, Quote, quote-byte, used}
 use Rattle.xml.specs.Shape.{Shape}
 use Rattle.xml.specs.Grammar.{Name, Blanks, no-blank, blank-then, NameBytes, no-name-byte, name-byte-then, name, Value, value-close}
-use Rattle.xml.specs.Grammar.{value-byte, value-entity, Chars, chars-end, chars-byte, chars-entity, text-node, Place, unspaced}
+use Rattle.xml.specs.Grammar.{value-byte, value-refers, Chars, chars-end, chars-byte, chars-refers, text-node, Place, unspaced}
 use Rattle.xml.specs.Grammar.{spaced, inside, opened, Derives, spacing, empty, full, more, derive-attribute, derive-text, markup}
 use Rattle.xml.specs.Grammar.{derive-element, end-tag, Root, root, Parses, bare, declared-short, declared-long}
-use Rattle.xml.specs.Laws.Words.{Words, whole, begun, follow, Word, First, first-whole, first-begun, first, no-first, entity-word}
+use Rattle.xml.specs.Laws.Words.{Words, whole, begun, follow, Word, First, first-whole, first-begun, first, no-first, reference-word}
 use Rattle.xml.specs.Laws.Words.{short-word, long-word}
 use Rattle.xml.specs.Laws.Automaton.{Config, at-start, prolog, epilog, declaration, tag-name, behind-part, in-tag, before-equals}
 use Rattle.xml.specs.Laws.Automaton.{behind-equals, attribute-name, behind-quote, in-value, value-reference, content, behind-open}
@@ -128,7 +128,7 @@ module _ {u : Bool} where
   unfolding tell-bytes
   read-value value-close a = s-value-end ▸ a
   read-value (value-byte h v) a = s-value-byte h ▸ read-value v a
-  read-value (value-entity r v) a = s-value-reference ▸ value-word (entity-word r) (read-value v a)
+  read-value (value-refers r v) a = s-value-reference ▸ value-word (reference-word r) (read-value v a)
 
   read-quote : {n : Name} {ns seen : List Name} {q : Quote} {s t c : List ℕ} {e : List Event} → Value q s t c
       → Accepts u (behind-part n ns seen) t e
@@ -136,20 +136,20 @@ module _ {u : Bool} where
   unfolding tell-bytes tell
   read-quote value-close a = s-quote-end ▸ a
   read-quote (value-byte h v) a = s-quote-byte h ▸ read-value v a
-  read-quote (value-entity r v) a = s-quote-reference ▸ value-word (entity-word r) (read-value v a)
+  read-quote (value-refers r v) a = s-quote-reference ▸ value-word (reference-word r) (read-value v a)
 
   read-text : {n : Name} {ns : List Name} {k : ℕ} {s t c : List ℕ} {e : List Event} → Chars k s t c → Accepts u (behind-open n ns) t e
       → Accepts u (in-text n ns k) s (tell-bytes c e)
   unfolding tell-bytes
   read-text chars-end a = s-text-open ▸ a
   read-text (chars-byte h x) a = s-text-byte h ▸ read-text x a
-  read-text (chars-entity r x) a = s-text-reference ▸ text-word (entity-word r) (read-text x a)
+  read-text (chars-refers r x) a = s-text-reference ▸ text-word (reference-word r) (read-text x a)
 
   read-content : {n : Name} {ns : List Name} {b : ℕ} {s t c : List ℕ} {e : List Event} → Chars 0 s t (b ∷ c)
       → Accepts u (behind-open n ns) t e
       → Accepts u (content n ns) s (born (depth (n ∷ ns)) text-kind ∷ byte b ∷ tell-bytes c e)
   read-content (chars-byte h x) a = s-content-byte h ▸ read-text x a
-  read-content (chars-entity r x) a = s-content-reference ▸ text-word (entity-word r) (read-text x a)
+  read-content (chars-refers r x) a = s-content-reference ▸ text-word (reference-word r) (read-text x a)
 
   pub read-end : {n : Name} {ns : List Name} (w : List ℕ) {s t : List ℕ} {e : List Event} → Blanks s (greater-than ∷ t)
       → Accepts u (closed ns) t e

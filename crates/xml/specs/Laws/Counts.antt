@@ -52,7 +52,7 @@ peak-append k (byte b ∷ v) e = peak-append (suc k) v e
 
 -- the counts of a tree ------------------------------------------------------------------
 
-births-bytes : (c : List ℕ) (e : List Event) → births (tell-bytes c e) ≡ births e
+pub births-bytes : (c : List ℕ) (e : List Event) → births (tell-bytes c e) ≡ births e
 unfolding births tell-bytes
 births-bytes [] e = refl
 births-bytes (b ∷ c) e = births-bytes c e
@@ -67,7 +67,7 @@ pub size-told : (f : Shape) → births (tell 1 f []) ≡ size f
 unfolding births
 size-told f = births-tell 1 f [] ∙ omega arith
 
-peak-bytes : (k : ℕ) (c : List ℕ) (e : List Event) → peak k (tell-bytes c e) ≡ peak (k + length c) e
+pub peak-bytes : (k : ℕ) (c : List ℕ) (e : List Event) → peak k (tell-bytes c e) ≡ peak (k + length c) e
 unfolding peak tell-bytes
 peak-bytes k [] e = ap (λ (n : ℕ). peak n e) (omega arith)
 peak-bytes k (b ∷ c) e = peak-bytes (suc k) c e ∙ ap (λ (n : ℕ). peak n e) (omega arith)

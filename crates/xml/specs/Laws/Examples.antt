@@ -1,8 +1,9 @@
--- Inputs with what the judgement says of them: a table, and one of inputs at the limits, with a theorem each. Tree E, written and read.
+-- Inputs with what the judgement says of them: a table, and one of inputs at the limits, with a theorem each. Values, texts and tree E,
+-- written and read.
 use Prim.Native.String.{String}
 use Prim.Native.Nat.{ℕ, zero, suc, _+_, _-_, _≤_, _<_}
 use mathlib.Core.Path.{_≡_, refl, ap, ap₂, _∙_}
-use mathlib.Core.Bool.{true}
+use mathlib.Core.Bool.{true, false}
 use mathlib.Core.List.{List, [], _∷_, _++_, map}
 use native.Mathlib.Omega.{arith}
 use lib.ListN.{length}
@@ -16,9 +17,10 @@ use Rattle.tree.specs.Examples.{tree-E}
 use Rattle.protocol.specs.Calls.{node-limit, stands-for}
 use Rattle.protocol.specs.Examples.{E-loadable}
 use Rattle.tree.specs.Text.{bytes}
-use Rattle.xml.specs.Bytes.{space, blank, value-literal, text-literal, brackets, used}
+use Rattle.xml.specs.Bytes.{space, blank, double, value-literal, normalized, text-literal, brackets, used}
 use Rattle.xml.specs.Shape.{size, longest, numbered, shape}
-use Rattle.xml.specs.Grammar.{no-blank, bare, Spells}
+use Rattle.xml.specs.Grammar.{no-blank, character-tab, character-line-feed, Value, value-close, value-byte, value-refers, Chars}
+use Rattle.xml.specs.Grammar.{chars-end, chars-byte, chars-refers, bare, Spells}
 use Rattle.xml.specs.Reading.{input-limit, ReadsAs}
 use Rattle.xml.specs.Writing.{escaped, attributes, contents, below, write, repeats, neighbouring-texts}
 use Rattle.xml.specs.Laws.Words.{follow}
@@ -62,10 +64,19 @@ inputs =
     ∷ ("<a>]]></a>", bad 4 5)
     ∷ ("<a b=']]>'/>", fine-with 4)
     ∷ ("<a>&apos;</a>", fine-with 3)
-    ∷ ("<a>&#9;</a>", bad 4 4)
+    -- character references: to a tab and a line feed, and to no other character
+    ∷ ("<a b='&#9;'>]]&#10;></a>", fine-with 5)
+    ∷ ("<a>&#1;</a>", bad 4 6)
+    ∷ ("<a>&#13;</a>", bad 4 6)
+    ∷ ("<a>&#32;</a>", bad 4 5)
+    ∷ ("<a>&#09;</a>", bad 4 5)
+    ∷ ("<a>&#x9;</a>", bad 4 5)
+    ∷ ("<a>&#9", bad 4 6)
     -- 32 and 33 bytes of content
     ∷ ("<a>12345678901234567890123456789012</a>", fine-with 3)
+    ∷ ("<a b='1234567890123456789012345678901&#9;'/>", fine-with 4)
     ∷ ("<a>12345678901234567890123456789012&</a>", bad 5 35)
+    ∷ ("<a b='12345678901234567890123456789012&#9;'/>", bad 5 38)
     ∷ ("<a>12345678901234567890123456789012></a>", bad 5 35)
     ∷ ("<a>123456789012345678901234567890]]></a>", bad 4 35)
     ∷ []
@@ -148,6 +159,22 @@ computed = refl
 
 pub limits : map (λ (x : Limit). judgement node-limit (input (x .0) (x .1))) inputs-at-limits ≡ map (λ (x : Limit). x .2) inputs-at-limits
 limits = all-late inputs-at-limits refl ∙ computed
+
+-- tabs and line feeds: in values and in texts, read and written ----------------------------
+
+pub value-read : Value double (bytes "a\tb\n&#9;&#10;\"") [] (bytes "a b \t\n")
+unfolding value-literal normalized blank text-byte
+value-read = value-byte refl (value-byte refl (value-byte refl (value-byte refl (value-refers character-tab
+    (value-refers character-line-feed value-close)))))
+
+pub text-read : Chars 0 (bytes "a\tb\n&#9;&#10;<") [] (bytes "a\tb\n\t\n")
+unfolding text-literal text-byte brackets
+text-read = chars-byte refl (chars-byte refl (chars-byte refl (chars-byte refl (chars-refers character-tab
+    (chars-refers character-line-feed chars-end)))))
+
+pub written-escaped : (escaped true (bytes "a\tb\n<") ≡ bytes "a&#9;b&#10;&lt;") × (escaped false (bytes "a\tb\n<") ≡ bytes "a\tb\n&lt;")
+unfolding escaped
+written-escaped = (refl, refl)
 
 -- tree E of document 01: its text, written and read -----------------------------------------
 

@@ -1,4 +1,4 @@
--- The entities and the declarations as fixed byte strings, compared whole.
+-- The references and the declarations as fixed byte strings, compared whole.
 use Prim.Native.Nat.{ℕ, suc}
 use mathlib.Core.Path.{_≡_, refl, sym, ap, _∙_}
 use mathlib.Core.Bool.{Bool, true, false, cond}
@@ -6,9 +6,9 @@ use mathlib.Core.List.{List, [], _∷_, _++_}
 use lib.Dec.{eqb, eqb·zero-suc, eqb·suc-suc}
 use lib.ListN.{length, getD}
 use Rattle.tree.specs.Text.{bytes}
-use Rattle.xml.specs.Bytes.{ampersand, apostrophe, greater-than, less-than, quotation-mark, amp, apos, gt, lt, quot}
-use Rattle.xml.specs.Bytes.{short-declaration, long-declaration}
-use Rattle.xml.specs.Laws.Words.{Words, last, then, fork, no-word, whole, begun, follow, chain, entities, declarations, version}
+use Rattle.xml.specs.Bytes.{tab, line-feed, ampersand, apostrophe, greater-than, less-than, quotation-mark, amp, apos, gt, lt, quot}
+use Rattle.xml.specs.Bytes.{tab-reference, line-feed-reference, short-declaration, long-declaration}
+use Rattle.xml.specs.Laws.Words.{Words, last, then, fork, no-word, whole, begun, follow, chain, references, declarations, version}
 use Rattle.xml.specs.Laws.Words.{encoding}
 use Rattle.xml.specs.Laws.Tokens.{Reach, got, lost, one-more, reached, reach}
 
@@ -93,36 +93,40 @@ common (a ∷ w) b x y (c ∷ l) = go (eqb c a) (eqb (getD l (length w) 0) b) (c
     go false true h = refl
     go false false h = refl
 
--- the entities, by their first two bytes -----------------------------------------------------
+-- the references, by their first two bytes ---------------------------------------------------
 
-unfoldable pub entity-at : List ℕ → Reach
-entity-at l =
+unfoldable pub reference-at : List ℕ → Reach
+reference-at l =
     cond (eqb (getD l 0 0) 97) (cond (eqb (getD l 1 0) 109) (word-at amp ampersand l) (word-at apos apostrophe l))
     (cond (eqb (getD l 0 0) 103) (word-at gt greater-than l)
-    (cond (eqb (getD l 0 0) 108) (word-at lt less-than l) (word-at quot quotation-mark l)))
-
-abbrev more-entities : Words
-more-entities =
-    fork 103 (chain (bytes "t") (last 59 greater-than)) (fork 108 (chain (bytes "t") (last 59 less-than))
-    (chain (bytes "quot") (last 59 quotation-mark)))
+    (cond (eqb (getD l 0 0) 108) (word-at lt less-than l)
+    (cond (eqb (getD l 0 0) 35)
+    (cond (eqb (getD l 1 0) 49) (word-at line-feed-reference line-feed l) (word-at tab-reference tab l))
+    (word-at quot quotation-mark l))))
 
 choose : {x x′ y y′ : Reach} (t : Bool) → x ≡ x′ → y ≡ y′ → cond t x y ≡ cond t x′ y′
 choose true p q = p
 choose false p q = q
 
-pub entities-at : (l : List ℕ) → reach entities l ≡ entity-at l
-unfolding entity-at
-entities-at l =
+pub references-at : (l : List ℕ) → reach references l ≡ reference-at l
+unfolding reference-at
+references-at l =
+    let u = chain (bytes "quot") (last 59 quotation-mark) in
+    let f = chain (bytes "0") (last 59 line-feed) in
+    let t = chain (bytes "9") (last 59 tab) in
+    let n = chain (bytes "t") (last 59 less-than) in
+    let o = chain (bytes "t") (last 59 greater-than) in
     let m = chain (bytes "p") (last 59 ampersand) in
     let p = chain (bytes "pos") (last 59 apostrophe) in
+    let c = common (35 ∷ []) 49 f t l
+    ∙ choose (eqb (getD l 1 0) 49) (one-word (bytes "#10") 59 line-feed l) (one-word (bytes "#9") 59 tab l) in
+    let h = common [] 35 (fork 49 f t) u l ∙ choose (eqb (getD l 0 0) 35) c (one-word (bytes "quot") 59 quotation-mark l) in
+    let q = common [] 108 n (fork 35 (fork 49 f t) u) l ∙ choose (eqb (getD l 0 0) 108) (one-word (bytes "lt") 59 less-than l) h in
+    let g = common [] 103 o (fork 108 n (fork 35 (fork 49 f t) u)) l
+    ∙ choose (eqb (getD l 0 0) 103) (one-word (bytes "gt") 59 greater-than l) q in
     let a = common (97 ∷ []) 109 m p l
     ∙ choose (eqb (getD l 1 0) 109) (one-word (bytes "amp") 59 ampersand l) (one-word (bytes "apos") 59 apostrophe l) in
-    let q = common [] 108 (chain (bytes "t") (last 59 less-than)) (chain (bytes "quot") (last 59 quotation-mark)) l
-    ∙ choose (eqb (getD l 0 0) 108) (one-word (bytes "lt") 59 less-than l) (one-word (bytes "quot") 59 quotation-mark l) in
-    let g = common [] 103 (chain (bytes "t") (last 59 greater-than))
-    (fork 108 (chain (bytes "t") (last 59 less-than)) (chain (bytes "quot") (last 59 quotation-mark))) l
-    ∙ choose (eqb (getD l 0 0) 103) (one-word (bytes "gt") 59 greater-than l) q in
-    common [] 97 (fork 109 m p) more-entities l ∙ choose (eqb (getD l 0 0) 97) a g
+    common [] 97 (fork 109 m p) (fork 103 o (fork 108 n (fork 35 (fork 49 f t) u))) l ∙ choose (eqb (getD l 0 0) 97) a g
 
 -- the declarations, behind <?, by the byte behind the version ---------------------------------
 

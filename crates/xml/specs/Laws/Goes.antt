@@ -57,6 +57,12 @@ module _ (s : List ℕ) (c : Config) (n i : ℕ) where
         scan-next s c n k i inside d (byte b ∷ []) e (omega arith) (omega arith)
         ∙ ap₂ (λ (m j : ℕ). scan-at s d m (suc k) j) (omega arith) (omega arith) ∙ ap (λ (q : ℕ). scan-at s d n q (i + 1)) (omega arith)
 
+    -- the first byte of a content, or a reference in its place
+    pub scan-plain : (d : Config) (w : List Event) → step true c (getD s i 0) ≡ move d w → births w ≡ 0
+        → extent 0 w d ≤ content-limit → scan-at s c n 0 i ≡ scan-at s d n (tail 0 w) (i + 1)
+    scan-plain d w e p m =
+        scan-next s c n 0 i inside d w e (omega arith) m ∙ ap₂ (λ (q j : ℕ). scan-at s d q (tail 0 w) j) (omega arith) (omega arith)
+
     -- the 33rd, or a reference in its place
     pub scan-full : (d : Config) (v : List Event) → step true c (getD s i 0) ≡ move d v → births v ≡ 0
         → (k : ℕ) → content-limit < extent k v d → scan-at s c n k i ≡ bad 5 i

@@ -7,10 +7,10 @@ use Rattle.tree.specs.Content.{element-kind}
 use Rattle.xml.specs.Bytes.{less-than, equals-sign, greater-than, blank, Quote, quote-byte, used}
 use Rattle.xml.specs.Shape.{Shape}
 use Rattle.xml.specs.Grammar.{Name, Blanks, no-blank, blank-then, NameBytes, no-name-byte, name-byte-then, Named, name, Value}
-use Rattle.xml.specs.Grammar.{value-close, value-byte, value-entity, Chars, chars-end, chars-byte, chars-entity, text-node, unspaced}
+use Rattle.xml.specs.Grammar.{value-close, value-byte, value-refers, Chars, chars-end, chars-byte, chars-refers, text-node, unspaced}
 use Rattle.xml.specs.Grammar.{spaced, inside, opened, Derives, spacing, empty, full, more, derive-attribute, derive-text, markup}
 use Rattle.xml.specs.Grammar.{derive-element, end-tag, Root, root, Parses, bare, declared-short, declared-long}
-use Rattle.xml.specs.Laws.Words.{Words, declarations, Word, word-back, word-end, word-entity, word-declaration}
+use Rattle.xml.specs.Laws.Words.{Words, declarations, Word, word-back, word-end, word-reference, word-declaration}
 use Rattle.xml.specs.Laws.Automaton.{Config, at-start, behind-first, prolog, behind-root, epilog, declaration, tag-name, behind-part}
 use Rattle.xml.specs.Laws.Automaton.{in-tag, before-equals, behind-equals, behind-slash, attribute-name, behind-quote, in-value}
 use Rattle.xml.specs.Laws.Automaton.{value-reference, content, behind-open, in-text, text-reference, end-name, Event, born, byte}
@@ -162,19 +162,19 @@ module _ {u : Bool} where
   back (s-equals-blank h) (r-equals q x r) = r-equals q (blank-then h x) r
   back (s-equals-quote q) r = r-equals q no-blank r
   back (s-quote-byte h) (r-value v r) = r-quote (value-byte h v) r
-  back s-quote-reference (r-value-word w (r-value v r)) = r-quote (value-entity (word-entity w) v) r
+  back s-quote-reference (r-value-word w (r-value v r)) = r-quote (value-refers (word-reference w) v) r
   back s-quote-end r = r-quote value-close r
   back (s-value-byte h) (r-value v r) = r-value (value-byte h v) r
-  back s-value-reference (r-value-word w (r-value v r)) = r-value (value-entity (word-entity w) v) r
+  back s-value-reference (r-value-word w (r-value v r)) = r-value (value-refers (word-reference w) v) r
   back s-value-end r = r-value value-close r
   back (s-value-word-end h) r = r-value-word (word-end h) r
   back (s-value-word-on h) (r-value-word w r) = r-value-word (word-back h w) r
   back s-slash r = r-slash r
   back (s-content-byte h) (r-text x (r-open p r)) = r-content (derive-text (chars-byte h x) p) r
-  back s-content-reference (r-text-word w (r-text x (r-open p r))) = r-content (derive-text (chars-entity (word-entity w) x) p) r
+  back s-content-reference (r-text-word w (r-text x (r-open p r))) = r-content (derive-text (chars-refers (word-reference w) x) p) r
   back s-content-open (r-open p r) = r-content (markup p) r
   back (s-text-byte h) (r-text x r) = r-text (chars-byte h x) r
-  back s-text-reference (r-text-word w (r-text x r)) = r-text (chars-entity (word-entity w) x) r
+  back s-text-reference (r-text-word w (r-text x r)) = r-text (chars-refers (word-reference w) x) r
   back s-text-open r = r-text chars-end r
   back (s-text-word-end h) r = r-text-word (word-end h) r
   back (s-text-word-on h) (r-text-word w r) = r-text-word (word-back h w) r

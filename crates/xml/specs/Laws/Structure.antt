@@ -1,16 +1,18 @@
 -- The children that a document of the grammar can have, and that its trees have them.
 use Prim.Native.Nat.{ℕ}
 use mathlib.Core.Path.{_≡_, refl, sym}
-use mathlib.Core.Bool.{Bool, true, false, _&&_, _||_, false≢true}
+use mathlib.Core.Bool.{Bool, true, false, cond, _&&_, _||_, false≢true}
 use mathlib.Core.List.{List, [], _∷_}
 use Rattle.tree.specs.Lists.{every}
 use Rattle.tree.specs.Forest.{nil, node}
 use Rattle.tree.specs.Content.{text-byte, name-byte, spells-name}
-use Rattle.xml.specs.Bytes.{Quote, used, value-literal, text-literal}
+use Rattle.xml.specs.Bytes.{space, blank, Quote, used, value-literal, normalized, text-literal}
 use Rattle.xml.specs.Shape.{Shape, element, attribute, text}
-use Rattle.xml.specs.Grammar.{Name, NameBytes, no-name-byte, name-byte-then, Named, name, Entity, entity-amp, entity-apos, entity-gt}
-use Rattle.xml.specs.Grammar.{entity-lt, entity-quot, Value, value-close, value-byte, value-entity, Chars, chars-end, chars-byte}
-use Rattle.xml.specs.Grammar.{chars-entity, text-node, Place, unspaced, spaced, inside, opened, Derives, spacing, empty, full, more}
+use Rattle.xml.specs.Grammar.{Name, NameBytes, no-name-byte, name-byte-then, Named, name, Reference, entity-amp, entity-apos}
+use Rattle.xml.specs.Grammar.{entity-gt, entity-lt, entity-quot, character-tab, character-line-feed, Value, value-close, value-byte}
+use Rattle.xml.specs.Grammar.{value-refers}
+use Rattle.xml.specs.Grammar.{Chars, chars-end, chars-byte, chars-refers, text-node, Place, unspaced, spaced, inside, opened, Derives}
+use Rattle.xml.specs.Grammar.{spacing, empty, full, more}
 use Rattle.xml.specs.Grammar.{derive-attribute, derive-text, markup, derive-element, end-tag, Root, root, bare, declared-short}
 use Rattle.xml.specs.Grammar.{declared-long, Spells}
 
@@ -57,17 +59,27 @@ name-bytes (name-byte-then h l) = both h (name-bytes l)
 named : {n s t : List ℕ} → Named n s t → spells-name n ≡ true
 named (name h l) = both h (name-bytes l)
 
-entity-byte : {s t : List ℕ} {k : ℕ} → Entity s t k → text-byte k ≡ true
+reference-byte : {s t : List ℕ} {k : ℕ} → Reference s t k → text-byte k ≡ true
 unfolding text-byte
-entity-byte entity-amp = refl
-entity-byte entity-apos = refl
-entity-byte entity-gt = refl
-entity-byte entity-lt = refl
-entity-byte entity-quot = refl
+reference-byte entity-amp = refl
+reference-byte entity-apos = refl
+reference-byte entity-gt = refl
+reference-byte entity-lt = refl
+reference-byte entity-quot = refl
+reference-byte character-tab = refl
+reference-byte character-line-feed = refl
 
 literal-value : (q : Quote) (b : ℕ) → value-literal q b ≡ true → text-byte b ≡ true
 unfolding value-literal
 literal-value q b h = left-of _ _ (left-of _ _ (left-of _ _ h))
+
+normalized-byte : (b : ℕ) → text-byte b ≡ true → text-byte (normalized b) ≡ true
+unfolding normalized text-byte
+normalized-byte b h = go (blank b)
+  where
+    go : (t : Bool) → text-byte (cond t space b) ≡ true
+    go true = refl
+    go false = h
 
 literal-text : (k b : ℕ) → text-literal k b ≡ true → text-byte b ≡ true
 unfolding text-literal
@@ -75,13 +87,13 @@ literal-text k b h = left-of _ _ (left-of _ _ (left-of _ _ h))
 
 value-bytes : {q : Quote} {s t c : List ℕ} → Value q s t c → every text-byte c ≡ true
 value-bytes value-close = refl
-value-bytes {q} (value-byte {b = b} h v) = both (literal-value q b h) (value-bytes v)
-value-bytes (value-entity r v) = both (entity-byte r) (value-bytes v)
+value-bytes {q} (value-byte {b = b} h v) = both (normalized-byte b (literal-value q b h)) (value-bytes v)
+value-bytes (value-refers r v) = both (reference-byte r) (value-bytes v)
 
 text-bytes : {k : ℕ} {s t c : List ℕ} → Chars k s t c → every text-byte c ≡ true
 text-bytes chars-end = refl
 text-bytes (chars-byte {k = k} {b = b} h x) = both (literal-text k b h) (text-bytes x)
-text-bytes (chars-entity r x) = both (entity-byte r) (text-bytes x)
+text-bytes (chars-refers r x) = both (reference-byte r) (text-bytes x)
 
 abbrev spot : Place → Spot
 spot (unspaced n seen) = attributes seen

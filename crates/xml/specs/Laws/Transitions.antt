@@ -7,9 +7,9 @@ use lib.Dec.{eqb}
 use borrow.Author.Tests.{eqb-true, eq-eqb}
 use Rattle.tree.specs.Content.{element-kind, attribute-kind, text-kind, name-start, name-byte, text-byte}
 use Rattle.xml.specs.Bytes.{ampersand, slash, less-than, equals-sign, greater-than, quotation-mark, apostrophe, blank, Quote, double}
-use Rattle.xml.specs.Bytes.{single, quote-byte, value-literal, text-literal, brackets, used}
+use Rattle.xml.specs.Bytes.{single, quote-byte, value-literal, normalized, text-literal, brackets, used}
 use Rattle.xml.specs.Grammar.{Name}
-use Rattle.xml.specs.Laws.Words.{Words, Found, no-word, whole, begun, follow, entities, declarations, fork-on}
+use Rattle.xml.specs.Laws.Words.{Words, Found, no-word, whole, begun, follow, references, declarations, fork-on}
 use Rattle.xml.specs.Laws.Automaton.{Config, at-start, behind-first, prolog, behind-root, epilog, declaration, tag-name, behind-part}
 use Rattle.xml.specs.Laws.Automaton.{in-tag, before-equals, behind-equals, behind-slash, attribute-name, behind-quote, in-value}
 use Rattle.xml.specs.Laws.Automaton.{value-reference, content, behind-open, in-text, text-reference, end-name, Event, born, byte}
@@ -54,14 +54,14 @@ pub data Step (u : Bool) : Config → ℕ → Config → List Event → Type 0 w
   s-equals-quote : {n : Name} {ns seen : List Name} (q : Quote)
       → Step u (behind-equals n ns seen) (quote-byte q) (behind-quote n ns seen q) []
   s-quote-byte : {n : Name} {ns seen : List Name} {q : Quote} {b : ℕ} → value-literal q b ≡ true
-      → Step u (behind-quote n ns seen q) b (in-value n ns seen q) (born (suc (depth (n ∷ ns))) text-kind ∷ byte b ∷ [])
+      → Step u (behind-quote n ns seen q) b (in-value n ns seen q) (born (suc (depth (n ∷ ns))) text-kind ∷ byte (normalized b) ∷ [])
   s-quote-reference : {n : Name} {ns seen : List Name} {q : Quote}
-      → Step u (behind-quote n ns seen q) ampersand (value-reference n ns seen q entities) (born (suc (depth (n ∷ ns))) text-kind ∷ [])
+      → Step u (behind-quote n ns seen q) ampersand (value-reference n ns seen q references) (born (suc (depth (n ∷ ns))) text-kind ∷ [])
   s-quote-end : {n : Name} {ns seen : List Name} {q : Quote} → Step u (behind-quote n ns seen q) (quote-byte q) (behind-part n ns seen) []
   s-value-byte : {n : Name} {ns seen : List Name} {q : Quote} {b : ℕ} → value-literal q b ≡ true
-      → Step u (in-value n ns seen q) b (in-value n ns seen q) (byte b ∷ [])
+      → Step u (in-value n ns seen q) b (in-value n ns seen q) (byte (normalized b) ∷ [])
   s-value-reference : {n : Name} {ns seen : List Name} {q : Quote}
-      → Step u (in-value n ns seen q) ampersand (value-reference n ns seen q entities) []
+      → Step u (in-value n ns seen q) ampersand (value-reference n ns seen q references) []
   s-value-end : {n : Name} {ns seen : List Name} {q : Quote} → Step u (in-value n ns seen q) (quote-byte q) (behind-part n ns seen) []
   s-value-word-end : {n : Name} {ns seen : List Name} {q : Quote} {x : Words} {b k : ℕ} → follow x b ≡ whole k
       → Step u (value-reference n ns seen q x) b (in-value n ns seen q) (byte k ∷ [])
@@ -71,11 +71,11 @@ pub data Step (u : Bool) : Config → ℕ → Config → List Event → Type 0 w
   s-content-byte : {n : Name} {ns : List Name} {b : ℕ} → text-literal 0 b ≡ true
       → Step u (content n ns) b (in-text n ns (brackets 0 b)) (born (depth (n ∷ ns)) text-kind ∷ byte b ∷ [])
   s-content-reference : {n : Name} {ns : List Name}
-      → Step u (content n ns) ampersand (text-reference n ns entities) (born (depth (n ∷ ns)) text-kind ∷ [])
+      → Step u (content n ns) ampersand (text-reference n ns references) (born (depth (n ∷ ns)) text-kind ∷ [])
   s-content-open : {n : Name} {ns : List Name} → Step u (content n ns) less-than (behind-open n ns) []
   s-text-byte : {n : Name} {ns : List Name} {k b : ℕ} → text-literal k b ≡ true
       → Step u (in-text n ns k) b (in-text n ns (brackets k b)) (byte b ∷ [])
-  s-text-reference : {n : Name} {ns : List Name} {k : ℕ} → Step u (in-text n ns k) ampersand (text-reference n ns entities) []
+  s-text-reference : {n : Name} {ns : List Name} {k : ℕ} → Step u (in-text n ns k) ampersand (text-reference n ns references) []
   s-text-open : {n : Name} {ns : List Name} {k : ℕ} → Step u (in-text n ns k) less-than (behind-open n ns) []
   s-text-word-end : {n : Name} {ns : List Name} {x : Words} {b k : ℕ} → follow x b ≡ whole k
       → Step u (text-reference n ns x) b (in-text n ns 0) (byte k ∷ [])

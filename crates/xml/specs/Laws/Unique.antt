@@ -27,13 +27,23 @@ differ p q = let z : _≡_ {A = ℕ} 0 1 = cc in omega arith
 differ-nil : {e : Event} {x : List Event} → _≡_ {A = List Event} [] (e ∷ x) → ⊥
 differ-nil p = let z : _≡_ {A = ℕ} 0 1 = cc in omega arith
 
-same-bytes : (c b : List ℕ) {d d′ : ℕ} {x y : List Event} → Low d x → Low d′ y → tell-bytes c x ≡ tell-bytes b y → (c ≡ b) × (x ≡ y)
+-- nothing, or a node
+pub data Fresh : List Event → Type 0 where
+  fresh-end : Fresh []
+  fresh-node : {d k : ℕ} {e : List Event} → Fresh (born d k ∷ e)
+
+low-fresh : {d : ℕ} {e : List Event} → Low d e → Fresh e
+low-fresh none = fresh-end
+low-fresh (some h) = fresh-node
+
+-- the bytes before a node are known
+pub same-bytes : (c b : List ℕ) {x y : List Event} → Fresh x → Fresh y → tell-bytes c x ≡ tell-bytes b y → (c ≡ b) × (x ≡ y)
 unfolding tell-bytes
 same-bytes [] [] h k e = (refl, e)
-same-bytes [] (b ∷ bs) none k e = absurd (differ-nil e)
-same-bytes [] (b ∷ bs) (some _) k e = absurd (differ refl e)
-same-bytes (c ∷ cs) [] h none e = absurd (differ-nil (sym e))
-same-bytes (c ∷ cs) [] h (some _) e = absurd (differ refl (sym e))
+same-bytes [] (b ∷ bs) fresh-end k e = absurd (differ-nil e)
+same-bytes [] (b ∷ bs) fresh-node k e = absurd (differ refl e)
+same-bytes (c ∷ cs) [] h fresh-end e = absurd (differ-nil (sym e))
+same-bytes (c ∷ cs) [] h fresh-node e = absurd (differ refl (sym e))
 same-bytes (c ∷ cs) (b ∷ bs) {x = x} {y = y} h k e =
     let p : c ≡ b = cc in
     let r : tell-bytes cs x ≡ tell-bytes bs y = cc in
@@ -54,7 +64,8 @@ unique d (node a u f) (node b v g) {x} {y} h k e =
     let r : tell-bytes (a .content) (tell (suc d) u (tell d f x)) ≡ tell-bytes (b .content) (tell (suc d) v (tell d g y)) = cc in
     let m = low-tell d f x h in
     let n = low-tell d g y k in
-    let q = same-bytes (a .content) (b .content) (low-tell (suc d) u (tell d f x) m) (low-tell (suc d) v (tell d g y) n) r in
+    let q = same-bytes (a .content) (b .content) (low-fresh (low-tell (suc d) u (tell d f x) m))
+    (low-fresh (low-tell (suc d) v (tell d g y) n)) r in
     let s = unique (suc d) u v m n (q .1) in
     let t = unique d f g h k (s .1) in
     let w : a ≡ b = ap₂ (λ (i : ℕ) (c : List ℕ). record { kind = i; content = c }) p (q .0) in

@@ -1,4 +1,4 @@
--- Finite sets of words, read a byte at a time: the entities and the declarations.
+-- Finite sets of words, read a byte at a time: the references and the declarations.
 use Prim.Native.Nat.{ℕ}
 use mathlib.Core.Path.{_≡_, refl, _∙_, subst}
 use mathlib.Core.Bool.{Bool, true, false, cond}
@@ -6,8 +6,10 @@ use mathlib.Core.List.{List, [], _∷_, _++_}
 use lib.Dec.{eqb}
 use borrow.Author.Tests.{eqb-true, eq-eqb}
 use Rattle.tree.specs.Text.{bytes}
-use Rattle.xml.specs.Bytes.{ampersand, apostrophe, greater-than, less-than, quotation-mark, short-declaration, long-declaration}
-use Rattle.xml.specs.Grammar.{Entity, entity-amp, entity-apos, entity-gt, entity-lt, entity-quot}
+use Rattle.xml.specs.Bytes.{tab, line-feed, ampersand, apostrophe, greater-than, less-than, quotation-mark, short-declaration}
+use Rattle.xml.specs.Bytes.{long-declaration}
+use Rattle.xml.specs.Grammar.{Reference, entity-amp, entity-apos, entity-gt, entity-lt, entity-quot, character-tab}
+use Rattle.xml.specs.Grammar.{character-line-feed}
 
 -- a prefix tree, no word the beginning of another: the byte b ends a word, which has a value; or goes on with x; or does so, and
 -- other bytes go by y
@@ -30,12 +32,14 @@ abbrev pub chain : List ℕ → Words → Words
 chain [] x = x
 chain (b ∷ w) x = then b (chain w x)
 
--- amp; apos; gt; lt; quot;
-abbrev pub entities : Words
-entities =
+-- amp; apos; gt; lt; #9; #10; quot;
+abbrev pub references : Words
+references =
     fork 97 (fork 109 (chain (bytes "p") (last 59 ampersand)) (chain (bytes "pos") (last 59 apostrophe)))
     (fork 103 (chain (bytes "t") (last 59 greater-than))
-    (fork 108 (chain (bytes "t") (last 59 less-than)) (chain (bytes "quot") (last 59 quotation-mark))))
+    (fork 108 (chain (bytes "t") (last 59 less-than))
+    (fork 35 (fork 49 (chain (bytes "0") (last 59 line-feed)) (chain (bytes "9") (last 59 tab)))
+    (chain (bytes "quot") (last 59 quotation-mark)))))
 
 -- both declarations, behind <?
 abbrev pub version : List ℕ
@@ -129,21 +133,27 @@ first (word-other h w) = first-other h (first w)
 pub no-first : {x : Words} {t : List ℕ} {k : ℕ} → First x [] t k → ⊥
 no-first f = elim f [ ]
 
--- the entities ---------------------------------------------------------------------
+-- the references -------------------------------------------------------------------
 
-pub word-entity : {s t : List ℕ} {k : ℕ} → Word entities s t k → Entity s t k
-word-entity (word-this (word-this (word-then word-last))) = entity-amp
-word-entity (word-this (word-other h (word-then (word-then (word-then word-last))))) = entity-apos
-word-entity (word-other h (word-this (word-then word-last))) = entity-gt
-word-entity (word-other h (word-other h₁ (word-this (word-then word-last)))) = entity-lt
-word-entity (word-other h (word-other h₁ (word-other h₂ (word-then (word-then (word-then (word-then word-last))))))) = entity-quot
+pub word-reference : {s t : List ℕ} {k : ℕ} → Word references s t k → Reference s t k
+word-reference (word-this (word-this (word-then word-last))) = entity-amp
+word-reference (word-this (word-other h (word-then (word-then (word-then word-last))))) = entity-apos
+word-reference (word-other h (word-this (word-then word-last))) = entity-gt
+word-reference (word-other h (word-other h₁ (word-this (word-then word-last)))) = entity-lt
+word-reference (word-other h (word-other h₁ (word-other h₂ (word-this (word-this (word-then word-last)))))) = character-line-feed
+word-reference (word-other h (word-other h₁ (word-other h₂ (word-this (word-other h₃ (word-then word-last)))))) = character-tab
+word-reference (word-other h (word-other h₁ (word-other h₂ (word-other h₃ (word-then (word-then (word-then (word-then word-last)))))))) =
+    entity-quot
 
-pub entity-word : {s t : List ℕ} {k : ℕ} → Entity s t k → Word entities s t k
-entity-word entity-amp = word-this (word-this (word-then word-last))
-entity-word entity-apos = word-this (word-other refl (word-then (word-then (word-then word-last))))
-entity-word entity-gt = word-other refl (word-this (word-then word-last))
-entity-word entity-lt = word-other refl (word-other refl (word-this (word-then word-last)))
-entity-word entity-quot = word-other refl (word-other refl (word-other refl (word-then (word-then (word-then (word-then word-last))))))
+pub reference-word : {s t : List ℕ} {k : ℕ} → Reference s t k → Word references s t k
+reference-word entity-amp = word-this (word-this (word-then word-last))
+reference-word entity-apos = word-this (word-other refl (word-then (word-then (word-then word-last))))
+reference-word entity-gt = word-other refl (word-this (word-then word-last))
+reference-word entity-lt = word-other refl (word-other refl (word-this (word-then word-last)))
+reference-word character-line-feed = word-other refl (word-other refl (word-other refl (word-this (word-this (word-then word-last)))))
+reference-word character-tab = word-other refl (word-other refl (word-other refl (word-this (word-other refl (word-then word-last)))))
+reference-word entity-quot =
+    word-other refl (word-other refl (word-other refl (word-other refl (word-then (word-then (word-then (word-then word-last)))))))
 
 -- the declarations -----------------------------------------------------------------
 

@@ -1,187 +1,230 @@
 -- Values and texts, decoded character by character.
-use Prim.Native.Nat.{ℕ, suc, _+_, _≤_, _<_}
-use mathlib.Core.Path.{_≡_, refl, sym, ap, _∙_}
-use mathlib.Core.Bool.{Bool, true, false, false≢true}
-use mathlib.Core.List.{List, [], _∷_, _++_, append-assoc, append-nil}
+use Prim.Native.Nat.{ℕ, _+_, _≤_, _<_, max}
+use mathlib.Core.Path.{_≡_, refl, sym, ap, subst, _∙_}
+use mathlib.Core.Bool.{Bool, true, false, cond, not, _&&_, _||_, false≢true}
+use mathlib.Core.List.{List, [], _∷_, _++_}
 use native.Mathlib.Omega.{arith}
 use native.Mathlib.Numerals.{add-one}
-use lib.ListN.{length, getD, take, drop, set, length-append, drop-of-length-le}
-use lib.Seq.{drop-cons, drop-drop, take-suc-set, length-take-le}
-use Rattle.tree.specs.Content.{content-limit, text-byte}
-use Rattle.xml.specs.Bytes.{ampersand, less-than, Quote, double, single, quote-byte, value-literal, text-literal}
-use Rattle.xml.specs.Grammar.{Entity, entity-amp, entity-apos, entity-gt, entity-lt, entity-quot, Value, value-close, value-byte}
-use Rattle.xml.specs.Grammar.{value-entity, Chars, chars-end, chars-byte, chars-entity}
-use Rattle.xml.specs.Laws.Tokens.{Reach, got, lost}
-use Rattle.xml.specs.Laws.Fixed.{agree, word-at, entity-at}
+use lib.Dec.{eqb, leb}
+use lib.ListN.{length, getD, take, drop, set}
+use lib.Seq.{drop-cons, length-take-le, take-suc-set}
+use borrow.Author.Tests.{eq-eqb, ne-eqb, eqb-true, eqb-false, leb-true, leb-false, lt-leb}
+use Rattle.tree.specs.Content.{content-limit, text-kind, text-byte}
+use Rattle.tree.specs.Laws.Tests.{and-left}
+use Rattle.xml.specs.Bytes.{tab, line-feed, space, less-than, ampersand, blank, normalized, brackets}
+use Rattle.xml.specs.Laws.Words.{Words, references}
+use Rattle.xml.specs.Laws.Automaton.{Config, Event, born, byte, step, tell-bytes}
+use Rattle.xml.specs.Laws.Complete.{Accepts}
+use Rattle.xml.specs.Laws.Counts.{births, tail, peak, peak-bytes}
+use Rattle.xml.specs.Laws.Judge.{bad}
+use Rattle.xml.specs.Laws.Scan.{scan-at}
+use Rattle.xml.specs.Laws.Goes.{scan-full}
+use Rattle.xml.specs.Laws.Tokens.{Reach}
+use Rattle.xml.specs.Laws.Fixed.{reference-at, references-at}
+use Rattle.xml.specs.Laws.Tells.{no-step, Tells, tells-then, tells-step, tells-word, no-word-read, tells-born, not-refused-at}
+use Rattle.xml.specs.Laws.Behind.{some-byte}
+use Rattle.xml_reader.specs.Classes.{literal, reads-as}
 use Rattle.xml_reader.specs.declared.Cursor.{Cursor}
-use Rattle.xml_reader.specs.declared.Reference.the-variants.{Byte, NoEntity}
-use Rattle.xml_reader.specs.Steps.{Refers, refers, no-entity, Character, one-byte, by-reference}
-use Rattle.xml_load.specs.Fill.{Characters, stop-here, byte-then, reference-then, Decodes}
+use Rattle.xml_reader.specs.declared.Reference.the-variants.{Byte, NoReference}
+use Rattle.xml_reader.specs.Steps.{Refers, refers, no-reference, Characters, Contents}
+use Rattle.xml_reader.specs.Laws.Contents.{begun-by}
+use Rattle.xml_load.specs.Fill.{least, Decodes}
 
--- values and texts of the grammar --------------------------------------------------------------
+told-more : (b : List ℕ) (v : ℕ) (l : List Event) → tell-bytes (b ++ (v ∷ [])) l ≡ tell-bytes b (byte v ∷ l)
+unfolding tell-bytes
+told-more [] v l = refl
+told-more (x ∷ b) v l = ap (λ (t : List Event). byte x ∷ t) (told-more b v l)
 
--- a byte that fails a test is none that passes it
-differs : (t : ℕ → Bool) (a b : ℕ) → t a ≡ false → t b ≡ true → b ≡ a → ⊥
-differs t a b p q e = false≢true (sym p ∙ ap t (sym e) ∙ q)
+-- below a space there are only a tab and a line feed
+below-space : (b : ℕ) → text-byte b ≡ true → b < space → (b ≡ tab → ⊥) → b ≡ line-feed
+unfolding text-byte
+below-space b h l n = go (eqb b 10) refl (rw (ne-eqb b 9 n, lt-leb 32 b l) at h)
+  where
+    go : (t : Bool) → eqb b 10 ≡ t → (t || false) ≡ true → b ≡ line-feed
+    go true e k = eqb-true b 10 e
+    go false e k = absurd (false≢true k)
 
-value-differs : (q : Quote) (b : ℕ) → value-literal q b ≡ true → (b ≡ quote-byte q → ⊥) × (b ≡ ampersand → ⊥)
-unfolding value-literal text-byte
-value-differs double b h = (differs (value-literal double) 34 b refl h, differs (value-literal double) 38 b refl h)
-value-differs single b h = (differs (value-literal single) 39 b refl h, differs (value-literal single) 38 b refl h)
+-- the larger of a byte that stands for itself and the least is what it is read as
+larger-read : (stop k b : ℕ) → literal stop k b ≡ true → max b (least stop) ≡ reads-as stop b
+unfolding least reads-as normalized blank literal
+larger-read stop k b h = go (eqb stop less-than) (leb space b) refl
+  where
+    text : text-byte b ≡ true
+    text = and-left (text-byte b) _ (and-left (text-byte b && not (eqb b less-than)) _ (and-left _ _ h))
 
-mark-differs : (q : Quote) → ampersand ≡ quote-byte q → ⊥
-mark-differs double e = omega arith
-mark-differs single e = omega arith
+    value : (t : Bool) → leb space b ≡ t → max b space ≡ cond (eqb b tab || eqb b line-feed || eqb b space) space b
+    value true e =
+        let l = leb-true space b e in
+        rw (ne-eqb b tab (λ z. omega arith), ne-eqb b line-feed (λ z. omega arith)) (equal (eqb b space) refl l)
+      where
+        equal : (t : Bool) → eqb b space ≡ t → space ≤ b → max b space ≡ cond t space b
+        equal true z l = let p = eqb-true b space z in omega arith
+        equal false z l = omega arith
+    value false e = let l = leb-false space b e in low (eqb b tab) refl l
+      where
+        low : (t : Bool) → eqb b tab ≡ t → b < space → max b space ≡ cond (t || eqb b line-feed || eqb b space) space b
+        low true z l = omega arith
+        low false z l = rw (eq-eqb b line-feed (below-space b text l (eqb-false b tab z))) (omega arith)
 
-pub value-characters : {q : Quote} {s t c : List ℕ} → Value q s t c → Characters (quote-byte q) s t c
-value-characters value-close = stop-here
-value-characters {q} (value-byte {b = b} h v) = let x = value-differs q b h in byte-then (x .0) (x .1) (value-characters v)
-value-characters {q} (value-entity r v) = reference-then (mark-differs q) r (value-characters v)
+    go : (s t : Bool) → leb space b ≡ t
+        → max b (cond s 0 space) ≡ cond s b (cond (eqb b tab || eqb b line-feed || eqb b space) space b)
+    go true t e = omega arith
+    go false t e = value t e
 
-text-differs : (k b : ℕ) → text-literal k b ≡ true → (b ≡ less-than → ⊥) × (b ≡ ampersand → ⊥)
-unfolding text-literal text-byte
-text-differs k b h = (differs (text-literal k) 60 b refl h, differs (text-literal k) 38 b refl h)
+-- what is read behind the bytes b of a content, k bytes ] just before
+pub record Decoded (x : List ℕ) (i : ℕ) (b : List ℕ) (C : ℕ → Config) (e : List Event) : Type 0 where
+  pub k : ℕ
+  pub later : List Event
+  pub tells : e ≡ tell-bytes b later
+  pub rest : Accepts true (C k) (drop i x) later
 
-pub text-characters : {k : ℕ} {s t c : List ℕ} → Chars k s t c → Characters less-than s t c
-text-characters chars-end = stop-here
-text-characters (chars-byte {k = k} {b = b} h v) = let x = text-differs k b h in byte-then (x .0) (x .1) (text-characters v)
-text-characters (chars-entity r v) = reference-then (λ e. omega arith) r (text-characters v)
-
--- one character ----------------------------------------------------------------------------------
-
-entity-got : {s u : List ℕ} {k : ℕ} → Entity s u k → (n : ℕ) × (entity-at s ≡ got k n) × (drop n s ≡ u)
-unfolding entity-at word-at agree
-entity-got entity-amp = (4, refl, refl)
-entity-got entity-apos = (5, refl, refl)
-entity-got entity-gt = (3, refl, refl)
-entity-got entity-lt = (3, refl, refl)
-entity-got entity-quot = (5, refl, refl)
-
-at-stop : {stop b : ℕ} {s t c : List ℕ} → Characters stop (b ∷ s) t c → b ≡ stop → (c ≡ []) × (s ≡ t)
-at-stop stop-here e = (refl, refl)
-at-stop (byte-then n m r) e = absurd (n e)
-at-stop (reference-then n x r) e = absurd (n e)
-
-at-nothing : {stop : ℕ} {s t c : List ℕ} → Characters stop s t c → s ≡ [] → ⊥
-at-nothing stop-here e = let z : _≡_ {A = ℕ} 0 1 = cc in omega arith
-at-nothing (byte-then n m r) e = let z : _≡_ {A = ℕ} 0 1 = cc in omega arith
-at-nothing (reference-then n x r) e = let z : _≡_ {A = ℕ} 0 1 = cc in omega arith
-
--- a byte that stands for itself
-at-byte : {stop b : ℕ} {s t c : List ℕ} → Characters stop (b ∷ s) t c → (b ≡ stop → ⊥) → (b ≡ ampersand → ⊥)
-    → (r : List ℕ) × Characters stop s t r × (c ≡ b ∷ r)
-at-byte stop-here n m = absurd (n refl)
-at-byte (byte-then {c = c} _ _ r) n m = (c, r, refl)
-at-byte (reference-then _ x r) n m = absurd (m refl)
-
--- a reference
-record Reference-at (stop : ℕ) (s t c : List ℕ) : Type 0 where
-  byte : ℕ
-  behind : List ℕ
-  more : List ℕ
-  entity : Entity s behind byte
-  rest : Characters stop behind t more
-  content : c ≡ byte ∷ more
-
-at-reference : {stop b : ℕ} {s t c : List ℕ} → Characters stop (b ∷ s) t c → (b ≡ stop → ⊥) → b ≡ ampersand → Reference-at stop s t c
-at-reference stop-here n m = absurd (n refl)
-at-reference (byte-then _ p r) n m = absurd (p m)
-at-reference (reference-then {b = k} {u = u} {c = c} _ x r) n m =
-    record { byte = k; behind = u; more = c; entity = x; rest = r; content = refl }
-
-module _ (x : List ℕ) (stop i : ℕ) (h : i < length x) (n : getD x i 0 ≡ stop → ⊥) (t c : List ℕ) (d : Characters stop (drop i x) t c) where
-  here : Characters stop (getD x i 0 ∷ drop (suc i) x) t c
-  here = rw (← drop-cons x i 0 h) d
-
-  -- the reference that was read is the one that stands there
-  refer : {k : ℕ} {b : ℕ} {next : Cursor} {u : List ℕ} → Entity (drop (suc i) x) u k → (q : Reach) → entity-at (drop (i + 1) x) ≡ q
-      → Refers x (i + 1) q (Byte b next)
-      → (b ≡ k) × (drop (next .at) x ≡ u)
-  refer {k} {b} {next} e q p (refers {n = n} o m) =
-      let g = entity-got e in
-      let z : got k (g .0) ≡ got b n = sym (g .1) ∙ rw (← add-one i) p in
-      let v : b ≡ k = cc in
-      let w : g .0 ≡ n = cc in
-      let y : next .at ≡ suc i + g .0 = omega arith in
-      (v, ap (λ (j : ℕ). drop j x) y ∙ sym (drop-drop (g .0) (suc i) x) ∙ g .2)
-
-  pub next-character : {b : ℕ} {next : Cursor} → Character x i (Byte b next)
-      → (r : List ℕ) × Characters stop (drop (next .at) x) t r × (c ≡ b ∷ r)
-  next-character (one-byte m e) = let y = at-byte here n m in (y .0, rw (e, add-one i) (y .1), y .2)
-  next-character {b} {next} (by-reference a r) =
-      let y = at-reference here n a in
-      let z = refer (y .entity) (entity-at (drop (i + 1) x)) refl r in
-      (y .more, rw (z .1) (y .rest), y .content ∙ ap (λ (k : ℕ). k ∷ y .more) (sym (z .0)))
-
-  no-refer : {k j : ℕ} {u : List ℕ} → Entity (drop (suc i) x) u k → (q : Reach) → entity-at (drop (i + 1) x) ≡ q
-      → Refers x (i + 1) q (NoEntity j) → ⊥
-  no-refer {k} e q p (no-entity {n = n} o) =
-      let g = entity-got e in
-      let z : got k (g .0) ≡ lost n = sym (g .1) ∙ rw (← add-one i) p in
-      let w : _≡_ {A = ℕ} 0 1 = cc in
-      omega arith
-
-  pub no-other : {j : ℕ} → Character x i (NoEntity j) → ⊥
-  no-other (by-reference a r) = no-refer (at-reference here n a .entity) (entity-at (drop (i + 1) x)) refl r
-
--- the loop -------------------------------------------------------------------------------------------
-
--- from the offset `at` the loop has come to i, and has put down the bytes p
-pub record Decoding (x : List ℕ) (stop at i : ℕ) (p : List ℕ) : Type 0 where
-  pub comes : (t c : List ℕ) → Characters stop (drop at x) t c → (r : List ℕ) × Characters stop (drop i x) t r × (c ≡ p ++ r)
+-- the loop has come to i, with the content b
+pub record Decoding (x : List ℕ) (stop at i : ℕ) (b : List ℕ) : Type 0 where
+  pub comes : (C : ℕ → Config) (R : Words → Config) (D : Config) → Characters stop C R D → {e : List Event}
+      → Accepts true (C 0) (drop at x) e → Decoded x i b C e
 
 pub decode-start : (x : List ℕ) (stop at : ℕ) → Decoding x stop at at []
-decode-start x stop at = record { comes = λ t c d. (c, d, refl) }
+unfolding tell-bytes
+decode-start x stop at = record { comes = λ C R D k {e} r. record { k = 0; later = e; tells = refl; rest = r } }
 
-module _ (x : List ℕ) (stop at i n : ℕ) (b : List ℕ) (g : Decoding x stop at i (take n b)) (low : at ≤ i) (few : n ≤ content-limit) where
-  pub decode-stop : (c : Cursor) → c .at ≡ i + 1 → i < length x → getD x i 0 ≡ stop → Decodes x stop at b n c
-  decode-stop c e h s = record {
+module _ (x : List ℕ) (stop at i n : ℕ) (b : List ℕ) (g : Decoding x stop at i (take n b)) (first : at ≤ i) (few : n ≤ content-limit)
+    (long : length b ≡ content-limit) where
+  pub decode-end : (c : Cursor) → length x ≤ i → Decodes x stop at b n c
+  decode-end c h = record {
     few = few;
-    forward = omega arith;
-    inside = omega arith;
-    bytes = λ t r d l. let y = g .comes t r d in
-        let z = at-stop {s = drop (suc i) x} {t = t} {c = y .0} (rw (← drop-cons x i 0 h) (y .1)) s in
-        (sym (y .2 ∙ rw (z .0) (append-nil (take n b))), rw (e, add-one i) (z .1));
+    tells = λ C R D k m r. let y = g .comes C R D k r in absurd (omega (arith, some-byte x (C (y .k)) i (k .going (y .k)) (y .rest)));
   }
 
-  -- where no value or text stands
-  none : (c : Cursor) → c .at ≡ i → i ≤ length x
-      → ((t r : List ℕ) → Characters stop (drop i x) t r → length (take n b ++ r) ≤ content-limit → ⊥)
-      → Decodes x stop at b n c
-  none c e h f = record {
-    few = few;
-    forward = omega arith;
-    inside = omega arith;
-    bytes = λ t r d l. let y = g .comes t r d in absurd (f t (y .0) (y .1) (rw (← y .2) l));
-  }
-
-  pub decode-end : (c : Cursor) → c .at ≡ i → i ≤ length x → length x ≤ i → Decodes x stop at b n c
-  decode-end c e h l = none c e h (λ t r d m. at-nothing d (drop-of-length-le x l))
-
-  module _ (h : i < length x) (s : getD x i 0 ≡ stop → ⊥) where
-    pub decode-lost : (c : Cursor) → c .at ≡ i → {j : ℕ} → Character x i (NoEntity j) → Decodes x stop at b n c
-    decode-lost c e k = none c e (omega arith) (λ t r d m. no-other x stop i h s t r d k)
-
-    pub decode-full : (c : Cursor) → c .at ≡ i → n ≡ content-limit → length b ≡ content-limit → Decodes x stop at b n c
-    decode-full c e f l =
-        none c e (omega arith) (λ t r d m. some d (omega (arith, length-append (take n b) r, length-take-le n b (omega arith))))
-      where
-        some : {t r : List ℕ} → Characters stop (drop i x) t r → length r ≤ 0 → ⊥
-        some {t} {r} d m = go {a = getD x i 0} {u = drop (suc i) x} {t = t} {r = r} (rw (← drop-cons x i 0 h) d) s m
-          where
-            go : {a : ℕ} {u t r : List ℕ} → Characters stop (a ∷ u) t r → (a ≡ stop → ⊥) → length r ≤ 0 → ⊥
-            go stop-here n m = n refl
-            go (byte-then p q r) n m = omega arith
-            go (reference-then p q r) n m = omega arith
-
-    pub decode-turn : {v : ℕ} {next : Cursor} → Character x i (Byte v next) → n < length b
-        → Decoding x stop at (next .at) (take (n + 1) (set b n v))
-    decode-turn {v} {next} k l = record {
-      comes = λ t c d. let y = g .comes t c d in
-          let z = next-character x stop i h s t (y .0) (y .1) k in (
-            z .0,
-            z .1,
-            rw (add-one n, take-suc-set b n v l, append-assoc (take n b) (v ∷ []) (z .0))
-                (y .2 ∙ ap (λ (u : List ℕ). take n b ++ u) (z .2)),
-          );
+  module _ (h : i < length x) where
+    pub decode-stop : (c : Cursor) → getD x i 0 ≡ stop → c .at ≡ i + 1 → Decodes x stop at b n c
+    decode-stop c e p = record {
+      few = few;
+      tells = λ C R D k m r.
+          let y = g .comes C R D k r in
+          let z = tells-step x (C (y .k)) i h D [] (ap (step true (C (y .k))) e ∙ k .stops (y .k)) .told (y .later) (y .rest) in
+          (omega arith, omega arith, (z .0, y .tells ∙ ap (tell-bytes (take n b)) (z .1), rw p (z .2)));
     }
+
+    module _ (other : getD x i 0 ≡ stop → ⊥) where
+      -- a byte that stands for itself may stand there
+      itself : {C : ℕ → Config} {R : Words → Config} {D : Config} → Characters stop C R D → (k : ℕ) {e : List Event}
+          → (getD x i 0 ≡ ampersand → ⊥) → Accepts true (C k) (drop i x) e → literal stop k (getD x i 0) ≡ true
+      itself {C} q k a r = go (literal stop k (getD x i 0)) refl
+        where
+          go : (t : Bool) → literal stop k (getD x i 0) ≡ t → literal stop k (getD x i 0) ≡ true
+          go true p = p
+          go false p = absurd (no-step (q .no-other k (getD x i 0) other a p) (rw (drop-cons x i 0 h) at r))
+
+      -- an ampersand
+      referring : (C : ℕ → Config) (R : Words → Config) (D : Config) → Characters stop C R D → (k : ℕ) {e : List Event}
+          → getD x i 0 ≡ ampersand → Accepts true (C k) (drop i x) e
+          → (l : List Event) × (e ≡ l) × Accepts true (R references) (drop (i + 1) x) l
+      referring C R D q k {e} a r =
+          tells-step x (C k) i h (R references) [] (ap (step true (C k)) a ∙ q .refers-to k) .told e r
+
+      pub decode-full : (c : Cursor) → n ≡ content-limit → Decodes x stop at b n c
+      unfolding births tail peak
+      decode-full c f = record { few = few; tells = λ C R D k m r. absurd (never C R D k m (g .comes C R D k r)) }
+        where
+          never : (C : ℕ → Config) (R : Words → Config) (D : Config) → Characters stop C R D → {e : List Event} → peak 0 e ≤ content-limit
+              → Decoded x i (take n b) C e → ⊥
+          never C R D q {e} m y = not-refused-at x (C (y .k)) (births (y .later)) content-limit i
+              (go (eqb (getD x i 0) ampersand) refl) (y .rest) (omega arith) (omega (arith, more))
+            where
+              more : peak 0 e ≡ peak content-limit (y .later)
+              more = ap (peak 0) (y .tells) ∙ peak-bytes 0 (take n b) (y .later)
+                  ∙ ap (λ (j : ℕ). peak j (y .later)) (omega (arith, length-take-le n b (omega arith)))
+
+              go : (t : Bool) → eqb (getD x i 0) ampersand ≡ t → scan-at x (C (y .k)) (births (y .later)) content-limit i ≡ bad 5 i
+              go true p =
+                  scan-full x (C (y .k)) (births (y .later)) i h (R references) []
+                  (ap (step true (C (y .k))) (eqb-true (getD x i 0) ampersand p) ∙ q .refers-to (y .k)) refl content-limit
+                  (omega (arith, q .due references))
+              go false p =
+                  let a = getD x i 0 in
+                  let o = eqb-false a ampersand p in
+                  scan-full x (C (y .k)) (births (y .later)) i h (C (brackets (y .k) a)) (byte (reads-as stop a) ∷ [])
+                  (q .plainly (y .k) a other (itself q (y .k) o (y .rest))) refl content-limit (omega arith)
+
+      -- a reference that goes wrong
+      pub decode-lost : (c : Cursor) {j : ℕ} → getD x i 0 ≡ ampersand → Refers x (i + 1) (reference-at (drop (i + 1) x)) (NoReference j)
+          → Decodes x stop at b n c
+      decode-lost c {j} a r = record {
+        few = few;
+        tells = λ C R D k m u. let y = g .comes C R D k u in
+            let z = referring C R D k (y .k) a (y .rest) in absurd (never k (z .2) (reference-at (drop (i + 1) x)) refl r);
+      }
+        where
+          never : {C : ℕ → Config} {R : Words → Config} {D : Config} → Characters stop C R D → {l : List Event}
+              → Accepts true (R references) (drop (i + 1) x) l → (q : Reach) → reference-at (drop (i + 1) x) ≡ q
+              → Refers x (i + 1) q (NoReference j) → ⊥
+          never {C} {R} k u q p (no-reference o) =
+              no-word-read x R (C 0) (λ b. byte b ∷ []) (k .words) references (i + 1) (references-at (drop (i + 1) x) ∙ p) u
+
+      -- one character more
+      module _ (room : n < content-limit) where
+        grown : (v : ℕ) → take (n + 1) (set b n v) ≡ take n b ++ (v ∷ [])
+        grown v = rw (add-one n) (take-suc-set b n v (omega arith))
+
+        decoded : {C : ℕ → Config} {e : List Event} (v : ℕ) (y : Decoded x i (take n b) C e) (k j : ℕ)
+            → Tells x (C (y .k)) i (byte v ∷ []) (C k) j → Decoded x j (take (n + 1) (set b n v)) C e
+        decoded v y k j t =
+            let z = t .told (y .later) (y .rest) in record {
+              k = k;
+              later = z .0;
+              tells = y .tells ∙ ap (tell-bytes (take n b)) (z .1) ∙ sym (told-more (take n b) v (z .0))
+                  ∙ ap (λ (a : List ℕ). tell-bytes a (z .0)) (sym (grown v));
+              rest = z .2;
+            }
+
+        -- a byte that stands for itself
+        pub decode-byte : (v : ℕ) → (getD x i 0 ≡ ampersand → ⊥) → v ≡ max (getD x i 0) (least stop)
+            → Decoding x stop at (i + 1) (take (n + 1) (set b n v))
+        decode-byte v o p = record {
+          comes = λ C R D q r.
+              let y = g .comes C R D q r in
+              let a = getD x i 0 in
+              let z = itself q (y .k) o (y .rest) in
+              decoded v y (brackets (y .k) a) (i + 1) (rw (p ∙ larger-read stop (y .k) a z) (tells-step x (C (y .k)) i h
+              (C (brackets (y .k) a)) (byte (reads-as stop a) ∷ []) (q .plainly (y .k) a other z)));
+        }
+
+        -- a reference
+        pub decode-reference : {v : ℕ} {c : Cursor} → getD x i 0 ≡ ampersand → Refers x (i + 1) (reference-at (drop (i + 1) x)) (Byte v c)
+            → Decoding x stop at (c .at) (take (n + 1) (set b n v))
+        decode-reference {v} {c} a r = record {
+          comes = λ C R D q u.
+              let y = g .comes C R D q u in
+              decoded v y 0 (c .at) (tells-then [] (tells-step x (C (y .k)) i h (R references) []
+              (ap (step true (C (y .k))) a ∙ q .refers-to (y .k))) (word q (reference-at (drop (i + 1) x)) refl r));
+        }
+          where
+            word : {C : ℕ → Config} {R : Words → Config} {D : Config} → Characters stop C R D → (q : Reach)
+                → reference-at (drop (i + 1) x) ≡ q → Refers x (i + 1) q (Byte v c)
+                → Tells x (R references) (i + 1) (byte v ∷ []) (C 0) (c .at)
+            word {C} {R} k q p (refers {n = m} o l) =
+                rw o (tells-word x R (C 0) (λ b. byte b ∷ []) (k .words) references (i + 1) (references-at (drop (i + 1) x) ∙ p))
+
+-- the first character, with which a node is born -------------------------------------------------
+
+module _ (x : List ℕ) (at : ℕ) {stop : ℕ} {S : Config} {C : ℕ → Config} {R : Words → Config} {D : Config} (q : Contents stop S C R D)
+    {e : List Event} (r : Accepts true S (drop at x) e) where
+  pub content-inside : at < length x
+  content-inside = some-byte x S at (q .starting) r
+
+  pub none-told : getD x at 0 ≡ stop → Accepts true D (drop (at + 1) x) e
+  none-told p =
+      let y = tells-step x S at content-inside D [] (ap (step true S) p ∙ q .nothing) .told e r in
+      subst (λ (l : List Event). Accepts true D (drop (at + 1) x) l) (sym (y .1)) (y .2)
+
+  pub born-told : (getD x at 0 ≡ stop → ⊥) → (l : List Event) × (e ≡ born (q .depth) text-kind ∷ l) × Accepts true (C 0) (drop at x) l
+  born-told other =
+      let y = begun-by x at q other itself in
+      tells-born x S (C 0) at content-inside (y .next) (q .depth) text-kind (y .rest) (y .born-so) (y .plainly) .told e r
+    where
+      itself : (getD x at 0 ≡ ampersand → ⊥) → literal stop 0 (getD x at 0) ≡ true
+      itself a = go (literal stop 0 (getD x at 0)) refl
+        where
+          go : (t : Bool) → literal stop 0 (getD x at 0) ≡ t → literal stop 0 (getD x at 0) ≡ true
+          go true p = p
+          go false p = absurd (no-step (q .no-first (getD x at 0) other a p) (rw (drop-cons x at 0 content-inside) at r))

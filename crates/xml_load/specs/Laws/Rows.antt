@@ -1,6 +1,6 @@
 -- Rows put behind the nodes held, and that the rows of an input are the nodes of its document.
 use Prim.Native.Nat.{ℕ, suc, _+_, _≤_}
-use mathlib.Core.Path.{_≡_, refl, sym, ap, _∙_}
+use mathlib.Core.Path.{_≡_, refl, sym, ap, ap₂, _∙_}
 use mathlib.Core.Bool.{true}
 use mathlib.Core.List.{List, [], _∷_, _++_, append-assoc, append-nil}
 use native.Mathlib.Omega.{arith}
@@ -11,9 +11,11 @@ use Rattle.tree.specs.Document.{node-0-alone}
 use Rattle.protocol.specs.State.{unmarked, tree-of}
 use Rattle.table.specs.Flat.{flat}
 use Rattle.table.specs.Layout.{Entry, nodes}
-use Rattle.xml.specs.Shape.{Shape, size, longest, numbered, document}
-use Rattle.xml.specs.Grammar.{text-node}
-use Rattle.xml_load.specs.Fill.{Row, listed, texts, entries, with-rows, Short, Put}
+use Rattle.xml.specs.Shape.{Label, Shape, size, longest, numbered, document}
+use Rattle.xml.specs.Laws.Automaton.{Event, tell-bytes, tell}
+use Rattle.xml.specs.Laws.Counts.{births, peak, births-bytes, peak-bytes}
+use Rattle.xml.specs.Laws.Unique.{Fresh, fresh-end, fresh-node, same-bytes}
+use Rattle.xml_load.specs.Fill.{Row, listed, told, entries, with-rows, Short, Put}
 
 pub entries-append : (i : ℕ) (k l : List Row) → entries i (k ++ l) ≡ entries i k ++ entries (i + length k) l
 unfolding entries
@@ -41,10 +43,44 @@ unfolding Short
 short-behind [] l h = h
 short-behind (x ∷ k) l h = short-behind k l (h .1)
 
-pub listed-text : (d : ℕ) (c : List ℕ) (l : List Row) → listed d (text-node c) l ≡ texts d c ++ l
-unfolding listed texts
-listed-text d [] l = refl
-listed-text d (b ∷ c) l = refl
+-- what tells rows --------------------------------------------------------------------------
+
+pub told-listed : (d : ℕ) (f : Shape) (l : List Row) (e : List Event) → told (listed d f l) e ≡ tell d f (told l e)
+unfolding listed told tell
+told-listed d nil l e = refl
+told-listed d (node a g f) l e = rw (told-listed (suc d) g (listed d f l) e, told-listed d f l e)
+
+fresh-told : (l : List Row) {e : List Event} → Fresh e → Fresh (told l e)
+unfolding told
+fresh-told [] h = h
+fresh-told (x ∷ l) h = fresh-node
+
+pub births-told : (l : List Row) → births (told l []) ≡ length l
+unfolding told births
+births-told [] = refl
+births-told (x ∷ l) = ap suc (births-bytes (x .1 .content) (told l []) ∙ births-told l)
+
+pub peak-told : (k : ℕ) (l : List Row) → k ≤ content-limit → Short l → peak k (told l []) ≤ content-limit
+unfolding told peak Short
+peak-told k [] h s = h
+peak-told k (x ∷ l) h s =
+    let m = peak-told (0 + length (x .1 .content)) l (omega (arith, s .0)) (s .1) in
+    omega (arith, peak-bytes 0 (x .1 .content) (told l []))
+
+-- rows that are told first are the first rows
+pub split-rows : (k l : List Row) {e : List Event} → Fresh e → told l [] ≡ told k e → (m : List Row) × (l ≡ k ++ m) × (told m [] ≡ e)
+unfolding told
+split-rows [] l h p = (l, refl, p)
+split-rows (x ∷ k) [] h p = absurd (let z : _≡_ {A = ℕ} 0 1 = cc in omega arith)
+split-rows (x ∷ k) (y ∷ l) {e} h p =
+    let a : y .0 ≡ x .0 = cc in
+    let b : y .1 .kind ≡ x .1 .kind = cc in
+    let q : tell-bytes (y .1 .content) (told l []) ≡ tell-bytes (x .1 .content) (told k e) = cc in
+    let r = same-bytes (y .1 .content) (x .1 .content) (fresh-told l fresh-end) (fresh-told k h) q in
+    let w : y .1 ≡ x .1 = ap₂ (λ (i : ℕ) (c : List ℕ). record { kind = i; content = c }) b (r .0) in
+    let v : y ≡ x = ap₂ (λ (i : ℕ) (c : Label). (i, c)) a w in
+    let t = split-rows k l h (r .1) in
+    (t .0, ap₂ (λ (i : Row) (c : List Row). i ∷ c) v (t .1), t .2)
 
 pub length-listed : (d : ℕ) (f : Shape) (l : List Row) → length (listed d f l) ≡ size f + length l
 unfolding listed size

@@ -28,11 +28,11 @@ module _ (s : List ℕ) (limit : ℕ) where
   pub root-is : {c : Cursor} (v : Verdict) → 2 ≤ limit → RootRead s at-start 0 (Root c)
       → scan-at s (tag-name [] (getD s (c .at) 0 ∷ [])) (limit - 2) 1 (c .at + 1) ≡ v → scan at-start (limit - 1) 0 0 0 s ≡ v
   unfolding scan-at
-  root-is v h (root-at n f) y =
+  root-is v h (root-at n f t) y =
       let p : limit - 1 - 1 ≡ limit - 2 = omega arith in f (limit - 1) (omega arith) v (rw p y) .leads 0 (omega arith)
 
 pub root-named : {s : List ℕ} {c : Cursor} → RootRead s at-start 0 (Root c) → Named s (c .at)
-root-named (root-at n f) = n
+root-named (root-at n f t) = n
 
 -- the limit
 module _ (long : Bool) (said : Judged) where

@@ -3,10 +3,11 @@ use mathlib.Core.Path.{_≡_, refl}
 use Prim.Native.Nat.{ℕ}
 use mathlib.Core.Bool.{true}
 use mathlib.Core.List.{List}
+use lib.ListN.{length, take}
 use borrow.Author.Tests.{eq-eqb, ne-eqb}
 use Rattle.protocol.specs.State.{writer-of}
 use Rattle.table.specs.Layout.{Entry}
-use Rattle.table.specs.Fields.{has-text, text}
+use Rattle.table.specs.Fields.{has-text, text, Begins}
 use Rattle.rows.specs.Places.{item}
 use Rattle.xml_measure.specs.Lines.{committed-label, label-at}
 
@@ -23,3 +24,9 @@ pub version-saved : (l : List Entry) (p : ℕ) → (writer-of (item l p .update)
     → (text 1 (item l p) ≡ label-at l p .content) × (has-text 1 (item l p) ≡ true)
 unfolding label-at committed-label
 version-saved l p h = let e = ne-eqb (writer-of (item l p .update)) 0 h in (rw e, rw e)
+
+pub begins-as : {t u w : List ℕ} → t ≡ u → Begins t w → Begins u w
+begins-as e b = rw (← e) b
+
+pub first-is : (content window : List ℕ) (n : ℕ) → Begins content window → n ≡ length content → take n window ≡ content
+first-is content window n b e = rw e (b .first)

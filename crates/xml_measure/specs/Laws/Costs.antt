@@ -31,6 +31,7 @@ module _ (parent : Label) (previous : ℕ) where
     unfolding cost
     cost-element e = rw e
 
-    pub cost-text : (a .kind ≡ 3 → ⊥) → (a .kind ≡ 2 → ⊥) → extra parent previous + length (escaped (a .content)) ≡ cost parent previous a
+    pub cost-text : (a .kind ≡ 3 → ⊥) → (a .kind ≡ 2 → ⊥) → {above : ℕ} → above ≡ parent .kind
+        → extra parent previous + length (escaped (eqb above 3) (a .content)) ≡ cost parent previous a
     unfolding cost
-    cost-text h k = rw (ne-eqb (a .kind) 3 h, ne-eqb (a .kind) 2 k)
+    cost-text h k e = rw (e, ne-eqb (a .kind) 3 h, ne-eqb (a .kind) 2 k)

@@ -21,7 +21,7 @@ use Rattle.xml_reader.specs.declared.Cursor.{Cursor}
 use Rattle.xml_reader.specs.declared.Equals.the-variants.{Quoted, NoQuote}
 use Rattle.xml_reader.specs.declared.Read.{Read}
 use Rattle.xml_reader.specs.declared.Read.the-variants.{Past, Refused}
-use Rattle.xml_reader.specs.Steps.{Run, EqualsRead, quoted, no-quote, ContentRead, content-past, content-refused}
+use Rattle.xml_reader.specs.Steps.{Run, EqualsRead, quoted, no-quote, TextRead, text-past, text-refused}
 use Rattle.bytes.specs.Sorted.{Among}
 use Rattle.bytes.specs.Laws.Sorted.{among-seen}
 use Rattle.xml_reader.specs.Elements.{Attributed, AttributeRead, attribute-past, attribute-refused, Kept, attribute-names, Entered}
@@ -44,7 +44,7 @@ module _ {s os os′ : List ℕ} {lo count at : ℕ} where
 -- an attribute ---------------------------------------------------------------------------------
 
 -- an attribute's name, as the automaton carries it
-naming : (n : Name) (ns seen : List Name) → Naming (attribute-name n ns seen)
+pub naming : (n : Name) (ns seen : List Name) → Naming (attribute-name n ns seen)
 unfolding step
 naming n ns seen = record { next = λ p b e. rw e; calm = λ p. refl }
 
@@ -127,16 +127,16 @@ module _ (s : List ℕ) (at spare : ℕ) (x : Attributed s at) where
         attribute-unquoted {j} (no-quote f) =
             attribute-refused {x = 4} {j = j} (λ n ns. to-sign n ns .back _ (f n ns (name-at s at ∷ seen) (spare - 1)))
 
-        attribute-valued : {q : ℕ} {c : Cursor} {y : Read} → EqualsRead s to (Quoted q c) → ContentRead s q (c .at) (spare - 1) y
+        attribute-valued : {q : ℕ} {c : Cursor} {y : Read} → EqualsRead s to (Quoted q c) → TextRead s q (c .at) (spare - 1) y
             → AttributeRead s seen at spare y
-        attribute-valued (quoted q a b d f) (content-past {c = c} {m = m} g h i j u) =
+        attribute-valued (quoted q a b d f) (text-past {c = c} {m = m} g h i j u) =
             attribute-past {c = c} {m = m} (omega (arith, r .ends)) h (omega arith)
             (λ n ns. goes-then (to-sign n ns)
-            (goes-then (f n ns (name-at s at ∷ seen) (spare - 1)) (u _ _ _ _ (value-contents n ns (name-at s at ∷ seen) q))))
-        attribute-valued (quoted q a b d f) (content-refused {x = x} {j = j} u) =
+            (goes-then (f n ns (name-at s at ∷ seen) .goes (spare - 1)) (u _ _ _ _ (value-contents n ns (name-at s at ∷ seen) q))))
+        attribute-valued (quoted q a b d f) (text-refused {x = x} {j = j} u) =
             attribute-refused {x = x} {j = j}
             (λ n ns. to-sign n ns .back _
-            (f n ns (name-at s at ∷ seen) (spare - 1) .back _ (u _ _ _ _ (value-contents n ns (name-at s at ∷ seen) q))))
+            (f n ns (name-at s at ∷ seen) .goes (spare - 1) .back _ (u _ _ _ _ (value-contents n ns (name-at s at ∷ seen) q))))
 
 -- with the names of the attributes before it, os before and os′ behind it
 module _ {s os : List ℕ} {lo count at spare : ℕ} (x : Attributed s at) where
@@ -171,7 +171,7 @@ module _ {s os : List ℕ} {lo count at spare : ℕ} (x : Attributed s at) where
           kept = k;
         }
 
-        pub enters-valued : {q : ℕ} {c : Cursor} {y : Read} → EqualsRead s to (Quoted q c) → ContentRead s q (c .at) (spare - 1) y
+        pub enters-valued : {q : ℕ} {c : Cursor} {y : Read} → EqualsRead s to (Quoted q c) → TextRead s q (c .at) (spare - 1) y
             → AttributeEnters s os os′ lo count at spare y
         enters-valued {y = y} q v = record {
           reads = λ seen l. attribute-valued s at spare x room to r short seen (entered-of e h .added .unseen seen l) q v;

@@ -1,33 +1,34 @@
 -- Tags and texts in the content of the open elements.
 use Prim.Native.Nat.{ℕ, zero, suc, _+_, _-_, _≤_, _<_}
-use mathlib.Core.Path.{_≡_, refl, sym, ap, _∙_}
+use mathlib.Core.Path.{_≡_, refl, sym, ap, subst, _∙_}
 use mathlib.Core.Bool.{Bool, true, false}
 use mathlib.Core.List.{List, [], _∷_}
 use native.Mathlib.Omega.{arith}
 use native.Mathlib.Numerals.{add-one}
 use lib.ListN.{length, getD}
 use lib.Dec.{eqb}
-use borrow.Author.Tests.{ne-eqb, eqb-true, eqb-false}
+use borrow.Author.Tests.{eqb-true, eqb-false}
 use Rattle.tree.specs.Content.{element-kind, name-start}
-use Rattle.xml.specs.Bytes.{less-than, slash}
+use Rattle.xml.specs.Bytes.{less-than}
 use Rattle.xml.specs.Grammar.{Name}
 use Rattle.xml.specs.Reading.{opener}
 use Rattle.xml.specs.Laws.Automaton.{Config, content, behind-open, tag-name, end-name, closed, born, byte, depth, move, step}
 use Rattle.xml.specs.Laws.Counts.{births, tail, peak}
 use Rattle.xml.specs.Laws.Judge.{Verdict, bad, byte-before, offset-before}
 use Rattle.xml.specs.Laws.Scan.{scan-at}
-use Rattle.xml.specs.Laws.Goes.{Leads, Goes, goes-then, goes-step, stops-end, stops-stuck, stops-many, scan-born}
-use Rattle.xml.specs.Laws.Tokens.{name-at}
+use Rattle.xml.specs.Laws.Goes.{Leads, goes-then, stops-many, scan-born}
 use Rattle.xml_reader.specs.declared.Cursor.{Cursor}
 use Rattle.xml_reader.specs.declared.Child.{Child}
 use Rattle.xml_reader.specs.declared.Child.the-variants.{At, Stopped}
 use Rattle.xml_reader.specs.declared.End.the-variants as end-variants
+use Rattle.xml_reader.specs.declared.Markup.{Markup}
+use Rattle.xml_reader.specs.declared.Markup.the-variants.{StartTag, EndTag, NoTag}
 use Rattle.xml_reader.specs.declared.Read.the-variants.{Past, Refused}
 use Rattle.xml_reader.specs.declared.Tag.the-variants.{Opened, Emptied, Broken}
-use Rattle.xml_reader.specs.Steps.{ContentRead, content-past, content-refused}
+use Rattle.xml_reader.specs.Steps.{TextRead, text-past, text-refused, MarkupRead, markup-start, markup-end, markup-wrong}
 use Rattle.xml_reader.specs.Elements.{stack, name-behind, Placed, Kept, ElementRead, element-opened, element-emptied, element-broken}
 use Rattle.xml_reader.specs.Elements.{EndRead, end-behind, end-mismatch}
-use Rattle.xml_reader.specs.Children.{opened, Behind, Deep, ChildRead, child-at, child-stopped}
+use Rattle.xml_reader.specs.Children.{opened, ending, Behind, Deep, ChildRead, child-at, child-stopped}
 use Rattle.xml_reader.specs.Laws.Contents.{text-contents}
 use Rattle.xml_reader.specs.Laws.StartTags.{stack-same, placed-kept}
 
@@ -61,34 +62,38 @@ module _ (s os : List ℕ) (deep spare at : ℕ) (x : Deep s os deep spare) wher
   from-is : from ≡ behind-open n ns
   from-is = ap opened (innermost s os deep (x .some))
 
+  ending-is : ending (stack s os 0 deep) ≡ end-name n ns n
+  ending-is = ap ending (innermost s os deep (x .some))
+
   stopped : (os′ : List ℕ) (y j : ℕ) → Leads s (behind-open n ns) spare at (bad y j) → ChildRead s from at spare os′ (Stopped y j)
   stopped os′ y j l = child-stopped {x = y} {j = j} (rw from-is l)
 
   -- behind a <
-  pub tag-end : length s ≤ at → ChildRead s from at spare os (Stopped 4 at)
-  tag-end h = stopped os 4 at (stops-end s (behind-open n ns) spare at h refl)
+  pub tag-none : {j : ℕ} → MarkupRead s at (NoTag j) → ChildRead s from at spare os (Stopped 4 j)
+  tag-none {j} (markup-wrong f) = stopped os 4 j (f n ns spare)
+
+  -- an end tag
+  pub tag-ended : {c : Cursor} {r : Child} → MarkupRead s at (EndTag c) → ChildRead s (ending (stack s os 0 deep)) (c .at) spare os r
+      → ChildRead s from at spare os r
+  tag-ended {c} (markup-end e h f) (child-at {c = c′} {d = d} {m = m} o p q r w) =
+      child-at {c = c′} {d = d} {m = m}
+      (record { further = omega (arith, o .further); inside = o .inside; begins-here = o .begins-here; fewer = o .fewer }) p q r
+      (rw from-is (goes-then (f n ns .goes spare) (rw ending-is at w)))
+  tag-ended (markup-end e h f) (child-stopped {x = y} {j = j} w) =
+      child-stopped {x = y} {j = j} (rw from-is (f n ns .goes spare .back _ (rw ending-is at w)))
+
+  pub end-wrong : {j : ℕ} → EndRead s n at (end-variants.Mismatch j) → ChildRead s (ending (stack s os 0 deep)) at spare os (Stopped 4 j)
+  end-wrong {j} (end-mismatch f) = child-stopped {x = 4} {j = j} (rw ending-is (f ns spare))
+
+  pub end-right : {c : Cursor} → EndRead s n at (end-variants.Behind c)
+      → ChildRead s (ending (stack s os 0 deep)) at spare os (At c (deep - 1) spare)
+  end-right {c} (end-behind a b d f) =
+      child-at {c = c} {d = deep - 1} {m = spare}
+      (record { further = a; inside = b; begins-here = d; fewer = omega arith }) (omega (arith, x .room)) (x .long)
+      (record { short = x .names .short; placed = λ i m. x .names .placed i (omega arith) })
+      (rw ending-is (f ns spare))
 
   module _ (h : at < length s) where
-    pub tag-wrong : (getD s at 0 ≡ slash → ⊥) → name-start (getD s at 0) ≡ false → ChildRead s from at spare os (Stopped 4 at)
-    unfolding step
-    tag-wrong e f = stopped os 4 at (stops-stuck s (behind-open n ns) spare at h (rw (f, ne-eqb (getD s at 0) slash e)))
-
-    -- an end tag
-    module _ (e : getD s at 0 ≡ slash) where
-      to-end : Goes s (behind-open n ns) spare at (end-name n ns n) spare (at + 1)
-      unfolding step name-start
-      to-end = goes-step s (behind-open n ns) spare at h (end-name n ns n) (rw e) refl
-
-      pub end-wrong : {j : ℕ} → EndRead s n (at + 1) (end-variants.Mismatch j) → ChildRead s from at spare os (Stopped 4 j)
-      end-wrong {j} (end-mismatch f) = stopped os 4 j (to-end .back _ (f ns spare))
-
-      pub end-right : {c : Cursor} → EndRead s n (at + 1) (end-variants.Behind c) → ChildRead s from at spare os (At c (deep - 1) spare)
-      end-right {c} (end-behind a b d f) =
-          child-at {c = c} {d = deep - 1} {m = spare}
-          (record { further = omega arith; inside = b; begins-here = d; fewer = omega arith }) (omega (arith, x .room)) (x .long)
-          (record { short = x .names .short; placed = λ i m. x .names .placed i (omega arith) })
-          (rw from-is (goes-then to-end (f ns spare)))
-
     -- a start tag
     module _ (e : name-start (getD s at 0) ≡ true) where
       abbrev b : ℕ
@@ -147,25 +152,36 @@ module _ (s os : List ℕ) (deep spare at : ℕ) (x : Deep s os deep spare) wher
   within-is : closed (stack s os 0 deep) ≡ content n ns
   within-is = ap closed (innermost s os deep (x .some))
 
-  pub text-refused : {y j : ℕ} → ContentRead s less-than at spare (Refused y j) → (os′ : List ℕ)
+  pub child-refused : {y j : ℕ} → TextRead s less-than at spare (Refused y j) → (os′ : List ℕ)
       → ChildRead s (closed (stack s os 0 deep)) at spare os′ (Stopped y j)
-  text-refused {y} {j} (content-refused f) os′ = child-stopped {x = y} {j = j} (rw within-is (f _ _ _ _ (text-contents n ns)))
+  child-refused {y} {j} (text-refused f) os′ = child-stopped {x = y} {j = j} (rw within-is (f _ _ _ _ (text-contents n ns)))
 
-  pub text-past : {c : Cursor} {m : ℕ} {r : Child} (os′ : List ℕ) → ContentRead s less-than at spare (Past c m)
+  pub child-past : {c : Cursor} {m : ℕ} {r : Child} (os′ : List ℕ) → TextRead s less-than at spare (Past c m)
       → ChildRead s from (c .at) m os′ r
       → ChildRead s (closed (stack s os 0 deep)) at spare os′ r
-  text-past {c} os′ (content-past a b d e f) (child-at {c = c′} {d = d′} {m = m′} o p q r w) =
+  child-past {c} os′ (text-past a b d e f) (child-at {c = c′} {d = d′} {m = m′} o p q r w) =
       child-at {c = c′} {d = d′} {m = m′}
       (record { further = omega (arith, o .further); inside = o .inside; begins-here = o .begins-here; fewer = omega (arith, o .fewer) }) p
       q r
       (rw within-is (goes-then (f _ _ _ _ (text-contents n ns)) (rw from-is at w)))
-  text-past {c} os′ (content-past a b d e f) (child-stopped {x = y} {j = j} w) =
+  child-past {c} os′ (text-past a b d e f) (child-stopped {x = y} {j = j} w) =
       child-stopped {x = y} {j = j} (rw within-is (f _ _ _ _ (text-contents n ns) .back _ (rw from-is at w)))
 
-pub behind-text : {s os : List ℕ} {deep at spare m : ℕ} {c : Cursor} → Deep s os deep spare → ContentRead s less-than at spare (Past c m)
+pub behind-text : {s os : List ℕ} {deep at spare m : ℕ} {c : Cursor} → Deep s os deep spare → TextRead s less-than at spare (Past c m)
     → Behind s (c .at) × Deep s os deep m
-behind-text x (content-past a b d e f) = (
+behind-text x (text-past a b d e f) = (
   record { inside = b; not-first = omega arith; opens = d },
   record
       { some = x .some; room = omega (arith, x .room); long = x .long; names = x .names },
 )
+
+pub markup-as : {s : List ℕ} {at : ℕ} {r q : Markup} → r ≡ q → MarkupRead s at r → MarkupRead s at q
+markup-as {s} {at} e k = subst (MarkupRead s at) e k
+
+-- at the name of a start tag
+pub start-there : {s : List ℕ} {at : ℕ} {c : Cursor} → Behind s at → MarkupRead s at (StartTag c)
+    → Behind s (c .at) × (c .at < length s) × (name-start (getD s (c .at) 0) ≡ true) × (c .at ≡ at)
+start-there b (markup-start e h f) = (rw e b, rw e h, rw e f, e)
+
+pub end-there : {s : List ℕ} {at : ℕ} {c : Cursor} → MarkupRead s at (EndTag c) → c .at ≤ length s
+end-there (markup-end e h f) = omega arith

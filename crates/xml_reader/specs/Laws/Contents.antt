@@ -8,39 +8,73 @@ use lib.Dec.{eqb}
 use lib.ListN.{length, getD}
 use borrow.Author.Tests.{ne-eqb, eqb-true, eqb-false}
 use Rattle.tree.specs.Content.{content-limit, text-byte, text-kind}
-use Rattle.xml.specs.Bytes.{ampersand, less-than, brackets, Quote, double, single, quote-byte, value-literal, text-literal}
+use Rattle.xml.specs.Bytes.{ampersand, less-than, brackets, Quote, double, single, quote-byte, value-literal, normalized, text-literal}
 use Rattle.xml.specs.Grammar.{Name}
 use Rattle.xml.specs.Reading.{node-offset}
-use Rattle.xml.specs.Laws.Words.{Words, entities}
+use Rattle.xml.specs.Laws.Words.{Words, references}
 use Rattle.xml.specs.Laws.Automaton.{Config, behind-part, behind-quote, in-value, value-reference, content, behind-open, in-text}
-use Rattle.xml.specs.Laws.Automaton.{text-reference, born, byte, depth, stuck, move, to, step}
+use Rattle.xml.specs.Laws.Automaton.{text-reference, Event, born, byte, depth, stuck, move, to, step}
 use Rattle.xml.specs.Laws.Counts.{births, tail, peak}
-use Rattle.xml.specs.Laws.Judge.{bad}
 use Rattle.xml.specs.Laws.Scan.{scan-at}
-use Rattle.xml.specs.Laws.Goes.{Leads, goes-step, stops-end, stops-stuck, stops-many, scan-quiet, scan-byte, scan-born}
+use Rattle.xml.specs.Laws.Goes.{goes-step, stops-end, stops-stuck, stops-many, scan-plain, scan-born}
+use Rattle.xml.specs.Laws.Forces.{extent}
 use Rattle.xml_reader.specs.declared.Cursor.{Cursor}
 use Rattle.xml_reader.specs.declared.Read.{Read}
 use Rattle.xml_reader.specs.declared.Read.the-variants.{Past, Refused}
-use Rattle.xml_reader.specs.Classes.{literal, begins}
-use Rattle.xml_reader.specs.Steps.{Characters, CharactersRead, characters-past, characters-refused, Contents, ContentRead}
-use Rattle.xml_reader.specs.Steps.{content-past, content-refused}
+use Rattle.xml_reader.specs.Classes.{literal, begins, reads-as}
+use Rattle.xml_reader.specs.Steps.{Characters, CharactersRead, characters-past, characters-refused, Contents, TextRead}
+use Rattle.xml_reader.specs.Steps.{text-past, text-refused}
+
+-- the first character is read as any other, and a node is born
+pub record Begun (s : List ℕ) (at : ℕ) {stop : ℕ} {S : Config} {C : ℕ → Config} {R : Words → Config} {D : Config}
+    (x : Contents stop S C R D) : Type 0 where
+  pub next : Config
+  pub rest : List Event
+  pub calm : births rest ≡ 0
+  pub short : extent 0 rest next ≤ content-limit
+  pub born-so : step true S (getD s at 0) ≡ move next (born (x .depth) text-kind ∷ rest)
+  pub plainly : step true (C 0) (getD s at 0) ≡ move next rest
+
+pub begun-by : (s : List ℕ) (at : ℕ) {stop : ℕ} {S : Config} {C : ℕ → Config} {R : Words → Config} {D : Config} (x : Contents stop S C R D)
+    → (getD s at 0 ≡ stop → ⊥) → ((getD s at 0 ≡ ampersand → ⊥) → literal stop 0 (getD s at 0) ≡ true) → Begun s at x
+unfolding births tail peak
+begun-by s at {stop} {S} {C} {R} x other itself = go (eqb (getD s at 0) ampersand) refl
+  where
+    go : (y : Bool) → eqb (getD s at 0) ampersand ≡ y → Begun s at x
+    go true a = let u = eqb-true (getD s at 0) ampersand a in record {
+      next = R references;
+      rest = [];
+      calm = refl;
+      short = omega (arith, x .inner .due references);
+      born-so = ap (step true S) u ∙ x .first-refers;
+      plainly = ap (step true (C 0)) u ∙ x .inner .refers-to 0;
+    }
+    go false a =
+        let c = getD s at 0 in
+        let i = itself (eqb-false c ampersand a) in record {
+          next = C (brackets 0 c);
+          rest = byte (reads-as stop c) ∷ [];
+          calm = refl;
+          short = omega (arith, x .inner .calm (brackets 0 c));
+          born-so = x .first c other i;
+          plainly = x .inner .plainly 0 c other i;
+        }
 
 module _ (s : List ℕ) (stop at spare : ℕ) where
-  pub content-end : length s ≤ at → ContentRead s stop at spare (Refused 4 at)
-  content-end h = content-refused {x = 4} {j = at} (λ S C R D x. stops-end s S spare at h (x .starting))
+  pub text-end : length s ≤ at → TextRead s stop at spare (Refused 4 at)
+  text-end h = text-refused {x = 4} {j = at} (λ S C R D x. stops-end s S spare at h (x .starting))
 
   module _ (h : at < length s) where
-    pub content-empty : (c : Cursor) → getD s at 0 ≡ stop → c .at ≡ at + 1 → ContentRead s stop at spare (Past c spare)
-    content-empty c e p =
+    pub text-empty : (c : Cursor) → getD s at 0 ≡ stop → c .at ≡ at + 1 → TextRead s stop at spare (Past c spare)
+    text-empty c e p =
         let u : c .at - 1 ≡ at = omega arith in
-        content-past {c = c} {m = spare} (omega arith) (omega arith) (rw u e) (omega arith)
+        text-past {c = c} {m = spare} (omega arith) (omega arith) (rw u e) (omega arith)
         (λ S C R D x. rw p (goes-step s S spare at h D (ap (step true S) e ∙ x .nothing) (x .inner .behind)))
 
     module _ (other : getD s at 0 ≡ stop → ⊥) where
-      pub content-wrong : begins stop 0 (getD s at 0) ≡ false → ContentRead s stop at spare (Refused 4 at)
+      pub text-wrong : begins stop 0 (getD s at 0) ≡ false → TextRead s stop at spare (Refused 4 at)
       unfolding begins
-      content-wrong e =
-          content-refused {x = 4} {j = at} (λ S C R D x. stops-stuck s S spare at h (go x (eqb (getD s at 0) ampersand) refl e))
+      text-wrong e = text-refused {x = 4} {j = at} (λ S C R D x. stops-stuck s S spare at h (go x (eqb (getD s at 0) ampersand) refl e))
         where
           go : {S : Config} {C : ℕ → Config} {R : Words → Config} {D : Config} → Contents stop S C R D → (y : Bool)
               → eqb (getD s at 0) ampersand ≡ y
@@ -49,62 +83,34 @@ module _ (s : List ℕ) (stop at spare : ℕ) where
           go x false p q = x .no-first (getD s at 0) other (eqb-false (getD s at 0) ampersand p) q
 
       module _ (e : begins stop 0 (getD s at 0) ≡ true) where
-        itself : (getD s at 0 ≡ ampersand → ⊥) → literal stop 0 (getD s at 0) ≡ true
+        begun : {S : Config} {C : ℕ → Config} {R : Words → Config} {D : Config} (x : Contents stop S C R D) → Begun s at x
         unfolding begins
-        itself n = rw (ne-eqb (getD s at 0) ampersand n) at e
+        begun x = begun-by s at x other (λ n. rw (ne-eqb (getD s at 0) ampersand n) at e)
 
-        pub content-many : spare ≡ 0 → (begin : ℕ) → begin ≡ node-offset s at → ContentRead s stop at spare (Refused 6 begin)
-        unfolding births tail peak
-        content-many q begin p = content-refused {x = 6} {j = begin} (λ S C R D x. rw p (go S C R D x (eqb (getD s at 0) ampersand) refl))
-          where
-            go : (S : Config) (C : ℕ → Config) (R : Words → Config) (D : Config) → Contents stop S C R D → (y : Bool)
-                → eqb (getD s at 0) ampersand ≡ y
-                → Leads s S spare at (bad 6 (node-offset s at))
-            go S C R D x true a =
-                stops-many s S spare at h (R entities) (x .depth) (x .kind) []
-                (ap (step true S) (eqb-true (getD s at 0) ampersand a) ∙ x .first-refers) q
-                (omega (arith, x .inner .due entities))
-            go S C R D x false a =
-                let b = getD s at 0 in
-                stops-many s S spare at h (C (brackets 0 b)) (x .depth) (x .kind) (byte b ∷ [])
-                (x .first b other (itself (eqb-false b ampersand a))) q
-                (omega (arith, x .inner .calm (brackets 0 b)))
+        pub text-many : spare ≡ 0 → (begin : ℕ) → begin ≡ node-offset s at → TextRead s stop at spare (Refused 6 begin)
+        text-many q begin p = text-refused {x = 6} {j = begin} (λ S C R D x. let y = begun x in
+            rw p (stops-many s S spare at h (y .next) (x .depth) text-kind (y .rest) (y .born-so) q (y .short)))
 
         module _ (room : 1 ≤ spare) where
-          -- the first character is read as any other, with one node less to come
           begins-so : {S : Config} {C : ℕ → Config} {R : Words → Config} {D : Config} → Contents stop S C R D → (k : ℕ) → k ≤ content-limit
               → scan-at s S spare k at ≡ scan-at s (C 0) (spare - 1) 0 at
-          unfolding births tail peak
-          begins-so {S} {C} {R} x k m = go (eqb (getD s at 0) ampersand) refl
-            where
-              go : (y : Bool) → eqb (getD s at 0) ampersand ≡ y → scan-at s S spare k at ≡ scan-at s (C 0) (spare - 1) 0 at
-              go true a =
-                  let u = eqb-true (getD s at 0) ampersand a in
-                  scan-born s S spare at h (R entities) (x .depth) (x .kind) [] (ap (step true S) u ∙ x .first-refers) refl room k m
-                  (omega (arith, x .inner .due entities))
-                  ∙ sym (scan-quiet s (C 0) (spare - 1) at h (R entities) (ap (step true (C 0)) u ∙ x .inner .refers-to 0) 0
-                  (omega (arith, x .inner .due entities)))
-              go false a =
-                  let b = getD s at 0 in
-                  let i = itself (eqb-false b ampersand a) in
-                  scan-born s S spare at h (C (brackets 0 b)) (x .depth) (x .kind) (byte b ∷ []) (x .first b other i) refl room k m
-                  (omega (arith, x .inner .calm (brackets 0 b)))
-                  ∙ sym (scan-byte s (C 0) (spare - 1) at h (C (brackets 0 b)) b (x .inner .plainly 0 b other i)
-                  (x .inner .calm (brackets 0 b))
-                  0 (omega arith))
+          begins-so {S} {C} x k m =
+              let y = begun x in
+              scan-born s S spare at h (y .next) (x .depth) text-kind (y .rest) (y .born-so) (y .calm) room k m (y .short)
+              ∙ sym (scan-plain s (C 0) (spare - 1) at h (y .next) (y .rest) (y .plainly) (y .calm) (y .short))
 
-          pub content-rest : {r : Read} → CharactersRead s stop at (spare - 1) r → ContentRead s stop at spare r
-          content-rest (characters-past {c = c} a b d f) =
-              content-past {c = c} {m = spare - 1} a b d (omega arith)
+          pub text-rest : {r : Read} → CharactersRead s stop at (spare - 1) r → TextRead s stop at spare r
+          text-rest (characters-past {c = c} a b d f) =
+              text-past {c = c} {m = spare - 1} a b d (omega arith)
               (λ S C R D x. record { back = λ v y. record { leads = λ k m. begins-so x k m ∙ f C R D (x .inner) v y } })
-          content-rest (characters-refused {x = x} {j = j} f) =
-              content-refused {x = x} {j = j} (λ S C R D y. record { leads = λ k m. begins-so y k m ∙ f C R D (y .inner) })
+          text-rest (characters-refused {x = x} {j = j} f) =
+              text-refused {x = x} {j = j} (λ S C R D y. record { leads = λ k m. begins-so y k m ∙ f C R D (y .inner) })
 
 -- the configurations of the automaton --------------------------------------------------------
 
 module _ (n : Name) (ns : List Name) where
   pub text-characters : Characters less-than (in-text n ns) (text-reference n ns) (behind-open n ns)
-  unfolding step literal text-literal text-byte births
+  unfolding step literal reads-as text-literal text-byte births
   text-characters = record {
     plainly = λ k b o h. rw h;
     refers-to = λ k. refl;
@@ -118,11 +124,10 @@ module _ (n : Name) (ns : List Name) where
   }
 
   pub text-contents : Contents less-than (content n ns) (in-text n ns) (text-reference n ns) (behind-open n ns)
-  unfolding step literal text-literal text-byte
+  unfolding step literal reads-as text-literal text-byte
   text-contents = record {
     inner = text-characters;
     depth = depth (n ∷ ns);
-    kind = text-kind;
     first = λ b o h. rw h;
     first-refers = refl;
     nothing = refl;
@@ -130,18 +135,27 @@ module _ (n : Name) (ns : List Name) where
     starting = refl;
   }
 
+  pub text-depth : text-contents .depth ≡ depth (n ∷ ns)
+  unfolding text-contents depth
+  text-depth = refl
+
 -- where the byte is not the quote
 literal-value : (q : Quote) (k b : ℕ) → (b ≡ quote-byte q → ⊥) → literal (quote-byte q) k b ≡ value-literal q b
 unfolding literal value-literal
 literal-value double k b o = rw (ne-eqb b (quote-byte double) o)
 literal-value single k b o = rw (ne-eqb b (quote-byte single) o)
 
+reads-value : (q : Quote) (b : ℕ) → reads-as (quote-byte q) b ≡ normalized b
+unfolding reads-as
+reads-value double b = refl
+reads-value single b = refl
+
 module _ (n : Name) (ns seen : List Name) where
   pub value-characters : (q : Quote)
       → Characters (quote-byte q) (λ k. in-value n ns seen q) (value-reference n ns seen q) (behind-part n ns seen)
   unfolding step births value-literal text-byte
   value-characters q = record {
-    plainly = λ k b o h. rw (sym (literal-value q k b o) ∙ h);
+    plainly = λ k b o h. rw (sym (literal-value q k b o) ∙ h, reads-value q b);
     refers-to = λ k. refers-on q;
     stops = λ k. stops-on q;
     no-other = λ k b o a h. rw (sym (literal-value q k b o) ∙ h, ne-eqb b ampersand a, ne-eqb b (quote-byte q) o);
@@ -152,7 +166,7 @@ module _ (n : Name) (ns seen : List Name) where
     behind = refl;
   }
     where
-      refers-on : (q : Quote) → step true (in-value n ns seen q) ampersand ≡ to (value-reference n ns seen q entities)
+      refers-on : (q : Quote) → step true (in-value n ns seen q) ampersand ≡ to (value-reference n ns seen q references)
       refers-on double = refl
       refers-on single = refl
 
@@ -166,8 +180,7 @@ module _ (n : Name) (ns seen : List Name) where
   value-contents q = record {
     inner = value-characters q;
     depth = suc (depth (n ∷ ns));
-    kind = text-kind;
-    first = λ b o h. rw (sym (literal-value q 0 b o) ∙ h);
+    first = λ b o h. rw (sym (literal-value q 0 b o) ∙ h, reads-value q b);
     first-refers = refers-on q;
     nothing = stops-on q;
     no-first = λ b o a h. rw (sym (literal-value q 0 b o) ∙ h, ne-eqb b ampersand a, ne-eqb b (quote-byte q) o);
@@ -176,10 +189,14 @@ module _ (n : Name) (ns seen : List Name) where
     where
       refers-on : (q : Quote)
           → step true (behind-quote n ns seen q) ampersand
-          ≡ move (value-reference n ns seen q entities) (born (suc (depth (n ∷ ns))) text-kind ∷ [])
+          ≡ move (value-reference n ns seen q references) (born (suc (depth (n ∷ ns))) text-kind ∷ [])
       refers-on double = refl
       refers-on single = refl
 
       stops-on : (q : Quote) → step true (behind-quote n ns seen q) (quote-byte q) ≡ to (behind-part n ns seen)
       stops-on double = refl
       stops-on single = refl
+
+  pub value-depth : (q : Quote) → value-contents q .depth ≡ suc (depth (n ∷ ns))
+  unfolding value-contents depth
+  value-depth q = refl

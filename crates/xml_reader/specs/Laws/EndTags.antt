@@ -8,21 +8,19 @@ use native.Mathlib.Numerals.{add-one}
 use lib.Dec.{eqb, leb}
 use lib.ListN.{length, getD, take, drop, drop-of-length-le}
 use lib.Seq.{drop-cons}
-use borrow.Author.Tests.{leb-true, leb-false, ne-eqb}
+use borrow.Author.Tests.{leb-true, leb-false}
 use Rattle.tree.specs.Content.{name-byte}
-use Rattle.xml.specs.Bytes.{blank, greater-than}
 use Rattle.xml.specs.Grammar.{Name}
-use Rattle.xml.specs.Laws.Automaton.{end-name, closed, to, step}
+use Rattle.xml.specs.Laws.Automaton.{end-name, step}
 use Rattle.xml.specs.Laws.Judge.{bad}
 use Rattle.xml.specs.Laws.Goes.{Leads, Goes, goes-then, goes-same, goes-step, stops-end, stops-stuck}
-use Rattle.xml.specs.Laws.Tokens.{name-at, goes-blanks}
+use Rattle.xml.specs.Laws.Tokens.{name-at}
 use Rattle.xml.specs.Laws.Fixed.{agree}
-use Rattle.xml_reader.specs.declared.Cursor.{Cursor}
-use Rattle.xml_reader.specs.declared.End.the-variants.{Behind, Mismatch}
+use Rattle.xml_reader.specs.declared.End.{End}
+use Rattle.xml_reader.specs.declared.End.the-variants.{Mismatch}
 use Rattle.bytes.specs.Agreement.{Agreement}
-use Rattle.xml_reader.specs.Steps.{Run}
+use Rattle.xml_reader.specs.Steps.{Run, CloseRead, close-behind, close-wrong}
 use Rattle.xml_reader.specs.Elements.{EndRead, end-behind, end-mismatch}
-use Rattle.xml_reader.specs.Laws.Tags.{no-blank-here, no-opener, calm-closed}
 use Rattle.xml_reader.specs.Laws.Names.{name-of, length-name}
 
 module _ (s : List ℕ) (n : Name) (ns : List Name) (m : ℕ) where
@@ -94,28 +92,16 @@ module _ (s : List ℕ) (at from to : ℕ) (r : Run name-byte s from to) (k : �
       end-mismatch {j = at + k}
       (λ ns m. rw agreed (part-name s (name-at s from) ns m (name-at s from) at (λ e. h (agreed ∙ e ∙ length-name s from to r))))
 
-  module _ (h : k ≡ to - from) (i : ℕ) (b : Run blank s (at + k) i) where
-    to-close : (ns : List Name) (m : ℕ) → Goes s (end-name (name-at s from) ns (name-at s from)) m at (end-name (name-at s from) ns []) m i
-    unfolding step
+  module _ (h : k ≡ to - from) where
+    to-close : (ns : List Name) (m : ℕ)
+        → Goes s (end-name (name-at s from) ns (name-at s from)) m at (end-name (name-at s from) ns []) m (at + k)
     to-close ns m =
         let n = name-at s from in
         let e : k ≡ length n = h ∙ sym (length-name s from to r) in
-        goes-then (whole-name s n ns m n at (sym agreed ∙ e))
-        (goes-then (goes-same s (end-name n ns []) m (at + length n) (at + k) (omega arith))
-        (goes-then (goes-blanks s (end-name n ns []) m (λ x z. rw z) refl (at + k)) (goes-same s (end-name n ns []) m _ i (sym (b .ends)))))
+        goes-then (whole-name s n ns m n at (sym agreed ∙ e)) (goes-same s (end-name n ns []) m (at + length n) (at + k) (omega arith))
 
-    pub end-over : length s ≤ i → EndRead s (name-at s from) at (Mismatch i)
-    end-over o = end-mismatch {j = i} (λ ns m. to-close ns m .back _ (stops-end s (end-name (name-at s from) ns []) m i o refl))
-
-    module _ (o : i < length s) where
-      pub end-unclosed : (getD s i 0 ≡ greater-than → ⊥) → EndRead s (name-at s from) at (Mismatch i)
-      unfolding step
-      end-unclosed e = end-mismatch {j = i} (λ ns m. to-close ns m .back _
-          (stops-stuck s (end-name (name-at s from) ns []) m i o (rw (no-blank-here s (at + k) i b o, ne-eqb (getD s i 0) greater-than e))))
-
-      pub end-closed : (c : Cursor) → getD s i 0 ≡ greater-than → c .at ≡ i + 1 → EndRead s (name-at s from) at (Behind c)
-      unfolding step blank
-      end-closed c e p =
-          end-behind {c = c} (omega (arith, b .ends)) (omega arith) (rw p (no-opener s i (rw e)))
-          (λ ns m. goes-then (to-close ns m) (rw p (goes-step s (end-name (name-at s from) ns []) m i o (closed ns) (rw e)
-          (calm-closed ns))))
+    -- and what is read behind the name
+    pub end-rest : {x : End} → CloseRead s (at + k) x → EndRead s (name-at s from) at x
+    end-rest (close-behind {c = c} f g d w) =
+        end-behind {c = c} (omega arith) g d (λ ns m. goes-then (to-close ns m) (w (name-at s from) ns .goes m))
+    end-rest (close-wrong {j = j} f) = end-mismatch {j = j} (λ ns m. to-close ns m .back _ (f (name-at s from) ns m))

@@ -8,10 +8,10 @@ use lib.ListN.{length, getD}
 use borrow.Author.Tests.{ne-eqb}
 use Rattle.tree.specs.Content.{element-kind, name-start}
 use Rattle.xml.specs.Bytes.{blank, less-than}
-use Rattle.xml.specs.Laws.Automaton.{prolog, behind-root, tag-name, byte, step}
+use Rattle.xml.specs.Laws.Automaton.{prolog, behind-root, tag-name, born, byte, step}
 use Rattle.xml.specs.Laws.Counts.{births, tail, peak}
-use Rattle.xml.specs.Laws.Goes.{Goes, goes-then, goes-same, goes-step, stops-end, stops-stuck, scan-born}
-use Rattle.xml.specs.Laws.Tokens.{goes-blanks}
+use Rattle.xml.specs.Laws.Goes.{stops-end, stops-stuck, scan-born}
+use Rattle.xml.specs.Laws.Tells.{tells-then, tells-step, Passes, passes-then, passes-same, passes-step, passes-blanks}
 use Rattle.xml_reader.specs.declared.Cursor.{Cursor}
 use Rattle.xml_reader.specs.declared.Prolog.the-variants.{Root, NoRoot}
 use Rattle.xml_reader.specs.Steps.{Run}
@@ -19,38 +19,40 @@ use Rattle.xml_reader.specs.Prolog.{RootRead, root-at, no-root}
 use Rattle.xml_reader.specs.Laws.Tags.{no-blank-here}
 
 module _ (s : List ℕ) (at i : ℕ) (r : Run blank s at i) where
-  to-root : (m : ℕ) → Goes s prolog m at prolog m i
+  to-root : Passes s prolog at prolog i
   unfolding step
-  to-root m = goes-then (goes-blanks s prolog m (λ b e. rw e) refl at) (goes-same s prolog m _ i (sym (r .ends)))
+  to-root = passes-then (passes-blanks s prolog (λ b e. rw e) refl at) (passes-same s prolog _ i (sym (r .ends)))
 
   pub root-over : length s ≤ i → RootRead s prolog at (NoRoot i)
-  root-over h = no-root {j = i} (λ m. to-root m .back _ (stops-end s prolog m i h refl))
+  root-over h = no-root {j = i} (λ m. to-root .goes m .back _ (stops-end s prolog m i h refl))
 
   module _ (h : i < length s) where
     pub root-wrong : (getD s i 0 ≡ less-than → ⊥) → RootRead s prolog at (NoRoot i)
     unfolding step
     root-wrong e =
-        no-root {j = i} (λ m. to-root m .back _ (stops-stuck s prolog m i h
+        no-root {j = i} (λ m. to-root .goes m .back _ (stops-stuck s prolog m i h
         (rw (no-blank-here s at i r h, ne-eqb (getD s i 0) less-than e))))
 
     module _ (e : getD s i 0 ≡ less-than) where
-      to-name : (m : ℕ) → Goes s prolog m at behind-root m (i + 1)
+      to-name : Passes s prolog at behind-root (i + 1)
       unfolding step blank
-      to-name m = goes-then (to-root m) (goes-step s prolog m i h behind-root (rw e) refl)
+      to-name = passes-then to-root (passes-step s prolog i h behind-root (rw e) refl)
 
       pub name-over : length s ≤ i + 1 → RootRead s prolog at (NoRoot (i + 1))
-      name-over k = no-root {j = i + 1} (λ m. to-name m .back _ (stops-end s behind-root m (i + 1) k refl))
+      name-over k = no-root {j = i + 1} (λ m. to-name .goes m .back _ (stops-end s behind-root m (i + 1) k refl))
 
       module _ (k : i + 1 < length s) where
         pub name-wrong : name-start (getD s (i + 1) 0) ≡ false → RootRead s prolog at (NoRoot (i + 1))
         unfolding step
-        name-wrong f = no-root {j = i + 1} (λ m. to-name m .back _ (stops-stuck s behind-root m (i + 1) k (rw f)))
+        name-wrong f = no-root {j = i + 1} (λ m. to-name .goes m .back _ (stops-stuck s behind-root m (i + 1) k (rw f)))
 
         pub name-right : (c : Cursor) → name-start (getD s (i + 1) 0) ≡ true → c .at ≡ i + 1 → RootRead s prolog at (Root c)
         unfolding step births tail peak
         name-right c f p = root-at {c = c} (record { not-first = omega arith; inside = rw p k; starts = rw p f })
-            (λ m l v y. to-name m .back v (record {
+            (λ m l v y. to-name .goes m .back v (record {
               leads = λ j k′.
                   scan-born s behind-root m (i + 1) k (tag-name [] (getD s (i + 1) 0 ∷ [])) 1 element-kind (byte (getD s (i + 1) 0) ∷ [])
                   (rw f) refl l j k′ (omega arith) ∙ (rw p at y);
             }))
+            (rw p (tells-then [] (to-name .tells) (tells-step s behind-root (i + 1) k (tag-name [] (getD s (i + 1) 0 ∷ []))
+            (born 1 element-kind ∷ byte (getD s (i + 1) 0) ∷ []) (rw f))))

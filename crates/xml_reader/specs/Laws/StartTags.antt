@@ -91,18 +91,18 @@ module _ (s os : List ℕ) (lo count at spare i n : ℕ) (t : AttributesTo s os 
   pub attributes-open : {c : Cursor} → TagRead s behind-part i (Open c) → AttributesRead s at spare (Opened c n)
   attributes-open {c} (tag-open d e g f) =
       attributes-opened {c = c} {m = n} (record { further = omega arith; inside = e; begins-here = g; fewer = b })
-      (λ m ns. goes-then (t .comes m ns) (f m ns (t .seen) n))
+      (λ m ns. goes-then (t .comes m ns) (f m ns (t .seen) .goes n))
 
   pub attributes-empty : {c : Cursor} → TagRead s behind-part i (Empty c) → AttributesRead s at spare (Emptied c n)
   attributes-empty {c} (tag-empty d e g f) =
       attributes-emptied {c = c} {m = n} (record { further = omega arith; inside = e; begins-here = g; fewer = b })
-      (λ m ns. goes-then (t .comes m ns) (f m ns (t .seen) n))
+      (λ m ns. goes-then (t .comes m ns) (f m ns (t .seen) .goes n))
 
   -- an attribute that is refused
   refused : {c : Cursor} {x j : ℕ} → TagRead s behind-part i (Attribute c) → AttributeRead s (t .seen) (c .at) n (Refused x j)
       → AttributesRead s at spare (Broken x j)
   refused {c} {x} {j} (tag-attribute d e g h f) (attribute-refused u) =
-      attributes-broken {x = x} {j = j} (λ m ns. t .comes m ns .back _ (f m ns (t .seen) n .back _ (u m ns)))
+      attributes-broken {x = x} {j = j} (λ m ns. t .comes m ns .back _ (f m ns (t .seen) .goes n .back _ (u m ns)))
 
   -- one that is read
   past : {c d : Cursor} {m : ℕ} {os′ : List ℕ} → TagRead s behind-part i (Attribute c) → AttributeRead s (t .seen) (c .at) n (Past d m)
@@ -110,7 +110,7 @@ module _ (s os : List ℕ) (lo count at spare i n : ℕ) (t : AttributesTo s os 
   past {c} {d} {m} (tag-attribute p e g h f) (attribute-past q r w u) y = record {
     seen = name-at s (c .at) ∷ t .seen;
     lists = y;
-    comes = λ nm ns. goes-then (t .comes nm ns) (goes-then (f nm ns (t .seen) n) (u nm ns));
+    comes = λ nm ns. goes-then (t .comes nm ns) (goes-then (f nm ns (t .seen) .goes n) (u nm ns));
   }
 
   -- an attribute at c, and what is read of it
@@ -144,14 +144,14 @@ module _ (s os : List ℕ) (lo count at spare i n : ℕ) (t : AttributesTo s os 
 
 -- from the first byte of the name ------------------------------------------------------------------
 
-naming : (ns : List Name) → Naming (tag-name ns)
+pub tag-naming : (ns : List Name) → Naming (tag-name ns)
 unfolding step
-naming ns = record { next = λ p b e. rw e; calm = λ p. refl }
+tag-naming ns = record { next = λ p b e. rw e; calm = λ p. refl }
 
 module _ (s : List ℕ) (at spare to : ℕ) (x : Named s at) (r : Run name-byte s at to) where
   pub element-long : content-limit < to - at → ElementRead s at spare (Broken 5 (at + 32))
   element-long h = element-broken {x = 5} {j = at + 32}
-      (λ ns. name-long s (tag-name ns) spare (naming ns) at (x .inside) (start-name (getD s at 0) (x .starts)) (omega (arith, r .ends)))
+      (λ ns. name-long s (tag-name ns) spare (tag-naming ns) at (x .inside) (start-name (getD s at 0) (x .starts)) (omega (arith, r .ends)))
 
   module _ (short : to - at ≤ content-limit) where
     -- behind the name
@@ -161,7 +161,8 @@ module _ (s : List ℕ) (at spare to : ℕ) (x : Named s at) (r : Run name-byte 
     to-part ns =
         let p : span name-byte (drop at s) ≡ to - at = omega (arith, r .ends) in
         let q : at + (to - at) ≡ to = omega (arith, r .ends) in
-        (rw (p, q) at (name-short s (tag-name ns) spare (naming ns) at (x .inside) (start-name (getD s at 0) (x .starts)) (omega arith)))
+        (rw (p, q) at (name-short s (tag-name ns) spare (tag-naming ns) at (x .inside) (start-name (getD s at 0) (x .starts))
+        (omega arith)))
         ∙ scan-alike s (tag-name ns (name-at s at)) (behind-part (name-at s at) ns []) spare (to - at) to
         (λ h. rw (rw (← r .ends) at (span-behind name-byte s at (omega (arith, r .ends))))) refl
 

@@ -1,4 +1,5 @@
--- Parts of a start tag: its end, the way to an attribute's name, the way from the name to the opening quote.
+-- Parts of a start tag: its end, the way to an attribute's name, the way from the name to the opening quote. Behind a <: which tag it is.
+-- The end of an end tag.
 use Prim.Native.Nat.{ℕ, suc, _+_, _-_, _≤_, _<_}
 use mathlib.Core.Path.{_≡_, refl, sym, ap, _∙_, subst}
 use mathlib.Core.Bool.{Bool, true, false}
@@ -13,18 +14,22 @@ use Rattle.xml.specs.Bytes.{blank, slash, greater-than, equals-sign, quotation-
 use Rattle.xml.specs.Grammar.{Name}
 use Rattle.xml.specs.Reading.{opener, node-offset}
 use Rattle.xml.specs.Laws.Automaton.{Config, behind-part, in-tag, before-equals, behind-equals, behind-slash, behind-quote, content, closed}
+use Rattle.xml.specs.Laws.Automaton.{behind-open, end-name}
 use Rattle.xml.specs.Laws.Automaton.{to, tag-step, step}
 use Rattle.xml.specs.Laws.Transitions.{for-blanks, blank-no-name}
 use Rattle.xml.specs.Laws.Phases.{phase, pending}
 use Rattle.xml.specs.Laws.Judge.{offset-before, offset-at}
-use Rattle.xml.specs.Laws.Goes.{Goes, goes-then, goes-same, goes-step, stops-end, stops-stuck}
-use Rattle.xml.specs.Laws.Tokens.{span, span-go, span-some, span-byte, span-behind, goes-blanks}
+use Rattle.xml.specs.Laws.Goes.{stops-end, stops-stuck}
+use Rattle.xml.specs.Laws.Tokens.{span, span-go, span-some, span-byte, span-behind}
+use Rattle.xml.specs.Laws.Tells.{Passes, passes-then, passes-same, passes-step, passes-blanks}
 use Rattle.xml_reader.specs.declared.Cursor.{Cursor}
+use Rattle.xml_reader.specs.declared.End.the-variants.{Behind, Mismatch}
+use Rattle.xml_reader.specs.declared.Markup.the-variants.{EndTag, NoTag}
 use Rattle.xml_reader.specs.declared.Equals.the-variants.{Quoted, NoQuote}
 use Rattle.xml_reader.specs.declared.Item.{Item}
 use Rattle.xml_reader.specs.declared.Item.the-variants.{Open, Empty, Attribute, Wrong}
 use Rattle.xml_reader.specs.Steps.{Run, EqualsRead, quoted, no-quote, TagRead, tag-open, tag-empty, tag-attribute, tag-wrong}
-use Rattle.xml_reader.specs.Steps.{TagPlace, SlashRead}
+use Rattle.xml_reader.specs.Steps.{TagPlace, SlashRead, MarkupRead, markup-end, markup-wrong, CloseRead, close-behind, close-wrong}
 
 pub behind-place : TagPlace behind-part
 unfolding step
@@ -56,27 +61,27 @@ module _ (s : List ℕ) (i : ℕ) (F : Name → List Name → List Name → Conf
     unfolding tag-step blank name-start
     place-close c e p =
         tag-open {c = c} (omega arith) (omega arith) (rw p (no-opener s i (rw e)))
-        (λ n ns seen m. rw p (goes-step s (F n ns seen) m i h (content n ns) (rw e (place .alike n ns seen greater-than refl)) refl))
+        (λ n ns seen. rw p (passes-step s (F n ns seen) i h (content n ns) (rw e (place .alike n ns seen greater-than refl)) refl))
 
-    place-slash : (n : Name) (ns seen : List Name) (m : ℕ) → getD s i 0 ≡ slash → Goes s (F n ns seen) m i (behind-slash ns) m (i + 1)
+    place-slash : (n : Name) (ns seen : List Name) → getD s i 0 ≡ slash → Passes s (F n ns seen) i (behind-slash ns) (i + 1)
     unfolding tag-step blank name-start
-    place-slash n ns seen m e = goes-step s (F n ns seen) m i h (behind-slash ns) (rw e (place .alike n ns seen slash refl)) refl
+    place-slash n ns seen e = passes-step s (F n ns seen) i h (behind-slash ns) (rw e (place .alike n ns seen slash refl)) refl
 
     module _ (e : getD s i 0 ≡ slash) where
       pub slash-end : length s ≤ i + 1 → TagRead s F i (Wrong (i + 1))
       slash-end k =
-          tag-wrong {j = i + 1} (λ n ns seen m. place-slash n ns seen m e .back _ (stops-end s (behind-slash ns) m (i + 1) k refl))
+          tag-wrong {j = i + 1} (λ n ns seen m. place-slash n ns seen e .goes m .back _ (stops-end s (behind-slash ns) m (i + 1) k refl))
 
       pub slash-wrong : i + 1 < length s → (getD s (i + 1) 0 ≡ greater-than → ⊥) → TagRead s F i (Wrong (i + 1))
       unfolding step
-      slash-wrong k o = tag-wrong {j = i + 1} (λ n ns seen m. place-slash n ns seen m e .back _
+      slash-wrong k o = tag-wrong {j = i + 1} (λ n ns seen m. place-slash n ns seen e .goes m .back _
           (stops-stuck s (behind-slash ns) m (i + 1) k (rw (ne-eqb (getD s (i + 1) 0) greater-than o))))
 
       pub slash-close : (c : Cursor) → i + 1 < length s → getD s (i + 1) 0 ≡ greater-than → c .at ≡ i + 1 + 1 → TagRead s F i (Empty c)
       unfolding step
       slash-close c k o p =
           tag-empty {c = c} (omega arith) (omega arith) (rw p (no-opener s (i + 1) (rw o)))
-          (λ n ns seen m. goes-then (place-slash n ns seen m e) (rw p (goes-step s (behind-slash ns) m (i + 1) k (closed ns) (rw o)
+          (λ n ns seen. passes-then (place-slash n ns seen e) (rw p (passes-step s (behind-slash ns) (i + 1) k (closed ns) (rw o)
           (calm-closed ns))))
 
     -- no such byte
@@ -91,14 +96,14 @@ module _ (s : List ℕ) (i : ℕ) (F : Name → List Name → List Name → Conf
 
 module _ (s : List ℕ) (at i : ℕ) (r : Run blank s at i) where
   -- over blanks
-  spaces : at < i → (n : Name) (ns seen : List Name) (m : ℕ) → Goes s (behind-part n ns seen) m at (in-tag n ns seen) m i
+  spaces : at < i → (n : Name) (ns seen : List Name) → Passes s (behind-part n ns seen) at (in-tag n ns seen) i
   unfolding step tag-step
-  spaces h n ns seen m =
+  spaces h n ns seen =
       let x = span-some blank s at 0 (omega (arith, r .ends)) in
-      goes-then (goes-step s (behind-part n ns seen) m at (x .0) (in-tag n ns seen) (rw (x .1)) refl)
-      (goes-then (goes-same s (in-tag n ns seen) m (at + 1) (suc at) (add-one at))
-      (goes-then (goes-blanks s (in-tag n ns seen) m (λ b e. stay b e) refl (suc at))
-      (goes-same s (in-tag n ns seen) m _ i (last (x .0) (x .1)))))
+      passes-then (passes-step s (behind-part n ns seen) at (x .0) (in-tag n ns seen) (rw (x .1)) refl)
+      (passes-then (passes-same s (in-tag n ns seen) (at + 1) (suc at) (add-one at))
+      (passes-then (passes-blanks s (in-tag n ns seen) (λ b e. stay b e) refl (suc at))
+      (passes-same s (in-tag n ns seen) _ i (last (x .0) (x .1)))))
     where
       stay : (b : ℕ) → blank b ≡ true → step true (in-tag n ns seen) b ≡ to (in-tag n ns seen)
       stay b e = rw (blank-no-name b e .1, e)
@@ -109,12 +114,12 @@ module _ (s : List ℕ) (at i : ℕ) (r : Run blank s at i) where
   -- what is read behind them
   behind-spaces : {x : Item} → at < i → TagRead s in-tag i x → TagRead s behind-part at x
   behind-spaces h (tag-open {c = c} a b d f) =
-      tag-open {c = c} (omega arith) b d (λ n ns seen m. goes-then (spaces h n ns seen m) (f n ns seen m))
+      tag-open {c = c} (omega arith) b d (λ n ns seen. passes-then (spaces h n ns seen) (f n ns seen))
   behind-spaces h (tag-empty {c = c} a b d f) =
-      tag-empty {c = c} (omega arith) b d (λ n ns seen m. goes-then (spaces h n ns seen m) (f n ns seen m))
+      tag-empty {c = c} (omega arith) b d (λ n ns seen. passes-then (spaces h n ns seen) (f n ns seen))
   behind-spaces h (tag-attribute {c = c} a b d e f) =
-      tag-attribute {c = c} (omega arith) b d e (λ n ns seen m. goes-then (spaces h n ns seen m) (f n ns seen m))
-  behind-spaces h (tag-wrong {j = j} f) = tag-wrong {j = j} (λ n ns seen m. spaces h n ns seen m .back _ (f n ns seen m))
+      tag-attribute {c = c} (omega arith) b d e (λ n ns seen. passes-then (spaces h n ns seen) (f n ns seen))
+  behind-spaces h (tag-wrong {j = j} f) = tag-wrong {j = j} (λ n ns seen m. spaces h n ns seen .goes m .back _ (f n ns seen m))
 
   pub part-any : {x : Item} → SlashRead s i x → TagRead s behind-part at x
   part-any {x} f = go (eqb i at) refl
@@ -143,7 +148,7 @@ module _ (s : List ℕ) (at i : ℕ) (r : Run blank s at i) where
         let w : node-offset s i ≡ i = rw v at (no-opener s (i - 1) (blank-no-opener (getD s (i - 1) 0) (rw u at (x .1)))) in
         let l : at < i = omega (arith, r .ends) in
         tag-attribute {c = c} (omega arith) (omega arith) (rw q w) (rw q e)
-        (λ n ns seen m. goes-then (spaces l n ns seen m) (goes-same s (in-tag n ns seen) m i (c .at) (sym q)))
+        (λ n ns seen. passes-then (spaces l n ns seen) (passes-same s (in-tag n ns seen) i (c .at) (sym q)))
 
     pub part-wrong : (i ≡ at → ⊥) → (getD s i 0 ≡ slash → ⊥) → (getD s i 0 ≡ greater-than → ⊥) → name-start (getD s i 0) ≡ false
         → TagRead s behind-part at (Wrong i)
@@ -152,37 +157,37 @@ module _ (s : List ℕ) (at i : ℕ) (r : Run blank s at i) where
 -- from behind an attribute's name to its value -------------------------------------------------
 
 module _ (s : List ℕ) (at i : ℕ) (r : Run blank s at i) where
-  to-sign : (n : Name) (ns seen : List Name) (m : ℕ) → Goes s (before-equals n ns seen) m at (before-equals n ns seen) m i
+  to-sign : (n : Name) (ns seen : List Name) → Passes s (before-equals n ns seen) at (before-equals n ns seen) i
   unfolding step
-  to-sign n ns seen m =
-      goes-then (goes-blanks s (before-equals n ns seen) m (λ b e. rw e) refl at)
-      (goes-same s (before-equals n ns seen) m _ i (sym (r .ends)))
+  to-sign n ns seen =
+      passes-then (passes-blanks s (before-equals n ns seen) (λ b e. rw e) refl at)
+      (passes-same s (before-equals n ns seen) _ i (sym (r .ends)))
 
   pub sign-end : length s ≤ i → EqualsRead s at (NoQuote i)
-  sign-end h = no-quote {j = i} (λ n ns seen m. to-sign n ns seen m .back _ (stops-end s (before-equals n ns seen) m i h refl))
+  sign-end h = no-quote {j = i} (λ n ns seen m. to-sign n ns seen .goes m .back _ (stops-end s (before-equals n ns seen) m i h refl))
 
   module _ (h : i < length s) where
     pub sign-wrong : (getD s i 0 ≡ equals-sign → ⊥) → EqualsRead s at (NoQuote i)
     unfolding step
-    sign-wrong e = no-quote {j = i} (λ n ns seen m. to-sign n ns seen m .back _
+    sign-wrong e = no-quote {j = i} (λ n ns seen m. to-sign n ns seen .goes m .back _
         (stops-stuck s (before-equals n ns seen) m i h (rw (no-blank-here s at i r h, ne-eqb (getD s i 0) equals-sign e))))
 
     module _ (e : getD s i 0 ≡ equals-sign) (j : ℕ) (q : Run blank s (i + 1) j) where
-      to-quote : (n : Name) (ns seen : List Name) (m : ℕ) → Goes s (before-equals n ns seen) m at (behind-equals n ns seen) m j
+      to-quote : (n : Name) (ns seen : List Name) → Passes s (before-equals n ns seen) at (behind-equals n ns seen) j
       unfolding step blank
-      to-quote n ns seen m =
-          goes-then (to-sign n ns seen m)
-          (goes-then (goes-step s (before-equals n ns seen) m i h (behind-equals n ns seen) (rw e) refl)
-          (goes-then (goes-blanks s (behind-equals n ns seen) m (λ b z. rw z) refl (i + 1))
-          (goes-same s (behind-equals n ns seen) m _ j (sym (q .ends)))))
+      to-quote n ns seen =
+          passes-then (to-sign n ns seen)
+          (passes-then (passes-step s (before-equals n ns seen) i h (behind-equals n ns seen) (rw e) refl)
+          (passes-then (passes-blanks s (behind-equals n ns seen) (λ b z. rw z) refl (i + 1))
+          (passes-same s (behind-equals n ns seen) _ j (sym (q .ends)))))
 
       pub quote-end : length s ≤ j → EqualsRead s at (NoQuote j)
-      quote-end k = no-quote {j = j} (λ n ns seen m. to-quote n ns seen m .back _ (stops-end s (behind-equals n ns seen) m j k refl))
+      quote-end k = no-quote {j = j} (λ n ns seen m. to-quote n ns seen .goes m .back _ (stops-end s (behind-equals n ns seen) m j k refl))
 
       module _ (k : j < length s) where
         pub quote-wrong : (getD s j 0 ≡ quotation-mark → ⊥) → (getD s j 0 ≡ apostrophe → ⊥) → EqualsRead s at (NoQuote j)
         unfolding step
-        quote-wrong a b = no-quote {j = j} (λ n ns seen m. to-quote n ns seen m .back _
+        quote-wrong a b = no-quote {j = j} (λ n ns seen m. to-quote n ns seen .goes m .back _
             (stops-stuck s (behind-equals n ns seen) m j k
             (rw (no-blank-here s (i + 1) j q k, ne-eqb (getD s j 0) quotation-mark a, ne-eqb (getD s j 0) apostrophe b))))
 
@@ -191,8 +196,8 @@ module _ (s : List ℕ) (at i : ℕ) (r : Run blank s at i) where
         quote-read x c o p =
             let u : j + 1 - 1 ≡ j = omega arith in
             quoted {c = c} x (omega (arith, r .ends, q .ends)) (omega arith) (rw (p, u) (before x o))
-            (λ n ns seen m. goes-then (to-quote n ns seen m)
-            (rw p (goes-step s (behind-equals n ns seen) m j k (behind-quote n ns seen x)
+            (λ n ns seen. passes-then (to-quote n ns seen)
+            (rw p (passes-step s (behind-equals n ns seen) j k (behind-quote n ns seen x)
             (ap (step true (behind-equals n ns seen)) o ∙ opens x n ns seen) refl)))
           where
             opens : (x : Quote) (n : Name) (ns seen : List Name)
@@ -206,3 +211,42 @@ module _ (s : List ℕ) (at i : ℕ) (r : Run blank s at i) where
 
             before : (x : Quote) → getD s j 0 ≡ quote-byte x → node-offset s (j + 1) ≡ j
             before x o = let z = offset-before s (suc j) (ap opener o ∙ opening x) .0 in rw add-one (z ∙ omega arith)
+
+-- which tag it is, behind a < --------------------------------------------------------------------
+
+module _ (s : List ℕ) (at : ℕ) where
+  pub markup-over : length s ≤ at → MarkupRead s at (NoTag at)
+  markup-over h = markup-wrong {j = at} (λ n ns m. stops-end s (behind-open n ns) m at h refl)
+
+  module _ (h : at < length s) where
+    pub markup-slash : (c : Cursor) → getD s at 0 ≡ slash → c .at ≡ at + 1 → MarkupRead s at (EndTag c)
+    unfolding step name-start
+    markup-slash c e p = markup-end {c = c} p h (λ n ns. rw p (passes-step s (behind-open n ns) at h (end-name n ns n) (rw e) refl))
+
+    pub markup-other : (getD s at 0 ≡ slash → ⊥) → name-start (getD s at 0) ≡ false → MarkupRead s at (NoTag at)
+    unfolding step
+    markup-other e f =
+        markup-wrong {j = at} (λ n ns m. stops-stuck s (behind-open n ns) m at h (rw (f, ne-eqb (getD s at 0) slash e)))
+
+-- from behind the name of an end tag -------------------------------------------------------------
+
+module _ (s : List ℕ) (at i : ℕ) (r : Run blank s at i) where
+  to-close : (n : Name) (ns : List Name) → Passes s (end-name n ns []) at (end-name n ns []) i
+  unfolding step
+  to-close n ns =
+      passes-then (passes-blanks s (end-name n ns []) (λ b e. rw e) refl at) (passes-same s (end-name n ns []) _ i (sym (r .ends)))
+
+  pub close-over : length s ≤ i → CloseRead s at (Mismatch i)
+  close-over h = close-wrong {j = i} (λ n ns m. to-close n ns .goes m .back _ (stops-end s (end-name n ns []) m i h refl))
+
+  module _ (h : i < length s) where
+    pub close-other : (getD s i 0 ≡ greater-than → ⊥) → CloseRead s at (Mismatch i)
+    unfolding step
+    close-other e = close-wrong {j = i} (λ n ns m. to-close n ns .goes m .back _
+        (stops-stuck s (end-name n ns []) m i h (rw (no-blank-here s at i r h, ne-eqb (getD s i 0) greater-than e))))
+
+    pub close-here : (c : Cursor) → getD s i 0 ≡ greater-than → c .at ≡ i + 1 → CloseRead s at (Behind c)
+    unfolding step blank
+    close-here c e p =
+        close-behind {c = c} (omega (arith, r .ends)) (omega arith) (rw p (no-opener s i (rw e)))
+        (λ n ns. passes-then (to-close n ns) (rw p (passes-step s (end-name n ns []) i h (closed ns) (rw e) (calm-closed ns))))

@@ -1,196 +1,198 @@
--- Texts with entities, piece by piece, and texts that need none.
+-- Texts and values with references, byte by byte, and those that need none.
 use mathlib.Core.Path.{_≡_, refl, sym, ap, _∙_}
-use Prim.Native.Nat.{ℕ, _+_, _*_, _-_, _≤_, _<_}
-use mathlib.Core.Bool.{Bool, true, false, not, _&&_, _||_, true≢false, false≢true}
-use mathlib.Core.List.{List, [], _∷_, _++_, append-assoc, append-nil}
+use Prim.Native.Nat.{ℕ, suc, _+_, _*_, _-_, _≤_, _<_}
+use mathlib.Core.Bool.{Bool, true, false}
+use mathlib.Core.List.{List, [], _∷_, _++_, append-assoc}
 use native.Mathlib.Omega.{arith}
 use native.Mathlib.Numerals.{add-one}
 use lib.ListN.{length, getD, take, drop, length-append, length-drop, take-append-drop, drop-of-length-le}
-use lib.Seq.{drop-cons, drop-drop, take-all}
-use lib.Dec.{eqb}
-use borrow.Author.Tests.{ne-eqb, eqb-true}
+use lib.Seq.{drop-cons, length-take-le, take-add, take-nil, getD-take, getD-drop}
+use lib.Dec.{ltb}
+use mir.Syntax.{w64}
+use mir.Val.{Fits, boolByte}
+use borrow.Rule.Slice.PartMut.{putMid}
+use borrow.Author.Tests.{ltb-true, ltb-false}
 use Rattle.xml.specs.Writing.{escape, escaped}
-use Rattle.xml_text.specs.Lending.{Wrote, Partly, partly-as, partly-end}
+use Rattle.xml_text.specs.Lending.{Wrote, wrote-as, front, inside, room, sum-fits, behind}
+use Rattle.xml_text.specs.Lending.{Partly, partly-as, partly-end}
 use Rattle.xml_text.specs.Laws.Next.{Next, next}
-use Rattle.xml_text.specs.Plain.{has-entity, plain}
+use Rattle.xml_text.specs.Laws.Pieces.{escape-some, escape-same}
 
--- a text in two parts
-pub escaped-append : (a b : List ℕ) → escaped (a ++ b) ≡ escaped a ++ escaped b
-unfolding escaped
-escaped-append [] b = refl
-escaped-append (x ∷ a) b = rw (escaped-append a b) (sym (append-assoc (escape x) (escaped a) (escaped b)))
+module _ (v : Bool) where
+  -- two parts
+  escaped-append : (a b : List ℕ) → escaped v (a ++ b) ≡ escaped v a ++ escaped v b
+  unfolding escaped
+  escaped-append [] b = refl
+  escaped-append (x ∷ a) b = rw (escaped-append a b) (sym (append-assoc (escape v x) (escaped v a) (escaped v b)))
 
--- the next byte, the next k bytes, and none
-escaped-from : (c : List ℕ) (j : ℕ) → j < length c → escaped (drop j c) ≡ escape (getD c j 0) ++ escaped (drop (j + 1) c)
-unfolding escaped
-escaped-from c j h = rw (add-one, drop-cons c j 0 h)
+  -- the next byte
+  escaped-from : (c : List ℕ) (j : ℕ) → j < length c → escaped v (drop j c) ≡ escape v (getD c j 0) ++ escaped v (drop (j + 1) c)
+  unfolding escaped
+  escaped-from c j h = rw (add-one, drop-cons c j 0 h)
 
--- c[j..j + k]
-abbrev pub part : List ℕ → ℕ → ℕ → List ℕ
-part c j k = take (j + k - j) (drop j c)
+  escaped-cons : (b : ℕ) (c : List ℕ) → length (escaped v (b ∷ c)) ≡ length (escape v b) + length (escaped v c)
+  unfolding escaped
+  escaped-cons b c = length-append (escape v b) (escaped v c)
 
-escaped-part : (c : List ℕ) (j k : ℕ) → escaped (drop j c) ≡ escaped (part c j k) ++ escaped (drop (j + k) c)
-escaped-part c j k =
-    let e : j + k - j ≡ k = omega arith in
-    rw e
-    (ap escaped (sym (take-append-drop k (drop j c))) ∙ escaped-append (take k (drop j c)) (drop k (drop j c))
-    ∙ ap (λ (l : List ℕ). escaped (take k (drop j c)) ++ escaped l) (drop-drop k j c))
-
-escaped-end : (c : List ℕ) (j : ℕ) → length c ≤ j → escaped (drop j c) ≡ []
-unfolding escaped
-escaped-end c j h = rw (drop-of-length-le c h)
-
--- the rest from j on, as a part
-rest-part : (c : List ℕ) (j : ℕ) → take (length c - j) (drop j c) ≡ drop j c
-rest-part c j = take-all (length c - j) (drop j c) (simp length-drop (omega arith))
+  escaped-end : (c : List ℕ) (j : ℕ) → length c ≤ j → escaped v (drop j c) ≡ []
+  unfolding escaped
+  escaped-end c j h = rw (drop-of-length-le c h)
 
 -- lengths --------------------------------------------------------------------------------
 
 -- the length of the whole is what was counted and what is left
-pub record Counting (c : List ℕ) (j sum : ℕ) : Type 0 where
-  pub whole : length (escaped c) ≡ sum + length (escaped (drop j c))
+pub record Counting (v : Bool) (c : List ℕ) (j sum : ℕ) : Type 0 where
+  pub whole : length (escaped v c) ≡ sum + length (escaped v (drop j c))
   pub small : sum ≤ 6 * j
 
-pub counting-start : (c : List ℕ) → Counting c 0 0
-counting-start c = record { whole = omega arith; small = omega arith }
+pub counting-start : (v : Bool) (c : List ℕ) → Counting v c 0 0
+counting-start v c = record { whole = omega arith; small = omega arith }
 
--- k bytes more, for which n stand
-counting-on : {c : List ℕ} {j sum : ℕ} (k n : ℕ) (piece : List ℕ) → Counting c j sum
-    → escaped (drop j c) ≡ piece ++ escaped (drop (j + k) c) → n ≡ length piece → n ≤ 6 * k → Counting c (j + k) (sum + n)
-counting-on {c} {j} {sum} k n piece w e l m =
+-- a byte more, for which n stand
+pub counting-byte : {v : Bool} {c : List ℕ} {j sum : ℕ} (n : ℕ) → Counting v c j sum
+    → j < length c → n ≡ length (escape v (getD c j 0)) → n ≤ 6 → Counting v c (j + 1) (sum + n)
+counting-byte {v} {c} {j} {sum} n w h l m =
     record {
-      whole = w .whole ∙ omega (arith, ap length e ∙ length-append piece (escaped (drop (j + k) c)));
+      whole = w .whole
+          ∙ omega (arith, ap length (escaped-from v c j h) ∙ length-append (escape v (getD c j 0)) (escaped v (drop (j + 1) c)));
       small = omega (arith, w .small);
     }
 
-pub counting-byte : {c : List ℕ} {j sum : ℕ} (n : ℕ) → Counting c j sum
-    → j < length c → n ≡ length (escape (getD c j 0)) → n ≤ 6 → Counting c (j + 1) (sum + n)
-counting-byte {c} {j} n w h l m = counting-on 1 n (escape (getD c j 0)) w (escaped-from c j h) l (omega arith)
+pub counting-end : {v : Bool} {c : List ℕ} {j sum : ℕ} → Counting v c j sum → length c ≤ j → sum ≡ length (escaped v c)
+counting-end {v} {c} {j} w h = omega (arith, w .whole, ap length (escaped-end v c j h))
 
-pub counting-part : {c : List ℕ} {j sum : ℕ} (k n : ℕ) → Counting c j sum
-    → n ≡ length (escaped (part c j k)) → n ≤ 6 * k → Counting c (j + k) (sum + n)
-counting-part {c} {j} k n w l m = counting-on k n (escaped (part c j k)) w (escaped-part c j k) l m
+-- the same for a byte of the first k, and for one of the others
+pub counting-taken : {v : Bool} (w : List ℕ) {j sum : ℕ} (k n : ℕ) → Counting v (take k w) j sum → j < k → k ≤ length w
+    → n ≡ length (escape v (getD w j 0)) → n ≤ 6 → Counting v (take k w) (j + 1) (sum + n)
+counting-taken {v} w {j} k n c h l e m =
+    counting-byte n c (omega (arith, length-take-le k w l)) (rw (getD-take k w j 0 h) e) m
 
-pub counting-end : {c : List ℕ} {j sum : ℕ} → Counting c j sum → length c ≤ j → sum ≡ length (escaped c)
-counting-end {c} {j} w h = omega (arith, w .whole, ap length (escaped-end c j h))
+pub counting-dropped : {v : Bool} (w : List ℕ) {j sum : ℕ} (k n : ℕ) → Counting v (drop k w) j sum → k + j < length w
+    → n ≡ length (escape v (getD w (k + j) 0)) → n ≤ 6 → Counting v (drop k w) (j + 1) (sum + n)
+counting-dropped {v} w {j} k n c h e m =
+    counting-byte n c (simp length-drop (omega arith)) (rw (getD-drop k w j 0) e) m
 
-pub counting-rest : {c : List ℕ} {j sum : ℕ} (n : ℕ) → Counting c j sum
-    → n ≡ length (escaped (take (length c - j) (drop j c))) → sum + n ≡ length (escaped c)
-counting-rest {c} {j} n w l = omega (arith, w .whole, l ∙ ap (λ b. length (escaped b)) (rest-part c j))
+-- the length of the first n bytes is what was counted and what is left of them
+pub record CountingFirst (v : Bool) (w : List ℕ) (n i sum : ℕ) : Type 0 where
+  pub whole : length (escaped v (take n w)) ≡ sum + length (escaped v (take (n - i) (drop i w)))
+  pub small : sum ≤ 6 * i
 
--- texts that need no entity --------------------------------------------------------------
+pub first-start : (v : Bool) (w : List ℕ) (n : ℕ) → CountingFirst v w n 0 0
+first-start v w n = let z : n - 0 ≡ n = omega arith in record { whole = rw z (omega arith); small = omega arith }
 
-module _ (b : ℕ) where
-  pub entity-amp : b ≡ 38 → true ≡ has-entity b
-  unfolding has-entity
-  entity-amp e = rw e
+pub inside-small : (t : Bool) (r : ℕ) → r ≤ 6 → boolByte t * r ≤ 6
+inside-small true r h = omega arith
+inside-small false r h = omega arith
 
-  pub entity-lt : b ≡ 60 → true ≡ has-entity b
-  unfolding has-entity
-  entity-lt e = rw e
-
-  pub entity-gt : b ≡ 62 → true ≡ has-entity b
-  unfolding has-entity
-  entity-gt e = rw e
-
-  pub entity-quot : (b ≡ 38 → ⊥) → (b ≡ 60 → ⊥) → (b ≡ 62 → ⊥) → eqb b 34 ≡ has-entity b
-  unfolding has-entity
-  entity-quot h i j = rw (ne-eqb b 38 h, ne-eqb b 60 i, ne-eqb b 62 j)
-
-  plain-byte : has-entity b ≡ false → escape b ≡ b ∷ []
-  unfolding has-entity
-  plain-byte e = go (eqb b 38) (eqb b 60) (eqb b 62) (eqb b 34) refl refl refl refl e
-    where
-      go : (p q r s : Bool) → eqb b 38 ≡ p → eqb b 60 ≡ q → eqb b 62 ≡ r → eqb b 34 ≡ s → (p || (q || (r || s))) ≡ false → escape b ≡ b ∷ []
-      go true q r s f g h i e = absurd (true≢false e)
-      go false true r s f g h i e = absurd (true≢false e)
-      go false false true s f g h i e = absurd (true≢false e)
-      go false false false true f g h i e = absurd (true≢false e)
-      go false false false false f g h i e = rw (f, g, h, i)
-
-  entity-long : has-entity b ≡ true → 2 ≤ length (escape b)
-  unfolding has-entity
-  entity-long e = go (eqb b 38) (eqb b 60) (eqb b 62) (eqb b 34) refl refl refl refl e
-    where
-      go : (p q r s : Bool) → eqb b 38 ≡ p → eqb b 60 ≡ q → eqb b 62 ≡ r → eqb b 34 ≡ s → (p || (q || (r || s))) ≡ true
-          → 2 ≤ length (escape b)
-      go true q r s f g h i e = rw (eqb-true b 38 f) (omega arith)
-      go false true r s f g h i e = rw (eqb-true b 60 g) (omega arith)
-      go false false true s f g h i e = rw (eqb-true b 62 h) (omega arith)
-      go false false false true f g h i e = rw (eqb-true b 34 i) (omega arith)
-      go false false false false f g h i e = absurd (false≢true e)
-
-  escape-some : 1 ≤ length (escape b)
-  escape-some = go (has-entity b) refl
-    where
-      go : (t : Bool) → has-entity b ≡ t → 1 ≤ length (escape b)
-      go true e = omega (arith, entity-long e)
-      go false e = omega (arith, ap length (plain-byte e))
-
-escaped-long : (c : List ℕ) → length c ≤ length (escaped c)
-unfolding escaped
-escaped-long [] = omega arith
-escaped-long (b ∷ c) = omega (arith, length-append (escape b) (escaped c), escape-some b, escaped-long c)
-
--- a text that did not get longer
-pub escaped-same : (c : List ℕ) → length (escaped c) ≡ length c → escaped c ≡ c
-unfolding escaped
-escaped-same [] e = refl
-escaped-same (b ∷ c) e = go (has-entity b) refl (escaped-same c)
+-- a byte more, which counts if it is one of them
+pub first-on : {v : Bool} {w : List ℕ} {n i sum : ℕ} (r : ℕ) → CountingFirst v w n i sum → i < length w
+    → r ≡ length (escape v (getD w i 0)) → r ≤ 6 → CountingFirst v w n (i + 1) (sum + boolByte (ltb i n) * r)
+first-on {v} {w} {n} {i} {sum} r c h e m = go (ltb i n) refl
   where
-    sum : length (escape b ++ escaped c) ≡ length (escape b) + length (escaped c)
-    sum = length-append (escape b) (escaped c)
+    go : (t : Bool) → ltb i n ≡ t → CountingFirst v w n (i + 1) (sum + boolByte t * r)
+    go true l =
+        let k : n - i ≡ suc (n - (i + 1)) = omega (arith, ltb-true i n l) in
+        let d : drop i w ≡ getD w i 0 ∷ drop (i + 1) w = rw add-one (drop-cons w i 0 h) in
+        let p : length (escaped v (take (n - i) (drop i w)))
+        ≡ length (escape v (getD w i 0)) + length (escaped v (take (n - (i + 1)) (drop (i + 1) w))) =
+        rw (k, d) (escaped-cons v (getD w i 0) (take (n - (i + 1)) (drop (i + 1) w))) in
+        record { whole = omega (arith, c .whole, p); small = omega (arith, c .small) }
+    go false l =
+        let k : n - i ≡ 0 = omega (arith, ltb-false i n l) in
+        let k′ : n - (i + 1) ≡ 0 = omega arith in
+        record { whole = rw k′ (omega (arith, rw k at (c .whole))); small = omega (arith, c .small) }
 
-    go : (t : Bool) → has-entity b ≡ t → (length (escaped c) ≡ length c → escaped c ≡ c) → escape b ++ escaped c ≡ b ∷ c
-    go true t f = absurd (omega (arith, entity-long b t, sum, escaped-long c, e))
-    go false t f = rw (plain-byte b t, f (omega (arith, ap length (plain-byte b t), sum, e)))
+pub first-end : {v : Bool} {w : List ℕ} {n i sum : ℕ} → CountingFirst v w n i sum → length w ≤ i → sum ≡ length (escaped v (take n w))
+unfolding escaped
+first-end {v} {w} {n} {i} c h = omega (arith, rw (drop-of-length-le w h, take-nil {A = ℕ} (n - i)) at (c .whole))
 
--- a text that is plain
-pub escaped-plain : (c : List ℕ) → plain c ≡ true → escaped c ≡ c
-unfolding escaped plain
-escaped-plain [] e = refl
-escaped-plain (b ∷ c) e = go (has-entity b) refl e (escaped-plain c)
-  where
-    go : (t : Bool) → has-entity b ≡ t → (not t && plain c) ≡ true → (plain c ≡ true → escaped c ≡ c) → escape b ++ escaped c ≡ b ∷ c
-    go true t h f = absurd (false≢true h)
-    go false t h f = rw (plain-byte b t, f h)
+-- what needs no reference -------------------------------------------------------------------
 
--- the test, byte by byte
-plain-from : (c : List ℕ) (j : ℕ) → j < length c → plain (drop j c) ≡ (not (has-entity (getD c j 0)) && plain (drop (j + 1) c))
-unfolding plain
-plain-from c j h = rw (add-one, drop-cons c j 0 h)
+module _ (v : Bool) where
+  escaped-long : (c : List ℕ) → length c ≤ length (escaped v c)
+  unfolding escaped
+  escaped-long [] = omega arith
+  escaped-long (b ∷ c) = omega (arith, length-append (escape v b) (escaped v c), escape-some v b, escaped-long c)
 
-pub plain-on : (c : List ℕ) (j : ℕ) → j < length c → has-entity (getD c j 0) ≡ false → plain (drop j c) ≡ plain (drop (j + 1) c)
-plain-on c j h e = plain-from c j h ∙ rw e
+  -- what did not get longer
+  escaped-same : (c : List ℕ) → length (escaped v c) ≡ length c → escaped v c ≡ c
+  unfolding escaped
+  escaped-same [] e = refl
+  escaped-same (b ∷ c) e =
+      let sum : length (escape v b ++ escaped v c) ≡ length (escape v b) + length (escaped v c) =
+      length-append (escape v b) (escaped v c) in
+      let one : length (escape v b) ≡ 1 = omega (arith, sum, escape-some v b, escaped-long c, e) in
+      rw (escape-same v b one, escaped-same c (omega (arith, sum, one, e)))
 
-pub plain-not : (c : List ℕ) (j : ℕ) → j < length c → has-entity (getD c j 0) ≡ true → plain (drop j c) ≡ false
-plain-not c j h e = plain-from c j h ∙ rw e
+  -- and its first n bytes
+  escaped-first : (w : List ℕ) (n : ℕ) → length (escaped v w) ≡ length w → escaped v (take n w) ≡ take n w
+  escaped-first w n e =
+      let a : length (escaped v w) ≡ length (escaped v (take n w)) + length (escaped v (drop n w)) =
+      ap (λ b. length (escaped v b)) (sym (take-append-drop n w)) ∙ ap length (escaped-append v (take n w) (drop n w))
+      ∙ length-append (escaped v (take n w)) (escaped v (drop n w)) in
+      let b : length w ≡ length (take n w) + length (drop n w) =
+      ap length (sym (take-append-drop n w)) ∙ length-append (take n w) (drop n w) in
+      escaped-same (take n w) (omega (arith, a, b, e, escaped-long (take n w), escaped-long (drop n w)))
 
-pub plain-end : (c : List ℕ) (j : ℕ) → length c ≤ j → plain (drop j c) ≡ true
-unfolding plain
-plain-end c j h = rw (drop-of-length-le c h)
+-- 32 bytes, and a content that is the first n
+module _ (v : Bool) (w : List ℕ) {r : ℕ} (n : ℕ) (long : length w ≡ 32) (e : r ≡ length (escaped v w)) (same : r ≡ 32) where
+  pub plain-first : escaped v (take n w) ≡ take n w
+  plain-first = escaped-first v w n (sym e ∙ same ∙ sym long)
+
+  pub plain-length : n ≤ 32 → n ≡ length (escaped v (take n w))
+  plain-length h = sym (ap length plain-first ∙ length-take-le n w (omega arith))
+
+-- the halves of 32 bytes
+module _ (v : Bool) (w : List ℕ) (long : length w ≡ 32) where
+  pub first-plain : length (escaped v (take 16 w)) ≡ 16 → escaped v (take 16 w) ≡ take 16 w
+  first-plain e = escaped-same v (take 16 w) (e ∙ sym (length-take-le 16 w (omega arith)))
+
+  pub last-plain : (n : ℕ) → length (escaped v (drop 16 w)) ≡ 16 → escaped v (take n (drop 16 w)) ≡ take n (drop 16 w)
+  last-plain n e = escaped-first v (drop 16 w) n (e ∙ simp length-drop (omega arith))
+
+  pub halves-length : (a b : ℕ) → a ≡ length (escaped v (take 16 w)) → b ≡ length (escaped v (drop 16 w)) → a + b ≡ length (escaped v w)
+  halves-length a b e f =
+      let s : length (escaped v w) ≡ length (escaped v (take 16 w)) + length (escaped v (drop 16 w)) =
+      ap (λ c. length (escaped v c)) (sym (take-append-drop 16 w)) ∙ ap length (escaped-append v (take 16 w) (drop 16 w))
+      ∙ length-append (escaped v (take 16 w)) (escaped v (drop 16 w)) in
+      omega arith
 
 -- lent output ----------------------------------------------------------------------------
 
--- the next byte, b, is the j-th
-pub next-byte : (t : List ℕ) (j b : ℕ) {o₀ o : List ℕ} {at : ℕ} → Partly (escaped t) (escaped (drop j t)) o₀ o at
-    → length (escaped t) ≤ length o₀
-    → j < length t → b ≡ getD t j 0 → Next (escape b) (escaped t) (escaped (drop (j + 1) t)) o₀ o at
-next-byte t j b c h k e =
-    next (escape b) (escaped (drop (j + 1) t)) (escaped-from t j k ∙ ap (λ (x : ℕ). escape x ++ escaped (drop (j + 1) t)) (sym e)) c h
+module _ (v : Bool) (t : List ℕ) (j : ℕ) {o₀ o : List ℕ} {at : ℕ} (c : Partly (escaped v t) (escaped v (drop j t)) o₀ o at) where
+  module _ (h : length (escaped v t) ≤ length o₀) where
+    -- the next byte, b, is the j-th
+    pub next-byte : (b : ℕ) → j < length t → b ≡ getD t j 0 → Next (escape v b) (escaped v t) (escaped v (drop (j + 1) t)) o₀ o at
+    next-byte b k e =
+        next (escape v b) (escaped v (drop (j + 1) t))
+        (escaped-from v t j k ∙ ap (λ (x : ℕ). escape v x ++ escaped v (drop (j + 1) t)) (sym e)) c h
 
--- the next k bytes
-pub next-part : (t : List ℕ) (j k : ℕ) {o₀ o : List ℕ} {at : ℕ} → Partly (escaped t) (escaped (drop j t)) o₀ o at
-    → length (escaped t) ≤ length o₀
-    → Next (escaped (part t j k)) (escaped t) (escaped (drop (j + k) t)) o₀ o at
-next-part t j k c h = next (escaped (part t j k)) (escaped (drop (j + k) t)) (escaped-part t j k) c h
+  pub no-byte : length t ≤ j → Wrote (escaped v t) o₀ o at
+  no-byte h = partly-end (partly-as (escaped-end v t j h) c)
 
--- the rest
-pub next-rest : (t : List ℕ) (j : ℕ) {o₀ o : List ℕ} {at : ℕ} → Partly (escaped t) (escaped (drop j t)) o₀ o at
-    → length (escaped t) ≤ length o₀
-    → Next (escaped (take (length t - j) (drop j t))) (escaped t) [] o₀ o at
-next-rest t j c h = rw (rest-part t j) (next (escaped (drop j t)) [] (sym (append-nil (escaped (drop j t)))) c h)
+-- the first n bytes, by the first sixteen and the rest
+module _ (v : Bool) (w : List ℕ) (n : ℕ) (o₀ : List ℕ) (h : 16 ≤ n) (k : length (escaped v (take n w)) ≤ length o₀) where
+  halves : escaped v (take 16 w) ++ escaped v (take (n - 16) (drop 16 w)) ≡ escaped v (take n w)
+  halves =
+      let z : 16 + (n - 16) ≡ n = omega arith in
+      sym (escaped-append v (take 16 w) (take (n - 16) (drop 16 w))) ∙ ap (escaped v) (sym (take-add 16 (n - 16) w) ∙ ap (λ m. take m w) z)
 
-pub no-byte : (t : List ℕ) (j : ℕ) {o₀ o : List ℕ} {at : ℕ} → Partly (escaped t) (escaped (drop j t)) o₀ o at → length t ≤ j
-    → Wrote (escaped t) o₀ o at
-no-byte t j c h = partly-end (partly-as (escaped-end t j h) c)
+  both : length (escaped v (take 16 w) ++ escaped v (take (n - 16) (drop 16 w))) ≤ length o₀
+  both = rw halves k
+
+  pub half-room : length (escaped v (take 16 w)) ≤ length o₀
+  half-room = front (escaped v (take 16 w)) (escaped v (take (n - 16) (drop 16 w))) o₀ both
+
+  module _ {o : List ℕ} {r : ℕ} (u : Wrote (escaped v (take 16 w)) o₀ o r) where
+    pub rest-inside : r ≤ length o
+    rest-inside = inside (escaped v (take 16 w)) (escaped v (take (n - 16) (drop 16 w))) o₀ o r u both
+
+    pub rest-room : length (escaped v (take (n - 16) (drop 16 w))) ≤ length (take (length o - r) (drop r o))
+    rest-room = room (escaped v (take 16 w)) (escaped v (take (n - 16) (drop 16 w))) o₀ o r u both
+
+    pub rest-fits : (x y : List ℕ) (q : ℕ) → Wrote (escaped v (take (n - 16) (drop 16 w))) x y q → Fits w64 (length o₀) → Fits w64 (r + q)
+    rest-fits x y q z f = sum-fits u z both f
+
+    pub rest-behind : (y : List ℕ) (q : ℕ) → Wrote (escaped v (take (n - 16) (drop 16 w))) (take (length o - r) (drop r o)) y q
+        → Wrote (escaped v (take n w)) o₀ (putMid r (length o - r) o y) (r + q)
+    rest-behind y q z = wrote-as halves (behind (escaped v (take 16 w)) (escaped v (take (n - 16) (drop 16 w))) o₀ o r u both y q z)

@@ -1,6 +1,6 @@
 -- The children rule of the tree is the rule that a pass asks child by child.
-use mathlib.Core.Path.{_≡_, refl, sym, ap, _∙_}
-use Prim.Native.Nat.{ℕ, zero, suc}
+use mathlib.Core.Path.{_≡_, refl, sym, ap}
+use Prim.Native.Nat.{ℕ, suc}
 use mathlib.Core.Bool.{Bool, true, false, cond, not, _&&_, _||_, and-true, false≢true}
 use mathlib.Core.List.{List, [], _∷_}
 use lib.ListN.{length}
@@ -10,9 +10,9 @@ use borrow.Author.Tests.{eqb-true, eqb-false, ne-eqb, le-leb, lt-leb}
 use Rattle.tree.specs.Lists.{every}
 use Rattle.tree.specs.Forest.{nil, node, view}
 use Rattle.tree.specs.Content.{document-kind, element-kind, attribute-kind, takes, allowed, attributes-first, children-rule}
-use Rattle.tree.specs.Document.{Node, Document, top-kinds, ruled, ordered, rooted, legal}
+use Rattle.tree.specs.Document.{Document, top-kinds, ruled, ordered, rooted, legal}
 use Rattle.tree.specs.Laws.Tests.{and-left, and-right}
-use Rattle.xml.specs.Shape.{Label, Shape, shape}
+use Rattle.xml.specs.Shape.{Shape, shape}
 use Rattle.xml.specs.Writing.{below}
 use Rattle.xml_text.specs.Rows.{in-start-tag, may-stand, in-order}
 

@@ -45,8 +45,8 @@ inner-rest n last e (bare-attribute a {f = f} r) =
     ap (λ (l : List ℕ). ((bytes " " ++ a) ++ bytes "=\"") ++ (bytes "\"" ++ l)) (inner-rest n 3 refl r)
     ∙ attribute-pieces a [] (attributes f) (cond (childless f) (bytes "/>") (bytes ">" ++ (contents f ++ end-tag n)))
 inner-rest n last e (valued-attribute a c {f = f} r) =
-    ap (λ (l : List ℕ). ((bytes " " ++ a) ++ bytes "=\"") ++ ((escaped c ++ bytes "\"") ++ l)) (inner-rest n 3 refl r)
-    ∙ attribute-pieces a (escaped c) (attributes f) (cond (childless f) (bytes "/>") (bytes ">" ++ (contents f ++ end-tag n)))
+    ap (λ (l : List ℕ). ((bytes " " ++ a) ++ bytes "=\"") ++ ((escaped true c ++ bytes "\"") ++ l)) (inner-rest n 3 refl r)
+    ∙ attribute-pieces a (escaped true c) (attributes f) (cond (childless f) (bytes "/>") (bytes ">" ++ (contents f ++ end-tag n)))
 inner-rest {b = true} n last e (child-element m {g = g} {f = f} x r) =
     rw (e, inner-rest m 0 refl x, inner-rest n 2 refl r, no-attributes r)
     (ap (λ (l : List ℕ). 62 ∷ 60 ∷ l) (element-pieces m (attributes g)
@@ -56,6 +56,7 @@ inner-rest {b = false} n last e (child-element m {g = g} {f = f} x r) =
     (ap (λ (l : List ℕ). 60 ∷ l) (element-pieces m (attributes g) (cond (childless g) (bytes "/>") (bytes ">" ++ (contents g ++ end-tag m)))
     (contents f) (end-tag n)))
 inner-rest {b = true} n last e (child-text c {f = f} r) =
-    rw (e, inner-rest n 4 refl r, no-attributes r) (ap (λ (l : List ℕ). 62 ∷ l) (sym (append-assoc (escaped c) (contents f) (end-tag n))))
+    rw (e, inner-rest n 4 refl r, no-attributes r)
+    (ap (λ (l : List ℕ). 62 ∷ l) (sym (append-assoc (escaped false c) (contents f) (end-tag n))))
 inner-rest {b = false} n last e (child-text c {f = f} r) =
-    rw (e, inner-rest n 4 refl r) (sym (append-assoc (escaped c) (contents f) (end-tag n)))
+    rw (e, inner-rest n 4 refl r) (sym (append-assoc (escaped false c) (contents f) (end-tag n)))

@@ -1,40 +1,54 @@
 use native.Mathlib.Omega.{arith}
-use mathlib.Core.Path.{sym, _∙_}
-use Rattle.xml_load.specs.Laws.Texts.{text-fits, text-put, text-same, same-then}
-use Rattle.xml_load.specs.Laws.Places.{in-element, end-inside, end-put, start-there}
+use Rattle.xml_reader.specs.Laws.Children.{markup-as, end-there}
+use Rattle.xml_load.specs.Laws.Texts.{same-then}
+use Rattle.xml_load.specs.Laws.Places.{child-fits, child-text, no-tag, open-deep, tag-started, tag-ended}
 use borrow.Author.Needs.{needs}
 use Rattle.xml_load.proofs.filling.child.Statement.{statement}
 use Rattle.xml_load.proofs.filling.child.Tie as tie
 
-end-tag-requires : tie.Need-end-tag-requires
-end-tag-requires c κs = let p = c .before .before .before .before .before .before .before .before .pre in
-    end-inside (text-put (in-element (p .0) (p .1)) (c .before .before .before .before .text .ensures))
-    (sym (c .before .peek .ensures) ∙ c .if1 .taken)
+start-tag-requires : tie.Need-start-tag-requires
+start-tag-requires c κs =
+    let m = c .before .before .before .before in
+    let t = m .before .before .before in
+    let p = t .before .before .before .before .pre in
+    tag-started (child-text (p .0) (p .1) (t .text .ensures) .0 .0) (markup-as (c .before .before .name2 .given .1) (m .markup .ensures)) .0
+
+sub-t14 : tie.Need-sub-t14
+sub-t14 c =
+    let t = c .before .before .before .before .before .before .before in
+    let p = t .before .before .before .before .pre in
+    open-deep (child-text (p .0) (p .1) (t .text .ensures) .0 .0)
 
 returns : tie.Need-returns
-returns c = let p = c .before .before .before .before .before .before .before .before .before .pre in
-    let t = c .before .before .before .before .before .text .ensures in
-    let G = in-element (p .0) (p .1) in
-    let e = c .end-tag .ensures in (
-      end-put (text-put G t) (sym (c .before .before .peek .ensures) ∙ c .before .if1 .taken) _ e,
-      text-same G t,
-      omega
-          (arith, t .forward, e .forward),
-    )
-
-start-tag-requires : tie.Need-start-tag-requires
-start-tag-requires c κs = let p = c .before .before .before .before .before .before .before .before .before .pre in
-    start-there (text-put (in-element (p .0) (p .1)) (c .before .before .before .before .before .text .ensures))
-    (λ z. c .before .if1 .left (c .before .before .peek .ensures ∙ z))
+returns c =
+    let m = c .before .before .before in
+    let t = m .before .before .before in
+    let p = t .before .before .before .before .pre in
+    absurd (no-tag (child-text (p .0) (p .1) (t .text .ensures) .0 .0) (markup-as (c .before .j .given .1) (m .markup .ensures)))
 
 returns-2 : tie.Need-returns-2
-returns-2 c = let p = c .before .before .before .before .before .before .before .before .before .before .before .before .pre in
-    let t = c .before .before .before .before .before .before .before .before .text .ensures in
+returns-2 c =
+    let m = c .before .before .before .before in
+    let t = m .before .before .before in
+    let p = t .before .before .before .before .pre in
+    let G = child-text (p .0) (p .1) (t .text .ensures) in
+    let y = tag-ended (G .0 .0) (markup-as (c .before .before .name .given .1) (m .markup .ensures)) (c .end-tag .ensures) in
+    (y .0, G .0 .1, omega (arith, G .1, y .1))
+
+returns-3 : tie.Need-returns-3
+returns-3 c =
+    let m = c .before .before .before .before .before .before .before in
+    let t = m .before .before .before in
+    let p = t .before .before .before .before .pre in
+    let G = child-text (p .0) (p .1) (t .text .ensures) in
+    let y = tag-started (G .0 .0) (markup-as (c .before .before .before .before .before .name2 .given .1) (m .markup .ensures)) in
     let e = c .before .before .start-tag .ensures in
-    (e .0, same-then (text-same (in-element (p .0) (p .1)) t) (e .1), omega (arith, t .forward, e .2))
+    (e .0, same-then (G .0 .1) (e .1), omega (arith, G .1, y .1, e .2))
 
 pub child-spec : {M : Type 1} → statement M
 child-spec = tie.close (tie.spec
-    (λ c κs. let p = c .before .before .before .pre in (p .0 .inside, p .0 .layout, text-fits (in-element (p .0) (p .1))))
-    (λ c κs. search needs) end-tag-requires (λ c. search needs) (λ c. search needs) returns start-tag-requires (λ c. search needs)
-    returns-2)
+    (λ c κs. let p = c .before .before .before .pre in (p .0 .inside, p .0 .layout, child-fits (p .0) (p .1)))
+    (λ c κs. let p = c .before .before .before .before .before .before .pre in
+    child-text (p .0) (p .1) (c .before .before .text .ensures) .2) (λ c. search needs) (λ c. search needs)
+    (λ c κs. end-there (markup-as (c .before .name .given .1) (c .before .before .before .markup .ensures))) sub-t14 (λ c. search needs)
+    start-tag-requires (λ c. search needs) returns (λ c. search needs) returns-2 (λ c. search needs) returns-3)

@@ -1,6 +1,6 @@
 use native.Mathlib.Omega.{arith}
 use Rattle.xml_load.specs.Laws.Texts.{put-same, same-then}
-use Rattle.xml_load.specs.Laws.Places.{element-room, element-short, element-put}
+use Rattle.xml_load.specs.Laws.Names.{element-room, element-short, element-put}
 use borrow.Author.Needs.{needs}
 use Rattle.xml_load.proofs.filling.start_tag.Statement.{statement}
 use Rattle.xml_load.proofs.filling.start_tag.Tie as tie

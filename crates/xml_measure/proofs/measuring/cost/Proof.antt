@@ -27,7 +27,8 @@ returns-3 c =
     let c3 = c2 .before in
     let c4 = c3 .before in (
       ap₂ (λ m n. m + n) (c2 .extra .ensures .0) (c .escaped-size .ensures .0)
-          ∙ cost-text _ _ _ (λ e. c3 .if1 .left (c4 .before .pre .4 ∙ e)) (λ e. c .before .if2 .left (c4 .before .pre .4 ∙ e)),
+          ∙ cost-text _ _ _ (λ e. c3 .if1 .left (c4 .before .pre .4 ∙ e)) (λ e. c .before .if2 .left (c4 .before .pre .4 ∙ e))
+          (c4 .before .pre .2),
       omega
           (arith, c .escaped-size .ensures .1, c2 .extra .ensures .1),
     )

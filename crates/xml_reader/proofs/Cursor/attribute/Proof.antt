@@ -23,8 +23,8 @@ sub-begin c =
     (c4 .equals .ensures) in
     quoted-inside read .0
 
-content-requires : tie.Need-content-requires
-content-requires c κs =
+text-requires : tie.Need-text-requires
+text-requires c κs =
     let c4 = c .before .before .before .before in
     let c9 = c4 .before .before .before .before .before in
     let args = c9 .before .before .before .args in
@@ -52,11 +52,11 @@ returns-5 c =
     enters-valued (c10 .before .before .before .pre .0) (search needs) (c10 .name .ensures) (c7 .before .before .if2 .left)
     (c7 .enter .ensures .0) (c7 .enter .ensures .1) (not-false _ (c5 .before .if3 .left))
     (subst (λ (r : Equals). EqualsRead (args .s .now) (c10 .name .result .at) r) (c .before .before .before .q .given .1)
-    (c5 .equals .ensures)) (c .content .ensures)
+    (c5 .equals .ensures)) (c .text .ensures)
 
 pub attribute-spec : {M : Type 1} → statement M
 attribute-spec = tie.close (tie.spec (λ c. enters-many (c .before .before .pre .0) (c .if1 .taken)) (λ c κs. search needs)
     (λ c. search needs) (λ c. search needs)
     (λ c. enters-long (c .before .before .before .before .pre .0) (search needs) (c .before .name .ensures) (c .if2 .taken))
     (λ c κs. search needs) returns-3 (λ c κs. search needs) (λ c. search needs) (λ c. search needs) sub-begin (λ c. search needs)
-    content-requires returns-4 returns-5)
+    text-requires returns-4 returns-5)

@@ -1,15 +1,15 @@
 use native.Mathlib.Omega.{arith}
 use Prim.Native.Nat.{_+_, _-_, _≤_}
-use mathlib.Core.Path.{refl, sym, subst, _∙_}
+use mathlib.Core.Path.{sym, subst, _∙_}
 use borrow.Author.Needs.{needs}
 use borrow.Author.Tests.{not-true, not-false}
 use lib.ListN.{length, drop}
-use Rattle.xml.specs.Laws.Fixed.{entity-at}
+use Rattle.xml.specs.Laws.Fixed.{reference-at}
 use Rattle.xml_reader.specs.declared.Reference.{Reference}
-use Rattle.xml_reader.specs.Steps.{Refers, one-byte, by-reference}
+use Rattle.xml_reader.specs.Steps.{Refers}
 use Rattle.xml_reader.specs.Laws.Characters.{CharactersTo, characters-start, characters-end, characters-stop, characters-wrong}
-use Rattle.xml_reader.specs.Laws.Characters.{characters-full, characters-lost, characters-turn, characters-reference}
-use Rattle.xml_reader.specs.Laws.Characters.{character-inside}
+use Rattle.xml_reader.specs.Laws.Characters.{characters-full, characters-lost, characters-byte, characters-reference}
+use Rattle.xml_reader.specs.Laws.Characters.{reference-inside}
 use Rattle.xml_reader.proofs.Cursor.characters.Statement.{statement}
 use Rattle.xml_reader.proofs.Cursor.characters.Tie as tie
 
@@ -44,8 +44,8 @@ loop-again c =
       search needs,
       search needs,
       rw (c .brackets-after .ensures)
-          (characters-turn _ _ _ _ _ _ _ (loop .inv .3) (search needs) (c₄ .before .if1 .left) stands (search needs)
-          (one-byte {c = record { at = loop .i + 1 }} (c .before .if4 .taken) refl)),
+          (characters-byte _ _ _ _ _ _ _ (loop .inv .3) (search needs) (c₄ .before .if1 .left) stands (search needs)
+          (c .before .if4 .taken)),
     )
 
 returns-4 : tie.Need-returns-4 Inv-loop μ-loop
@@ -58,10 +58,10 @@ returns-4 c =
     let loop = c₇ .before .before .before .before .loop in
     let stands = sym (c₇ .may-stand .ensures) ∙ not-false _ (if2 .left) in
     let args = c₇ .before .before .before .before .before .before .args in
-    let name = entity-at (drop (loop .i + 1) (args .s .now)) in
+    let name = reference-at (drop (loop .i + 1) (args .s .now)) in
     let r = subst (λ (r : Reference). Refers (args .s .now) (loop .i + 1) name r) (j .given .1) (reference .ensures) in
     characters-lost _ _ _ _ _ _ _ (loop .inv .3) (search needs) (c₇ .before .if1 .left) stands (search needs)
-    (by-reference (if4 .left) r)
+    (if4 .left) r
 
 loop-less-2 : tie.Need-loop-less-2 Inv-loop μ-loop
 loop-less-2 c =
@@ -73,9 +73,9 @@ loop-less-2 c =
     let loop = c₇ .before .before .before .before .loop in
     let stands = sym (c₇ .may-stand .ensures) ∙ not-false _ (if2 .left) in
     let args = c₇ .before .before .before .before .before .before .args in
-    let name = entity-at (drop (loop .i + 1) (args .s .now)) in
+    let name = reference-at (drop (loop .i + 1) (args .s .now)) in
     let r = subst (λ (r : Reference). Refers (args .s .now) (loop .i + 1) name r) (behind .given .1) (reference .ensures) in
-    let y = character-inside (search needs) (by-reference (if4 .left) r) in
+    let y = reference-inside r in
     omega (arith, y .0, y .1)
 
 loop-again-2 : tie.Need-loop-again-2 Inv-loop μ-loop
@@ -88,15 +88,14 @@ loop-again-2 c =
     let loop = c₇ .before .before .before .before .loop in
     let stands = sym (c₇ .may-stand .ensures) ∙ not-false _ (if2 .left) in
     let args = c₇ .before .before .before .before .before .before .args in
-    let name = entity-at (drop (loop .i + 1) (args .s .now)) in
+    let name = reference-at (drop (loop .i + 1) (args .s .now)) in
     let r = subst (λ (r : Reference). Refers (args .s .now) (loop .i + 1) name r) (behind .given .1) (reference .ensures) in
-    let a = if4 .left in
-    let y = character-inside (search needs) (by-reference a r) in (
+    let y = reference-inside r in (
       omega (arith, y .0),
       y .1,
       search needs,
       characters-reference _ _ _ _ _ _ _ (loop .inv .3) (search needs) (c₇ .before .if1 .left) stands
-          (search needs) a r,
+          (search needs) (if4 .left) r,
     )
 
 pub characters-spec : {M : Type 1} → statement M

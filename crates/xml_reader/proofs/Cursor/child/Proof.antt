@@ -1,5 +1,5 @@
-use Rattle.xml_reader.specs.Laws.Children.{text-refused, text-past, behind-text}
-use Rattle.xml_reader.specs.Steps.{ContentRead}
+use Rattle.xml_reader.specs.Laws.Children.{child-refused, child-past, behind-text}
+use Rattle.xml_reader.specs.Steps.{TextRead}
 use Rattle.xml_reader.specs.declared.Read.{Read}
 use Rattle.xml.specs.Bytes.{less-than}
 use mathlib.Core.Path.{subst}
@@ -11,28 +11,29 @@ tag-requires : tie.Need-tag-requires
 tag-requires c κs =
     let a = c .before .before .before .before .before .before .args in
     let pre = c .before .before .before .before .before .before .pre in
-    let content = c .before .before .before .before .content in
+    let text = c .before .before .before .before .text in
     let c-here = c .before .before .c in
-    behind-text (pre .1) (subst (λ (r : Read). ContentRead (a .s .now) less-than (a .self .at) (a .spare) r) (c-here .given .1)
-    (content .ensures))
+    behind-text (pre .1) (subst (λ (r : Read). TextRead (a .s .now) less-than (a .self .at) (a .spare) r) (c-here .given .1)
+    (text .ensures))
 
 returns : tie.Need-returns
 returns c =
     let a = c .before .before .before .before .before .args in
     let pre = c .before .before .before .before .before .pre in
-    let content = c .before .before .before .content in
-    text-refused (a .s .now) (a .names .now) (a .depth) (a .spare) (a .self .at) (pre .1)
-    (subst (λ (r : Read). ContentRead (a .s .now) less-than (a .self .at) (a .spare) r) (c .before .x .given .1) (content .ensures)) _
+    let text = c .before .before .before .text in
+    child-refused (a .s .now) (a .names .now) (a .depth) (a .spare) (a .self .at) (pre .1)
+    (subst (λ (r : Read). TextRead (a .s .now) less-than (a .self .at) (a .spare) r) (c .before .x .given .1) (text .ensures)) _
 
 returns-2 : tie.Need-returns-2
 returns-2 c =
     let a = c .before .before .before .before .before .before .before .args in
     let pre = c .before .before .before .before .before .before .before .pre in
-    let content = c .before .before .before .before .before .content in
+    let text = c .before .before .before .before .before .text in
     let c-here = c .before .before .before .c in
-    text-past (a .s .now) (a .names .now) (a .depth) (a .spare) (a .self .at) (pre .1) _
-    (subst (λ (r : Read). ContentRead (a .s .now) less-than (a .self .at) (a .spare) r) (c-here .given .1) (content .ensures))
+    child-past (a .s .now) (a .names .now) (a .depth) (a .spare) (a .self .at) (pre .1) _
+    (subst (λ (r : Read). TextRead (a .s .now) less-than (a .self .at) (a .spare) r) (c-here .given .1) (text .ensures))
     (c .tag .ensures)
 
 pub child-spec : {M : Type 1} → statement M
-child-spec = tie.close (tie.spec (λ c κs. search needs) (λ c. search needs) (λ c. search needs) tag-requires returns returns-2)
+child-spec = tie.close (tie.spec (λ c κs. search needs) (λ c. search needs) (λ c. search needs) tag-requires
+    returns returns-2)

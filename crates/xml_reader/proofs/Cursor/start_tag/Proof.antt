@@ -1,7 +1,6 @@
 use Rattle.xml_reader.specs.Laws.StartTags.{element-long, element-rest, kept-set, kept-same, kept-less, placed-push}
 use lib.Seq.{getD-set-same}
 use native.Mathlib.Omega.{arith}
-use mathlib.Core.Path.{_∙_}
 use Prim.Native.Nat.{_-_}
 use borrow.Author.Needs.{needs}
 use Rattle.xml_reader.proofs.Cursor.start_tag.Statement.{statement}

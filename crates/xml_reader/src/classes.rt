@@ -1,0 +1,38 @@
+// Classes of bytes in values and texts. Letters, the most frequent, come first.
+ghost use mathlib.Core.Path.{_≡_};
+ghost use Rattle.xml.specs.Bytes.{brackets};
+ghost use Rattle.xml_reader.specs.Classes.{begins};
+
+// Whether a byte may begin a character of a value or a text that ends with stop, k bytes ] just before it.
+pub fn may_stand(b: u8, stop: u8, k: usize) -> bool
+    ensures { λ r. ⌜ r ≡ begins stop k b ⌝ }
+{
+    if b > b'>' {
+        return tree::text_byte(b);
+    }
+    if b == b'&' {
+        return true;
+    }
+    if b == b'<' {
+        return false;
+    }
+    if b != b'>' {
+        return tree::text_byte(b);
+    }
+    if stop != b'<' {
+        return true;
+    }
+    k != 2
+}
+
+pub fn brackets_after(k: usize, b: u8) -> usize
+    ensures { λ r. ⌜ r ≡ brackets k b ⌝ }
+{
+    if b == b']' {
+        if k == 0 {
+            return 1;
+        }
+        return 2;
+    }
+    0
+}
