@@ -2,40 +2,6 @@
 
 const uint8_t bench_mark[8] = {'n', 'o', 'o', 'd', 'l', 'e', 'f', 2};
 
-#define L (NAME_FIRST | NAME_LATER | TEXT_BYTE) /* a letter or _ */
-#define N (NAME_LATER | TEXT_BYTE)              /* a digit, - or . */
-#define T TEXT_BYTE
-#define B (BLANK | TEXT_BYTE)
-const uint8_t bench_class[256] = {
-    0, 0, 0, 0, 0, 0, 0, 0, 0, B, B, 0, 0, 0, 0, 0, 0, 0, 0, 0, 0, 0, 0, 0, 0, 0, 0, 0, 0, 0, 0, 0,
-    B, T, T, T, T, T, T, T, T, T, T, T, T, N, N, T, N, N, N, N, N, N, N, N, N, N, T, T, T, T, T, T,
-    T, L, L, L, L, L, L, L, L, L, L, L, L, L, L, L, L, L, L, L, L, L, L, L, L, L, L, T, T, T, T, L,
-    T, L, L, L, L, L, L, L, L, L, L, L, L, L, L, L, L, L, L, L, L, L, L, L, L, L, L, T, T, T, T, 0};
-#undef L
-#undef N
-#undef T
-#undef B
-
-int bench_name(const uint8_t *bytes, size_t length)
-{
-    if (length < 1 || length > 32)
-        return 0;
-    unsigned all = bench_class[bytes[0]] & NAME_FIRST ? NAME_LATER : 0;
-    for (size_t i = 1; i < length; i++)
-        all &= bench_class[bytes[i]];
-    return all != 0;
-}
-
-int bench_text(const uint8_t *bytes, size_t length)
-{
-    if (length < 1 || length > 32)
-        return 0;
-    unsigned all = TEXT_BYTE;
-    for (size_t i = 0; i < length; i++)
-        all &= bench_class[bytes[i]];
-    return all != 0;
-}
-
 /* 1,024 slots below 1,024 are a permutation if each is met. Bytes instead of bits: no store has to wait for the one before. */
 static int slots_are_permutation(const uint8_t *s)
 {

@@ -71,14 +71,33 @@ static uint8_t *new_row(struct reader *r, unsigned kind, unsigned depth)
     return cell;
 }
 
+/* A character of more than one byte, of the class by its first byte, at the place `at`, as the next of a content of so many bytes.
+ * Answers its length, or 0 if it is refused: a 33rd byte that is right in the character comes before a later one that is wrong. */
+static unsigned long_character(struct reader *r, unsigned class, size_t at, size_t length)
+{
+    int character = bench_character(class, r->xml + at, r->end - at);
+    size_t right = (size_t)(character < 0 ? -character : character);
+    if (length + right > 32)
+        return (unsigned)refuse(r, 5, at + 32 - length);
+    return character < 0 ? (unsigned)refuse(r, 4, at + right) : (unsigned)character;
+}
+
 static int read_name(struct reader *r, uint8_t *cell)
 {
     const uint8_t *xml = r->xml + r->at;
     size_t left = r->end - r->at, length = 0;
-    while (length < left && (bench_class[xml[length]] & NAME_LATER)) {
-        if (length == 32)
+    unsigned class = NAME_FIRST;
+    while (length < left && (bench_class[xml[length]] & class)) {
+        unsigned character = 1;
+        if (xml[length] >= 0x80) {
+            character = long_character(r, class, r->at + length, length);
+            if (character == 0)
+                return 0;
+        } else if (length == 32) {
             return refuse(r, 5, r->at + 32);
-        length++;
+        }
+        length += character;
+        class = NAME_LATER;
     }
     cell[0] = (uint8_t)length;
     memcpy(cell + 1, xml, length);
@@ -121,6 +140,16 @@ static int read_bytes(struct reader *r, uint8_t *cell, unsigned stop)
             break;
         if ((bench_class[byte] & TEXT_BYTE) == 0 || byte == '<' || (stop == '<' && byte == '>' && brackets >= 2))
             return refuse(r, 4, r->at);
+        if (byte >= 0x80) {
+            unsigned character = long_character(r, TEXT_BYTE, r->at, length);
+            if (character == 0)
+                return 0;
+            memcpy(cell + 1 + length, r->xml + r->at, character);
+            length += character;
+            r->at += character;
+            brackets = 0;
+            continue;
+        }
         if (length == 32)
             return refuse(r, 5, r->at);
         brackets = byte == ']' ? brackets + 1 : 0;

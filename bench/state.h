@@ -78,9 +78,13 @@ static inline noodlefen_answer refused(unsigned cause, size_t offset)
     return 2 | (uint64_t)cause << 8 | (uint64_t)offset << 16;
 }
 
-/* Classes of bytes. */
+/* Classes of bytes: what a character may be that begins with the byte. */
 enum { NAME_FIRST = 1, NAME_LATER = 2, TEXT_BYTE = 4, BLANK = 8 };
 extern const uint8_t bench_class[256];
+
+/* A character of more than one byte whose first byte is of the class: its length, or minus how many bytes there are, of those left, with
+ * which one of the class begins. */
+int bench_character(unsigned class, const uint8_t *bytes, size_t left);
 
 int bench_name(const uint8_t *bytes, size_t length);
 int bench_text(const uint8_t *bytes, size_t length);

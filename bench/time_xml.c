@@ -53,7 +53,7 @@ static xmlDocPtr read_by_libxml2(const char *xml, size_t length)
 }
 
 struct times {
-    double load[MOST_ENGINES], write[MOST_ENGINES], expat, libxml2, libxml2_write;
+    double load[MOST_ENGINES], write[MOST_ENGINES], expat, libxml2, libxml2_write; /* 0 of an engine that does not read the document */
     size_t written; /* the length of what write gave */
 };
 
@@ -61,12 +61,19 @@ static void time_document(const char *xml, size_t length, struct times *times)
 {
     static uint8_t state[MOST_ENGINES][STATE_ROOM], out[NOODLEFEN_XML_BYTES];
     static double load[MOST_ENGINES][SAMPLES], write[MOST_ENGINES][SAMPLES], expat[SAMPLES], libxml2[SAMPLES], dump[SAMPLES];
-    for (int e = 0; e < timed_count; e++)
+    int engines = timed_count;
+    for (int e = 0; e < timed_count; e++) {
         must_grant(timed_engines[e].name, "start", timed_engines[e].start(state[e], NOODLEFEN_STATE_BYTES));
+        times->load[e] = times->write[e] = 0;
+    }
+    /* A library from before may not read what the others read. */
+    if (timed_count > BEFORE
+        && !noodlefen_granted(timed_engines[BEFORE].load(state[BEFORE], NOODLEFEN_STATE_BYTES, (const uint8_t *)xml, length)))
+        engines = BEFORE;
     for (int i = 0; i < SAMPLES; i++) {
         double from;
-        for (int turn = 0; turn < timed_count; turn++) {
-            int e = engine_at(turn, i);
+        for (int turn = 0; turn < engines; turn++) {
+            int e = engines > BEFORE ? engine_at(turn, i) : turn;
             const struct timed *engine = &timed_engines[e];
             from = now();
             noodlefen_answer answer = engine->load(state[e], NOODLEFEN_STATE_BYTES, (const uint8_t *)xml, length);
@@ -92,7 +99,7 @@ static void time_document(const char *xml, size_t length, struct times *times)
         xmlFree(written);
         xmlFreeDoc(document);
     }
-    for (int e = 0; e < timed_count; e++) {
+    for (int e = 0; e < engines; e++) {
         times->load[e] = median(load[e], SAMPLES);
         times->write[e] = median(write[e], SAMPLES);
     }
@@ -117,8 +124,10 @@ static void print_row(const char *what, const char *name, size_t length, const d
         printf("%12.2f%12.2f", ours / expat, ours / libxml2);
     else
         printf("%12s%12.2f", "", ours / libxml2);
-    if (timed_count > BEFORE)
+    if (timed_count > BEFORE && engines[BEFORE] > 0)
         printf("%18.2f", engines[BEFORE] / ours);
+    else if (timed_count > BEFORE)
+        printf("%18s", "not read before");
     printf("\n");
 }
 
@@ -138,6 +147,26 @@ static size_t attribute_document(char *out)
     for (unsigned i = 0; i < ATTRIBUTES; i++)
         at += sprintf(at, " speed-of-the-drive-interval-%04u=\"\"", i * STEP % ATTRIBUTES);
     at += sprintf(at, "/>");
+    return (size_t)(at - out);
+}
+
+/* Documents of 1,022 nodes in other letters: two bytes each in Greek, three in Japanese. Their names are names in all editions of XML 1.0,
+ * for expat follows the Fourth. */
+static size_t greek_document(char *out)
+{
+    char *at = out + sprintf(out, "<?xml version=\"1.0\" encoding=\"UTF-8\"?>\n<τελεφερίκ>");
+    for (unsigned i = 0; i < 204; i++)
+        at += sprintf(at, "<κίνηση αριθμός=\"θέση %u\"><ταχύτητα>έξι μέτρα</ταχύτητα></κίνηση>", i);
+    at += sprintf(at, "</τελεφερίκ>");
+    return (size_t)(at - out);
+}
+
+static size_t japanese_document(char *out)
+{
+    char *at = out + sprintf(out, "<?xml version=\"1.0\" encoding=\"UTF-8\"?>\n<索道>");
+    for (unsigned i = 0; i < 204; i++)
+        at += sprintf(at, "<駆動装置 番号=\"第%u号\"><最高速度>毎秒六メートル</最高速度></駆動装置>", i);
+    at += sprintf(at, "</索道>");
     return (size_t)(at - out);
 }
 
@@ -163,6 +192,8 @@ void time_xml(const char *settings_path)
     }
     print_document("64 KB input", xml, long_document(xml));
     print_document("1022 attributes", xml, attribute_document(xml));
+    print_document("Greek", xml, greek_document(xml));
+    print_document("Japanese", xml, japanese_document(xml));
     FILE *file = fopen(settings_path, "rb");
     if (file != NULL) {
         size_t length = fread(xml, 1, sizeof xml, file);

@@ -131,10 +131,23 @@ static int stands(const struct scan *scan, size_t at, const char *bytes)
     return at <= scan->len && scan->len - at >= length && memcmp(scan->xml + at, bytes, length) == 0;
 }
 
+/* How many bytes right before the offset begin a character that is not whole there. */
+static size_t begun_character(const struct scan *scan)
+{
+    for (size_t back = 1; back <= 3 && back <= scan->offset; back++) {
+        int byte = scan->xml[scan->offset - back];
+        if ((byte & 0xC0) != 0x80)
+            return back < (byte < 0xC0 ? 1u : byte < 0xE0 ? 2u : byte < 0xF0 ? 3u : 4u) ? back : 0;
+    }
+    return 0;
+}
+
 static const char *explain_end(const struct scan *scan)
 {
     if (scan->len == 0)
         return "the input is empty";
+    if (begun_character(scan) > 0)
+        return "the input ends too soon, in a character";
     if (scan->reference != 0)
         return "the input ends too soon, in a reference";
     switch (scan->place) {
@@ -158,11 +171,34 @@ static const char *explain_byte(const struct scan *scan, int byte)
         return "byte order mark";
     if (byte == 13)
         return "carriage return (byte 13): lines end with a line feed alone";
-    if (byte > 0x7F)
-        return "byte above 0x7E: only ASCII is read";
-    if ((byte < 0x20 && !blank(byte)) || byte == 0x7F)
-        return "control byte: only tab, line feed and 0x20 to 0x7E are read";
+    if (byte < 0x20 && !blank(byte))
+        return "control byte: below 0x20 only tab and line feed are read";
     return NULL;
+}
+
+/* Bytes that are no character of XML in UTF-8, or NULL. So many bytes before this one begin a character. */
+static const char *explain_utf8(const struct scan *scan, size_t begun, int byte)
+{
+    int first = scan->xml[scan->offset - begun];
+    if (begun > 0 && (byte & 0xC0) != 0x80)
+        return "broken UTF-8: the character before this byte is cut off";
+    if (begun == 0 && ((byte >= 0x80 && byte < 0xC0) || byte > 0xF4))
+        return "broken UTF-8: byte that begins no character";
+    if ((begun == 0 && (byte & 0xFE) == 0xC0) || (begun == 1 && ((first == 0xE0 && byte < 0xA0) || (first == 0xF0 && byte < 0x90))))
+        return "broken UTF-8: character in more bytes than it needs";
+    if (begun == 1 && first == 0xED && byte >= 0xA0)
+        return "broken UTF-8: surrogate";
+    if (begun == 1 && first == 0xF4 && byte >= 0x90)
+        return "broken UTF-8: above U+10FFFF";
+    if (begun == 2 && first == 0xEF && scan->xml[scan->offset - 1] == 0xBF && byte >= 0xBE)
+        return "U+FFFE or U+FFFF, which are no characters of XML";
+    return NULL;
+}
+
+static const char *explain_character(const struct scan *scan, size_t begun)
+{
+    size_t name = scan->place == ELEMENT_NAME ? scan->tag : scan->name;
+    return scan->offset - begun == name ? "character that a name cannot begin with" : "character that a name cannot have";
 }
 
 static const char *explain_character_reference(const struct scan *scan, int byte)
@@ -256,7 +292,18 @@ static const char *explain_attribute_name(const struct scan *scan, int byte)
         return "colon in a name: namespaces are not read";
     if (byte == '>' || byte == '/')
         return "attribute without a value";
+    if (byte > 0x7F)
+        return explain_character(scan, 0);
     return "character that cannot follow an attribute's name";
+}
+
+static const char *explain_element_name(const struct scan *scan, int byte)
+{
+    if (byte == ':')
+        return "colon in a name: namespaces are not read";
+    if (byte > 0x7F)
+        return explain_character(scan, 0);
+    return "character that cannot follow an element's name";
 }
 
 static const char *explain_end_tag(const struct scan *scan)
@@ -272,22 +319,30 @@ static const char *explain_grammar(const struct scan *scan)
     if (scan->offset >= NOODLEFEN_XML_BYTES)
         return "too long: at most 65,536 bytes are read";
     int byte = scan->xml[scan->offset];
+    size_t begun = begun_character(scan);
     const char *nowhere = explain_byte(scan, byte);
+    if (nowhere == NULL && begun > 0 && scan->place == END_TAG)
+        return explain_end_tag(scan); /* it has to have the bytes of its start tag */
+    if (nowhere == NULL)
+        nowhere = explain_utf8(scan, begun, byte);
     if (nowhere != NULL)
         return nowhere;
+    if (begun > 0)
+        return explain_character(scan, begun);
     if (scan->reference != 0)
         return explain_reference(scan, byte);
     switch (scan->place) {
     case BEFORE_ROOT: return "text before the root element";
     case DECLARATION: return explain_declaration(scan);
-    case BEHIND_LESS: return explain_less(scan);
-    case ELEMENT_NAME: return byte == ':' ? "colon in a name: namespaces are not read" : "character that cannot follow an element's name";
+    case BEHIND_LESS: return byte > 0x7F ? "character that a name cannot begin with" : explain_less(scan);
+    case ELEMENT_NAME: return explain_element_name(scan, byte);
     case IN_TAG: return "character that cannot begin an attribute's name";
     case ATTRIBUTE_NAME: return explain_attribute_name(scan, byte);
     case BEHIND_ATTRIBUTE_NAME: return "attribute without a value";
     case BEFORE_VALUE: return "attribute's value without quotes";
     case VALUE: return "< in an attribute's value: write &lt;";
-    case BEHIND_VALUE: return letter(byte) ? "blank missing before an attribute" : "character that cannot follow an attribute's value";
+    case BEHIND_VALUE:
+        return letter(byte) || byte > 0x7F ? "blank missing before an attribute" : "character that cannot follow an attribute's value";
     case BEHIND_SLASH: return "/ without > behind it";
     case END_TAG: return explain_end_tag(scan);
     case CONTENT: return "]]> in text: write ]]&gt;";

@@ -42,11 +42,16 @@ static void expect(const char *input, size_t length, unsigned cause, uint64_t of
 
 #define COLON "colon in a name: namespaces are not read"
 #define CHARACTER "unknown character reference: only &#9; and &#10; are read"
-#define CONTROL "control byte: only tab, line feed and 0x20 to 0x7E are read"
+#define ALONE "broken UTF-8: byte that begins no character"
+#define CONTROL "control byte: below 0x20 only tab and line feed are read"
+#define CUT "broken UTF-8: the character before this byte is cut off"
 #define DECLARED "declaration that is neither <?xml version=\"1.0\"?> nor <?xml version=\"1.0\" encoding=\"UTF-8\"?>, exactly"
 #define LESS "< without a name behind it: in texts and values write &lt;"
+#define LONG_FORM "broken UTF-8: character in more bytes than it needs"
 #define MATCH "end tag that does not match the open element"
 #define NO_VALUE "attribute without a value"
+#define NOT_FIRST "character that a name cannot begin with"
+#define NOT_IN_NAME "character that a name cannot have"
 #define RETURN "carriage return (byte 13): lines end with a line feed alone"
 #define UNKNOWN "unknown entity: only &amp; &lt; &gt; &quot; &apos; are read"
 
@@ -75,14 +80,50 @@ static const struct {
     {"\xEF\xBB\xBF<a/>", 0, "byte order mark"},
     {"\xFF\xFE<a/>", 0, "byte order mark"},
     {"\xFE\xFF<a/>", 0, "byte order mark"},
-    {"<a>\xEF\xBB\xBF</a>", 3, "byte above 0x7E: only ASCII is read"},
-    {"<a>\xC3\xA4</a>", 3, "byte above 0x7E: only ASCII is read"},
     {"<a>\r\n</a>", 3, RETURN},
     {"<a\r\n/>", 2, RETURN},
     {"<a/>\r\n", 4, RETURN},
     {"<?xml version=\"1.0\"?>\r\n<a/>", 21, RETURN},
     {"<a>\x01</a>", 3, CONTROL},
-    {"<a b='\x7F'/>", 6, CONTROL},
+    {"<a b='\x1F'/>", 6, CONTROL},
+
+    {"<a>T\xFCr</a>", 4, ALONE},
+    {"<a>\xE4\x80\x80\x80</a>", 6, ALONE},
+    {"<T\xFCr/>", 2, ALONE},
+    {"<\x80/>", 1, ALONE},
+    {"<a></a\x80>", 6, ALONE},
+    {"<a>l\xE4ngs</a>", 5, CUT},
+    {"<a b='\xC3'/>", 7, CUT},
+    {"<l\xE4ngs/>", 3, CUT},
+    {"<a \xE3\x81='b'/>", 5, CUT},
+    {"<a>\xF0\x90\x8C<b/></a>", 6, CUT},
+    {"<a>\xC3&amp;</a>", 4, CUT},
+    {"<a>\xC3", 4, "the input ends too soon, in a character"},
+    {"<a b='\xE3\x81", 8, "the input ends too soon, in a character"},
+    {"<\xC3", 2, "the input ends too soon, in a character"},
+    {"<a>\xC0\xAF</a>", 3, LONG_FORM},
+    {"<a>\xE0\x80\xAF</a>", 4, LONG_FORM},
+    {"<\xF0\x8F\xBF\xBF/>", 2, LONG_FORM},
+    {"<a>\xED\xA0\x80</a>", 4, "broken UTF-8: surrogate"},
+    {"<a>\xF4\x90\x80\x80</a>", 4, "broken UTF-8: above U+10FFFF"},
+    {"<a>\xEF\xBF\xBE</a>", 5, "U+FFFE or U+FFFF, which are no characters of XML"},
+    {"<\xC2\xB7/>", 1, NOT_FIRST},
+    {"<\xCD\x80/>", 2, NOT_FIRST},
+    {"<\xE2\x80\xBF/>", 3, NOT_FIRST},
+    {"<a \xC3\x97='b'/>", 4, NOT_FIRST},
+    {"<a \xCC\x88='b'/>", 3, "character that cannot begin an attribute's name"},
+    {"<a\xC3\x97/>", 3, NOT_IN_NAME},
+    {"<a\xEE\x80\x80/>", 2, NOT_IN_NAME},
+    {"<a b\xC2\xA0='c'/>", 5, NOT_IN_NAME},
+    {"<a b\xF4\x80\x80\x80='c'/>", 4, NOT_IN_NAME},
+    {"<a \xC3\xA4='' \xC3\xA4=''/>", 11, "repeated attribute"},
+    {"<a \xC3\xA4=''\xC3\xA4=''/>", 8, "blank missing before an attribute"},
+    {"<\xC3\xA4></\xC3\xB6>", 7, MATCH},
+    {"<\xC3\xA4></\xC3>", 7, MATCH},
+    {"<a></a\xC3\xA4>", 6, MATCH},
+    {"\xC3\xA4<a/>", 0, "text before the root element"},
+    {"<a/>\xC3\xA4", 4, "text behind the root element"},
+    {"<a\x7F/>", 2, "character that cannot follow an element's name"},
 
     {"<!-- c --><a/>", 1, "comment"},
     {"<a><!-- c --></a>", 4, "comment"},
@@ -160,11 +201,13 @@ static void test_grammar(void)
 /* 33 bytes of a content. */
 static void test_lengths(void)
 {
-#define BYTES32 "abcdefghijklmnopqrstuvwxyz012345"
+#define BYTES30 "abcdefghijklmnopqrstuvwxyz0123"
+#define BYTES32 BYTES30 "45"
     static const char element[] = "<" BYTES32 "6/>", attribute[] = "<a " BYTES32 "6=''/>", value[] = "<a b='" BYTES32 "6'/>",
                       text[] = "<a>" BYTES32 "6</a>", indented[] = "<a>\n                                <b/></a>",
-                      entity[] = "<a>" BYTES32 "&amp;</a>";
+                      entity[] = "<a>" BYTES32 "&amp;</a>", longer[] = "<a" BYTES30 "\xC3\xA4/>";
     expect(element, sizeof element - 1, 5, 33, "33rd byte of an element's name: at most 32 are held");
+    expect(longer, sizeof longer - 1, 5, 33, "33rd byte of an element's name: at most 32 are held");
     expect(attribute, sizeof attribute - 1, 5, 35, "33rd byte of an attribute's name: at most 32 are held");
     expect(value, sizeof value - 1, 5, 38, "33rd byte of an attribute's value: at most 32 are held");
 #define TEXT_LENGTH "33rd byte of a text: at most 32 are held, and blanks between tags are text"
@@ -197,7 +240,14 @@ static void test_other_causes(void)
     noodlefen_abort(state, sizeof state, 1);
 }
 
-/* Every byte at every place of a document: a reason that speaks of a byte or of the end is given exactly there. */
+/* Whether the refusal at the offset is one of UTF-8: the byte put in at the place begins no character, or one that does not go on. */
+static int broken_utf8(int byte, size_t place, size_t offset)
+{
+    int begins = byte >= 0xC2 && byte <= 0xF4;
+    return byte >= 0x80 && offset == place + (begins ? 1 : 0);
+}
+
+/* Every byte at every place of a document: a reason that speaks of a byte, of UTF-8 or of the end is given exactly there. */
 static void test_every_byte(void)
 {
     static const char document[] = "<?xml version=\"1.0\"?>\n<a b='c&lt;&#10;' d = \"e\"><f /><g>h]]&#9;&amp;</g ></a>\n";
@@ -213,7 +263,8 @@ static void test_every_byte(void)
             int at = reason != NULL && offset < sizeof document ? (uint8_t)input[offset] : -1;
             int right = reason == NULL
                 || (strlen(reason) > 0 && (strcmp(reason, RETURN) == 0) == (at == 13)
-                    && (strstr(reason, "ends too soon") != NULL) == (at == -1) && (at < 0x80 || strstr(reason, "byte") == reason));
+                    && (strstr(reason, "ends too soon") != NULL) == (at == -1)
+                    && (strstr(reason, "broken UTF-8") != NULL) == (at != -1 && broken_utf8(byte, place, offset)));
             passed += right ? 1u : 0u;
             failed += right ? 0u : 1u;
             if (!right)

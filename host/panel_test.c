@@ -211,6 +211,9 @@ static void test_steps(void)
     EXPECT(refused(9, 0), .what = U, .t = 1, .n = 4, .a = "9");
     EXPECT(refused(9, 0), .what = U, .t = 1, .n = 5);
     EXPECT(refused(9, 0), .what = UU, .t = 1, .n = 1, .a = "a", .b = "b c");
+    EXPECT(refused(9, 0), .what = U, .t = 1, .n = 5, .a = "\xC3");
+    EXPECT(refused(9, 0), .what = I, .t = 1, .m = 9, .kind = 2, .a = "\xCC\x88", .n = 1, .k = 2);
+    EXPECT(granted(0), .what = UU, .t = 1, .n = 1, .a = "\xC3\xA4", .b = "\xE3\x81\x82");
     EXPECT(refused(10, 0), .what = I, .t = 1, .m = 6, .kind = 2, .a = "x", .n = 1, .k = 2);
     EXPECT(refused(11, 0), .what = I, .t = 1, .m = 9, .kind = 2, .a = "x", .n = 1, .k = 5);
     EXPECT(granted(0), .what = I, .t = 1, .m = 9, .kind = 2, .a = "x", .n = 1, .k = 4);
@@ -257,6 +260,9 @@ static void test_documents(void)
     EXPECT(refused(14, 0), .what = WRITE, .room = 65536);
     EXPECT(refused(4, 0), .what = LOAD);
     EXPECT(refused(4, 5), .what = LOAD, .a = "<a></b>");
+    EXPECT(refused(4, 4), .what = LOAD, .a = "<a>\xC3</a>");
+    EXPECT(refused(4, 2), .what = LOAD, .a = "<\xED\xA0\x80/>");
+    EXPECT(granted(3), .what = LOAD, .a = "<\xC3\xA4>\xF0\x90\x8C\xB0</\xC3\xA4>");
     EXPECT(refused(5, 35), .what = LOAD, .a = "<a>123456789012345678901234567890123</a>");
     strcpy(big, "<a>");
     for (int i = 0; i < 1022; i++)
@@ -278,7 +284,7 @@ static void test_documents(void)
     EXPECT(refused(4, 65536), .what = LOAD, .a = big, .a_length = 65537);
 }
 
-static const char *const contents[] = {"a", "b", "speed", "lift", "x y", "\n", "9", "<&>", "\x7F",
+static const char *const contents[] = {"a", "b", "speed", "lift", "x y", "\n", "9", "<&>", "\x7F", "\xC3\xA4", "\xC3", "\xED\xA0\x80",
                                        "12345678901234567890123456789012", "n2345678901234567890123456789012",
                                        "123456789012345678901234567890123"};
 
@@ -292,15 +298,17 @@ static noodlefen_node random_number(unsigned bound)
 
 static struct call random_call(void)
 {
-    static const char *const documents[] = {tree_e, "<a/>", "<a b='c'>d<e/>f</a>", "<a", "<a b='' b=''/>", ""};
+    static const char *const documents[] = {tree_e, "<a/>", "<a b='c'>d<e/>f</a>", "<a", "<a b='' b=''/>", "",
+                                            "<\xC3\xA4>\xE3\x81\x82</\xC3\xA4>", "<a>\xC3</a>"};
+    enum { DOCUMENTS = sizeof documents / sizeof *documents, CONTENTS = sizeof contents / sizeof *contents };
     struct call c = {.what = below(30) == 0 ? (enum name)below(BEGIN) : (enum name)(BEGIN + below(NAMES - BEGIN))};
     c.t = below(20) == 0 ? below(40) : 1 + below(3);
     c.n = random_number(12);
     c.m = random_number(14);
     c.k = below(20) == 0 ? 0xFFFFFFFFu : below(5);
     c.kind = below(6);
-    c.a = c.what == LOAD ? documents[below(6)] : contents[below(12)];
-    c.b = contents[below(12)];
+    c.a = c.what == LOAD ? documents[below(DOCUMENTS)] : contents[below(CONTENTS)];
+    c.b = contents[below(CONTENTS)];
     c.room = below(4) == 0 ? below(40) : 4200;
     c.cells_room = below(4) == 0 ? below(200) : 34000;
     return c;

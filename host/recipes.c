@@ -124,6 +124,29 @@ static void values(void)
     }
 }
 
+/* --- How many bytes of a text can be held: at most 32, and no character is cut. Bytes behind the first of a character are 0x80 to 0xBF. */
+static size_t cut_length(const uint8_t *bytes, size_t length)
+{
+    size_t cut = length < NOODLEFEN_CONTENT_BYTES ? length : NOODLEFEN_CONTENT_BYTES;
+    while (cut > 0 && cut < length && (bytes[cut] & 0xC0) == 0x80)
+        cut--;
+    return cut;
+}
+
+static void cutting(void)
+{
+    static const uint8_t typed[] = "Bei Wind nur mit halber Kraft f\xC3\xBCr eine Stunde"; /* an u with two dots, U+00FC */
+    size_t length = sizeof typed - 1, cut = cut_length(typed, length);
+    printf("cutting what is too long\n");
+    begin_with("<a>6</a>");
+    print_answer("as typed", noodlefen_update(state, sizeof state, 1, 2, typed, length));
+    print_answer("cut after 32 bytes", noodlefen_update(state, sizeof state, 1, 2, typed, NOODLEFEN_CONTENT_BYTES));
+    printf("  between characters: after %lu bytes\n", (unsigned long)cut);
+    print_answer("cut there", noodlefen_update(state, sizeof state, 1, 2, typed, cut));
+    must(noodlefen_commit(state, sizeof state, 1));
+    print_settings(state);
+}
+
 /* --- Whether the settings could be written if t committed now, tried on a copy. Ask right before the commit. */
 static noodlefen_answer try_commit(uint32_t t)
 {
@@ -335,6 +358,7 @@ int main(void)
 {
     numbers();
     values();
+    cutting();
     deletion();
     joining();
     two_deletions();

@@ -25,7 +25,7 @@ extern "C" {
  * or causes are added, or when a file is read or written otherwise. NOODLEFEN_VERSION is a number that #if can compare: 1000 for
  * each MAJOR. */
 #define NOODLEFEN_VERSION_MAJOR 2
-#define NOODLEFEN_VERSION_MINOR 1
+#define NOODLEFEN_VERSION_MINOR 2
 #define NOODLEFEN_VERSION (1000 * NOODLEFEN_VERSION_MAJOR + NOODLEFEN_VERSION_MINOR)
 
 /* The format mark: the first bytes of every started state. It changes whenever the form of the state bytes does, and a state with
@@ -42,7 +42,7 @@ typedef uint32_t noodlefen_node;
 
 #define NOODLEFEN_TRANSACTIONS 16  /* transaction numbers are 1 to 16 */
 #define NOODLEFEN_NODES 1024       /* nodes held at most, the document included */
-#define NOODLEFEN_CONTENT_BYTES 32 /* bytes of a name or text at most */
+#define NOODLEFEN_CONTENT_BYTES 32 /* bytes of a name or text at most, in UTF-8; a character takes one to four */
 #define NOODLEFEN_NUMBER_BYTES (sizeof(noodlefen_node)) /* bytes of a node number in a lent list, low byte first */
 #define NOODLEFEN_CELL_BYTES 33    /* bytes of a cell of noodlefen_read_tree: length, content, zeros */
 #define NOODLEFEN_XML_BYTES 65536  /* bytes of an XML document at most */
@@ -73,7 +73,7 @@ enum noodlefen_causes {
     NOODLEFEN_LOADED_NODES = 6,       /* load: a 1,025th node; the value is the byte offset */
     NOODLEFEN_NO_NODE = 7,            /* no node so numbered, or the caller deleted it or an ancestor */
     NOODLEFEN_KIND = 8,               /* read, update or delete on the document; insert of a kind that never stands there */
-    NOODLEFEN_CONTENT = 9,            /* content or name not allowed */
+    NOODLEFEN_CONTENT = 9,            /* content or name not allowed: its characters, broken UTF-8, no byte or more than 32 */
     NOODLEFEN_NUMBER_HELD = 10,       /* insert: number held by any node */
     NOODLEFEN_PLACE = 11,             /* insert: k is 0 or past children + 1, or the children rule would break */
     NOODLEFEN_FULL = 12,              /* insert: 1,024 nodes held */
@@ -175,7 +175,7 @@ static inline noodlefen_position noodlefen_position_of(const uint8_t *xml, size_
  * Refused only if the state is too short (13). */
 noodlefen_answer noodlefen_start(uint8_t *state, size_t state_len);
 
-/* Replaces the settings by those of an XML document; nodes are numbered in document order from 0. A tab or line feed that stands in
+/* Replaces the settings by those of an XML document in UTF-8; nodes are numbered in document order from 0. A tab or line feed that stands in
  * an attribute's value is read as a space; the references &#9; and &#10; give these bytes. The value is the node count, the document
  * included. Refused for 15, then 4, 5 or 6 at the earliest byte offset. */
 noodlefen_answer noodlefen_load(uint8_t *state, size_t state_len, const uint8_t *xml, size_t xml_len);
@@ -209,7 +209,8 @@ noodlefen_answer noodlefen_child(uint8_t *state, size_t state_len, uint32_t t, n
  * Refused for 1, 3, 7, 8 or 13; may wait. */
 noodlefen_answer noodlefen_read(uint8_t *state, size_t state_len, uint32_t t, noodlefen_node n, uint8_t *out, size_t out_len);
 
-/* Step U: gives n the content bytes: a name for an element or attribute, a text for a text.
+/* Step U: gives n the content bytes: a name for an element or attribute, a text for a text. A name is a Name of XML 1.0, Fifth
+ * Edition, without colons, a text has that edition's characters but 13, both in UTF-8 and 1 to 32 bytes long.
  * Refused for 1, 3, 7, 8 or 9; may wait. */
 noodlefen_answer noodlefen_update(uint8_t *state, size_t state_len, uint32_t t, noodlefen_node n,
                                   const uint8_t *bytes, size_t bytes_len);
@@ -218,7 +219,7 @@ noodlefen_answer noodlefen_update(uint8_t *state, size_t state_len, uint32_t t, 
  * Refused for 1, 3, 7 or 8; may wait. */
 noodlefen_answer noodlefen_delete(uint8_t *state, size_t state_len, uint32_t t, noodlefen_node n);
 
-/* Step I: a new node numbered m of a kind 2 to 4, with the content bytes, becomes the k-th child of n.
+/* Step I: a new node numbered m of a kind 2 to 4, with the content bytes as for noodlefen_update, becomes the k-th child of n.
  * Refused for 1, 3, 7, 8, 9, 10, 11 or 12; may wait (after 10, before 11). */
 noodlefen_answer noodlefen_insert(uint8_t *state, size_t state_len, uint32_t t, noodlefen_node m, uint32_t kind,
                                   const uint8_t *bytes, size_t bytes_len, noodlefen_node n, uint32_t k);

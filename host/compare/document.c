@@ -2,8 +2,30 @@
 
 #include <string.h>
 
-static const char *const names[] = {"a", "b", "c", "d", "ab", "lift", "rope", "speed", "ramp", "_x", "A.b-9", "xml"};
+#include "character.h"
+
+/* U+00E4 is another name than a with the mark U+0308 behind it, which looks the same. */
+static const char *const names[] = {"a", "b", "c", "\xC3\xA4", "ab", "lift", "T\xC3\xBCr", "d", "ramp", "_x", "A.b-9", "xml",
+                                    "a\xCC\x88", "\xE3\x81\x82", "\xF0\x90\x8C\xB0"};
 enum { NAMES = sizeof names / sizeof names[0] };
+
+/* Characters up to the length or past it, of which some are no longer than a byte; at times one is wrong. Answers how many bytes. */
+static size_t random_characters(struct random *r, uint8_t *out, size_t wanted, int name)
+{
+    size_t length = 0, wrong = once_in(r, 3) ? below(r, (unsigned)wanted + 1) : wanted;
+    while (length < wanted) {
+        enum character_place place = !name ? IN_TEXT : length == 0 ? NAME_FIRST : NAME_LATER;
+        if (length >= wrong) {
+            length += random_wrong_character(r, place, (enum wrong_character)below(r, WRONG_CHARACTERS), out + length);
+            wrong = wanted;
+        } else if (once_in(r, 3)) {
+            out[length++] = (uint8_t)('a' + below(r, 26));
+        } else {
+            length += random_character(r, place, out + length);
+        }
+    }
+    return length;
+}
 
 size_t random_name(struct random *r, uint8_t *out)
 {
@@ -15,6 +37,8 @@ size_t random_name(struct random *r, uint8_t *out)
         return strlen(name);
     }
     size_t length = once_in(r, 2) ? 30 + below(r, 5) : 1 + below(r, 10);
+    if (once_in(r, 2))
+        return random_characters(r, out, once_in(r, 3) ? 29 + below(r, 4) : 1 + below(r, 10), 1);
     for (size_t i = 0; i < length; i++)
         out[i] = (uint8_t)(i == 0 ? first[below(r, sizeof first - 1)] : later[below(r, sizeof later - 1)]);
     if (once_in(r, 4))
@@ -28,8 +52,10 @@ size_t random_text(struct random *r, uint8_t *out)
 {
     static const char special[] = "<>&\"'\t\n\t\n ]]>ab";
     size_t length = once_in(r, 4) ? 30 + below(r, 5) : below(r, 6);
+    if (once_in(r, 4))
+        return random_characters(r, out, once_in(r, 3) ? 29 + below(r, 4) : 1 + below(r, 10), 0);
     for (size_t i = 0; i < length; i++)
-        out[i] = (uint8_t)(once_in(r, 3) ? special[below(r, sizeof special - 1)] : (char)(0x20 + below(r, 0x5F)));
+        out[i] = (uint8_t)(once_in(r, 3) ? special[below(r, sizeof special - 1)] : (char)(0x20 + below(r, 0x60)));
     if (once_in(r, 12))
         memset(out, special[below(r, sizeof special - 1)], length); /* the longest and the shortest when written */
     if (once_in(r, 20) && length > 0)
@@ -41,7 +67,7 @@ struct writer {
     struct random *r;
     uint8_t *out;
     size_t length, nodes, most_nodes;
-    int long_contents, wrong_references; /* at times */
+    int long_contents, wrong_references, wrong_characters; /* at times */
 };
 
 static void put(struct writer *w, const char *bytes)
@@ -69,16 +95,22 @@ static size_t content_length(struct writer *w)
     return 1 + below(w->r, 5);
 }
 
-/* A name that no attribute of one element has twice: serial tells them apart. */
-static void put_name(struct writer *w, int serial)
+/* A character of more than one byte, no longer than this unless contents may be too long. Answers its length. */
+static size_t put_character(struct writer *w, enum character_place place, size_t most)
 {
-    size_t from = w->length;
-    put(w, names[below(w->r, 7)]);
-    if (serial > 0)
-        put_byte(w, '0' + serial % 10);
-    if (once_in(w->r, 12))
-        for (size_t length = content_length(w); w->length - from < length;)
-            put_byte(w, 'n');
+    uint8_t *out = w->out + w->length;
+    size_t length;
+    if (w->wrong_characters && once_in(w->r, 20)) {
+        length = random_wrong_character(w->r, place, (enum wrong_character)below(w->r, WRONG_CHARACTERS), out);
+    } else {
+        length = random_character(w->r, place, out);
+        if (length > most && !w->long_contents) {
+            out[0] = 'n';
+            length = 1;
+        }
+    }
+    w->length += length;
+    return length;
 }
 
 static void put_reference(struct writer *w)
@@ -92,13 +124,59 @@ static void put_reference(struct writer *w)
         put(w, right[below(w->r, sizeof right / sizeof right[0])]);
 }
 
+/* Bytes up to the 33rd of a content that has some, the last few of one character, which may be wrong, or of a reference. */
+static void put_to_limit(struct writer *w, enum character_place place, size_t has)
+{
+    for (size_t length = 29 + below(w->r, 4); has < length; has++)
+        put_byte(w, 'n');
+    if (place == IN_TEXT && once_in(w->r, 6)) {
+        put_reference(w);
+        return;
+    }
+    uint8_t *out = w->out + w->length;
+    w->length += once_in(w->r, 2) ? random_character(w->r, place, out)
+        : random_wrong_character(w->r, place, (enum wrong_character)below(w->r, WRONG_CHARACTERS), out);
+}
+
+/* A name that no attribute of one element has twice: serial tells them apart. */
+static void put_name(struct writer *w, int serial)
+{
+    size_t from = w->length;
+    if (once_in(w->r, 12))
+        put_character(w, NAME_FIRST, 4);
+    else
+        put(w, names[below(w->r, 7)]);
+    if (serial > 0)
+        put_byte(w, '0' + serial % 10);
+    if (w->long_contents && once_in(w->r, 12)) {
+        put_to_limit(w, NAME_LATER, w->length - from);
+    } else if (once_in(w->r, 12)) {
+        unsigned longer = below(w->r, 3); /* none, some or all of the characters have more than one byte */
+        for (size_t length = content_length(w), has = w->length - from; has < length; has = w->length - from)
+            if (longer == 2 || (longer == 1 && once_in(w->r, 4)))
+                put_character(w, NAME_LATER, length - has);
+            else
+                put_byte(w, 'n');
+    }
+}
+
 /* A value in the quote, or with quote 0 a text. */
 static void put_content(struct writer *w, int quote)
 {
     size_t length = content_length(w);
     int before = 0, before_that = 0;
+    unsigned longer = once_in(w->r, 3) ? 2 : 20;
+    if (w->long_contents && once_in(w->r, 3)) {
+        put_to_limit(w, IN_TEXT, 0);
+        length = 0;
+    }
     for (size_t i = 0; i < length; i++) {
-        int byte = once_in(w->r, 8) ? "\t\n ]]>'\""[below(w->r, 8)] : (int)(0x20 + below(w->r, 0x5F));
+        if (once_in(w->r, longer)) {
+            i += put_character(w, IN_TEXT, length - i) - 1;
+            before = before_that = 0;
+            continue;
+        }
+        int byte = once_in(w->r, 8) ? "\t\n ]]>'\""[below(w->r, 8)] : (int)(0x20 + below(w->r, 0x60));
         if (once_in(w->r, i < 32 ? 10 : 2) || byte == '<' || byte == '&' || byte == quote
             || (byte == '>' && before == ']' && before_that == ']')) {
             put_reference(w);
@@ -166,8 +244,10 @@ static void put_declaration(struct writer *w)
 
 size_t random_document(struct random *r, uint8_t *out, size_t nodes, int rough)
 {
-    int long_contents = rough && once_in(r, 2);
-    struct writer w = {r, out, 0, 1, nodes, long_contents, rough && !long_contents};
+    unsigned kind = rough ? below(r, 3) : 3;
+    struct writer w = {r, out, 0, 1, nodes, kind == 0, kind == 1, kind == 2};
+    if (w.wrong_characters && once_in(r, 8))
+        put(&w, "\xEF\xBB\xBF"); /* a byte order mark */
     put_declaration(&w);
     put_blanks(&w, 0);
     put_element(&w, 0);
@@ -182,6 +262,16 @@ static size_t insert_bytes(uint8_t *out, size_t length, size_t place, const char
     return length + count;
 }
 
+/* A place in or right behind the next character of more than one byte, or the place itself. */
+static size_t place_in_character(struct random *r, const uint8_t *out, size_t length, size_t place)
+{
+    size_t at = place;
+    while (at < length && out[at] < 0x80)
+        at++;
+    at += below(r, 4);
+    return at < length ? at : place;
+}
+
 /* A place in or right behind the next reference, often a character reference, or the place itself. */
 static size_t place_in_reference(struct random *r, const uint8_t *out, size_t length, size_t place)
 {
@@ -194,7 +284,7 @@ static size_t place_in_reference(struct random *r, const uint8_t *out, size_t le
 static size_t insert_piece(struct random *r, uint8_t *out, size_t length, size_t place)
 {
     static const char *const pieces[] = {"<!--x-->", "<![CDATA[x]]>", "&#9;", "<?pi?>", "\r\n", "]]>", "&x;", "<!DOCTYPE a>", "&amp;",
-                                         "<a/>", "</a>", " a=\"\"", " b='c'", "\xC3\xA9", "<?xml version=\"1.0\"?>", "x",
+                                         "<a/>", "</a>", " a=\"\"", " b='c'", "\xC3\xA9", "\xEF\xBB\xBF", "<?xml version=\"1.0\"?>", "x",
                                          "&#10;", "&#x9;", "&#09;", "&#1;", "&#13;", "&#90;", "&#100;", "&#"};
     const char *piece = pieces[below(r, sizeof pieces / sizeof pieces[0])];
     return insert_bytes(out, length, place, piece, strlen(piece));
@@ -206,8 +296,8 @@ size_t random_damage(struct random *r, uint8_t *out, size_t length)
     for (unsigned times = 1 + below(r, 2); times > 0 && length > 0; times--) {
         size_t place = below(r, (unsigned)length);
         if (once_in(r, 2))
-            place = place_in_reference(r, out, length, place);
-        switch (below(r, 6)) {
+            place = once_in(r, 2) ? place_in_reference(r, out, length, place) : place_in_character(r, out, length, place);
+        switch (below(r, 7)) {
         case 0:
             out[place] = (uint8_t)(once_in(r, 3) ? below(r, 256) : (unsigned char)special[below(r, sizeof special - 1)]);
             break;
@@ -224,6 +314,14 @@ size_t random_damage(struct random *r, uint8_t *out, size_t length)
         case 4:
             length = once_in(r, 2) ? place_in_reference(r, out, length, place) : place;
             break;
+        case 6: {
+            uint8_t piece[CHARACTER_ROOM];
+            enum character_place where = (enum character_place)below(r, 3);
+            size_t count = once_in(r, 2) ? random_character(r, where, piece)
+                : random_wrong_character(r, where, (enum wrong_character)below(r, WRONG_CHARACTERS), piece);
+            length = insert_bytes(out, length, place, (const char *)piece, count);
+            break;
+        }
         case 5: {
             /* A piece of the document again, at another place. */
             char piece[64];
@@ -253,11 +351,12 @@ static size_t lengthen(struct random *r, uint8_t *out, size_t length, size_t wan
 size_t random_limit_document(struct random *r, uint8_t *out)
 {
     static const char *const pieces[] = {"<b/>", "<b c=''/>", "<b>x</b>", "<b c='d'/>", "<b></b>", "<b>&#9;</b>", "<b c='&#10;'/>",
-                                         "<b c='\t'/>"};
-    static const size_t piece_nodes[] = {1, 2, 2, 3, 1, 2, 3, 3};
-    static const char *const ends[] = {"</a>", "t</a>", "&#10;</a>"};
-    enum { PIECES = 8 };
-    struct writer w = {r, out, 0, 2, 0, 0, 0};
+                                         "<b c='\t'/>", "<\xC3\xA4/>", "<b \xE3\x81\x82=''/>", "<b>\xC2\x80</b>", "<b c='\xEE\x80\x80'/>",
+                                         "<b \xC3\xA4='' \xC3\xB6=''/>", "<\xC3", "<b \xCD", "\xF4\x90", "<b c='\xF0"};
+    static const size_t piece_nodes[] = {1, 2, 2, 3, 1, 2, 3, 3, 1, 2, 2, 3, 3, 1, 2, 1, 3};
+    static const char *const ends[] = {"</a>", "t</a>", "&#10;</a>", "\xC3\xA4</a>"};
+    enum { PIECES = 13, ENDS = 4, CUT_PIECES = 4 }; /* a cut piece refuses all, unless the 1,025th node comes before */
+    struct writer w = {r, out, 0, 2, 0, 0, 0, 0};
     unsigned shape = below(r, PIECES + 1);
     size_t wanted = 1020 + below(r, 8);
     put(&w, "<a>");
@@ -271,11 +370,11 @@ size_t random_limit_document(struct random *r, uint8_t *out)
         for (; w.nodes + 3 < wanted; w.nodes += piece_nodes[shape])
             put(&w, pieces[shape]);
         while (w.nodes < wanted) {
-            unsigned piece = below(r, PIECES);
+            unsigned piece = once_in(r, 12) ? PIECES + below(r, CUT_PIECES) : below(r, PIECES);
             put(&w, pieces[piece]);
             w.nodes += piece_nodes[piece];
         }
-        put(&w, ends[below(r, 3)]);
+        put(&w, ends[below(r, ENDS)]);
     }
     if (once_in(r, 3))
         w.length = lengthen(r, out, w.length, 65530 + below(r, 12));

@@ -2,6 +2,8 @@
 
 #include <string.h>
 
+#include "place.h"
+
 enum { OUTCOMES = 17, DECLARATION = 39 }; /* granted, waits, causes 1 to 15; bytes of what write puts before the root */
 
 static unsigned long outcomes[CALLS][OUTCOMES];
@@ -15,11 +17,7 @@ enum {
     CONTENT_TAB, CONTENT_LINE_FEED, COUNTED
 };
 
-static struct {
-    const char *what;
-    unsigned long enough; /* so many calls reach it, or the generator has changed */
-    unsigned long times;
-} counted[COUNTED] = {
+static struct counted counted[COUNTED] = {
     [WIDE_GRANTED] = {"steps on numbers past 65,535: granted", 20000, 0},
     [WIDE_WAITS] = {"steps on numbers past 65,535: waits", 20000, 0},
     [WIDE_REFUSED] = {"steps on numbers past 65,535: refused", 20000, 0},
@@ -46,22 +44,6 @@ static struct {
 static void count_if(int met, int what)
 {
     counted[what].times += met ? 1u : 0u;
-}
-
-/* A place in a document: in a tag, in a value of it (the quote is not 0), or in a text. */
-struct place {
-    int in_tag, quote;
-};
-
-static struct place place_behind(struct place place, int byte)
-{
-    if (place.quote != 0)
-        place.quote = byte == place.quote ? 0 : place.quote;
-    else if (place.in_tag && (byte == '"' || byte == '\''))
-        place.quote = byte;
-    else if (byte == '<' || byte == '>')
-        place.in_tag = byte == '<';
-    return place;
 }
 
 /* Whether these bytes stand at the place. */
@@ -141,6 +123,7 @@ void reached_count(const struct call *call, noodlefen_answer answer, const struc
         count_if(memchr(call->a, '\t', call->a_length) != NULL, CONTENT_TAB);
         count_if(memchr(call->a, '\n', call->a_length) != NULL, CONTENT_LINE_FEED);
     }
+    reached_characters(call, answer, lent);
 }
 
 /* Which outcomes each call can have, as bits: granted, waits, 1 to 15. */
@@ -171,6 +154,12 @@ static unsigned possible(enum call_name what)
     return 0;
 }
 
+static void print_counted(const struct counted *of, int count)
+{
+    for (int what = 0; what < count; what++)
+        printf("%9lu  %s\n", of[what].times, of[what].what);
+}
+
 void reached_print(void)
 {
     printf("%-7s%9s%8s", "", "granted", "waits");
@@ -189,17 +178,22 @@ void reached_print(void)
         }
         printf("\n");
     }
-    for (int what = 0; what < COUNTED; what++)
-        printf("%9lu  %s\n", counted[what].times, counted[what].what);
+    print_counted(counted, COUNTED);
+    print_counted(counted_characters, characters_counted);
+}
+
+static unsigned long missing_of(const struct counted *of, int count, unsigned long calls)
+{
+    unsigned long missing = 0;
+    for (int what = 0; what < count; what++)
+        if (calls >= of[what].enough && of[what].times == 0) {
+            printf("FAILED: not reached: %s\n", of[what].what);
+            missing++;
+        }
+    return missing;
 }
 
 unsigned long reached_missing(unsigned long calls)
 {
-    unsigned long missing = 0;
-    for (int what = 0; what < COUNTED; what++)
-        if (calls >= counted[what].enough && counted[what].times == 0) {
-            printf("FAILED: not reached: %s\n", counted[what].what);
-            missing++;
-        }
-    return missing;
+    return missing_of(counted, COUNTED, calls) + missing_of(counted_characters, characters_counted, calls);
 }

@@ -4,6 +4,18 @@
 
 #include "call.h"
 
+/* Something that is counted besides the outcomes. */
+struct counted {
+    const char *what;
+    unsigned long enough; /* so many calls reach it, or the generator has changed */
+    unsigned long times;
+};
+
+/* What has to do with characters of more than one byte, and a call counted there. */
+extern struct counted counted_characters[];
+extern const int characters_counted;
+void reached_characters(const struct call *call, noodlefen_answer answer, const struct lent *lent);
+
 /* Counts a call on which the engines agreed; lent is what it wrote. */
 void reached_count(const struct call *call, noodlefen_answer answer, const struct lent *lent);
 

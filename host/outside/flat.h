@@ -27,7 +27,13 @@ void flat_of_engine(struct flat *flat, const struct engine *engine, void *e);
 int flat_by_expat(struct flat *flat, const char *xml, size_t length);
 int flat_by_libxml2(struct flat *flat, const char *xml, size_t length);
 
-/* Whether a document that expat reads has something that the subset has not: comments, CDATA, other bytes or references, and so on. */
+/* Whether expat reads it. */
+int reads_by_expat(const char *xml, size_t length);
+
+/* Whether a document that libxml2 reads has only names of the Fourth Edition of XML 1.0, which expat follows. */
+int of_fourth_edition(const char *xml, size_t length);
+
+/* Whether a document that a parser reads has something that the subset has not: comments, CDATA, byte 13, other references, and so on. */
 int beyond_subset(const char *xml, size_t length);
 
 #endif

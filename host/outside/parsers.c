@@ -108,6 +108,70 @@ int flat_by_expat(struct flat *flat, const char *xml, size_t length)
     return by_expat(&r, xml, length);
 }
 
+int reads_by_expat(const char *xml, size_t length)
+{
+    XML_Parser parser = XML_ParserCreate(NULL);
+    int read = XML_Parse(parser, xml, (int)length, 1) == XML_STATUS_OK;
+    XML_ParserFree(parser);
+    return read;
+}
+
+/* Adds the nodes; answers whether there are some that the subset has not. */
+static int walk(struct flat *flat, xmlNodePtr node, unsigned depth)
+{
+    int beyond = 0;
+    for (; node != NULL; node = node->next) {
+        const char *content = (const char *)node->content, *name = (const char *)node->name;
+        if (node->type == XML_TEXT_NODE) {
+            flat_add(flat, 't', depth, content, strlen(content));
+        } else if (node->type == XML_ELEMENT_NODE) {
+            flat_add(flat, 'e', depth, name, strlen(name));
+            beyond |= node->ns != NULL || node->nsDef != NULL || strchr(name, ':') != NULL;
+            for (xmlAttrPtr attribute = node->properties; attribute != NULL; attribute = attribute->next) {
+                xmlChar *value = xmlNodeListGetString(node->doc, attribute->children, 1);
+                name = (const char *)attribute->name;
+                flat_add(flat, 'a', depth + 1, name, strlen(name));
+                beyond |= attribute->ns != NULL || strchr(name, ':') != NULL;
+                if (value != NULL)
+                    flat_add_value(flat, depth + 2, (const char *)value, strlen((const char *)value));
+                xmlFree(value);
+            }
+            beyond |= walk(flat, node->children, depth + 1);
+        } else {
+            flat_add(flat, '?', depth, "", 0);
+            beyond = 1;
+        }
+    }
+    return beyond;
+}
+
+static int by_libxml2(struct flat *flat, const char *xml, size_t length, int options, int *beyond)
+{
+    /* HUGE lifts the limit of 256 on the depth, for elements one inside the other. */
+    xmlDocPtr document = xmlReadMemory(xml, (int)length, NULL, NULL,
+                                       options | XML_PARSE_NONET | XML_PARSE_NOERROR | XML_PARSE_NOWARNING | XML_PARSE_HUGE);
+    if (document == NULL)
+        return 0;
+    *beyond = walk(flat, document->children, 1);
+    xmlFreeDoc(document);
+    return 1;
+}
+
+int flat_by_libxml2(struct flat *flat, const char *xml, size_t length)
+{
+    int beyond;
+    return by_libxml2(flat, xml, length, 0, &beyond);
+}
+
+/* libxml2 has the names of both editions: those of the Fifth, and with OLD10 those of the editions before. */
+int of_fourth_edition(const char *xml, size_t length)
+{
+    struct flat flat = {NULL, 0, 0};
+    int beyond, read = by_libxml2(&flat, xml, length, XML_PARSE_OLD10, &beyond);
+    flat_free(&flat);
+    return read;
+}
+
 static int begins_with(const char *xml, size_t length, const char *bytes)
 {
     return length >= strlen(bytes) && memcmp(xml, bytes, strlen(bytes)) == 0;
@@ -122,47 +186,15 @@ static int other_reference(const char *xml, size_t length)
 int beyond_subset(const char *xml, size_t length)
 {
     struct expat_reader r = {NULL, 0, NULL, 0, 0};
-    int beyond = length > NOODLEFEN_XML_BYTES;
-    for (size_t i = 0; i < length; i++) {
-        unsigned char byte = (unsigned char)xml[i];
-        beyond |= byte == 13 || byte >= 0x7F || other_reference(xml + i, length - i);
-    }
+    struct flat flat = {NULL, 0, 0};
+    int constructs = 0;
+    int beyond = length > NOODLEFEN_XML_BYTES || begins_with(xml, length, "\xEF\xBB\xBF");
+    for (size_t i = 0; i < length; i++)
+        beyond |= xml[i] == 13 || other_reference(xml + i, length - i);
     beyond |= begins_with(xml, length, "<?xml") && !begins_with(xml, length, "<?xml version=\"1.0\"?>")
         && !begins_with(xml, length, "<?xml version=\"1.0\" encoding=\"UTF-8\"?>");
     by_expat(&r, xml, length);
-    return beyond || r.beyond;
-}
-
-static void walk(struct flat *flat, xmlNodePtr node, unsigned depth)
-{
-    for (; node != NULL; node = node->next) {
-        const char *content = (const char *)node->content;
-        if (node->type == XML_TEXT_NODE) {
-            flat_add(flat, 't', depth, content, strlen(content));
-        } else if (node->type == XML_ELEMENT_NODE) {
-            flat_add(flat, 'e', depth, (const char *)node->name, strlen((const char *)node->name));
-            for (xmlAttrPtr attribute = node->properties; attribute != NULL; attribute = attribute->next) {
-                xmlChar *value = xmlNodeListGetString(node->doc, attribute->children, 1);
-                flat_add(flat, 'a', depth + 1, (const char *)attribute->name, strlen((const char *)attribute->name));
-                if (value != NULL)
-                    flat_add_value(flat, depth + 2, (const char *)value, strlen((const char *)value));
-                xmlFree(value);
-            }
-            walk(flat, node->children, depth + 1);
-        } else {
-            flat_add(flat, '?', depth, "", 0);
-        }
-    }
-}
-
-int flat_by_libxml2(struct flat *flat, const char *xml, size_t length)
-{
-    /* HUGE lifts the limit of 256 on the depth, for elements one inside the other. */
-    xmlDocPtr document = xmlReadMemory(xml, (int)length, NULL, NULL,
-                                       XML_PARSE_NONET | XML_PARSE_NOERROR | XML_PARSE_NOWARNING | XML_PARSE_HUGE);
-    if (document == NULL)
-        return 0;
-    walk(flat, document->children, 1);
-    xmlFreeDoc(document);
-    return 1;
+    by_libxml2(&flat, xml, length, 0, &constructs);
+    flat_free(&flat);
+    return beyond || r.beyond || constructs;
 }

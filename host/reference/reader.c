@@ -4,6 +4,7 @@
  * A function answers 0 if the input is refused; then cause and offset are set and nothing more is read. The place only moves
  * forward. A byte is looked at before anything is decided about it, so a refusal for 4 is at the first byte that cannot follow.
  */
+#include "characters.h"
 #include "xml.h"
 
 #include <stdlib.h>
@@ -84,15 +85,31 @@ static int add_byte(struct reader *r, struct node *node, int byte)
     return 1;
 }
 
-static int read_name(struct reader *r, struct node *node)
+/* A character of the class, byte by byte: 4 at the first byte that no such character goes on with. */
+static int read_character(struct reader *r, struct node *node, enum character_class class)
 {
-    if (!name_first_byte(here(r)))
-        return refuse(r, 4, r->place);
-    while (name_byte(here(r))) {
+    uint8_t bytes[4];
+    size_t count = 0;
+    do {
+        if (here(r) == NO_BYTE)
+            return refuse(r, 4, r->place);
+        bytes[count++] = (uint8_t)here(r);
+        if (!character_begins(class, bytes, count))
+            return refuse(r, 4, r->place);
         if (!add_byte(r, node, here(r)))
             return 0;
         r->place++;
-    }
+    } while (!character_whole(bytes, count));
+    return 1;
+}
+
+static int read_name(struct reader *r, struct node *node)
+{
+    if (!read_character(r, node, NAME_START))
+        return 0;
+    while (first_byte(NAME, here(r)))
+        if (!read_character(r, node, NAME))
+            return 0;
     return 1;
 }
 
@@ -119,9 +136,10 @@ static int read_reference(struct reader *r, struct node *node)
     }
 }
 
+/* Whether a character of a value may begin with the byte. */
 static int value_byte(int byte, int quote)
 {
-    return text_byte(byte) && byte != quote && byte != '<' && byte != '&';
+    return first_byte(ANY, byte) && byte != quote && byte != '<' && byte != '&';
 }
 
 static int read_value(struct reader *r, struct node *attribute)
@@ -141,11 +159,14 @@ static int read_value(struct reader *r, struct node *attribute)
         if (here(r) == '&') {
             if (!read_reference(r, text))
                 return 0;
-        } else if (value_byte(here(r), quote)) {
+        } else if (blank(here(r))) {
             /* A literal tab or line feed of a value is a space (XML 1.0, 3.3.3). */
-            if (!add_byte(r, text, blank(here(r)) ? ' ' : here(r)))
+            if (!add_byte(r, text, ' '))
                 return 0;
             r->place++;
+        } else if (value_byte(here(r), quote)) {
+            if (!read_character(r, text, ANY))
+                return 0;
         } else {
             return refuse(r, 4, r->place);
         }
@@ -179,23 +200,17 @@ static int read_attribute(struct reader *r, struct node *element)
 static int read_text(struct reader *r, struct node *element)
 {
     size_t from = r->place;
-    if (!text_byte(here(r)))
+    if (!first_byte(ANY, here(r)))
         return refuse(r, 4, from);
     struct node *text = begin_node(r, element, TEXT);
     if (text == NULL)
         return 0;
     while (here(r) != '<') {
         int ends_cdata = here(r) == '>' && r->place >= from + 2 && r->xml[r->place - 1] == ']' && r->xml[r->place - 2] == ']';
-        if (!text_byte(here(r)) || ends_cdata)
+        if (ends_cdata)
             return refuse(r, 4, r->place);
-        if (here(r) == '&') {
-            if (!read_reference(r, text))
-                return 0;
-        } else {
-            if (!add_byte(r, text, here(r)))
-                return 0;
-            r->place++;
-        }
+        if (!(here(r) == '&' ? read_reference(r, text) : read_character(r, text, ANY)))
+            return 0;
     }
     return 1;
 }
@@ -218,7 +233,7 @@ static int read_element(struct reader *r, struct node *parent)
 {
     if (here(r) != '<')
         return refuse(r, 4, r->place);
-    if (!name_first_byte(behind(r)))
+    if (!first_byte(NAME_START, behind(r)))
         return refuse(r, 4, r->place + 1);
     struct node *element = begin_node(r, parent, ELEMENT);
     if (element == NULL)
@@ -226,7 +241,7 @@ static int read_element(struct reader *r, struct node *parent)
     r->place++;
     if (!read_name(r, element))
         return 0;
-    while (blanks(r) && name_first_byte(here(r)))
+    while (blanks(r) && first_byte(NAME_START, here(r)))
         if (!read_attribute(r, element))
             return 0;
     if (here(r) == '/')

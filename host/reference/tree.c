@@ -1,5 +1,7 @@
 #include "tree.h"
 
+#include "characters.h"
+
 #include <stdlib.h>
 #include <string.h>
 
@@ -126,28 +128,17 @@ int same_bytes(const uint8_t *a, size_t a_length, const uint8_t *b, size_t b_len
     return a_length == b_length && (a_length == 0 || memcmp(a, b, a_length) == 0);
 }
 
-int name_first_byte(int byte)
-{
-    return (byte >= 'A' && byte <= 'Z') || (byte >= 'a' && byte <= 'z') || byte == '_';
-}
-
-int name_byte(int byte)
-{
-    return name_first_byte(byte) || (byte >= '0' && byte <= '9') || byte == '-' || byte == '.';
-}
-
-int text_byte(int byte)
-{
-    return byte == 9 || byte == 10 || (byte >= 0x20 && byte <= 0x7E);
-}
-
 int name_allowed(const uint8_t *bytes, size_t length)
 {
-    if (length < 1 || length > MOST_CONTENT || !name_first_byte(bytes[0]))
+    size_t at = length > 0 ? character_length(NAME_START, bytes, length) : 0;
+    if (at == 0 || length > MOST_CONTENT)
         return 0;
-    for (size_t i = 1; i < length; i++)
-        if (!name_byte(bytes[i]))
+    while (at < length) {
+        size_t character = character_length(NAME, bytes + at, length - at);
+        if (character == 0)
             return 0;
+        at += character;
+    }
     return 1;
 }
 
@@ -155,9 +146,12 @@ static int text_allowed(const uint8_t *bytes, size_t length)
 {
     if (length < 1 || length > MOST_CONTENT)
         return 0;
-    for (size_t i = 0; i < length; i++)
-        if (!text_byte(bytes[i]))
+    for (size_t at = 0; at < length;) {
+        size_t character = character_length(ANY, bytes + at, length - at);
+        if (character == 0)
             return 0;
+        at += character;
+    }
     return 1;
 }
 

@@ -37,9 +37,6 @@ size_t node_children(const struct node *node, uint32_t viewer);
 struct node *node_child(const struct node *node, uint32_t k, uint32_t viewer);       /* k from 1; NULL if there is none */
 
 int same_bytes(const uint8_t *a, size_t a_length, const uint8_t *b, size_t b_length);
-int name_first_byte(int byte);
-int name_byte(int byte);
-int text_byte(int byte);
 int name_allowed(const uint8_t *bytes, size_t length);
 int content_allowed(int kind, const uint8_t *bytes, size_t length);
 int kind_stands_under(uint32_t kind, int parent_kind);

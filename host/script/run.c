@@ -1,6 +1,6 @@
 /*
  * run.c: makes the calls of a script on one state and prints a line for each. calls.txt is the script; expected.txt has the lines that
- * document 01 asks for, worked out from that paper.
+ * documents 01 and 02 ask for, worked out from these papers.
  *
  * The script has a word for each call, s (start), b (begin), c (commit), a (abort) or a step's name, then the transaction and the
  * step's arguments in the paper's order; R, TT and RR then have the lengths of their lent buffers. Texts stand between quotes. Other

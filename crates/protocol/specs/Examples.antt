@@ -6,7 +6,8 @@ use mathlib.Core.List.{List, [], _∷_, _++_, map}
 use Rattle.tree.specs.Text.{bytes}
 use Rattle.tree.specs.Lists.{keep}
 use Rattle.tree.specs.Forest.{rows, amend, view, place, put}
-use Rattle.tree.specs.Content.{name-start, name-byte, text-byte, is-name, is-text, allowed, takes, attributes-first, children-rule}
+use Rattle.tree.specs.Characters.{within, utf8, characters}
+use Rattle.tree.specs.Content.{spells-name, spells-text, is-name, is-text, allowed, takes, attributes-first, children-rule}
 use Rattle.tree.specs.Content.{insert-at}
 use Rattle.tree.specs.Document.{Document, node-0-alone, lines, select, ruled, legal}
 use Rattle.tree.specs.Steps.{Step, T, C, R, U, D, I, TT, RR, placed, done, kind-parent, child-is, content-is, numbers-are, cells-are}
@@ -22,7 +23,8 @@ use Rattle.protocol.specs.Answers.{lent-after, as-it-was}
 use Rattle.protocol.specs.History.{Event, event, history, state-after, log-after, plain, pending}
 
 pub E-loadable : loadable node-limit tree-E ≡ true
-unfolding tree-E loadable legal ruled lines rows name-start name-byte text-byte is-name is-text allowed takes attributes-first children-rule
+unfolding tree-E loadable legal ruled lines rows within utf8 characters spells-name spells-text is-name is-text allowed takes
+    attributes-first children-rule
 E-loadable = refl
 
 -- a line of an example: a call and what it gives, and what a first lent buffer holds before and after it; whether something is pending;
@@ -108,7 +110,8 @@ P =
 pub P-holds : map from-E P ≡ P
 unfolding tree-E played from-E state-after history log-after plain pending next judged wait-set loadable first-lent second-lent
     nodes callers-document document-of grant commit-tree abort-tree tree-of node-0-alone clash locks
-    legal ruled lines select rows keep amend view place put name-start name-byte text-byte is-name is-text allowed takes attributes-first
+    legal ruled lines select rows keep amend view place put within utf8 characters spells-name spells-text is-name is-text allowed takes
+    attributes-first
     children-rule
     insert-at placed plain-document
 P-holds = refl

@@ -5,7 +5,8 @@ use mathlib.Core.List.{List, [], _∷_, map}
 use Rattle.tree.specs.Text.{bytes}
 use Rattle.tree.specs.Lists.{keep}
 use Rattle.tree.specs.Forest.{rows, amend, view, place, put}
-use Rattle.tree.specs.Content.{name-start, name-byte, text-byte, is-name, is-text, allowed, takes, attributes-first, children-rule}
+use Rattle.tree.specs.Characters.{within, utf8, characters}
+use Rattle.tree.specs.Content.{spells-name, spells-text, is-name, is-text, allowed, takes, attributes-first, children-rule}
 use Rattle.tree.specs.Content.{insert-at}
 use Rattle.tree.specs.Document.{node-0-alone, lines, select, ruled, legal}
 use Rattle.tree.specs.Steps.{C, R, U, D, I, TT, UU, placed, done, child-is, none, content-is, numbers-are, how-many, plain-document}
@@ -122,7 +123,8 @@ mistakes =
 pub mistakes-hold : map from-E mistakes ≡ mistakes
 unfolding tree-E played from-E state-after history log-after plain pending next judged wait-set loadable first-lent second-lent
     nodes callers-document document-of grant commit-tree abort-tree tree-of node-0-alone clash locks
-    legal ruled lines select rows keep amend view place put name-start name-byte text-byte is-name is-text allowed takes attributes-first
+    legal ruled lines select rows keep amend view place put within utf8 characters spells-name spells-text is-name is-text allowed takes
+    attributes-first
     children-rule
     insert-at placed plain-document
 mistakes-hold = refl

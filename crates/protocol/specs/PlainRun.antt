@@ -6,7 +6,8 @@ use mathlib.Core.List.{List, [], _∷_, map}
 use Rattle.tree.specs.Text.{bytes}
 use Rattle.tree.specs.Lists.{keep}
 use Rattle.tree.specs.Forest.{nil, rows, amend, view, place, put}
-use Rattle.tree.specs.Content.{name-start, name-byte, text-byte, is-name, is-text, allowed, takes, attributes-first, children-rule}
+use Rattle.tree.specs.Characters.{within, utf8, characters}
+use Rattle.tree.specs.Content.{spells-name, spells-text, is-name, is-text, allowed, takes, attributes-first, children-rule}
 use Rattle.tree.specs.Content.{insert-at}
 use Rattle.tree.specs.Document.{Document, node-0-alone, lines, select, ruled, legal}
 use Rattle.tree.specs.Steps.{T, R, U, D, I, placed, done, kind-parent, content-is, plain-document}
@@ -112,6 +113,6 @@ plain-runs =
 pub plain-runs-hold : map from-E plain-runs ≡ plain-runs
 unfolding tree-E played from-E state-after history log-after plain pending next judged wait-set loadable first-lent second-lent
     nodes callers-document document-of grant commit-tree abort-tree tree-of node-0-alone clash locks
-    legal ruled lines select rows keep amend view place put name-start name-byte text-byte is-name is-text allowed takes
+    legal ruled lines select rows keep amend view place put within utf8 characters spells-name spells-text is-name is-text allowed takes
     attributes-first children-rule insert-at placed plain-document
 plain-runs-hold = refl

@@ -3,13 +3,14 @@
 use Prim.Native.Nat.{ℕ, zero, suc}
 use mathlib.Core.Path.{_≡_, refl}
 use mathlib.Core.Bool.{true, _&&_}
-use mathlib.Core.List.{List, [], _∷_, map}
+use mathlib.Core.List.{List, [], _∷_, _++_, map}
 use lib.ListN.{length}
 use lib.Dec.{leb}
 use Rattle.tree.specs.Text.{bytes}
 use Rattle.tree.specs.Lists.{keep}
 use Rattle.tree.specs.Forest.{nil, node, rows, amend, view, place, put}
-use Rattle.tree.specs.Content.{name-start, name-byte, text-byte, is-name, is-text, allowed, takes, attributes-first, children-rule}
+use Rattle.tree.specs.Characters.{within, utf8, characters}
+use Rattle.tree.specs.Content.{spells-name, spells-text, is-name, is-text, allowed, takes, attributes-first, children-rule}
 use Rattle.tree.specs.Content.{insert-at}
 use Rattle.tree.specs.Document.{Document, node-0-alone, lines, numbers, select, ruled, rooted, legal}
 use Rattle.tree.specs.Steps.{Step, T, C, R, U, D, I, TT, RR, UU, placed, done, child-is, none, content-is, numbers-are, cells-are, how-many}
@@ -125,15 +126,30 @@ refusals =
     ∷ does 1 (I 9 3 (bytes "a") 1 2) (granted done)
     ∷ does 1 (I 8 4 (bytes "x") 9 1) (granted done)
     ∷ does 1 (I 7 4 (bytes "x") 1 5) (granted done) ∷ []) ∷
-    -- 9: which bytes a name and a text may have, and how many
+    -- 9: what a name and a text may have, and how many bytes
     (does 1 (U 4 (bytes "_A-z.9")) (granted done)
     ∷ does 1 (U 4 (bytes "Zabcdefghijklmnopqrstuvwxyz01234")) (granted done)
     ∷ does 1 (U 4 (bytes "Zabcdefghijklmnopqrstuvwxyz012345")) (refused 9)
     ∷ does 1 (U 4 (bytes "-a")) (refused 9)
     ∷ does 1 (U 2 (bytes "6")) (refused 9)
     ∷ does 1 (U 5 (9 ∷ 10 ∷ 32 ∷ 126 ∷ [])) (granted done)
-    ∷ does 1 (U 5 (127 ∷ [])) (refused 9)
     ∷ does 1 (U 5 (13 ∷ [])) (refused 9)
+    -- A.2: ü, and a combining character behind it, in names; a combining character first, a colon; UU too
+    ∷ does 1 (U 4 (84 ∷ 0xC3 ∷ 0xBC ∷ 0xCC ∷ 0x88 ∷ [])) (granted done)
+    ∷ does 1 (U 4 (0xCC ∷ 0x88 ∷ [])) (refused 9)
+    ∷ does 1 (U 4 (bytes "a:b")) (refused 9)
+    ∷ does 1 (UU 1 (84 ∷ 0xC3 ∷ 0xBC ∷ 0xCC ∷ 0x88 ∷ []) (0xC3 ∷ 0x9C ∷ [])) (granted (how-many 1))
+    ∷ does 1 (UU 1 (0xC3 ∷ 0x9C ∷ []) (0xC3 ∷ [])) (refused 9)
+    -- in texts 127, and U+10FFFF, the last character; broken UTF-8: a stray byte, a long form, a surrogate, U+110000, a character cut
+    ∷ does 1 (U 5 (127 ∷ 0xF4 ∷ 0x8F ∷ 0xBF ∷ 0xBF ∷ [])) (granted done)
+    ∷ does 1 (U 5 (0x80 ∷ [])) (refused 9)
+    ∷ does 1 (U 5 (0xC0 ∷ 0xAF ∷ [])) (refused 9)
+    ∷ does 1 (U 5 (0xED ∷ 0xA0 ∷ 0x80 ∷ [])) (refused 9)
+    ∷ does 1 (U 5 (0xF4 ∷ 0x90 ∷ 0x80 ∷ 0x80 ∷ [])) (refused 9)
+    ∷ does 1 (U 5 (bytes "6" ++ (0xE2 ∷ 0x82 ∷ []))) (refused 9)
+    -- 32 bytes, counted as bytes
+    ∷ does 1 (U 5 (bytes "12345678901234567890123456789" ++ (0xE2 ∷ 0x82 ∷ 0xAC ∷ []))) (granted done)
+    ∷ does 1 (U 5 (bytes "123456789012345678901234567890" ++ (0xE2 ∷ 0x82 ∷ 0xAC ∷ []))) (refused 9)
     -- a number's low byte first; 65542 and 6 are two numbers
     ∷ does 1 (I 67305985 2 (bytes "x") 1 4) (granted done)
     ∷ lends 1 (TT 67305985) (bytes "----") (granted (numbers-are (67305985 ∷ []))) (1 ∷ 2 ∷ 3 ∷ 4 ∷ [])
@@ -164,7 +180,7 @@ unfolding loadable legal
 counted-loadable d r l a = rw (r, ascending-distinct 0 (numbers (lines d)) a, l) a
 
 pub full-loadable : loadable node-limit full ≡ true
-unfolding full ruled lines rows name-start name-byte text-byte is-name is-text allowed takes attributes-first children-rule
+unfolding full ruled lines rows within utf8 characters spells-name spells-text is-name is-text allowed takes attributes-first children-rule
 full-loadable = counted-loadable full refl refl refl
 
 abbrev filling : List Call
@@ -198,6 +214,6 @@ pub refusals-hold :
     (map from-E refusals ≡ refusals) × (played (state-after start-state filling) (history start-state filling) at-the-limit ≡ at-the-limit)
 unfolding tree-E played from-E state-after history lent-after next judged wait-set loadable first-lent second-lent full
     nodes callers-document document-of grant commit-tree abort-tree tree-of node-0-alone clash locks
-    legal ruled lines select rows keep amend view place put name-start name-byte text-byte is-name is-text allowed takes
+    legal ruled lines select rows keep amend view place put within utf8 characters spells-name spells-text is-name is-text allowed takes
     attributes-first children-rule insert-at placed
 refusals-hold = (refl, refl)

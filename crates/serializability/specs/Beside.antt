@@ -8,7 +8,8 @@ use lib.Dec.{eqb}
 use Rattle.tree.specs.Text.{bytes}
 use Rattle.tree.specs.Lists.{keep}
 use Rattle.tree.specs.Forest.{rows, amend, view, place, put}
-use Rattle.tree.specs.Content.{name-start, name-byte, text-byte, is-name, is-text, allowed, takes, attributes-first, children-rule}
+use Rattle.tree.specs.Characters.{within, utf8, characters}
+use Rattle.tree.specs.Content.{spells-name, spells-text, is-name, is-text, allowed, takes, attributes-first, children-rule}
 use Rattle.tree.specs.Content.{insert-at}
 use Rattle.tree.specs.Document.{node-0-alone, lines, select, ruled, legal}
 use Rattle.tree.specs.Steps.{Step, T, C, R, U, D, I, TT, RR, UU, placed}
@@ -64,7 +65,8 @@ table =
 pub beside-holds : map (λ r. map (beside (state-after start-state opening) (r .0)) columns) table ≡ map (λ r. bytes (r .1)) table
 unfolding tree-E state-after next judged wait-set loadable first-lent second-lent
     nodes callers-document document-of grant commit-tree abort-tree tree-of node-0-alone clash locks
-    legal ruled lines select rows keep amend view place put name-start name-byte text-byte is-name is-text allowed takes attributes-first
+    legal ruled lines select rows keep amend view place put within utf8 characters spells-name spells-text is-name is-text allowed takes
+    attributes-first
     children-rule
     insert-at placed
 beside-holds = refl

@@ -1,8 +1,8 @@
 -- The classes of bytes by comparisons, and a loop over the bytes of a content. Assumes nothing.
 use Prim.Native.Nat.{ℕ, _+_, _≤_, _<_}
-use mathlib.Core.Path.{_≡_, refl, _∙_}
-use mathlib.Core.Bool.{Bool, true, false, _&&_, _||_}
-use mathlib.Core.List.{List, [], _∷_}
+use mathlib.Core.Path.{_≡_, refl}
+use mathlib.Core.Bool.{Bool, true, false, _&&_, _||_, or-true, or-false}
+use mathlib.Core.List.{List}
 use native.Mathlib.Numerals.{add-one}
 use native.Mathlib.Omega.{arith}
 use lib.Dec.{eqb, leb}
@@ -10,44 +10,47 @@ use lib.ListN.{length, getD, drop, drop-of-length-le}
 use lib.Seq.{drop-cons}
 use borrow.Author.Tests.{ne-eqb, le-leb, lt-leb}
 use Rattle.tree.specs.Lists.{every}
-use Rattle.tree.specs.Content.{name-start, name-byte, text-byte, spells-name, spells-text, is-name, is-text}
-
-or-nothing : (x : Bool) → x ≡ (x || false)
-or-nothing true = refl
-or-nothing false = refl
+use Rattle.tree.specs.Content.{name-start, name-byte, text-byte}
 
 module _ (b : ℕ) where
   -- a name's first byte
+  pub start-small : 97 ≤ b → b ≤ 122 → true ≡ name-start b
+  unfolding name-start
+  start-small h k = rw (le-leb 97 b h, le-leb b 122 k, or-true)
+
+  pub start-above : 122 < b → leb 128 b ≡ name-start b
+  unfolding name-start
+  start-above h = rw (
+    lt-leb b 90 (omega arith),
+    le-leb 65 b (omega arith),
+    lt-leb b 122 h,
+    le-leb 97 b (omega arith),
+    ne-eqb b 95 (λ e. omega arith),
+  )
+
   pub start-between : 90 < b → b < 97 → eqb b 95 ≡ name-start b
   unfolding name-start
-  start-between h k = rw (lt-leb b 90 h, le-leb 65 b (omega arith), lt-leb 97 b k)
+  start-between h k = rw (lt-leb b 90 h, le-leb 65 b (omega arith), lt-leb 97 b k, lt-leb 128 b (omega arith), or-false)
 
-  pub start-lower : 97 ≤ b → leb b 122 ≡ name-start b
+  pub start-capital : b ≤ 90 → leb 65 b ≡ name-start b
   unfolding name-start
-  start-lower h = rw (lt-leb b 90 (omega arith), le-leb 65 b (omega arith), le-leb 97 b h, ne-eqb b 95 (λ e. omega arith))
-      (or-nothing (leb b 122))
-
-  pub start-upper : b ≤ 90 → leb 65 b ≡ name-start b
-  unfolding name-start
-  start-upper h = rw (le-leb b 90 h, lt-leb 97 b (omega arith), ne-eqb b 95 (λ e. omega arith)) (go (leb 65 b))
+  start-capital h = rw (le-leb b 90 h, lt-leb 97 b (omega arith), ne-eqb b 95 (λ e. omega arith), lt-leb 128 b (omega arith))
+      (go (leb 65 b))
     where
-      go : (x : Bool) → x ≡ ((x && true) || false || false)
+      go : (x : Bool) → x ≡ ((x && true) || false || false || false)
       go true = refl
       go false = refl
 
   -- a byte of a name
-  pub name-above : 65 ≤ b → name-start b ≡ name-byte b
+  pub name-letter : 65 ≤ b → name-start b ≡ name-byte b
   unfolding name-byte
-  name-above h =
+  name-letter h =
       rw (le-leb 48 b (omega arith), lt-leb b 57 (omega arith), ne-eqb b 45 (λ e. omega arith), ne-eqb b 46 (λ e. omega arith))
       (go (name-start b))
     where
       go : (x : Bool) → x ≡ (x || (true && false) || false || false)
       go true = refl
       go false = refl
-
-  pub name-lower : 97 ≤ b → leb b 122 ≡ name-byte b
-  name-lower h = start-lower h ∙ name-above (omega arith)
 
   pub name-digit : 48 ≤ b → b < 65 → leb b 57 ≡ name-byte b
   unfolding name-byte name-start
@@ -56,6 +59,7 @@ module _ (b : ℕ) where
         lt-leb 65 b k,
         lt-leb 97 b (omega arith),
         ne-eqb b 95 (λ e. omega arith),
+        lt-leb 128 b (omega arith),
         le-leb 48 b h,
         ne-eqb b 45 (λ e. omega arith),
         ne-eqb b 46 (λ e. omega arith),
@@ -72,12 +76,20 @@ module _ (b : ℕ) where
 
   pub name-below : b < 48 → (b ≡ 45 → ⊥) → eqb b 46 ≡ name-byte b
   unfolding name-byte name-start
-  name-below h n = rw (lt-leb 65 b (omega arith), lt-leb 97 b (omega arith), ne-eqb b 95 (λ e. omega arith), lt-leb 48 b h, ne-eqb b 45 n)
+  name-below h n =
+      rw (
+        lt-leb 65 b (omega arith),
+        lt-leb 97 b (omega arith),
+        ne-eqb b 95 (λ e. omega arith),
+        lt-leb 128 b (omega arith),
+        lt-leb 48 b h,
+        ne-eqb b 45 n,
+      )
 
   -- a byte of a text
-  pub text-above : 32 ≤ b → leb b 126 ≡ text-byte b
+  pub text-above : 32 ≤ b → true ≡ text-byte b
   unfolding text-byte
-  text-above h = rw (ne-eqb b 9 (λ e. omega arith), ne-eqb b 10 (λ e. omega arith), le-leb 32 b h)
+  text-above h = rw (le-leb 32 b h, or-true)
 
   pub text-tab : b ≡ 9 → true ≡ text-byte b
   unfolding text-byte
@@ -85,7 +97,7 @@ module _ (b : ℕ) where
 
   pub text-below : b < 32 → (b ≡ 9 → ⊥) → eqb b 10 ≡ text-byte b
   unfolding text-byte
-  text-below h k = rw (ne-eqb b 9 k, lt-leb 32 b h) (or-nothing (eqb b 10))
+  text-below h k = rw (ne-eqb b 9 k, lt-leb 32 b h, or-false)
 
 -- a loop that tests one byte after the other
 module _ (t : ℕ → Bool) (l : List ℕ) (i : ℕ) where
@@ -97,45 +109,3 @@ module _ (t : ℕ → Bool) (l : List ℕ) (i : ℕ) where
 
   pub ends : length l ≤ i → every t (drop i l) ≡ true
   ends h = rw (drop-of-length-le l h)
-
--- names and texts by their first byte and the rest
-module _ (b : List ℕ) where
-  pub text-empty : length b ≡ 0 → is-text b ≡ false
-  unfolding is-text
-  text-empty h = go b h
-    where
-      go : (b : List ℕ) → length b ≡ 0 → (leb (length b) 32 && spells-text b) ≡ false
-      go [] h = refl
-      go (x ∷ xs) h = absurd (omega arith)
-
-  pub text-long : 32 < length b → is-text b ≡ false
-  unfolding is-text
-  text-long h = rw (lt-leb (length b) 32 h)
-
-  pub text-is : (length b ≡ 0 → ⊥) → length b ≤ 32 → is-text b ≡ every text-byte (drop 0 b)
-  unfolding is-text
-  text-is n h = rw (le-leb (length b) 32 h) (go b n)
-    where
-      go : (b : List ℕ) → (length b ≡ 0 → ⊥) → spells-text b ≡ every text-byte (drop 0 b)
-      go [] n = absurd (n refl)
-      go (x ∷ xs) n = refl
-
-  pub name-empty : length b ≡ 0 → is-name b ≡ false
-  unfolding is-name
-  name-empty h = go b h
-    where
-      go : (b : List ℕ) → length b ≡ 0 → (leb (length b) 32 && spells-name b) ≡ false
-      go [] h = refl
-      go (x ∷ xs) h = absurd (omega arith)
-
-  pub name-long : 32 < length b → is-name b ≡ false
-  unfolding is-name
-  name-long h = rw (lt-leb (length b) 32 h)
-
-  pub name-is : (length b ≡ 0 → ⊥) → length b ≤ 32 → is-name b ≡ (name-start (getD b 0 0) && every name-byte (drop 1 b))
-  unfolding is-name
-  name-is n h = rw (le-leb (length b) 32 h) (go b n)
-    where
-      go : (b : List ℕ) → (length b ≡ 0 → ⊥) → spells-name b ≡ (name-start (getD b 0 0) && every name-byte (drop 1 b))
-      go [] n = absurd (n refl)
-      go (x ∷ xs) n = refl

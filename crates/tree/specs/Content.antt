@@ -1,10 +1,11 @@
--- Kinds, names, texts, and which kind may stand under which: document 01, "The tree".
+-- Kinds, names, texts, and which kind may stand under which: document 01, "The tree"; names and texts by document 02, A.2.
 use Prim.Native.Nat.{ℕ, _-_}
 use mathlib.Core.Bool.{Bool, true, false, cond, not, _&&_, _||_}
 use mathlib.Core.List.{List, [], _∷_, _++_}
 use lib.ListN.{length, take, drop}
 use lib.Dec.{eqb, leb}
 use Rattle.tree.specs.Lists.{every}
+use Rattle.tree.specs.Characters.{Range, within, name-start-characters, name-characters, text-characters, characters}
 
 -- the paper's numbers of the kinds
 abbrev pub document-kind : ℕ
@@ -22,37 +23,42 @@ text-kind = 4
 abbrev pub between : ℕ → ℕ → ℕ → Bool
 between low high x = leb low x && leb x high
 
--- an ASCII letter or _
-unfoldable pub name-start : ℕ → Bool
-name-start x = between 65 90 x || between 97 122 x || eqb x 95
+-- bytes of names and texts: those that spell characters of ASCII by themselves, and those from 128 on, of which all others are made
 
--- a letter, a digit, _, - or .
+-- in a name's first character
+unfoldable pub name-start : ℕ → Bool
+name-start x = between 65 90 x || between 97 122 x || eqb x 95 || leb 128 x
+
+-- in a name
 unfoldable pub name-byte : ℕ → Bool
 name-byte x = name-start x || between 48 57 x || eqb x 45 || eqb x 46
 
--- 9, 10 or 0x20 to 0x7E
+-- in a text
 unfoldable pub text-byte : ℕ → Bool
-text-byte x = eqb x 9 || eqb x 10 || between 32 126 x
+text-byte x = eqb x 9 || eqb x 10 || leb 32 x
 
 -- a content has at most 32 bytes
 abbrev pub content-limit : ℕ
 content-limit = 32
 
--- the bytes of a name, of any length
-abbrev pub spells-name : List ℕ → Bool
-spells-name [] = false
-spells-name (x ∷ xs) = name-start x && every name-byte xs
+-- one character or more, the first of a class, the others of another
+abbrev of-classes : (first others : List Range) → List ℕ → Bool
+of-classes first others [] = false
+of-classes first others (c ∷ cs) = within first c && every (within others) cs
+
+-- the bytes of a Name [5], of any length
+unfoldable pub spells-name : List ℕ → Bool
+spells-name b = of-classes name-start-characters name-characters (characters [] b)
 
 -- the bytes of a text, of any length
-abbrev pub spells-text : List ℕ → Bool
-spells-text [] = false
-spells-text (x ∷ xs) = every text-byte (x ∷ xs)
+unfoldable pub spells-text : List ℕ → Bool
+spells-text b = of-classes text-characters text-characters (characters [] b)
 
--- a name: 1 to 32 bytes, a letter or _, then letters, digits, _, - and .
+-- "a name is now a Name of XML 1.0 Fifth Edition without colons, in UTF-8"; "the limit stays 32 bytes, counted as bytes"
 unfoldable pub is-name : List ℕ → Bool
 is-name b = leb (length b) content-limit && spells-name b
 
--- a text: 1 to 32 bytes, each 9, 10 or 0x20 to 0x7E
+-- "text may use that edition's characters except 13": 1 to 32 bytes
 unfoldable pub is-text : List ℕ → Bool
 is-text b = leb (length b) content-limit && spells-text b
 

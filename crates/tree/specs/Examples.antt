@@ -2,12 +2,15 @@
 use Prim.Native.Nat.{ℕ}
 use Prim.Native.String.{String}
 use mathlib.Core.Path.{_≡_, refl}
+use mathlib.Core.Bool.{Bool, true, false}
 use mathlib.Core.List.{List, [], _∷_, map}
 use Rattle.tree.specs.Text.{bytes}
 use Rattle.tree.specs.Lists.{keep}
 use Rattle.tree.specs.Forest.{nil, node, rows, amend, view, place, put}
-use Rattle.tree.specs.Content.{name-start, name-byte, text-byte, is-name, is-text, allowed, takes, attributes-first, children-rule}
+use Rattle.tree.specs.Content.{is-name, is-text, allowed, takes, attributes-first, children-rule}
 use Rattle.tree.specs.Content.{insert-at}
+use Rattle.tree.specs.Content.{spells-name, spells-text}
+use Rattle.tree.specs.Characters.{characters, utf8, within, name-start-characters, name-characters, text-characters}
 use Rattle.tree.specs.Document.{Document, lines, select}
 use Rattle.tree.specs.Steps.{Step, T, C, R, U, D, I, TT, RR, UU, placed, Value, done, kind-parent, child-is, none, content-is}
 use Rattle.tree.specs.Steps.{numbers-are, cells-are, how-many, PlainAnswer, plain-value, unfit, plain-answers}
@@ -46,7 +49,32 @@ plain-examples =
     gives (RR 6) (cells-are ((6, bytes "pace") ∷ (9, bytes "8") ∷ [])) ∷ gives (TT 0) (numbers-are (0 ∷ 1 ∷ 2 ∷ 3 ∷ 7 ∷ 6 ∷ 9 ∷ [])) ∷ []
 
 pub plain-examples-hold : plain-answers tree-E (map (λ x. x .0) plain-examples) ≡ map (λ x. x .1) plain-examples
-unfolding tree-E plain-answers lines select rows keep amend view place put name-start name-byte text-byte is-name is-text allowed takes
-    attributes-first
-    children-rule insert-at placed
+unfolding tree-E plain-answers lines select rows keep amend view place put within utf8 characters spells-name spells-text is-name is-text
+    allowed takes attributes-first children-rule insert-at placed
 plain-examples-hold = refl
+
+-- productions 4, 4a and 2: whether a code point begins a name, stands in one, stands in a text
+abbrev pub classes : ℕ → Bool × Bool × Bool
+classes c = (within name-start-characters c, within name-characters c, within text-characters c)
+
+-- the first and the last of each range, and those beside them
+abbrev pub characters-by-class : List (List ℕ × (Bool × Bool × Bool))
+characters-by-class = (
+  65 ∷ 90 ∷ 95 ∷ 97 ∷ 122 ∷ 0xC0 ∷ 0xD6 ∷ 0xD8 ∷ 0xF6 ∷ 0xF8 ∷ 0x2FF ∷ 0x370 ∷ 0x37D ∷ 0x37F ∷ 0x1FFF ∷ 0x200C ∷ 0x200D ∷ 0x2070 ∷ 0x218F
+      ∷ 0x2C00 ∷ 0x2FEF ∷ 0x3001 ∷ 0xD7FF ∷ 0xF900 ∷ 0xFDCF ∷ 0xFDF0 ∷ 0xFFFD ∷ 0x10000 ∷ 0xEFFFF ∷ [],
+  (true, true, true),
+)
+    ∷ (45 ∷ 46 ∷ 48 ∷ 57 ∷ 0xB7 ∷ 0x300 ∷ 0x36F ∷ 0x203F ∷ 0x2040 ∷ [], (false, true, true))
+    ∷ (
+      9 ∷ 10 ∷ 32 ∷ 44 ∷ 47 ∷ 58 ∷ 64 ∷ 91 ∷ 94 ∷ 96 ∷ 123 ∷ 0x7F ∷ 0x80 ∷ 0xB6 ∷ 0xB8 ∷ 0xBF ∷ 0xD7 ∷ 0xF7 ∷ 0x37E ∷ 0x2000 ∷ 0x200B ∷
+          0x200E ∷ 0x203E ∷ 0x2041
+          ∷ 0x206F ∷ 0x2190 ∷ 0x2BFF ∷ 0x2FF0 ∷ 0x3000 ∷ 0xE000 ∷ 0xF8FF ∷ 0xFDD0 ∷ 0xFDEF ∷ 0xF0000 ∷ 0x10FFFF ∷ [],
+      (false, false, true),
+    )
+    ∷ (0 ∷ 8 ∷ 11 ∷ 12 ∷ 13 ∷ 14 ∷ 31 ∷ 0xD800 ∷ 0xDBFF ∷ 0xDC00 ∷ 0xDFFF ∷ 0xFFFE ∷ 0xFFFF ∷ 0x110000 ∷ [], (false, false, false))
+    ∷ []
+
+pub classes-hold : map (λ (x : List ℕ × (Bool × Bool × Bool)). map classes (x .0)) characters-by-class
+    ≡ map (λ (x : List ℕ × (Bool × Bool × Bool)). map (λ (c : ℕ). x .1) (x .0)) characters-by-class
+unfolding within
+classes-hold = refl

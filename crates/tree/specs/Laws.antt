@@ -7,3 +7,6 @@ pub mod View
 pub mod Put
 pub mod PutOrder
 pub mod Distinct
+pub mod Utf8
+pub mod Reading
+pub mod Spelling

@@ -1,8 +1,12 @@
 pub mod Text
 pub mod Lists
 pub mod Forest
+pub mod Characters
 pub mod Content
+pub mod Spelling
+pub mod Values
 pub mod Document
 pub mod Steps
+pub mod CharacterExamples
 pub mod Examples
 pub mod Laws

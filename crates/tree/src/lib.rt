@@ -1,10 +1,8 @@
 // Which bytes are a name, a text, the content of a kind, and which kind may stand under which.
 ghost use mathlib.Core.Path.{_≡_};
-ghost use mathlib.Core.Bool.{cond};
-ghost use Prim.Native.Nat.{_≤_};
-ghost use lib.ListN.{length, drop};
-ghost use Rattle.tree.specs.Lists.{every};
 ghost use Rattle.tree.specs.Content.{name-start, name-byte, text-byte, is-name, is-text, allowed, takes};
+
+pub mod characters;
 
 // Classes of bytes by comparisons: a table in a constant would be laid out anew at each lookup. Small letters, the most frequent, come
 // first.
@@ -12,7 +10,10 @@ pub fn name_start(x: u8) -> bool
     ensures { λ r. ⌜ r ≡ name-start x ⌝ }
 {
     if x >= b'a' {
-        return x <= b'z';
+        if x <= b'z' {
+            return true;
+        }
+        return x >= 128;
     }
     if x > b'Z' {
         return x == b'_';
@@ -24,7 +25,10 @@ pub fn name_byte(x: u8) -> bool
     ensures { λ r. ⌜ r ≡ name-byte x ⌝ }
 {
     if x >= b'a' {
-        return x <= b'z';
+        if x <= b'z' {
+            return true;
+        }
+        return x >= 128;
     }
     if x >= b'A' {
         return name_start(x);
@@ -42,7 +46,7 @@ pub fn text_byte(x: u8) -> bool
     ensures { λ r. ⌜ r ≡ text-byte x ⌝ }
 {
     if x >= b' ' {
-        return x <= b'~';
+        return true;
     }
     if x == 9 {
         return true;
@@ -50,31 +54,7 @@ pub fn text_byte(x: u8) -> bool
     x == 10
 }
 
-// Whether a byte may stand in a text, or else in a name.
-fn stands(x: u8, text: bool) -> bool
-    ensures { λ r. ⌜ r ≡ cond text text-byte name-byte x ⌝ }
-{
-    if text {
-        return text_byte(x);
-    }
-    name_byte(x)
-}
-
-// Whether all bytes from a place on do.
-fn all_stand(b: &[u8], from: usize, text: bool) -> bool
-    requires { ⌜ from ≤ length (now b) ⌝ }
-    ensures { λ r. ⌜ r ≡ every (cond text text-byte name-byte) (drop from (now (b .entry))) ⌝ }
-{
-    let mut i = from;
-    while i < b.len() {
-        if !stands(b[i], text) {
-            return false;
-        }
-        i += 1;
-    }
-    true
-}
-
+// Most names and texts are of ASCII, and are known by a test of each byte alone.
 pub fn is_name(b: &[u8]) -> bool
     ensures { λ r. ⌜ r ≡ is-name (now (b .entry)) ⌝ }
 {
@@ -87,7 +67,10 @@ pub fn is_name(b: &[u8]) -> bool
     if !name_start(b[0]) {
         return false;
     }
-    all_stand(b, 1, false)
+    if characters::all_plain(b, false) {
+        return true;
+    }
+    characters::whole(b, false)
 }
 
 pub fn is_text(b: &[u8]) -> bool
@@ -99,7 +82,10 @@ pub fn is_text(b: &[u8]) -> bool
     if b.len() > 32 {
         return false;
     }
-    all_stand(b, 0, true)
+    if characters::all_plain(b, true) {
+        return true;
+    }
+    characters::whole(b, true)
 }
 
 // The content that a node of a kind may have.

@@ -1,11 +1,13 @@
--- The grammar: document 01, "Reading and writing XML", and document 02, A.3; numbers in brackets are productions of XML 1.0.
--- Each relation says that the bytes s begin with such a part, and t is what stands behind it.
+-- The grammar: document 01, "Reading and writing XML", and document 02, A.2 and A.3; numbers in brackets are productions of XML 1.0.
+-- Each relation says that the bytes s begin with such a part, and t is what stands behind it. A byte from 128 on is one of a character that
+-- is spelled with several, and never one of markup; which characters names and texts may have is asked at the end, of the tree (`spelled`).
 use Prim.Native.Nat.{ℕ}
 use mathlib.Core.Path.{_≡_}
-use mathlib.Core.Bool.{Bool, true, false, _&&_}
+use mathlib.Core.Bool.{Bool, true, false, cond, _&&_}
 use mathlib.Core.List.{List, [], _∷_, _++_}
 use Rattle.tree.specs.Forest.{nil, node}
-use Rattle.tree.specs.Content.{name-start, name-byte}
+use lib.Dec.{eqb}
+use Rattle.tree.specs.Content.{text-kind, name-start, name-byte, spells-name, spells-text}
 use Rattle.xml.specs.Bytes.{ampersand, slash, less-than, equals-sign, greater-than, quotation-mark, apostrophe, blank, Quote}
 use Rattle.xml.specs.Bytes.{tab, line-feed, quote-byte, value-literal, normalized, text-literal, brackets, used}
 use Rattle.xml.specs.Bytes.{amp, apos, gt, lt, quot, tab-reference, line-feed-reference}
@@ -105,6 +107,12 @@ pub data Parses (unique : Bool) : List ℕ → Shape → Type 0 where
   declared-short : {s : List ℕ} {f : Shape} → Root unique s f → Parses unique (short-declaration ++ s) f
   declared-long : {s : List ℕ} {f : Shape} → Root unique s f → Parses unique (long-declaration ++ s) f
 
+-- the names are Names [5] and the texts are of Chars [2], by document 02, A.2
+unfoldable pub spelled : Shape → Bool
+spelled nil = true
+spelled (node a ks fs) =
+    cond (eqb (a .kind) text-kind) (spells-text (a .content)) (spells-name (a .content)) && spelled ks && spelled fs
+
 -- the documents of the grammar
 abbrev pub Spells : List ℕ → Shape → Type 0
-Spells s f = Parses true s f
+Spells s f = Parses true s f × (spelled f ≡ true)

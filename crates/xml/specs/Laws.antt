@@ -1,12 +1,17 @@
 pub mod Words
 pub mod Automaton
+pub mod Monitor
 pub mod Transitions
 pub mod Sound
 pub mod Complete
 pub mod Unique
+pub mod Monitored
+pub mod Invariant
+pub mod Outer
 pub mod Counts
 pub mod Phases
 pub mod Completions
+pub mod Strict
 pub mod Forces
 pub mod Offsets
 pub mod Judge
@@ -19,6 +24,7 @@ pub mod Expressible
 pub mod Scan
 pub mod Goes
 pub mod Tokens
+pub mod Taken
 pub mod Tells
 pub mod Behind
 pub mod Fixed

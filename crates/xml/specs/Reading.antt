@@ -27,8 +27,8 @@ LongContent f = content-limit < longest f
 abbrev pub ManyNodes : ℕ → Shape → Type 0
 ManyNodes limit f = limit < suc (size f)
 
--- these bytes lead to it, however the input goes on. Unique Att Spec is left out here: a name that repeats another and must
--- therefore go on has no further byte before that byte is there
+-- these bytes lead to it, however the input goes on. Unique Att Spec and the spelling of characters are left out here: a name that repeats
+-- another, or a character that is begun, must go on, and yet has no further byte before that byte is there
 abbrev pub Forces : (Shape → Type 0) → List ℕ → Type 0
 Forces P p = (t : List ℕ) (f : Shape) → Parses false (p ++ t) f → P f
 

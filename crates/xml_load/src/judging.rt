@@ -5,16 +5,18 @@ use xml_reader::Prolog;
 use xml_reader::Tag;
 use xml_reader::start;
 ghost use mathlib.Core.Path.{_≡_};
-ghost use mathlib.Core.List.{[], _∷_};
+ghost use mathlib.Core.Bool.{true};
 ghost use Prim.Native.Nat.{_+_, _-_, _≤_};
-ghost use lib.ListN.{length, getD};
-ghost use Rattle.xml.specs.Laws.Automaton.{at-start, epilog, closed, tag-name};
+ghost use lib.ListN.{length};
+ghost use Rattle.xml.specs.Laws.Automaton.{at-start, epilog, closed};
+ghost use Rattle.xml.specs.Laws.Monitor.{monitoring};
 ghost use Rattle.xml.specs.Laws.Judge.{judgement};
-ghost use Rattle.xml.specs.Laws.Scan.{scan, scan-at, limited};
+ghost use Rattle.xml.specs.Laws.Scan.{scan, limited};
 ghost use Rattle.xml.specs.Laws.Goes.{Leads};
 ghost use Rattle.xml_reader.specs.Elements.{stack, Named};
 ghost use Rattle.xml_reader.specs.Children.{Beginning, Deep};
 ghost use Rattle.xml_load.specs.Judged.{verdict};
+ghost use Rattle.xml_load.specs.Laws.Element.{Rooted};
 
 // How many nodes more there could be; or a cause and its offset.
 pub enum Judged {
@@ -25,7 +27,7 @@ pub enum Judged {
 // Behind the root element, to the end of the input.
 fn behind_root(c: Cursor, s: &[u8], spare: usize) -> Judged
     requires { ⌜ c .at ≤ length (now s) ⌝ }
-    ensures { λ r. ⌜ Leads (now (s .entry)) epilog spare (c .at) (verdict r) ⌝ }
+    ensures { λ r. ⌜ Leads true (now (s .entry)) epilog spare (c .at) (verdict r) ⌝ }
 {
     let end = c.blanks(s);
     let at = end.at;
@@ -38,7 +40,7 @@ fn behind_root(c: Cursor, s: &[u8], spare: usize) -> Judged
 // The content of the root element, and what is behind it.
 fn root_content(c: Cursor, s: &[u8], names: &mut [u16; 1024], spare: usize) -> Judged
     requires { ⌜ Beginning (now s) (c .at) × Deep (now s) (now names) 1 spare ⌝ }
-    ensures { λ r. ⌜ Leads (now (s .entry)) (closed (stack (now (s .entry)) (now (names .entry)) 0 1)) spare (c .at) (verdict r) ⌝ }
+    ensures { λ r. ⌜ Leads true (now (s .entry)) (closed (stack (now (s .entry)) (now (names .entry)) 0 1)) spare (c .at) (verdict r) ⌝ }
 {
     let mut i = c.at;
     let mut depth: usize = 1;
@@ -61,7 +63,7 @@ fn root_content(c: Cursor, s: &[u8], names: &mut [u16; 1024], spare: usize) -> J
 // The root element from the first byte of its name on, and what is behind it.
 fn root_element(c: Cursor, s: &[u8], spare: usize) -> Judged
     requires { ⌜ Named (now s) (c .at) × (2 + spare ≤ 1024) × (length (now s) ≤ 65537) ⌝ }
-    ensures { λ r. ⌜ scan-at (now (s .entry)) (tag-name [] (getD (now (s .entry)) (c .at) 0 ∷ [])) spare 1 (c .at + 1) ≡ verdict r ⌝ }
+    ensures { λ r. ⌜ Rooted (now (s .entry)) (c .at) spare (verdict r) ⌝ }
 {
     let mut names = [0u16; 1024];
     match c.start_tag(s, &mut names, 0, spare) {
@@ -74,11 +76,17 @@ fn root_element(c: Cursor, s: &[u8], spare: usize) -> Judged
 // An input of at most 65,537 bytes, without the limit of 65,536; `limit` is that of nodes. Node 0 and the root element are always there.
 fn unlimited(s: &[u8], limit: usize) -> Judged
     requires { ⌜ (2 ≤ limit) × (limit ≤ 1024) × (length (now s) ≤ 65537) ⌝ }
-    ensures { λ r. ⌜ scan at-start (limit - 1) 0 0 0 (now (s .entry)) ≡ verdict r ⌝ }
+    ensures { λ r. ⌜ scan at-start monitoring (limit - 1) 0 0 0 (now (s .entry)) ≡ verdict r ⌝ }
 {
     match start::find_root(s) {
         Prolog::NoRoot(j) => Judged::Rejected(4, j),
-        Prolog::Root(c) => root_element(c, s, limit - 2),
+        Prolog::Root(c) => {
+            let at = c.at;
+            if !tree::characters::begins(s[at], false) {
+                return Judged::Rejected(4, at);
+            }
+            root_element(c, s, limit - 2)
+        }
     }
 }
 

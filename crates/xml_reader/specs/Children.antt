@@ -1,6 +1,7 @@
 -- Texts and tags in the content of the open elements, and the whole input.
 use Prim.Native.Nat.{ℕ, _+_, _-_, _≤_}
 use mathlib.Core.Path.{_≡_}
+use mathlib.Core.Bool.{true}
 use mathlib.Core.List.{List, [], _∷_}
 use lib.ListN.{length, getD}
 use Rattle.xml.specs.Bytes.{less-than}
@@ -45,6 +46,6 @@ pub record Deep (s os : List ℕ) (depth spare : ℕ) : Type 0 where
 -- where a part of the content leads from a configuration: to so many open elements, the offsets before their names in os
 pub data ChildRead (s : List ℕ) (from : Config) (at spare : ℕ) (os : List ℕ) : Child → Type 0 where
   child-at : {c : Cursor} {d m : ℕ} → Onward s at spare c m → d + 1 + m ≤ 1024 → length os ≡ 1024 → Placed s os d
-      → Goes s from spare at (closed (stack s os 0 d)) m (c .at)
+      → Goes true s from spare at (closed (stack s os 0 d)) m (c .at)
       → ChildRead s from at spare os (At c d m)
-  child-stopped : {x j : ℕ} → Leads s from spare at (bad x j) → ChildRead s from at spare os (Stopped x j)
+  child-stopped : {x j : ℕ} → Leads true s from spare at (bad x j) → ChildRead s from at spare os (Stopped x j)

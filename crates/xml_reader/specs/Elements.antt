@@ -8,6 +8,8 @@ use Rattle.tree.specs.Content.{name-start}
 use Rattle.xml.specs.Grammar.{Name}
 use Rattle.xml.specs.Reading.{node-offset, input-limit}
 use Rattle.xml.specs.Laws.Automaton.{behind-part, in-tag, tag-name, content, closed, end-name}
+use Rattle.tree.specs.Spelling.{Spelling, spelling, spell, start-of}
+use Rattle.xml.specs.Laws.Monitor.{on}
 use Rattle.xml.specs.Laws.Judge.{Verdict, bad}
 use Rattle.xml.specs.Laws.Scan.{scan-at}
 use Rattle.xml.specs.Laws.Goes.{Leads, Goes}
@@ -45,9 +47,9 @@ pub record Attributed (s : List ℕ) (at : ℕ) : Type 0 where
 -- where an attribute leads, behind those seen, where spare nodes may still come
 pub data AttributeRead (s : List ℕ) (seen : List Name) (at spare : ℕ) : Read → Type 0 where
   attribute-past : {c : Cursor} {m : ℕ} → at < c .at → c .at ≤ length s → m < spare
-      → ((n : Name) (ns : List Name) → Goes s (in-tag n ns seen) spare at (behind-part n ns (name-at s at ∷ seen)) m (c .at))
+      → ((n : Name) (ns : List Name) → Goes true s (in-tag n ns seen) spare at (behind-part n ns (name-at s at ∷ seen)) m (c .at))
       → AttributeRead s seen at spare (Past c m)
-  attribute-refused : {x j : ℕ} → ((n : Name) (ns : List Name) → Leads s (in-tag n ns seen) spare at (bad x j))
+  attribute-refused : {x j : ℕ} → ((n : Name) (ns : List Name) → Leads true s (in-tag n ns seen) spare at (bad x j))
       → AttributeRead s seen at spare (Refused x j)
 
 -- the first n are as they were
@@ -90,12 +92,12 @@ pub record Onward (s : List ℕ) (at spare : ℕ) (c : Cursor) (m : ℕ) : Type 
 -- where a start tag leads from behind its name
 pub data AttributesRead (s : List ℕ) (at spare : ℕ) : Tag → Type 0 where
   attributes-opened : {c : Cursor} {m : ℕ} → Onward s at spare c m
-      → ((n : Name) (ns : List Name) → Goes s (behind-part n ns []) spare at (content n ns) m (c .at))
+      → ((n : Name) (ns : List Name) → Goes true s (behind-part n ns []) spare at (content n ns) m (c .at))
       → AttributesRead s at spare (Opened c m)
   attributes-emptied : {c : Cursor} {m : ℕ} → Onward s at spare c m
-      → ((n : Name) (ns : List Name) → Goes s (behind-part n ns []) spare at (closed ns) m (c .at))
+      → ((n : Name) (ns : List Name) → Goes true s (behind-part n ns []) spare at (closed ns) m (c .at))
       → AttributesRead s at spare (Emptied c m)
-  attributes-broken : {x j : ℕ} → ((n : Name) (ns : List Name) → Leads s (behind-part n ns []) spare at (bad x j))
+  attributes-broken : {x j : ℕ} → ((n : Name) (ns : List Name) → Leads true s (behind-part n ns []) spare at (bad x j))
       → AttributesRead s at spare (Broken x j)
 
 -- a name begins here
@@ -104,20 +106,24 @@ pub record Named (s : List ℕ) (at : ℕ) : Type 0 where
   pub inside : at < length s
   pub starts : name-start (getD s at 0) ≡ true
 
--- where a start tag leads from behind the first byte of its name
+-- where a start tag leads from behind the first byte of its name, if that begins a character
 pub data ElementRead (s : List ℕ) (at spare : ℕ) : Tag → Type 0 where
   element-opened : {c : Cursor} {m : ℕ} → Onward s at spare c m
-      → ((ns : List Name) (v : Verdict) → Leads s (content (name-at s at) ns) m (c .at) v → scan-at s (tag-name ns (getD s at 0 ∷ [])) spare
-      1 (at + 1) ≡ v)
+      → ((ns : List Name) (y : Spelling) → spell (start-of false) (getD s at 0) ≡ spelling y → (v : Verdict)
+      → Leads true s (content (name-at s at) ns) m (c .at) v
+      → scan-at s (tag-name ns (getD s at 0 ∷ [])) (on y) spare 1 (at + 1) ≡ v)
       → ElementRead s at spare (Opened c m)
   element-emptied : {c : Cursor} {m : ℕ} → Onward s at spare c m
-      → ((ns : List Name) (v : Verdict) → Leads s (closed ns) m (c .at) v → scan-at s (tag-name ns (getD s at 0 ∷ [])) spare 1 (at + 1) ≡ v)
+      → ((ns : List Name) (y : Spelling) → spell (start-of false) (getD s at 0) ≡ spelling y → (v : Verdict)
+      → Leads true s (closed ns) m (c .at) v → scan-at s (tag-name ns (getD s at 0 ∷ [])) (on y) spare 1 (at + 1) ≡ v)
       → ElementRead s at spare (Emptied c m)
-  element-broken : {x j : ℕ} → ((ns : List Name) → scan-at s (tag-name ns (getD s at 0 ∷ [])) spare 1 (at + 1) ≡ bad x j)
+  element-broken : {x j : ℕ}
+      → ((ns : List Name) (y : Spelling) → spell (start-of false) (getD s at 0) ≡ spelling y
+      → scan-at s (tag-name ns (getD s at 0 ∷ [])) (on y) spare 1 (at + 1) ≡ bad x j)
       → ElementRead s at spare (Broken x j)
 
 -- where the end tag of an element named n leads
 pub data EndRead (s : List ℕ) (n : Name) (at : ℕ) : End → Type 0 where
   end-behind : {c : Cursor} → at < c .at → c .at ≤ length s → node-offset s (c .at) ≡ c .at
-      → ((ns : List Name) (m : ℕ) → Goes s (end-name n ns n) m at (closed ns) m (c .at)) → EndRead s n at (Behind c)
-  end-mismatch : {j : ℕ} → ((ns : List Name) (m : ℕ) → Leads s (end-name n ns n) m at (bad 4 j)) → EndRead s n at (Mismatch j)
+      → ((ns : List Name) (m : ℕ) → Goes true s (end-name n ns n) m at (closed ns) m (c .at)) → EndRead s n at (Behind c)
+  end-mismatch : {j : ℕ} → ((ns : List Name) (m : ℕ) → Leads true s (end-name n ns n) m at (bad 4 j)) → EndRead s n at (Mismatch j)

@@ -55,6 +55,9 @@ impl Cursor {
             (now (names .exit)) r ⌝ }
     {
         let at = self.at;
+        if !tree::characters::begins(s[at], false) {
+            return Child::Stopped(4, at);
+        }
         if spare == 0 {
             return Child::Stopped(6, at - 1);
         }

@@ -1,7 +1,7 @@
 // Classes of bytes in values and texts. Letters, the most frequent, come first.
 ghost use mathlib.Core.Path.{_≡_};
 ghost use Rattle.xml.specs.Bytes.{brackets};
-ghost use Rattle.xml_reader.specs.Classes.{begins};
+ghost use Rattle.xml_reader.specs.Classes.{begins, alone, ascii-name};
 
 // Whether a byte may begin a character of a value or a text that ends with stop, k bytes ] just before it.
 pub fn may_stand(b: u8, stop: u8, k: usize) -> bool
@@ -23,6 +23,26 @@ pub fn may_stand(b: u8, stop: u8, k: usize) -> bool
         return true;
     }
     k != 2
+}
+
+// Whether a byte is a character by itself, and no ampersand.
+pub fn alone(b: u8) -> bool
+    ensures { λ r. ⌜ r ≡ alone b ⌝ }
+{
+    if b >= 128 {
+        return false;
+    }
+    b != b'&'
+}
+
+// Whether a byte is a character of a name by itself.
+pub fn ascii_name(b: u8) -> bool
+    ensures { λ r. ⌜ r ≡ ascii-name b ⌝ }
+{
+    if b >= b'a' {
+        return b <= b'z';
+    }
+    tree::name_byte(b)
 }
 
 pub fn brackets_after(k: usize, b: u8) -> usize

@@ -1,15 +1,40 @@
 // Values and texts, judged character by character: a byte that stands for itself, or a reference.
 use super::Cursor;
+use super::Piece;
 use super::Read;
 use super::Reference;
 use super::classes;
 ghost use mathlib.Core.Path.{_≡_};
-ghost use Prim.Native.Nat.{_≤_};
-ghost use lib.ListN.{length};
+ghost use mathlib.Core.Bool.{false};
+ghost use Prim.Native.Nat.{_≤_, _<_};
+ghost use lib.ListN.{length, getD};
+ghost use Rattle.tree.specs.Content.{content-limit};
 ghost use Rattle.xml.specs.Reading.{node-offset};
-ghost use Rattle.xml_reader.specs.Steps.{CharactersRead, TextRead};
+ghost use Rattle.xml_reader.specs.Classes.{alone};
+ghost use Rattle.xml_reader.specs.Steps.{SpecialRead, CharactersRead, TextRead};
 
 impl Cursor {
+    // A reference, or bytes from 128 on as far as they go, behind count bytes of the content.
+    fn special(self, s: &[u8], count: usize) -> Piece
+        requires { ⌜ (self .at < length (now s)) × (count ≤ content-limit) × (alone (getD (now s) (self .at) 0) ≡ false) ⌝ }
+        ensures { λ r. ⌜ SpecialRead (now (s .entry)) (self .at) count r ⌝ }
+    {
+        let at = self.at;
+        if s[at] >= 128 {
+            let end = self.letters(s);
+            let to = end.at;
+            return self.fit(s, to, true, count);
+        }
+        if count == 32 {
+            return Piece::Unfit(5, at);
+        }
+        let next = Cursor { at: at + 1 };
+        match next.reference(s) {
+            Reference::NoReference(j) => Piece::Unfit(4, j),
+            Reference::Byte(_, behind) => Piece::Taken(behind, count + 1),
+        }
+    }
+
     // The characters of a value or a text, from the first on, up to the byte that ends it; spare nodes may still come.
     fn characters(self, s: &[u8], stop: u8, spare: usize) -> Read
         requires { ⌜ self .at ≤ length (now s) ⌝ }
@@ -26,23 +51,23 @@ impl Cursor {
             if !classes::may_stand(b, stop, k) {
                 return Read::Refused(4, i);
             }
-            if count == 32 {
-                return Read::Refused(5, i);
-            }
-            if b != b'&' {
+            if classes::alone(b) {
+                if count == 32 {
+                    return Read::Refused(5, i);
+                }
                 i += 1;
                 count += 1;
                 k = classes::brackets_after(k, b);
                 continue;
             }
-            let next = Cursor { at: i + 1 };
-            match next.reference(s) {
-                Reference::NoReference(j) => return Read::Refused(4, j),
-                Reference::Byte(_, behind) => {
+            let here = Cursor { at: i };
+            match here.special(s, count) {
+                Piece::Unfit(x, j) => return Read::Refused(x, j),
+                Piece::Taken(behind, n) => {
                     i = behind.at;
+                    count = n;
                 }
             }
-            count += 1;
             k = 0;
         }
         Read::Refused(4, i)
@@ -62,6 +87,9 @@ impl Cursor {
             return Read::Past(Cursor { at: at + 1 }, spare);
         }
         if !classes::may_stand(b, stop, 0) {
+            return Read::Refused(4, at);
+        }
+        if !tree::characters::begins(b, true) {
             return Read::Refused(4, at);
         }
         if spare == 0 {

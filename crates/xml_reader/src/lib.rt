@@ -4,6 +4,7 @@
 mod children;
 mod classes;
 mod contents;
+mod letters;
 mod names;
 pub mod start;
 mod start_tags;
@@ -28,6 +29,12 @@ pub enum Reference {
 pub enum Read {
     Past(Cursor, usize),
     Refused(u8, usize),
+}
+
+// A part of a content: the cursor behind it and how many bytes the content has then; or a cause and its offset.
+pub enum Piece {
+    Taken(Cursor, usize),
+    Unfit(u8, usize),
 }
 
 // Behind an opening quote, or the offset where there is none.

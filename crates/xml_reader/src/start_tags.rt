@@ -2,6 +2,7 @@
 use super::Cursor;
 use super::Equals;
 use super::Item;
+use super::Piece;
 use super::Read;
 use super::Tag;
 use super::names::enter;
@@ -27,22 +28,26 @@ impl Cursor {
         ensures { λ r. ⌜ AttributeEnters (now (s .entry)) (now (names .entry)) (now (names .exit)) lo count (self .at) spare r ⌝ }
     {
         let at = self.at;
+        if !tree::characters::begins(s[at], false) {
+            return Read::Refused(4, at);
+        }
         if spare == 0 {
             return Read::Refused(6, at);
         }
-        let end = self.name(s);
-        let to = end.at;
-        if to - at > 32 {
-            return Read::Refused(5, at + 32);
-        }
-        if !enter(s, names, lo, count, at, to) {
-            return Read::Refused(4, to);
-        }
-        match end.equals(s) {
-            Equals::NoQuote(j) => Read::Refused(4, j),
-            Equals::Quoted(q, next) => {
-                let begin = next.at - 1;
-                next.text(s, q, begin, spare - 1)
+        match self.spelled_name(s) {
+            Piece::Unfit(x, j) => Read::Refused(x, j),
+            Piece::Taken(end, _) => {
+                let to = end.at;
+                if !enter(s, names, lo, count, at, to) {
+                    return Read::Refused(4, to);
+                }
+                match end.equals(s) {
+                    Equals::NoQuote(j) => Read::Refused(4, j),
+                    Equals::Quoted(q, next) => {
+                        let begin = next.at - 1;
+                        next.text(s, q, begin, spare - 1)
+                    }
+                }
             }
         }
     }
@@ -84,10 +89,9 @@ impl Cursor {
     {
         let at = self.at;
         names[depth] = (at - 1) as u16;
-        let end = self.name(s);
-        if end.at - at > 32 {
-            return Tag::Broken(5, at + 32);
+        match self.spelled_name(s) {
+            Piece::Unfit(x, j) => Tag::Broken(x, j),
+            Piece::Taken(end, _) => end.attributes(s, names, depth + 1, spare),
         }
-        end.attributes(s, names, depth + 1, spare)
     }
 }

@@ -1,4 +1,4 @@
--- Every configuration can be completed, so every prefix that is read is the beginning of a document.
+-- Every configuration can be completed, at the level of bytes.
 use Prim.Native.Nat.{ℕ, zero, suc, _+_, _<_}
 use mathlib.Core.Path.{_≡_, refl, sym, ap, _∙_}
 use mathlib.Core.Bool.{Bool, true, false, and-false, false≢true}
@@ -10,8 +10,7 @@ use Rattle.tree.specs.Lists.{same}
 use Rattle.tree.specs.Content.{element-kind, name-start, name-byte}
 use Rattle.xml.specs.Bytes.{Quote, double, used}
 use Rattle.xml.specs.Grammar.{Name, no-blank, NameBytes, no-name-byte, name-byte-then}
-use Rattle.xml.specs.Reading.{Viable}
-use Rattle.xml.specs.Laws.Words.{some-word}
+use Rattle.xml.specs.Laws.Words.{Words, Word, some-word}
 use Rattle.xml.specs.Laws.Automaton.{Config, at-start, behind-first, prolog, behind-root, epilog, declaration, tag-name, behind-part}
 use Rattle.xml.specs.Laws.Automaton.{in-tag, before-equals, behind-equals, behind-slash, attribute-name, behind-quote, in-value}
 use Rattle.xml.specs.Laws.Automaton.{value-reference, content, behind-open, in-text, text-reference, end-name, Event, born, byte}
@@ -19,9 +18,8 @@ use Rattle.xml.specs.Laws.Automaton.{closed, Reads, stay, on, tell-bytes
 use Rattle.xml.specs.Laws.Transitions.{tag-slash, Step, s-start-open, s-first-name, s-prolog-open, s-root-name, s-behind}
 use Rattle.xml.specs.Laws.Transitions.{s-before-equals, s-equals-quote, s-quote-end, s-value-end, s-slash, s-content-open}
 use Rattle.xml.specs.Laws.Transitions.{s-text-open, s-open-slash}
-use Rattle.xml.specs.Laws.Sound.{sound}
 use Rattle.xml.specs.Laws.Complete.{Accepts, _▸_, value-word, text-word, declaration-word, no-attribute, read-tag-name}
-use Rattle.xml.specs.Laws.Complete.{read-attribute-name, read-end, complete}
+use Rattle.xml.specs.Laws.Complete.{read-attribute-name, read-end}
 use Rattle.xml.specs.Laws.Phases.{Phase, early, reading, referring, over, phase}
 
 -- bytes that complete c and tell nothing more
@@ -94,15 +92,28 @@ pub data Ending : Phase → List Event → Type 0 where
   ending-referring : {k : ℕ} → Ending referring (byte k ∷ [])
   ending-over : Ending over []
 
+-- and what a completion tells in any case
+pub data Closing : Config → List Event → Type 0 where
+  closing-root : {c : Config} → Closing c (born 1 element-kind ∷ byte 65 ∷ [])
+  closing-nothing : {c : Config} → Closing c []
+  closing-name : {n : Name} {ns l : List Name} {p : Name} (m : ℕ)
+      → Closing (attribute-name n ns l p) (tell-bytes (replicate m 65) [])
+  closing-value : {n : Name} {ns l : List Name} {q : Quote} {x : Words} {s t : List ℕ} {k : ℕ} → Word x s t k
+      → Closing (value-reference n ns l q x) (byte k ∷ [])
+  closing-text : {n : Name} {ns : List Name} {x : Words} {s t : List ℕ} {k : ℕ} → Word x s t k
+      → Closing (text-reference n ns x) (byte k ∷ [])
+
 pub record Completion (u : Bool) (c : Config) : Type 0 where
   pub bytes : List ℕ
   pub events : List Event
   pub run : Accepts u c bytes events
+  pub closing : Closing c events
   -- where repeated attributes are let in, it tells no more than it must
   pub short : u ≡ false → Ending (phase c) events
 
-abbrev completed : {u : Bool} {c : Config} (e : List Event) → Ending (phase c) e → (s : List ℕ) × Accepts u c s e → Completion u c
-completed e h x = record { bytes = x .0; events = e; run = x .1; short = λ _. h }
+abbrev completed : {u : Bool} {c : Config} (e : List Event) → Closing c e → Ending (phase c) e → (s : List ℕ) × Accepts u c s e
+    → Completion u c
+completed e h k x = record { bytes = x .0; events = e; run = x .1; closing = h; short = λ _. k }
 
 complete-attribute : (u : Bool) (n : Name) (ns seen : List Name) (p : Name) → Completion u (attribute-name n ns seen p)
 unfolding tell-bytes
@@ -115,40 +126,41 @@ complete-attribute true n ns seen p =
       bytes = r ++ x .0;
       events = tell-bytes r [];
       run = read-attribute-name p (letters (suc (total seen)) (x .0)) h (x .1);
+      closing = closing-name (suc (total seen));
       short = λ e. absurd (false≢true (sym e));
     }
 complete-attribute false n ns seen p =
     let x : Ends false (before-equals n ns ((p ++ []) ∷ seen)) = by s-before-equals (close-equals n ns ((p ++ []) ∷ seen)) in
-    completed [] ending-reading (x .0, read-attribute-name p no-name-byte refl (x .1))
+    completed [] closing-nothing ending-reading (x .0, read-attribute-name p no-name-byte refl (x .1))
 
 -- VIABLE: every configuration can be completed
 pub completion : (u : Bool) (c : Config) → Completion u c
-completion u at-start = let x = first-name in completed _ ending-early (60 ∷ x .0, s-start-open ▸ x .1)
-completion u behind-first = completed _ ending-early first-name
-completion u prolog = completed _ ending-early root-after
-completion u behind-root = completed _ ending-early root-name
-completion u epilog = completed [] ending-over ([], stay)
+completion u at-start = let x = first-name in completed _ closing-root ending-early (60 ∷ x .0, s-start-open ▸ x .1)
+completion u behind-first = completed _ closing-root ending-early first-name
+completion u prolog = completed _ closing-root ending-early root-after
+completion u behind-root = completed _ closing-root ending-early root-name
+completion u epilog = completed [] closing-nothing ending-over ([], stay)
 completion u (declaration x) =
-    let y = root-after in let w = some-word x (y .0) in completed _ ending-early (w .0, declaration-word (w .2) (y .1))
-completion u (tag-name ns p) = completed [] ending-reading (close-name ns p)
-completion u (behind-part n ns seen) = completed [] ending-reading (close-tag n ns seen)
-completion u (in-tag n ns seen) = let x = close-tag n ns seen in completed [] ending-reading (x .0, no-attribute (x .1))
-completion u (before-equals n ns seen) = completed [] ending-reading (by s-before-equals (close-equals n ns seen))
-completion u (behind-equals n ns seen) = completed [] ending-reading (close-equals n ns seen)
-completion u (behind-slash ns) = completed [] ending-reading (by s-slash (close ns))
+    let y = root-after in let w = some-word x (y .0) in completed _ closing-root ending-early (w .0, declaration-word (w .2) (y .1))
+completion u (tag-name ns p) = completed [] closing-nothing ending-reading (close-name ns p)
+completion u (behind-part n ns seen) = completed [] closing-nothing ending-reading (close-tag n ns seen)
+completion u (in-tag n ns seen) = let x = close-tag n ns seen in completed [] closing-nothing ending-reading (x .0, no-attribute (x .1))
+completion u (before-equals n ns seen) = completed [] closing-nothing ending-reading (by s-before-equals (close-equals n ns seen))
+completion u (behind-equals n ns seen) = completed [] closing-nothing ending-reading (close-equals n ns seen)
+completion u (behind-slash ns) = completed [] closing-nothing ending-reading (by s-slash (close ns))
 completion u (attribute-name n ns seen p) = complete-attribute u n ns seen p
-completion u (behind-quote n ns seen q) = completed [] ending-reading (by s-quote-end (close-tag n ns seen))
-completion u (in-value n ns seen q) = completed [] ending-reading (close-value n ns seen q)
+completion u (behind-quote n ns seen q) = completed [] closing-nothing ending-reading (by s-quote-end (close-tag n ns seen))
+completion u (in-value n ns seen q) = completed [] closing-nothing ending-reading (close-value n ns seen q)
 completion u (value-reference n ns seen q x) =
     let y = close-value n ns seen q in
-    let w = some-word x (y .0) in completed (byte (w .1) ∷ []) ending-referring (w .0, value-word (w .2) (y .1))
-completion u (content n ns) = completed [] ending-reading (close (n ∷ ns))
-completion u (behind-open n ns) = completed [] ending-reading (close-open n ns)
-completion u (in-text n ns k) = completed [] ending-reading (by s-text-open (close-open n ns))
+    let w = some-word x (y .0) in completed (byte (w .1) ∷ []) (closing-value (w .2)) ending-referring (w .0, value-word (w .2) (y .1))
+completion u (content n ns) = completed [] closing-nothing ending-reading (close (n ∷ ns))
+completion u (behind-open n ns) = completed [] closing-nothing ending-reading (close-open n ns)
+completion u (in-text n ns k) = completed [] closing-nothing ending-reading (by s-text-open (close-open n ns))
 completion u (text-reference n ns x) =
     let y : Ends u (in-text n ns 0) = by s-text-open (close-open n ns) in
-    let w = some-word x (y .0) in completed (byte (w .1) ∷ []) ending-referring (w .0, text-word (w .2) (y .1))
-completion u (end-name n ns w) = let x = close ns in completed [] ending-reading (_, read-end w no-blank (x .1))
+    let w = some-word x (y .0) in completed (byte (w .1) ∷ []) (closing-text (w .2)) ending-referring (w .0, text-word (w .2) (y .1))
+completion u (end-name n ns w) = let x = close ns in completed [] closing-nothing ending-reading (_, read-end w no-blank (x .1))
 
 -- runs put together and cut ----------------------------------------------------------------
 
@@ -177,10 +189,3 @@ module _ {u : Bool} where
         second-part = x .second-part;
         events = ap (λ (l : List Event). v ++ l) (x .events) ∙ sym (append-assoc v (x .before) (x .after));
       }
-
--- a prefix that is read is viable, and the other way round
-pub read-viable : {p : List ℕ} {c : Config} {v : List Event} → Reads true at-start p v c → Viable p
-read-viable {p} {c} r = let x = completion true c in let d = sound (join r (x .run)) in (x .bytes, d .0, d .1)
-
-pub viable-read : (p : List ℕ) → Viable p → (c : Config) × (v : List Event) × Reads true at-start p v c
-viable-read p x = let y = cut p (x .0) (complete (x .2)) in (y .middle, y .before, y .first-part)

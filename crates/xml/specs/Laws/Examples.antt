@@ -11,7 +11,10 @@ use lib.Dec.{leb}
 use borrow.Author.Tests.{leb-true, lt-leb}
 use Rattle.tree.specs.Lists.{every}
 use Rattle.tree.specs.Forest.{rows, view}
-use Rattle.tree.specs.Content.{name-start, name-byte, text-byte, is-name, is-text, allowed, takes, attributes-first, children-rule}
+use Rattle.tree.specs.Characters.{within, utf8, characters}
+use Rattle.tree.specs.Content.{name-start, name-byte, text-byte, spells-name, spells-text, is-name, is-text, allowed, takes}
+use Rattle.tree.specs.Content.{attributes-first, children-rule}
+use Rattle.tree.specs.Spelling.{spell, possible, meets, breadth, with-byte, first-part, next-part}
 use Rattle.tree.specs.Document.{lines, ruled, legal}
 use Rattle.tree.specs.Examples.{tree-E}
 use Rattle.protocol.specs.Calls.{node-limit, stands-for}
@@ -26,8 +29,9 @@ use Rattle.xml.specs.Writing.{escaped, attributes, contents, below, writ
 use Rattle.xml.specs.Laws.Words.{follow}
 use Rattle.xml.specs.Laws.Automaton.{prolog, depth, tag-step, step}
 use Rattle.xml.specs.Laws.Counts.{births, tail, peak}
+use Rattle.xml.specs.Laws.Monitor.{see, monitor, monitoring}
 use Rattle.xml.specs.Laws.Judge.{Verdict, fine, bad, judge, judgement}
-use Rattle.xml.specs.Laws.Structure.{FormedRoot, left-of, right-of}
+use Rattle.xml.specs.Laws.Structure.{FormedRoot, left-of, right-of, root-spelled}
 use Rattle.xml.specs.Laws.Readings.{accepted-iff}
 use Rattle.xml.specs.Laws.Written.{written-root, written-spells}
 use Rattle.xml.specs.Laws.Expressible.{formed-document}
@@ -83,8 +87,73 @@ inputs =
 
 pub examples : map (λ (x : String × Verdict). judgement node-limit (bytes (x .0))) inputs ≡ map (λ (x : String × Verdict). x .1) inputs
 unfolding judgement judge step tag-step depth follow births tail peak blank value-literal text-literal brackets used name-start name-byte
-    text-byte
+    text-byte monitor see spell possible meets breadth with-byte first-part next-part normalized
 examples = refl
+
+-- characters beyond ASCII (A.2), between two texts
+abbrev around : String → List ℕ → String → List ℕ
+around a s b = bytes a ++ (s ++ bytes b)
+
+abbrev pub spellings : List (List ℕ × Verdict)
+spellings =
+    -- ü in names; U+0300 combines, U+036F too, U+0370 begins a name; U+00B7 alone of those with C2 stands in one
+    (around "<T" (0xC3 ∷ 0xBC ∷ []) "r/>", fine-with 2)
+    ∷ (around "<" (0xCC ∷ 0x80 ∷ []) "/>", bad 4 1)
+    ∷ (around "<a" (0xCC ∷ 0x80 ∷ []) "/>", fine-with 2)
+    ∷ (around "<" (0xCD ∷ 0xAF ∷ []) "/>", bad 4 2)
+    ∷ (around "<" (0xCD ∷ 0xB0 ∷ []) "/>", fine-with 2)
+    ∷ (around "<a" (0xC2 ∷ 0xB7 ∷ []) "/>", fine-with 2)
+    ∷ (around "<a" (0xC2 ∷ 0xB8 ∷ []) "/>", bad 4 3)
+    ∷ (around "<" (0xC2 ∷ 0xB7 ∷ []) "/>", bad 4 1)
+    ∷ (around "<a " (0xC3 ∷ 0xBC ∷ []) "='1'/>", fine-with 4)
+    ∷ (bytes "<a:b/>", bad 4 2)
+    -- an end tag has the bytes of its start tag
+    ∷ (bytes "<" ++ ((0xC3 ∷ 0xBC ∷ []) ++ around "></" (0xC3 ∷ 0xBC ∷ []) ">"), fine-with 2)
+    ∷ (bytes "<" ++ ((0xC3 ∷ 0xBC ∷ []) ++ around "></" (0xC3 ∷ 0xBD ∷ []) ">"), bad 4 7)
+    -- texts and values: 127, U+10FFFF; no U+FFFE, no surrogate, nothing above U+10FFFF, no long form, no stray byte
+    ∷ (around "<a>" (127 ∷ 0xF4 ∷ 0x8F ∷ 0xBF ∷ 0xBF ∷ []) "</a>", fine-with 3)
+    ∷ (around "<a b='" (0xE2 ∷ 0x82 ∷ 0xAC ∷ []) "&lt;'/>", fine-with 4)
+    ∷ (around "<a>" (0xEF ∷ 0xBF ∷ 0xBE ∷ []) "</a>", bad 4 5)
+    ∷ (around "<a>" (0xED ∷ 0xA0 ∷ 0x80 ∷ []) "</a>", bad 4 4)
+    ∷ (around "<a>" (0xF4 ∷ 0x90 ∷ []) "</a>", bad 4 4)
+    ∷ (around "<a>" (0xF5 ∷ []) "</a>", bad 4 3)
+    ∷ (around "<a>" (0xC1 ∷ 0xBF ∷ []) "</a>", bad 4 3)
+    ∷ (around "<a>" (0xE0 ∷ 0x9F ∷ []) "</a>", bad 4 4)
+    ∷ (around "<a>" (0x80 ∷ []) "</a>", bad 4 3)
+    -- a character that is cut: by a tag, a reference, the quote, what follows a name, the end
+    ∷ (around "<a>" (0xE2 ∷ 0x82 ∷ []) "</a>", bad 4 5)
+    ∷ (around "<a>" (0xC3 ∷ []) "&amp;</a>", bad 4 4)
+    ∷ (around "<a b='" (0xC3 ∷ []) "'/>", bad 4 7)
+    ∷ (around "<a" (0xC3 ∷ []) "/>", bad 4 3)
+    ∷ (around "<a" (0xC3 ∷ []) "", bad 4 3)
+    -- the count of ] begins anew behind a character, and is one of literal bytes
+    ∷ (around "<a>]]" (0xC3 ∷ 0xBC ∷ []) "></a>", fine-with 3)
+    -- attributes with one name, and one with a longer name; a byte with which no NameChar begins ends the name
+    ∷ (bytes "<a " ++ ((0xC3 ∷ 0xBC ∷ []) ++ around "='' " (0xC3 ∷ 0xBC ∷ []) "=''/>"), bad 4 11)
+    ∷ (around "<a b='' b" (0xC2 ∷ 0xB7 ∷ []) "=''/>", fine-with 4)
+    ∷ (around "<a b='' b" (0xEE ∷ []) "=''/>", bad 4 9)
+    -- a literal byte 13; the end inside a text's character
+    ∷ (around "<a>" (13 ∷ []) "</a>", bad 4 3)
+    ∷ (around "<a>" (0xC3 ∷ []) "", bad 4 4)
+    -- the 33rd byte inside a character of a value; a & in its place, behind a whole character and inside one
+    ∷ (around "<a b='1234567890123456789012345678901" (0xC3 ∷ 0xBC ∷ []) "'/>", bad 5 38)
+    ∷ (around "<a>123456789012345678901234567890" (0xC3 ∷ 0xBC ∷ []) "&</a>", bad 5 35)
+    ∷ (around "<a>1234567890123456789012345678901" (0xC3 ∷ []) "&</a>", bad 4 35)
+    -- no byte order mark
+    ∷ (around "" (0xEF ∷ 0xBB ∷ 0xBF ∷ []) "<a/>", bad 4 0)
+    -- the 33rd byte inside a character, and one that spoils it
+    ∷ (around "<a>1234567890123456789012345678901" (0xE2 ∷ 0x82 ∷ 0xAC ∷ []) "</a>", bad 5 35)
+    ∷ (around "<a>1234567890123456789012345678901" (0xE2 ∷ []) "</a>", bad 4 35)
+    ∷ (around "<abcdefghijabcdefghijabcdefghijab" (0xC3 ∷ 0xBC ∷ []) "/>", bad 5 33)
+    ∷ (around "<abcdefghijabcdefghijabcdefghija" (0xC3 ∷ 0xBC ∷ []) "/>", bad 5 33)
+    ∷ (around "<abcdefghijabcdefghijabcdefghij" (0xC3 ∷ 0xBC ∷ []) "/>", fine-with 2)
+    ∷ []
+
+pub spelling-examples : map (λ (x : List ℕ × Verdict). judgement node-limit (x .0)) spellings ≡ map (λ
+    (x : List ℕ × Verdict). x .1) spellings
+unfolding judgement judge step tag-step depth follow births tail peak blank value-literal text-literal brackets used name-start name-byte
+    text-byte monitor see spell possible meets breadth with-byte first-part next-part normalized
+spelling-examples = refl
 
 abbrev times : ℕ → List ℕ → List ℕ
 times zero s = []
@@ -110,6 +179,15 @@ inputs-at-limits =
     ∷ (0, with-elements 1022 "<b!", bad 6 4091)
     ∷ (0, with-elements 1022 "&!", bad 6 4091)
     ∷ (0, with-elements 1022 "<!", bad 4 4092)
+    -- and so does one that begins with a byte of a character, whatever follows; one with which no such character begins does not
+    ∷ (0, with-elements 1022 "<" ++ (0xC3 ∷ bytes "!"), bad 6 4091)
+    ∷ (0, with-elements 1022 "<" ++ (0xC2 ∷ bytes "!"), bad 4 4092)
+    ∷ (0, with-elements 1022 "" ++ (0xC2 ∷ bytes "!"), bad 6 4091)
+    ∷ (0, with-elements 1022 "" ++ (0x80 ∷ bytes "!"), bad 4 4091)
+    ∷ (0, with-elements 1021 "<b " ++ (0xC3 ∷ bytes "!"), bad 6 4090)
+    ∷ (0, with-elements 1021 "<b " ++ (0xC2 ∷ bytes "!"), bad 4 4090)
+    ∷ (0, with-elements 1020 "<b c='" ++ (0xC2 ∷ bytes "!"), bad 6 4088)
+    ∷ (0, with-elements 1020 "<b c='" ++ (0xF5 ∷ bytes "!"), bad 4 4089)
     -- 65,536 bytes, and one more
     ∷ (65532, bytes "<a/>", fine-with 2)
     ∷ (65532, bytes "<a/> ", bad 4 65536)
@@ -123,28 +201,29 @@ inputs-at-limits =
 -- the judgement behind n blanks
 abbrev late : ℕ → List ℕ → Verdict
 late zero s = judgement node-limit s
-late (suc n) s = judge prolog (node-limit - 1) 0 space (suc n) s
+late (suc n) s = judge prolog monitoring (node-limit - 1) 0 space (suc n) s
 
 blank-judged : (i : ℕ) (s : List ℕ) → i < input-limit
-    → judge prolog (node-limit - 1) 0 space i (space ∷ s) ≡ judge prolog (node-limit - 1) 0 space (suc i) s
-unfolding judge step blank births tail peak
+    → judge prolog monitoring (node-limit - 1) 0 space i (space ∷ s) ≡ judge prolog monitoring (node-limit - 1) 0 space (suc i) s
+unfolding judge step blank births tail peak monitor
 blank-judged i s h = rw (lt-leb input-limit i h)
 
 late-judged : (n i : ℕ) (s : List ℕ) → i + n ≤ input-limit
-    → judge prolog (node-limit - 1) 0 space i (input n s) ≡ judge prolog (node-limit - 1) 0 space (i + n) s
-late-judged zero i s h = ap (λ (k : ℕ). judge prolog (node-limit - 1) 0 space k s) (omega arith)
+    → judge prolog monitoring (node-limit - 1) 0 space i (input n s) ≡ judge prolog monitoring (node-limit - 1) 0 space (i + n) s
+late-judged zero i s h = ap (λ (k : ℕ). judge prolog monitoring (node-limit - 1) 0 space k s) (omega arith)
 late-judged (suc n) i s h =
     blank-judged i (input n s) (omega arith) ∙ late-judged n (suc i) s (omega arith)
-    ∙ ap (λ (k : ℕ). judge prolog (node-limit - 1) 0 space k s) (omega arith)
+    ∙ ap (λ (k : ℕ). judge prolog monitoring (node-limit - 1) 0 space k s) (omega arith)
 
-first-blank : (s : List ℕ) → judgement node-limit (space ∷ s) ≡ judge prolog (node-limit - 1) 0 space 1 s
-unfolding judgement judge step blank births tail peak
+first-blank : (s : List ℕ) → judgement node-limit (space ∷ s) ≡ judge prolog monitoring (node-limit - 1) 0 space 1 s
+unfolding judgement judge step blank births tail peak monitor
 first-blank s = refl
 
 is-late : (n : ℕ) (s : List ℕ) → n ≤ input-limit → judgement node-limit (input n s) ≡ late n s
 is-late zero s h = refl
 is-late (suc n) s h =
-    first-blank (input n s) ∙ late-judged n 1 s (omega arith) ∙ ap (λ (k : ℕ). judge prolog (node-limit - 1) 0 space k s) (omega arith)
+    first-blank (input n s) ∙ late-judged n 1 s (omega arith)
+    ∙ ap (λ (k : ℕ). judge prolog monitoring (node-limit - 1) 0 space k s) (omega arith)
 
 all-late : (l : List Limit) → every (λ x. leb (x .0) input-limit) l ≡ true
     → map (λ (x : Limit). judgement node-limit (input (x .0) (x .1))) l ≡ map (λ (x : Limit). late (x .0) (x .1)) l
@@ -154,7 +233,7 @@ all-late (x ∷ l) h =
 
 computed : map (λ (x : Limit). late (x .0) (x .1)) inputs-at-limits ≡ map (λ (x : Limit). x .2) inputs-at-limits
 unfolding judgement judge step tag-step depth follow births tail peak blank value-literal text-literal brackets used name-start name-byte
-    text-byte
+    text-byte monitor see spell possible meets breadth with-byte first-part next-part normalized
 computed = refl
 
 pub limits : map (λ (x : Limit). judgement node-limit (input (x .0) (x .1))) inputs-at-limits ≡ map (λ (x : Limit). x .2) inputs-at-limits
@@ -189,7 +268,8 @@ unfolding tree-E write shape view contents attributes escaped
 writes-E = refl
 
 formed-E : FormedRoot (below (shape tree-E))
-unfolding tree-E shape view repeats neighbouring-texts legal ruled lines rows name-start name-byte text-byte is-name is-text allowed takes
+unfolding tree-E shape view repeats neighbouring-texts legal ruled lines rows within utf8 characters spells-name spells-text is-name
+    is-text allowed takes
     attributes-first children-rule used
 formed-E = formed-document tree-E refl (refl, refl, refl)
 
@@ -207,7 +287,7 @@ reads-E s x l = accepted-iff node-limit (omega arith) (omega arith) s tree-E E-l
 
 pub bare-reads-E : ReadsAs text-E (stands-for tree-E E-loadable)
 unfolding tree-E shape view contents attributes escaped
-bare-reads-E = reads-E text-E (bare (written-root formed-E no-blank)) (omega arith)
+bare-reads-E = reads-E text-E (bare (written-root formed-E no-blank), root-spelled formed-E) (omega arith)
 
 pub whole-reads-E : ReadsAs whole-text-E (stands-for tree-E E-loadable)
 unfolding tree-E shape view contents attributes escaped

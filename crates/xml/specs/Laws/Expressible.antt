@@ -10,8 +10,9 @@ use lib.ListN.{length, length-append}
 use borrow.Author.Tests.{eqb-true, eqb-false, leb-true, not-true}
 use Rattle.tree.specs.Lists.{every}
 use Rattle.tree.specs.Forest.{nil, node, rows, view}
-use Rattle.tree.specs.Content.{content-limit, element-kind, attribute-kind, text-kind, text-byte, is-name, is-text, spells-name}
+use Rattle.tree.specs.Content.{content-limit, element-kind, attribute-kind, text-kind, is-name, is-text, spells-name}
 use Rattle.tree.specs.Content.{spells-text, allowed, takes, attributes-first, children-rule}
+use Rattle.tree.specs.Laws.Spelling.{no-empty}
 use Rattle.tree.specs.Document.{Node, Document, lines, top-kinds, ruled, rooted, legal}
 use Rattle.protocol.specs.Calls.{node-limit}
 use Rattle.xml.specs.Bytes.{used}
@@ -21,7 +22,7 @@ use Rattle.xml.specs.Reading.{input-limit}
 use Rattle.xml.specs.Writing.{below, write, no-root, repeats, begins-with-text, neighbouring-texts, expressible, renumbered, ReadBack}
 use Rattle.xml.specs.Laws.Structure.{Spot, attributes, children, behind-text, Formed, formed-nil, formed-attribute, formed-text}
 use Rattle.xml.specs.Laws.Structure.{formed-element, no-text, no-attribute, FormedRoot, formed-root, left-of, right-of, neither}
-use Rattle.xml.specs.Laws.Structure.{spelled-formed}
+use Rattle.xml.specs.Laws.Structure.{spells-value, spelled-formed}
 use Rattle.xml.specs.Laws.Loadable.{not-attribute, spelled-loadable}
 use Rattle.xml.specs.Laws.Readings.{accepted-iff}
 use Rattle.xml.specs.Laws.Written.{written-spells}
@@ -57,11 +58,11 @@ childless (node a ks fs) h = absurd (false≢true h)
 
 -- an attribute has a text, or none
 abbrev Texts : Document → Type 0
-Texts f = (c : List ℕ) × (every text-byte c ≡ true) × (shape f ≡ text-node c)
+Texts f = (c : List ℕ) × (spells-value c ≡ true) × (shape f ≡ text-node c)
 
-one-text : (c : List ℕ) → is-text c ≡ true → (every text-byte c ≡ true) × (node (text c) nil nil ≡ text-node c)
+one-text : (c : List ℕ) → is-text c ≡ true → (spells-value c ≡ true) × (node (text c) nil nil ≡ text-node c)
 unfolding is-text
-one-text [] h = absurd (false≢true h)
+one-text [] h = absurd (false≢true (sym (no-empty .1) ∙ h))
 one-text (b ∷ c) h = (right-of (leb (length (b ∷ c)) content-limit) _ h, refl)
 
 texts : (f : Document) → ruled f ≡ true → children-rule attribute-kind (top-kinds f) ≡ true → Texts f
@@ -76,7 +77,7 @@ texts (node a ks nil) r h =
     go (a .kind) k r
   where
     go : (k : ℕ) → k ≡ text-kind → (allowed k (a .content) && children-rule k (top-kinds ks) && ruled ks && true) ≡ true
-        → (c : List ℕ) × (every text-byte c ≡ true) × (node (record { kind = k; content = a .content }) (shape ks) nil ≡ text-node c)
+        → (c : List ℕ) × (spells-value c ≡ true) × (node (record { kind = k; content = a .content }) (shape ks) nil ≡ text-node c)
     go k e r =
         let x = rw e at r in
         let y = left-of _ _ (left-of _ _ x) in
@@ -97,7 +98,7 @@ Clear seen f = (repeats seen f ≡ false) × (neighbouring-texts f ≡ false)
 
 text-child : (c : List ℕ) {f : Shape} → is-text c ≡ true → Formed behind-text f → Formed children (node (text c) nil f)
 unfolding is-text
-text-child [] h r = absurd (false≢true h)
+text-child [] h r = absurd (false≢true (sym (no-empty .1) ∙ h))
 text-child (b ∷ c) h r = formed-text (right-of (leb (length (b ∷ c)) content-limit) _ h) r
 
 module _ (i : ℕ) (c : List ℕ) (ks fs : Document) (seen : List Name) where

@@ -10,7 +10,7 @@ use lib.ListN.{length, length-map}
 use borrow.Author.Tests.{le-leb, eq-eqb}
 use Rattle.tree.specs.Lists.{every}
 use Rattle.tree.specs.Forest.{nil, node, rows}
-use Rattle.tree.specs.Content.{content-limit, attribute-kind, element-kind, text-byte, is-name, is-text, spells-name, allowed, takes}
+use Rattle.tree.specs.Content.{content-limit, attribute-kind, element-kind, is-name, is-text, spells-name, spells-text, allowed, takes}
 use Rattle.tree.specs.Content.{attributes-first, children-rule}
 use Rattle.tree.specs.Document.{lines, numbers, top-kinds, ruled, legal}
 use Rattle.protocol.specs.Calls.{node-limit, ascending-from, loadable}
@@ -18,7 +18,8 @@ use Rattle.protocol.specs.Laws.Ascending.{ascending-distinct}
 use Rattle.xml.specs.Shape.{Shape, size, longest, numbered, document}
 use Rattle.xml.specs.Grammar.{Name, text-node, Spells}
 use Rattle.xml.specs.Laws.Structure.{Spot, attributes, children, behind-text, Formed, formed-nil, formed-attribute, formed-text}
-use Rattle.xml.specs.Laws.Structure.{formed-element, no-text, no-attribute, FormedRoot, formed-root, both, spelled-formed}
+use Rattle.xml.specs.Laws.Structure.{formed-element, no-text, no-attribute, FormedRoot, formed-root, both, spells-value}
+use Rattle.xml.specs.Laws.Structure.{spelled-formed}
 
 -- numbers --------------------------------------------------------------------------------
 
@@ -94,11 +95,11 @@ name-fits : (n : Name) → spells-name n ≡ true → length n ≤ content-limit
 unfolding is-name
 name-fits n h l = both (le-leb _ _ l) h
 
-text-fits : (b : ℕ) (c : List ℕ) → every text-byte (b ∷ c) ≡ true → length (b ∷ c) ≤ content-limit → is-text (b ∷ c) ≡ true
+text-fits : (b : ℕ) (c : List ℕ) → spells-text (b ∷ c) ≡ true → length (b ∷ c) ≤ content-limit → is-text (b ∷ c) ≡ true
 unfolding is-text
 text-fits b c h l = both (le-leb (length (b ∷ c)) content-limit l) h
 
-value-ruled : (i : ℕ) (c : List ℕ) → every text-byte c ≡ true → longest (text-node c) ≤ content-limit
+value-ruled : (i : ℕ) (c : List ℕ) → spells-value c ≡ true → longest (text-node c) ≤ content-limit
     → (ruled (numbered i (text-node c)) ≡ true) × (children-rule attribute-kind (top-kinds (numbered i (text-node c))) ≡ true)
 unfolding ruled numbered allowed children-rule takes longest
 value-ruled i [] h l = (refl, refl)

@@ -23,7 +23,7 @@ use Rattle.xml.specs.Laws.Loadable.{spelled-loadable}
 
 -- a document of the grammar is one without Unique Att Spec too
 loosely : {s : List ℕ} {f : Shape} → Spells s f → Parses false s f
-loosely {s} {f} x = let y = sound (loose (complete x)) in subst (Parses false s) (sym (tell-unique f (y .0) (y .2))) (y .1)
+loosely {s} {f} x = let y = sound (loose (complete (x .0))) in subst (Parses false s) (sym (tell-unique f (y .0) (y .2))) (y .1)
 
 -- an input that is accepted where so many nodes may be held, and what it stands for
 pub record Accepted (limit : ℕ) (s : List ℕ) (d : Document) : Type 0 where
@@ -54,7 +54,7 @@ same-input {d} {e} h k p =
 
 -- NO INPUT reads as two things
 pub one-reading : {limit : ℕ} {s : List ℕ} {x y : Input} → ReadsWithin limit s x → ReadsWithin limit s y → x ≡ y
-one-reading (accepted {f = f} a b h) (accepted {f = g} c d k) = same-input h k (ap document (one-tree a c))
+one-reading (accepted {f = f} a b h) (accepted {f = g} c d k) = same-input h k (ap document (one-tree (a .0) (c .0)))
 one-reading (accepted a b h) (refused {cause = c} {offset = i} f g) = absurd (b c i f)
 one-reading (refused {cause = c} {offset = i} f g) (accepted a b h) = absurd (b c i f)
 one-reading (refused {cause = c} {offset = i} f g) (refused {cause = d} {offset = j} h k) =
@@ -84,7 +84,7 @@ module _ (limit : ℕ) (some : 2 ≤ limit) (few : limit ≤ node-limit) (s : Li
 
   taken : {x : Input} (v : Verdict) → Means limit s v → ReadsWithin limit s x → Taken x
   taken (fine n) m (accepted {f = f} a b k) =
-      let p = one-tree (m .spelled) a in
+      let p = one-tree (m .spelled .0) (a .0) in
       record {
         shape = f;
         spelled = a;

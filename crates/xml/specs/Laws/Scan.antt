@@ -14,19 +14,22 @@ use Rattle.xml.specs.Laws.Automaton.{Config, at-start, Event, Move, stuc
 use Rattle.xml.specs.Laws.Counts.{births, tail}
 use Rattle.xml.specs.Laws.Phases.{phase, is-over}
 use Rattle.xml.specs.Laws.Forces.{extent}
-use Rattle.xml.specs.Laws.Judge.{Verdict, fine, bad, weighed, judge-move, judge, byte-before, offset-before, offset-at, judgement}
+use Rattle.xml.specs.Laws.Monitor.{Monitor, Seen, unspelled, seen, monitor, monitoring}
+use Rattle.xml.specs.Laws.Judge.{Verdict, fine, bad, weighed, if-seen, judge-move, judge, byte-before, offset-before, offset-at}
+use Rattle.xml.specs.Laws.Judge.{judgement}
 
 -- as `weighed`, without the limit
 abbrev pub counted : ℕ → ℕ → Bool → ℕ → Verdict → Verdict
 counted b i many k further = cond (many && opener b) (bad 6 (i - 1)) (cond (ltb content-limit k) (bad 5 i) (cond many (bad 6 i) further))
 
-abbrev pub scan-move : Move → ℕ → ℕ → ℕ → ℕ → (Config → ℕ → ℕ → Verdict) → Verdict
-scan-move stuck n k b i f = bad 4 i
-scan-move (move d v) n k b i f = let further = f d (n - births v) (tail k v) in counted b i (ltb n (births v)) (extent k v d) further
+abbrev pub scan-move : Move → Monitor → ℕ → ℕ → ℕ → ℕ → (Config → Monitor → ℕ → ℕ → Verdict) → Verdict
+scan-move stuck x n k b i f = bad 4 i
+scan-move (move d v) x n k b i f =
+    if-seen (monitor x v) i (λ y. let further = f d y (n - births v) (tail k v) in counted b i (ltb n (births v)) (extent k v d) further)
 
-unfoldable pub scan : Config → ℕ → ℕ → ℕ → ℕ → List ℕ → Verdict
-scan c n k b i [] = cond (is-over (phase c)) (fine n) (bad 4 i)
-scan c n k b i (a ∷ s) = scan-move (step true c a) n k b i (λ d m j. scan d m j a (suc i) s)
+unfoldable pub scan : Config → Monitor → ℕ → ℕ → ℕ → ℕ → List ℕ → Verdict
+scan c x n k b i [] = cond (is-over (phase c)) (fine n) (bad 4 i)
+scan c x n k b i (a ∷ s) = scan-move (step true c a) x n k b i (λ d y m j. scan d y m j a (suc i) s)
 
 -- the limit: a verdict on the first 65,537 bytes, for an input that has more than 65,536 or not
 abbrev pub limited : Bool → Verdict → Verdict
@@ -80,79 +83,95 @@ limited-counted long b i many k u v h f g = go many (opener b) (leb input-limit 
     go false q false e true = sym (limited-below long 5 i (leb-false input-limit i e))
     go false q false e false = f (leb-false input-limit i e)
 
-judge-scan : (c : Config) (n k b i : ℕ) (l : List ℕ) (m : ℕ) → i + m ≡ suc input-limit → i ≤ input-limit
-    → judge c n k b i l ≡ limited (ltb input-limit (i + length l)) (scan c n k b i (take m l))
+judge-scan : (c : Config) (x : Monitor) (n k b i : ℕ) (l : List ℕ) (m : ℕ) → i + m ≡ suc input-limit → i ≤ input-limit
+    → judge c x n k b i l ≡ limited (ltb input-limit (i + length l)) (scan c x n k b i (take m l))
 unfolding judge scan
-judge-scan c n k b i [] m e h = rw (take-nil {A = ℕ} m, le-ltb input-limit (i + 0) (omega arith)) (limited-end c n i h)
-judge-scan c n k b i (a ∷ l) zero e h = absurd (omega arith)
-judge-scan c n k b i (a ∷ l) (suc m) e h =
+judge-scan c x n k b i [] m e h = rw (take-nil {A = ℕ} m, le-ltb input-limit (i + 0) (omega arith)) (limited-end c n i h)
+judge-scan c x n k b i (a ∷ l) zero e h = absurd (omega arith)
+judge-scan c x n k b i (a ∷ l) (suc m) e h =
     let p : i + suc (length l) ≡ suc i + length l = omega arith in
-    rw p (go (step true c a) (λ d n′ k′ s. judge-scan d n′ k′ a (suc i) l m (omega arith) s))
+    rw p (go (step true c a) (λ d y n′ k′ s. judge-scan d y n′ k′ a (suc i) l m (omega arith) s))
   where
-    past : (d : Config) (n′ k′ : ℕ) → i ≡ input-limit
-        → limited (ltb input-limit (suc i + length l)) (scan d n′ k′ a (suc i) (take m l)) ≡ bad 4 input-limit
-    past d n′ k′ q =
+    past : (d : Config) (y : Monitor) (n′ k′ : ℕ) → i ≡ input-limit
+        → limited (ltb input-limit (suc i + length l)) (scan d y n′ k′ a (suc i) (take m l)) ≡ bad 4 input-limit
+    past d y n′ k′ q =
         let z : m ≡ 0 = omega arith in
         rw (z, lt-ltb input-limit (suc i + length l) (omega arith)) (limited-past (is-over (phase d)) n′ (suc i) (omega arith))
 
-    go : (x : Move)
-        → ((d : Config) (n′ k′ : ℕ) → suc i ≤ input-limit → judge d n′ k′ a (suc i) l
-        ≡ limited (ltb input-limit (suc i + length l)) (scan d n′ k′ a (suc i) (take m l)))
-        → judge-move x n k b i (λ d n′ k′. judge d n′ k′ a (suc i) l)
-        ≡ limited (ltb input-limit (suc i + length l)) (scan-move x n k b i (λ d n′ k′. scan d n′ k′ a (suc i) (take m l)))
-    go stuck f = sym (limited-four (ltb input-limit (suc i + length l)) i h)
-    go (move d v) f =
+    spelled : (d : Config) (v : List Event) (r : Seen)
+        → ((y : Monitor) (n′ k′ : ℕ) → suc i ≤ input-limit → judge d y n′ k′ a (suc i) l
+        ≡ limited (ltb input-limit (suc i + length l)) (scan d y n′ k′ a (suc i) (take m l)))
+        → if-seen r i (λ y. weighed b i (ltb n (births v)) (extent k v d) (judge d y (n - births v) (tail k v) a (suc i) l))
+        ≡ limited (ltb input-limit (suc i + length l))
+        (if-seen r i (λ y. counted b i (ltb n (births v)) (extent k v d) (scan d y (n - births v) (tail k v) a (suc i) (take m l))))
+    spelled d v unspelled f = sym (limited-four (ltb input-limit (suc i + length l)) i h)
+    spelled d v (seen y) f =
         limited-counted (ltb input-limit (suc i + length l)) b i (ltb n (births v)) (extent k v d)
-        (judge d (n - births v) (tail k v) a (suc i) l)
-        (scan d (n - births v) (tail k v) a (suc i) (take m l)) h (f d (n - births v) (tail k v)) (past d (n - births v) (tail k v))
+        (judge d y (n - births v) (tail k v) a (suc i) l)
+        (scan d y (n - births v) (tail k v) a (suc i) (take m l)) h (f y (n - births v) (tail k v)) (past d y (n - births v) (tail k v))
+
+    go : (r : Move)
+        → ((d : Config) (y : Monitor) (n′ k′ : ℕ) → suc i ≤ input-limit → judge d y n′ k′ a (suc i) l
+        ≡ limited (ltb input-limit (suc i + length l)) (scan d y n′ k′ a (suc i) (take m l)))
+        → judge-move r x n k b i (λ d y n′ k′. judge d y n′ k′ a (suc i) l)
+        ≡ limited (ltb input-limit (suc i + length l)) (scan-move r x n k b i (λ d y n′ k′. scan d y n′ k′ a (suc i) (take m l)))
+    go stuck f = sym (limited-four (ltb input-limit (suc i + length l)) i h)
+    go (move d v) f = spelled d v (monitor x v) (f d)
 
 pub judgement-scan : (limit : ℕ) (s : List ℕ)
-    → judgement limit s ≡ limited (ltb input-limit (length s)) (scan at-start (limit - 1) 0 0 0 (take (suc input-limit) s))
+    → judgement limit s ≡ limited (ltb input-limit (length s)) (scan at-start monitoring (limit - 1) 0 0 0 (take (suc input-limit) s))
 unfolding judgement
 judgement-scan limit s =
     let p : 0 + length s ≡ length s = omega arith in
-    rw p at (judge-scan at-start (limit - 1) 0 0 0 s (suc input-limit) refl (omega arith))
+    rw p at (judge-scan at-start monitoring (limit - 1) 0 0 0 s (suc input-limit) refl (omega arith))
 
 -- steps ------------------------------------------------------------------------------------
 
 -- from offset i of s on
-unfoldable pub scan-at : List ℕ → Config → ℕ → ℕ → ℕ → Verdict
-scan-at s c n k i = scan c n k (byte-before s i) i (drop i s)
+unfoldable pub scan-at : List ℕ → Config → Monitor → ℕ → ℕ → ℕ → Verdict
+scan-at s c x n k i = scan c x n k (byte-before s i) i (drop i s)
 
-module _ (s : List ℕ) (c : Config) (n k i : ℕ) where
-  pub scan-end : length s ≤ i → scan-at s c n k i ≡ cond (is-over (phase c)) (fine n) (bad 4 i)
+module _ (s : List ℕ) (c : Config) (x : Monitor) (n k i : ℕ) where
+  pub scan-end : length s ≤ i → scan-at s c x n k i ≡ cond (is-over (phase c)) (fine n) (bad 4 i)
   unfolding scan-at scan
   scan-end h = rw (drop-of-length-le s h)
 
   module _ (h : i < length s) where
-    pub scan-stuck : step true c (getD s i 0) ≡ stuck → scan-at s c n k i ≡ bad 4 i
+    pub scan-stuck : step true c (getD s i 0) ≡ stuck → scan-at s c x n k i ≡ bad 4 i
     unfolding scan-at scan
     scan-stuck e = rw (drop-cons s i 0 h, e)
 
-    module _ (d : Config) (v : List Event) (e : step true c (getD s i 0) ≡ move d v) where
-      pub scan-next : births v ≤ n → extent k v d ≤ content-limit → scan-at s c n k i ≡ scan-at s d (n - births v) (tail k v) (suc i)
-      unfolding scan-at scan
-      scan-next l m = rw (drop-cons s i 0 h, e, le-ltb n (births v) l, le-ltb content-limit (extent k v d) m)
+    -- no character goes on so
+    pub scan-unspelled : (d : Config) (v : List Event) → step true c (getD s i 0) ≡ move d v → monitor x v ≡ unspelled
+        → scan-at s c x n k i ≡ bad 4 i
+    unfolding scan-at scan
+    scan-unspelled d v e w = rw (drop-cons s i 0 h, e, w)
 
-      pub scan-long : births v ≤ n → content-limit < extent k v d → scan-at s c n k i ≡ bad 5 i
+    module _ (d : Config) (v : List Event) (y : Monitor) (e : step true c (getD s i 0) ≡ move d v) (w : monitor x v ≡ seen y) where
+      pub scan-next : births v ≤ n → extent k v d ≤ content-limit → scan-at s c x n k i ≡ scan-at s d y (n - births v) (tail k v) (suc i)
       unfolding scan-at scan
-      scan-long l m = rw (drop-cons s i 0 h, e, le-ltb n (births v) l, lt-ltb content-limit (extent k v d) m)
+      scan-next l m = rw (drop-cons s i 0 h, e, w, le-ltb n (births v) l, le-ltb content-limit (extent k v d) m)
 
-      pub scan-many : n < births v → extent k v d ≤ content-limit → scan-at s c n k i ≡ bad 6 (node-offset s i)
+      pub scan-long : births v ≤ n → content-limit < extent k v d → scan-at s c x n k i ≡ bad 5 i
+      unfolding scan-at scan
+      scan-long l m = rw (drop-cons s i 0 h, e, w, le-ltb n (births v) l, lt-ltb content-limit (extent k v d) m)
+
+      pub scan-many : n < births v → extent k v d ≤ content-limit → scan-at s c x n k i ≡ bad 6 (node-offset s i)
       unfolding scan-at scan
       scan-many l m =
-          rw (drop-cons s i 0 h, e, lt-ltb n (births v) l, le-ltb content-limit (extent k v d) m) (go (opener (byte-before s i)) refl)
+          rw (drop-cons s i 0 h, e, w, lt-ltb n (births v) l, le-ltb content-limit (extent k v d) m) (go (opener (byte-before s i)) refl)
         where
           go : (o : Bool) → opener (byte-before s i) ≡ o → cond o (bad 6 (i - 1)) (bad 6 i) ≡ bad 6 (node-offset s i)
           go true o = ap (bad 6) (sym (offset-before s i o .0))
           go false o = ap (bad 6) (sym (offset-at s i o))
 
 -- configurations that take the same step, or end alike
-pub scan-alike : (s : List ℕ) (c d : Config) (n k i : ℕ) → (i < length s → step true c (getD s i 0) ≡ step true d (getD s i 0))
-    → is-over (phase c) ≡ is-over (phase d) → scan-at s c n k i ≡ scan-at s d n k i
+pub scan-alike : (s : List ℕ) (c d : Config) (x : Monitor) (n k i : ℕ)
+    → (i < length s → step true c (getD s i 0) ≡ step true d (getD s i 0))
+    → is-over (phase c) ≡ is-over (phase d) → scan-at s c x n k i ≡ scan-at s d x n k i
 unfolding scan-at scan
-scan-alike s c d n k i f p = go (ltb i (length s)) refl
+scan-alike s c d x n k i f p = go (ltb i (length s)) refl
   where
-    go : (t : Bool) → ltb i (length s) ≡ t → scan-at s c n k i ≡ scan-at s d n k i
+    go : (t : Bool) → ltb i (length s) ≡ t → scan-at s c x n k i ≡ scan-at s d x n k i
     go true e = let h = ltb-true i (length s) e in rw (drop-cons s i 0 h, f h)
-    go false e = scan-end s c n k i (ltb-false i (length s) e) ∙ rw p (sym (scan-end s d n k i (ltb-false i (length s) e)))
+    go false e = scan-end s c x n k i (ltb-false i (length s) e) ∙ rw p (sym (scan-end s d x n k i (ltb-false i (length s) e)))

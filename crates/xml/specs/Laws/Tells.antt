@@ -2,7 +2,7 @@
 -- a table with its nodes.
 use Prim.Native.Nat.{ℕ, zero, suc, _+_, _-_, _≤_, _<_}
 use mathlib.Core.Path.{_≡_, refl, sym, ap, _∙_, subst}
-use mathlib.Core.Bool.{true, false, false≢true}
+use mathlib.Core.Bool.{Bool, true, false, false≢true}
 use mathlib.Core.List.{List, [], _∷_, _++_, append-assoc, append-nil}
 use native.Mathlib.Omega.{arith}
 use native.Mathlib.Numerals.{add-one}
@@ -19,6 +19,7 @@ use Rattle.xml.specs.Laws.Phases.{phase, is-over, pending, pending-told}
 use Rattle.xml.specs.Laws.Sound.{rest-of}
 use Rattle.xml.specs.Laws.Complete.{Accepts}
 use Rattle.xml.specs.Laws.Forces.{extent}
+use Rattle.xml.specs.Laws.Monitor.{off, monitor-off}
 use Rattle.xml.specs.Laws.Judge.{fine, bad}
 use Rattle.xml.specs.Laws.Scan.{scan, scan-at}
 use Rattle.xml.specs.Laws.Goes.{Leads, Goes, goes-then, goes-same, goes-step}
@@ -129,7 +130,7 @@ module _ (s : List ℕ) (C : Words → Config) (d : Config) (w : ℕ → List Ev
 -- ways on which nothing is told --------------------------------------------------------------
 
 pub record Passes (s : List ℕ) (c : Config) (i : ℕ) (d : Config) (j : ℕ) : Type 0 where
-  pub goes : (n : ℕ) → Goes s c n i d n j
+  pub goes : {w : Bool} (n : ℕ) → Goes w s c n i d n j
   pub tells : Tells s c i [] d j
 
 pub passes-then : {s : List ℕ} {c d a : Config} {i j k : ℕ} → Passes s c i d j → Passes s d j a k → Passes s c i a k
@@ -153,26 +154,26 @@ module _ (s : List ℕ) (c : Config) (f : (b : ℕ) → blank b ≡ true → ste
   pub passes-blanks : (i : ℕ) → Passes s c i c (i + span blank (drop i s))
   passes-blanks i = record { goes = λ n. goes-blanks s c n f p i; tells = tells-run (span blank (drop i s)) i (omega arith) }
 
--- an input that is read to its end, within the limits, is not refused ------------------------
+-- an input that is read to its end, within the limits, is not refused where nobody asks for characters ------------------------
 
 read-fine : (c : Config) (n k b i : ℕ) (s : List ℕ) {e : List Event} → Accepts true c s e → births e ≤ n → peak k e ≤ content-limit
-    → scan c n k b i s ≡ fine (n - births e)
+    → scan c off n k b i s ≡ fine (n - births e)
 unfolding scan births peak
 read-fine c n k b i [] stay l m = ap fine (omega arith)
 read-fine c n k b i (a ∷ s) (on {d = d} {v = v} {w = w} h r) l m =
     let p = births-append v w in
     let q = peak-append k v w in
     let t = pending-told d (rest-of r refl) (tail k v) in
-    rw (h, le-ltb n (births v) (omega arith), le-ltb content-limit (extent k v d) (omega arith))
+    rw (h, monitor-off v, le-ltb n (births v) (omega arith), le-ltb content-limit (extent k v d) (omega arith))
     (read-fine d (n - births v) (tail k v) a (suc i) s r (omega arith) (omega arith) ∙ ap fine (omega arith))
 
-pub not-refused-at : (s : List ℕ) (c : Config) (n k i : ℕ) {x j : ℕ} {e : List Event} → scan-at s c n k i ≡ bad x j
+pub not-refused-at : (s : List ℕ) (c : Config) (n k i : ℕ) {x j : ℕ} {e : List Event} → scan-at s c off n k i ≡ bad x j
     → Accepts true c (drop i s) e → births e ≤ n → peak k e ≤ content-limit → ⊥
 unfolding scan-at
 not-refused-at s c n k i {x} {j} {e} l r h m =
     let p : bad x j ≡ fine (n - births e) = sym l ∙ read-fine c n k _ i (drop i s) r h m in
     let z : _≡_ {A = ℕ} 0 1 = cc in omega arith
 
-pub not-refused : {s : List ℕ} {c : Config} {n i x j : ℕ} {e : List Event} → Leads s c n i (bad x j) → Accepts true c (drop i s) e
+pub not-refused : {s : List ℕ} {c : Config} {n i x j : ℕ} {e : List Event} → Leads false s c n i (bad x j) → Accepts true c (drop i s) e
     → births e ≤ n → peak 0 e ≤ content-limit → ⊥
-not-refused {s} {c} {n} {i} l r h m = not-refused-at s c n 0 i (l .leads 0 (omega arith)) r h m
+not-refused {s} {c} {n} {i} l r h m = not-refused-at s c n 0 i (l .leads off refl refl 0 (omega arith)) r h m

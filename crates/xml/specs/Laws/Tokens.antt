@@ -2,7 +2,7 @@
 use Prim.Native.Nat.{ℕ, zero, suc, _+_, _≤_, _<_}
 use mathlib.Core.Path.{_≡_, refl, sym, ap, ap₂, _∙_}
 use mathlib.Core.Bool.{Bool, true, false, cond}
-use mathlib.Core.List.{List, [], _∷_, _++_, append-assoc, append-nil}
+use mathlib.Core.List.{List, [], _∷_, _++_}
 use native.Mathlib.Omega.{arith}
 use native.Mathlib.Numerals.{add-one}
 use lib.ListN.{length, take, drop, getD, length-drop, drop-of-length-le}
@@ -12,12 +12,13 @@ use Rattle.xml.specs.Bytes.{blank}
 use Rattle.xml.specs.Grammar.{Name}
 use Rattle.xml.specs.Laws.Words.{Words, Found, no-word, whole, begun, follow}
 use Rattle.xml.specs.Laws.Automaton.{Config, Event, byte, move, to, word-step, step}
-use Rattle.xml.specs.Laws.Counts.{births, tail, peak}
+use Rattle.xml.specs.Laws.Counts.{births, tail}
 use Rattle.xml.specs.Laws.Phases.{phase, is-over, pending}
 use Rattle.xml.specs.Laws.Forces.{extent}
+use Rattle.xml.specs.Laws.Monitor.{Monitor, seen, at-rest, monitor}
 use Rattle.xml.specs.Laws.Judge.{Verdict, bad}
 use Rattle.xml.specs.Laws.Scan.{scan-at, scan-end, scan-stuck, scan-next}
-use Rattle.xml.specs.Laws.Goes.{Goes, goes-then, goes-same, goes-step, scan-byte, scan-full, scan-quiet}
+use Rattle.xml.specs.Laws.Goes.{Goes, goes-then, goes-same, goes-step, scan-quiet}
 
 -- how many bytes pass a test before the first that does not
 unfoldable pub span : (ℕ → Bool) → List ℕ → ℕ
@@ -86,8 +87,9 @@ span-behind t s i h = go (span t (drop i s)) i refl h
 
 -- blanks -----------------------------------------------------------------------------------
 
-module _ (s : List ℕ) (c : Config) (n : ℕ) (f : (b : ℕ) → blank b ≡ true → step true c b ≡ to c) (p : pending (phase c) ≡ 0) where
-  goes-run : (m i : ℕ) → m ≤ span blank (drop i s) → Goes s c n i c n (i + m)
+module _ {w : Bool} (s : List ℕ) (c : Config) (n : ℕ) (f : (b : ℕ) → blank b ≡ true → step true c b ≡ to c) (p : pending
+    (phase c) ≡ 0) where
+  goes-run : (m i : ℕ) → m ≤ span blank (drop i s) → Goes w s c n i c n (i + m)
   goes-run zero i h = goes-same s c n i (i + 0) (omega arith)
   goes-run (suc m) i h =
       let x = span-some blank s i m h in
@@ -95,7 +97,7 @@ module _ (s : List ℕ) (c : Config) (n : ℕ) (f : (b : ℕ) → blank b ≡ tr
       (goes-then (goes-same s c n (i + 1) (suc i) (add-one i)) (goes-then (goes-run m (suc i) (x .2))
       (goes-same s c n (suc i + m) (i + suc m) (omega arith))))
 
-  pub goes-blanks : (i : ℕ) → Goes s c n i c n (i + span blank (drop i s))
+  pub goes-blanks : (i : ℕ) → Goes w s c n i c n (i + span blank (drop i s))
   goes-blanks i = goes-run (span blank (drop i s)) i (omega arith)
 
 -- names ------------------------------------------------------------------------------------
@@ -108,49 +110,6 @@ name-at s o = take (span name-byte (drop o s)) (drop o s)
 pub record Naming (C : Name → Config) : Type 0 where
   pub next : (p : Name) (b : ℕ) → name-byte b ≡ true → step true (C p) b ≡ move (C (p ++ (b ∷ []))) (byte b ∷ [])
   pub calm : (p : Name) → pending (phase (C p)) ≡ 0
-
-module _ (s : List ℕ) (C : Name → Config) (n : ℕ) (f : Naming C) where
-  name-run : (m i k : ℕ) (p : Name) → m ≤ span name-byte (drop i s) → k + m ≤ content-limit
-      → scan-at s (C p) n k i ≡ scan-at s (C (p ++ take m (drop i s))) n (k + m) (i + m)
-  name-run zero i k p h q = rw (append-nil p) (ap₂ (λ (k i : ℕ). scan-at s (C p) n k i) (omega arith) (omega arith))
-  name-run (suc m) i k p h q =
-      let x = span-some name-byte s i m h in
-      let b = getD s i 0 in
-      let one = scan-byte s (C p) n i (x .0) (C (p ++ (b ∷ []))) b (f .next p b (x .1)) (f .calm (p ++ (b ∷ []))) k (omega arith) in
-      let more = name-run m (suc i) (suc k) (p ++ (b ∷ [])) (x .2) (omega arith) in
-      let u : k + suc m ≡ suc k + m = omega arith in
-      let v : i + suc m ≡ suc i + m = omega arith in
-      rw (u, v, drop-cons s i 0 (x .0), ← append-assoc p (b ∷ []) (take m (drop (suc i) s)))
-      (one ∙ ap₂ (λ (k i : ℕ). scan-at s (C (p ++ (b ∷ []))) n k i) (add-one k) (add-one i) ∙ more)
-
-  -- behind the first byte of the name at a
-  module _ (a : ℕ) (inside : a < length s) (first : name-byte (getD s a 0) ≡ true) where
-    run-length : span name-byte (drop a s) ≡ suc (span name-byte (drop (suc a) s))
-    run-length = span-go name-byte s a inside first
-
-    pub name-short : span name-byte (drop a s) ≤ content-limit
-        → scan-at s (C (getD s a 0 ∷ [])) n 1 (a + 1)
-        ≡ scan-at s (C (name-at s a)) n (span name-byte (drop a s)) (a + span name-byte (drop a s))
-    unfolding name-at
-    name-short h =
-        let m = span name-byte (drop (suc a) s) in
-        let u : suc a + m ≡ a + suc m = omega arith in
-        let v : 1 + m ≡ suc m = omega arith in
-        let x = name-run m (suc a) 1 (getD s a 0 ∷ []) (omega arith) (omega (arith, run-length)) in
-        rw (run-length, drop-cons s a 0 inside, add-one a) (x ∙ ap₂ (λ (k i : ℕ). scan-at s (C (getD s a 0 ∷ take m (drop (suc a) s))) n k
-        i) v u)
-
-    pub name-long : content-limit < span name-byte (drop a s) → scan-at s (C (getD s a 0 ∷ [])) n 1 (a + 1) ≡ bad 5 (a + content-limit)
-    unfolding births peak tail
-    name-long h =
-        let p : Name = getD s a 0 ∷ take 31 (drop (suc a) s) in
-        let x = name-run 31 (suc a) 1 (getD s a 0 ∷ []) (omega (arith, run-length)) (omega arith) in
-        let y = span-byte name-byte s content-limit a h in
-        let u : suc a + 31 ≡ a + content-limit = omega arith in
-        let b = getD s (a + content-limit) 0 in
-        let z = scan-full s (C p) n (a + content-limit) (y .0) (C (p ++ (b ∷ []))) (byte b ∷ []) (f .next p b (y .1)) refl content-limit
-        (omega arith) in
-        rw (add-one a) (x ∙ ap (λ (i : ℕ). scan-at s (C p) n content-limit i) u ∙ z)
 
 -- words of a set ---------------------------------------------------------------------------
 
@@ -178,34 +137,48 @@ pub record Wording (C : Words → Config) (d : Config) (w : ℕ → List Event) 
   pub calm : (x : Words) → is-over (phase (C x)) ≡ false
   pub no-node : (k : ℕ) → births (w k) ≡ 0
 
-abbrev pub Landed : List ℕ → Config → (ℕ → List Event) → ℕ → ℕ → ℕ → Reach → Verdict
-Landed s d w n k i (got b m) = scan-at s d n (tail k (w b)) (i + m)
-Landed s d w n k i (lost m) = bad 4 (i + m)
+-- from d on behind the byte that the word stands for
+abbrev pub Landed : List ℕ → Config → (ℕ → List Event) → (ℕ → Monitor) → ℕ → ℕ → ℕ → Reach → Verdict
+Landed s d w Y n k i (got b m) = scan-at s d (Y b) n (tail k (w b)) (i + m)
+Landed s d w Y n k i (lost m) = bad 4 (i + m)
 
-module _ (s : List ℕ) (C : Words → Config) (d : Config) (w : ℕ → List Event) (n k : ℕ) (f : Wording C d w)
-    (o : (x : Words) → k + pending (phase (C x)) ≤ content-limit) (e : (b : ℕ) → extent k (w b) d ≤ content-limit) where
-  pub landed-more : (i : ℕ) (r : Reach) → Landed s d w n k (suc i) r ≡ Landed s d w n k i (one-more r)
-  landed-more i (got b m) = ap (λ (j : ℕ). scan-at s d n (tail k (w b)) j) (omega arith)
+module _ (s : List ℕ) (C : Words → Config) (d : Config) (w : ℕ → List Event) (n k : ℕ) (f : Wording C d w) (X : Monitor) (Y : ℕ → Monitor)
+    (rest : at-rest X ≡ true) (o : (x : Words) → k + pending (phase (C x)) ≤ content-limit)
+    (e : (b : ℕ) → extent k (w b) d ≤ content-limit) where
+  pub landed-more : (i : ℕ) (r : Reach) → Landed s d w Y n k (suc i) r ≡ Landed s d w Y n k i (one-more r)
+  landed-more i (got b m) = ap (λ (j : ℕ). scan-at s d (Y b) n (tail k (w b)) j) (omega arith)
   landed-more i (lost m) = ap (bad 4) (omega arith)
 
-  pub word-scan : (t : List ℕ) (x : Words) (i : ℕ) → drop i s ≡ t → scan-at s (C x) n k i ≡ Landed s d w n k i (reach x t)
+  -- the values of the words are taken
+  abbrev Known : Reach → Type 0
+  Known (got b m) = monitor X (w b) ≡ seen (Y b)
+  Known (lost m) = Unit {0}
+
+  known-more : (r : Reach) → Known (one-more r) → Known r
+  known-more (got b m) h = h
+  known-more (lost m) h = tt
+
+  pub word-scan : (t : List ℕ) (x : Words) (i : ℕ) → drop i s ≡ t → Known (reach x t)
+      → scan-at s (C x) X n k i ≡ Landed s d w Y n k i (reach x t)
   unfolding reach
-  word-scan [] x i q =
+  word-scan [] x i q u =
       let h : length s ≤ i = omega (arith, ap length q, length-drop i s) in
-      scan-end s (C x) n k i h ∙ rw (f .calm x) (ap (bad 4) (omega arith))
-  word-scan (b ∷ t) x i q =
+      scan-end s (C x) X n k i h ∙ rw (f .calm x) (ap (bad 4) (omega arith))
+  word-scan (b ∷ t) x i q u =
       let h : i < length s = omega (arith, ap length q, length-drop i s) in
       let z : getD s i 0 ∷ drop (suc i) s ≡ b ∷ t = sym (drop-cons s i 0 h) ∙ q in
-      let u : getD s i 0 ≡ b = cc in
+      let a : getD s i 0 ≡ b = cc in
       let v : drop (suc i) s ≡ t = cc in
-      go h (follow x b) (ap (step true (C x)) u ∙ f .next x b) (λ y. word-scan t y (suc i) v)
+      go h (follow x b) (ap (step true (C x)) a ∙ f .next x b) u (λ y. word-scan t y (suc i) v)
     where
       go : i < length s → (r : Found) → step true (C x) (getD s i 0) ≡ word-step r (λ k. move d (w k)) (λ y. to (C y))
-          → ((y : Words) → scan-at s (C y) n k (suc i) ≡ Landed s d w n k (suc i) (reach y t))
-          → scan-at s (C x) n k i ≡ Landed s d w n k i (reached r (λ y. reach y t))
-      go h no-word a g = scan-stuck s (C x) n k i h a ∙ ap (bad 4) (omega arith)
-      go h (whole v) a g =
-          scan-next s (C x) n k i h d (w v) a (omega (arith, f .no-node v)) (e v)
-          ∙ ap₂ (λ (m j : ℕ). scan-at s d m (tail k (w v)) j) (omega (arith, f .no-node v)) (omega arith)
-      go h (begun y) a g =
-          scan-quiet s (C x) n i h (C y) a k (o y) ∙ ap (λ (j : ℕ). scan-at s (C y) n k j) (add-one i) ∙ g y ∙ landed-more i (reach y t)
+          → Known (reached r (λ y. reach y t))
+          → ((y : Words) → Known (reach y t) → scan-at s (C y) X n k (suc i) ≡ Landed s d w Y n k (suc i) (reach y t))
+          → scan-at s (C x) X n k i ≡ Landed s d w Y n k i (reached r (λ y. reach y t))
+      go h no-word a u g = scan-stuck s (C x) X n k i h a ∙ ap (bad 4) (omega arith)
+      go h (whole v) a u g =
+          scan-next s (C x) X n k i h d (w v) (Y v) a u (omega (arith, f .no-node v)) (e v)
+          ∙ ap₂ (λ (m j : ℕ). scan-at s d (Y v) m (tail k (w v)) j) (omega (arith, f .no-node v)) (omega arith)
+      go h (begun y) a u g =
+          scan-quiet s (C x) n i h (C y) a X rest k (o y) ∙ ap (λ (j : ℕ). scan-at s (C y) X n k j) (add-one i)
+          ∙ g y (known-more (reach y t) u) ∙ landed-more i (reach y t)

@@ -9,19 +9,29 @@ use lib.ListN.{length, take, drop, getD, length-drop}
 use lib.Seq.{take-all, take-suc, drop-cons}
 use borrow.Author.Tests.{leb-true, leb-false, ltb-true, ltb-false, eqb-true, eqb-false}
 use Rattle.tree.specs.Content.{content-limit}
+use Rattle.tree.specs.Spelling.{Spelling, whole}
+use Rattle.tree.specs.Laws.Spelling.{completable-before}
 use Rattle.xml.specs.Shape.{Shape, size, longest}
 use Rattle.xml.specs.Grammar.{Spells}
 use Rattle.xml.specs.Reading.{input-limit, Viable, LongContent, ManyNodes, FirstForced, opener, node-offset, FaultWithin, wrong-byte}
 use Rattle.xml.specs.Reading.{too-soon, too-long, long-content, many-nodes, Earlier}
-use Rattle.xml.specs.Laws.Automaton.{Config, at-start, epilog, Event, Move, stuck, move, step, Reads, stay, on, tell}
+use Rattle.xml.specs.Laws.Automaton.{Config, at-start, epilog, Event, Move, stuck, move, step, Reads, on, tell}
+use Rattle.xml.specs.Laws.Transitions.{step-is}
 use Rattle.xml.specs.Laws.Sound.{sound}
 use Rattle.xml.specs.Laws.Complete.{complete}
 use Rattle.xml.specs.Laws.Unique.{one-run}
 use Rattle.xml.specs.Laws.Counts.{births, tail, peak, births-append, tail-append, peak-append, size-told, longest-told}
 use Rattle.xml.specs.Laws.Phases.{phase, is-over, over-epilog}
-use Rattle.xml.specs.Laws.Completions.{join, cut, read-viable, viable-read}
+use Rattle.xml.specs.Laws.Monitor as monitor
+use Rattle.xml.specs.Laws.Monitor.{Monitor, Seen, unspelled, seen, monitor}
+use Rattle.xml.specs.Laws.Monitored.{not-seen, seen-spelled}
+use Rattle.xml.specs.Laws.Invariant.{step-invariant}
+use Rattle.xml.specs.Laws.Strict.{Strict, strict-stay, strict-on, strict-reads, strict-seen, strict-invariant, strict-join}
+use Rattle.xml.specs.Laws.Strict.{strict-cut}
+use Rattle.xml.specs.Laws.Strict.{initial, viable-strict, strict-viable, strict-same}
 use Rattle.xml.specs.Laws.Forces.{extent, many-forced, long-forced, few-free, short-free}
-use Rattle.xml.specs.Laws.Judge.{Verdict, fine, bad, weighed, judge-move, judge, byte-before, offset-before, offset-at, judgement}
+use Rattle.xml.specs.Laws.Judge.{Verdict, fine, bad, weighed, if-seen, judge-move, judge, byte-before, offset-before, offset-at}
+use Rattle.xml.specs.Laws.Judge.{judgement}
 
 data Order (a b : ℕ) : Type 0 where
   less : a < b → Order a b
@@ -46,13 +56,13 @@ offset-least s i (suc j) h = go (opener (getD s j 0))
 
 module _ (limit : ℕ) where
   -- the first i bytes are read, within the limits
-  record Within (s : List ℕ) (i : ℕ) (c : Config) (v : List Event) : Type 0 where
-    reads : Reads true at-start (take i s) v c
+  record Within (s : List ℕ) (i : ℕ) (c : Config) (x : Spelling) (v : List Event) : Type 0 where
+    strictly : Strict at-start initial (take i s) v c x
     few : suc (births v) ≤ limit
     short : extent 0 v c ≤ content-limit
 
   abbrev Clean : List ℕ → ℕ → Type 0
-  Clean s i = (j : ℕ) → j ≤ i → (c : Config) × (v : List Event) × Within s j c v
+  Clean s i = (j : ℕ) → j ≤ i → (c : Config) × (x : Spelling) × (v : List Event) × Within s j c x v
 
   -- a fault of an input whose first i bytes are within the limits
   data Later (s : List ℕ) (i : ℕ) : ℕ → ℕ → Type 0 where
@@ -70,7 +80,7 @@ module _ (limit : ℕ) where
         go : Order i j → Later s i 4 j
         go (less k) = after {c = 4} (omega arith) k
         go (equal k) = subst (λ (n : ℕ). Later s i 4 n) k (at-wrong (subst (λ (n : ℕ). ¬ (Viable (take (suc n) s))) (sym k) b))
-        go (greater k) = absurd (b (read-viable (clean (suc j) k .2 .reads)))
+        go (greater k) = absurd (b (strict-viable (clean (suc j) k .3 .strictly)))
     later (too-soon a b) = go (order i (length s))
       where
         go : Order i (length s) → Later s i 4 (length s)
@@ -88,13 +98,13 @@ module _ (limit : ℕ) where
         go : Order i j → Later s i 5 j
         go (less k) = after {c = 5} (omega arith) k
         go (equal k) = subst (λ (n : ℕ). Later s i 5 n) k (at-long (subst (FirstForced LongContent s) (sym k) h))
-        go (greater k) = let x = clean (suc j) k .2 in absurd (short-free (x .reads) (x .short) (h .forced))
+        go (greater k) = let x = clean (suc j) k .3 in absurd (short-free (strict-reads (x .strictly)) (x .short) (h .forced))
     later (many-nodes {i = j} h) = go (order i j)
       where
         go : Order i j → Later s i 6 (node-offset s j)
         go (less k) = not-before (offset-least s i j k)
         go (equal k) = subst (λ (n : ℕ). Later s i 6 (node-offset s n)) k (at-many (subst (FirstForced (ManyNodes limit) s) (sym k) h))
-        go (greater k) = let x = clean (suc j) k .2 in absurd (few-free (x .reads) some (x .few) (h .forced))
+        go (greater k) = let x = clean (suc j) k .3 in absurd (few-free (strict-reads (x .strictly)) some (x .few) (h .forced))
 
   -- a fault that no other comes before
   abbrev pub Reported : List ℕ → ℕ → ℕ → Type 0
@@ -156,26 +166,31 @@ module _ (limit : ℕ) where
 
   module _ (s : List ℕ) (i : ℕ) (l : i ≤ length s) (m : i ≤ input-limit) (clean : Clean s i) (some : 2 ≤ limit) where
     none-before : {c j : ℕ} → length s ≤ i → (f : Shape) → Spells s f → FaultWithin limit s c j → ⊥
-    none-before h f x (wrong-byte {i = j} k a b) = b (read-viable (clean (suc j) (omega arith) .2 .reads))
+    none-before h f x (wrong-byte {i = j} k a b) = b (strict-viable (clean (suc j) (omega arith) .3 .strictly))
     none-before h f x (too-soon a b) = b f x
     none-before h f x (too-long k) = omega arith
     none-before h f x (long-content {i = j} k) =
-        let y = clean (suc j) (omega (arith, k .inside)) .2 in short-free (y .reads) (y .short) (k .forced)
+        let y = clean (suc j) (omega (arith, k .inside)) .3 in short-free (strict-reads (y .strictly)) (y .short) (k .forced)
     none-before h f x (many-nodes {i = j} k) =
-        let y = clean (suc j) (omega (arith, k .inside)) .2 in few-free (y .reads) some (y .few) (k .forced)
+        let y = clean (suc j) (omega (arith, k .inside)) .3 in few-free (strict-reads (y .strictly)) some (y .few) (k .forced)
 
-    module _ (c : Config) (v : List Event) (w : Within s i c v) where
+    module _ (c : Config) (x : Spelling) (v : List Event) (w : Within s i c x v) where
       ended : length s ≤ i → Means s (cond (is-over (phase c)) (fine (limit - suc (births v))) (bad 4 i))
       ended h = go (is-over (phase c)) refl
         where
-          run : Reads true at-start s v c
-          run = subst (λ (p : List ℕ). Reads true at-start p v c) (take-all i s h) (w .reads)
+          run : Strict at-start initial s v c x
+          run = subst (λ (p : List ℕ). Strict at-start initial p v c x) (take-all i s h) (w .strictly)
 
           spelled : c ≡ epilog → (f : Shape) × Spells s f × (v ≡ tell 1 f [])
-          spelled e = sound (subst (λ (d : Config). Reads true at-start s v d) e run)
+          spelled e =
+              let r = subst (λ (d : Config). Strict at-start initial s v d x) e run in
+              let y = sound (strict-reads r) in
+              let rest : whole x ≡ true = strict-invariant r refl (completable-before _ _) .0 in
+              (y .0, (y .1, seen-spelled (y .1) initial (rw (y .2) at (strict-seen run)) rest), y .2)
 
           not-spelled : is-over (phase c) ≡ false → (f : Shape) → Spells s f → ⊥
-          not-spelled e f x = false≢true (sym e ∙ ap (λ (d : Config). is-over (phase d)) (one-run run (complete x) .1))
+          not-spelled e f y =
+              false≢true (sym e ∙ ap (λ (d : Config). is-over (phase d)) (one-run (strict-reads run) (complete (y .0)) .1))
 
           go : (t : Bool) → is-over (phase c) ≡ t → Means s (cond t (fine (limit - suc (births v))) (bad 4 i))
           go true e =
@@ -190,7 +205,7 @@ module _ (limit : ℕ) where
               }
           go false e =
               let p : length s ≡ i = omega arith in (
-                subst (FaultWithin limit s 4) p (too-soon (read-viable run) (not-spelled e)),
+                subst (FaultWithin limit s 4) p (too-soon (strict-viable run) (not-spelled e)),
                 λ c′ i′ x. four-first (later s i l m clean some x) (λ y. absurd (omega (arith, y .inside))),
               )
 
@@ -203,29 +218,41 @@ module _ (limit : ℕ) where
         next-take : take (suc i) s ≡ take i s ++ (here ∷ [])
         next-take = take-suc s i 0 inside
 
-        -- no transition
-        no-step : step true c here ≡ stuck → Reported s 4 i
+        -- no transition, or no character that goes on so
+        abbrev Taken : Type 0
+        Taken = (d : Config) × (e : List Event) × (y : Spelling) × (step true c here ≡ move d e)
+            × (monitor (monitor.on x) e ≡ seen (monitor.on y))
+
+        no-step : (Taken → ⊥) → Reported s 4 i
         no-step h = (
-          wrong-byte inside (read-viable (w .reads)) dead,
-          λ c′ i′ x. four-first (later s i l m clean some x)
+          wrong-byte inside (strict-viable (w .strictly)) dead,
+          λ c′ i′ z. four-first (later s i l m clean some z)
               (λ y. absurd (dead (y .viable))),
         )
           where
-            moves : {d a : Config} {v′ : List Event} → c ≡ d → Reads true d (here ∷ []) v′ a → ⊥
-            moves e (on k r) = let z : _≡_ {A = ℕ} 0 1 = cc in omega arith
+            moves : {d a : Config} {y z : Spelling} {v′ : List Event} → c ≡ d → x ≡ y → Strict d y (here ∷ []) v′ a z → ⊥
+            moves {d = d} {y = y} e f (strict-on {d = b} {y = z} {v = u} k o r) =
+                h (b, u, z, ap (λ (q : Config). step true q here) e ∙ k, ap (λ (q : Spelling). monitor (monitor.on q) u) f ∙ o)
 
             dead : ¬ (Viable (take (suc i) s))
-            dead x =
-                let y = viable-read (take (suc i) s) x in
-                let z = cut (take i s) (here ∷ []) (subst (λ (p : List ℕ). Reads true at-start p (y .1) (y .0)) next-take (y .2)) in
-                moves (one-run (w .reads) (z .first-part) .1) (z .second-part)
+            dead n =
+                let y = viable-strict (take (suc i) s) n in
+                let z = strict-cut (take i s) (here ∷ [])
+                (subst (λ (p : List ℕ). Strict at-start initial p (y .1) (y .0) (y .2)) next-take (y .3)) in
+                let o = strict-same (w .strictly) (z .first-part) in
+                moves (o .0) (o .1) (z .second-part)
 
-        module _ (d : Config) (e : List Event) (h : step true c here ≡ move d e) where
-          reads-next : Reads true at-start (take (suc i) s) (v ++ e) d
-          reads-next =
+        module _ (d : Config) (e : List Event) (z : Spelling) (h : step true c here ≡ move d e)
+            (k : monitor (monitor.on x) e ≡ seen (monitor.on z)) where
+          strict-next : Strict at-start initial (take (suc i) s) (v ++ e) d z
+          strict-next =
               let q : e ++ [] ≡ e = append-nil e in
-              subst (λ (p : List ℕ). Reads true at-start p (v ++ e) d) (sym next-take)
-              (subst (λ (x : List Event). Reads true at-start (take i s ++ (here ∷ [])) (v ++ x) d) q (join (w .reads) (on h stay)))
+              subst (λ (p : List ℕ). Strict at-start initial p (v ++ e) d z) (sym next-take)
+              (subst (λ (y : List Event). Strict at-start initial (take i s ++ (here ∷ [])) (v ++ y) d z) q
+              (strict-join (w .strictly) (strict-on h k strict-stay)))
+
+          reads-next : Reads true at-start (take (suc i) s) (v ++ e) d
+          reads-next = strict-reads strict-next
 
           abbrev nodes : ℕ
           nodes = suc (births v) + births e
@@ -243,23 +270,23 @@ module _ (limit : ℕ) where
           extent-next : extent 0 (v ++ e) d ≡ max (peak 0 v) (extent (tail 0 v) e d)
           extent-next = omega (arith, peak-append 0 v e, tail-append 0 v e)
 
-          within-next : nodes ≤ limit → extent (tail 0 v) e d ≤ content-limit → Within s (suc i) d (v ++ e)
-          within-next a b = record { reads = reads-next; few = omega (arith, nodes-next); short = omega (arith, extent-next, w .short) }
+          within-next : nodes ≤ limit → extent (tail 0 v) e d ≤ content-limit → Within s (suc i) d z (v ++ e)
+          within-next a b = record { strictly = strict-next; few = omega (arith, nodes-next); short = omega (arith, extent-next, w .short) }
 
           first-many : limit < nodes → FirstForced (ManyNodes limit) s i
           first-many k = record {
             inside = inside;
-            viable = read-viable reads-next;
+            viable = strict-viable strict-next;
             forced = many-forced reads-next (omega (arith, nodes-next));
-            not-before = few-free (w .reads) some (w .few);
+            not-before = few-free (strict-reads (w .strictly)) some (w .few);
           }
 
           first-long : content-limit < extent (tail 0 v) e d → FirstForced LongContent s i
           first-long k = record {
             inside = inside;
-            viable = read-viable reads-next;
+            viable = strict-viable strict-next;
             forced = long-forced reads-next (omega (arith, extent-next));
-            not-before = short-free (w .reads) (w .short);
+            not-before = short-free (strict-reads (w .strictly)) (w .short);
           }
 
           -- a node too many is not certain, or begins here
@@ -279,10 +306,10 @@ module _ (limit : ℕ) where
               → (FirstForced (ManyNodes limit) s i → i ≤ node-offset s i) → Reported s 5 i
           long-here k x f = (
             long-content (first-long (ltb-true content-limit (extent (tail 0 v) e d) k)),
-            λ c′ i′ z. five-first (read-viable reads-next) inside x (later s i l m clean some z) f,
+            λ c′ i′ z. five-first (strict-viable strict-next) inside x (later s i l m clean some z) f,
           )
 
-          stepped : (further : Verdict) → (Within s (suc i) d (v ++ e) → i < input-limit → Means s further)
+          stepped : (further : Verdict) → (Within s (suc i) d z (v ++ e) → i < input-limit → Means s further)
               → Means s (weighed (byte-before s i) i (ltb left (births e)) (extent (tail 0 v) e d) further)
           stepped further f =
               go (ltb left (births e)) refl (opener (byte-before s i)) refl (leb input-limit i) refl
@@ -300,7 +327,7 @@ module _ (limit : ℕ) where
               go true a false b false g true k = long-here k (leb-false input-limit i g) (many-here true false a b refl)
               go true a false b false g false k = (
                 subst (FaultWithin limit s 6) (offset-at s i b) (many-nodes (first-many (omega (arith, ltb-true left (births e) a)))),
-                λ c′ i′ z. six-first (read-viable reads-next) inside (leb-false input-limit i g) (later s i l m clean some z)
+                λ c′ i′ z. six-first (strict-viable strict-next) inside (leb-false input-limit i g) (later s i l m clean some z)
                     (λ x. short-free reads-next (omega (arith, extent-next, ltb-false content-limit (extent (tail 0 v) e d) k, w .short))
                     (x .forced))
                     (many-here true false a b refl),
@@ -313,41 +340,68 @@ module _ (limit : ℕ) where
 
   -- the whole ------------------------------------------------------------------------------
 
-  clean-next : (s : List ℕ) (i : ℕ) (c : Config) (v : List Event) → Clean s i → Within s (suc i) c v → Clean s (suc i)
-  clean-next s i c v clean w j h = go (order j (suc i))
+  stuck-moves : {d : Config} {e : List Event} → stuck ≡ move d e → ⊥
+  stuck-moves h = let z : _≡_ {A = ℕ} 0 1 = cc in omega arith
+
+  same-events : {c d : Config} {u v : List Event} → move c u ≡ move d v → u ≡ v
+  same-events h = cc
+
+  clean-next : (s : List ℕ) (i : ℕ) (c : Config) (x : Spelling) (v : List Event) → Clean s i → Within s (suc i) c x v → Clean s (suc i)
+  clean-next s i c x v clean w j h = go (order j (suc i))
     where
-      go : Order j (suc i) → (c : Config) × (v : List Event) × Within s j c v
+      go : Order j (suc i) → (c : Config) × (x : Spelling) × (v : List Event) × Within s j c x v
       go (less k) = clean j (omega arith)
-      go (equal k) = (c, v, rw k w)
+      go (equal k) = (c, x, v, rw k w)
       go (greater k) = absurd (omega arith)
 
   module _ (some : 2 ≤ limit) where
-    judged : (s l : List ℕ) (i : ℕ) → drop i s ≡ l → i ≤ length s → i ≤ input-limit → Clean s i → (c : Config) (v : List Event)
-        → Within s i c v
-        → Means s (judge c (limit - suc (births v)) (tail 0 v) (byte-before s i) i l)
+    judged : (s l : List ℕ) (i : ℕ) → drop i s ≡ l → i ≤ length s → i ≤ input-limit → Clean s i
+        → (c : Config) (x : Spelling) (v : List Event)
+        → Within s i c x v
+        → Means s (judge c (monitor.on x) (limit - suc (births v)) (tail 0 v) (byte-before s i) i l)
     unfolding judge
-    judged s [] i p a m clean c v w = ended s i a m clean some c v w (omega (arith, ap length p, length-drop i s))
-    judged s (b ∷ l) i p a m clean c v w =
+    judged s [] i p a m clean c x v w = ended s i a m clean some c x v w (omega (arith, ap length p, length-drop i s))
+    judged s (b ∷ l) i p a m clean c x v w =
         let inside : i < length s = omega (arith, ap length p, length-drop i s) in
         let q : b ∷ l ≡ getD s i 0 ∷ drop (suc i) s = sym p ∙ drop-cons s i 0 inside in
         let e : b ≡ getD s i 0 = cc in
         let r : drop (suc i) s ≡ l = cc in
-        rw e (go inside (step true c (getD s i 0)) refl (λ d v′ w′ m′. judged s l (suc i) r (omega arith) m′ (clean-next s i d v′ clean w′)
-        d v′ w′))
+        rw e (go inside (step true c (getD s i 0)) refl
+        (λ d y v′ w′ m′. judged s l (suc i) r (omega arith) m′ (clean-next s i d y v′ clean w′) d y v′ w′))
       where
-        go : i < length s → (x : Move) → step true c (getD s i 0) ≡ x
-            → ((d : Config) (v′ : List Event) → Within s (suc i) d v′ → suc i ≤ input-limit
-            → Means s (judge d (limit - suc (births v′)) (tail 0 v′) (getD s i 0) (suc i) l))
-            → Means s (judge-move x (limit - suc (births v)) (tail 0 v) (byte-before s i) i (λ d n j. judge d n j (getD s i 0) (suc i) l))
-        go inside stuck h f = no-step s i a m clean some c v w inside h
-        go inside (move d e) h f =
-            stepped s i a m clean some c v w inside d e h (judge d (limit - suc (births v) - births e) (tail (tail 0 v) e) (getD s i 0)
-            (suc i) l)
-            (λ w′ m′. rw (left-next s i a m clean some c v w inside d e h, tail-append 0 v e) at (f d (v ++ e) w′ m′))
+        -- what a byte leads to
+        On : Type 0
+        On = (d : Config) (y : Spelling) (v′ : List Event) → Within s (suc i) d y v′ → suc i ≤ input-limit
+            → Means s (judge d (monitor.on y) (limit - suc (births v′)) (tail 0 v′) (getD s i 0) (suc i) l)
+
+        further : Config → List Event → Monitor → Verdict
+        further d e y = judge d y (limit - suc (births v) - births e) (tail (tail 0 v) e) (getD s i 0) (suc i) l
+
+        taken : i < length s → (d : Config) (e : List Event) → step true c (getD s i 0) ≡ move d e → (q : Seen)
+            → monitor (monitor.on x) e ≡ q → On
+            → Means s (if-seen q i (λ y. weighed (byte-before s i) i (ltb (limit - suc (births v)) (births e)) (extent (tail 0 v) e d)
+            (further d e y)))
+        taken inside d e h unspelled k f =
+            no-step s i a m clean some c x v w inside
+            (λ t. let o = same-events (sym h ∙ t .3) in not-seen (sym k ∙ ap (monitor (monitor.on x)) o ∙ t .4))
+        taken inside d e h (seen y) k f =
+            let n = step-invariant (step-is h) x (strict-invariant (w .strictly) refl (completable-before _ _) .0) k in
+            let z = n .after in
+            let o : monitor (monitor.on x) e ≡ seen (monitor.on z) = k ∙ ap seen (n .is) in
+            rw (n .is)
+            (stepped s i a m clean some c x v w inside d e z h o (further d e (monitor.on z))
+            (λ w′ m′. rw (left-next s i a m clean some c x v w inside d e z h o, tail-append 0 v e) at (f d z (v ++ e) w′ m′)))
+
+        go : i < length s → (q : Move) → step true c (getD s i 0) ≡ q → On
+            → Means s (judge-move q (monitor.on x) (limit - suc (births v)) (tail 0 v) (byte-before s i) i
+            (λ d y n j. judge d y n j (getD s i 0) (suc i) l))
+        go inside stuck h f = no-step s i a m clean some c x v w inside (λ t. stuck-moves (sym h ∙ t .3))
+        go inside (move d e) h f = taken inside d e h (monitor (monitor.on x) e) refl f
 
     -- THE THEOREM: what is judged is the earliest fault, or that there is none
     pub judgement-means : (s : List ℕ) → Means s (judgement limit s)
     unfolding judgement births tail peak
     judgement-means s =
-        let w : Within s 0 at-start [] = record { reads = stay; few = omega arith; short = omega arith } in
-        judged s s 0 refl (omega arith) (omega arith) (λ j h. let z : j ≡ 0 = omega arith in (at-start, [], rw z w)) at-start [] w
+        let w : Within s 0 at-start initial [] = record { strictly = strict-stay; few = omega arith; short = omega arith } in
+        judged s s 0 refl (omega arith) (omega arith) (λ j h. let z : j ≡ 0 = omega arith in
+        (at-start, initial, [], rw z w)) at-start initial [] w

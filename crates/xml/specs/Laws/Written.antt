@@ -1,6 +1,6 @@
 -- What is written is of the grammar, and spells the tree that was written.
 use Prim.Native.Nat.{ℕ}
-use mathlib.Core.Path.{_≡_, refl, sym, subst}
+use mathlib.Core.Path.{_≡_, refl, sym, subst, _∙_}
 use mathlib.Core.Bool.{Bool, true, false, cond, _&&_, false≢true}
 use mathlib.Core.List.{List, [], _∷_, _++_, append-assoc}
 use lib.Dec.{eqb}
@@ -8,7 +8,9 @@ use borrow.Author.Tests.{eqb-true}
 use Rattle.tree.specs.Text.{bytes}
 use Rattle.tree.specs.Lists.{every}
 use Rattle.tree.specs.Forest.{node}
-use Rattle.tree.specs.Content.{name-start, name-byte, text-byte, spells-name}
+use Rattle.tree.specs.Content.{name-byte, text-byte, spells-name}
+use Rattle.tree.specs.Laws.Spelling.{no-empty, text-bytes}
+use Rattle.tree.specs.Laws.Spelling as spelling
 use Rattle.xml.specs.Bytes.{tab, line-feed, space, less-than, greater-than, ampersand, quotation-mark, equals-sign, blank, used}
 use Rattle.xml.specs.Bytes.{double, value-literal, normalized, text-literal, brackets, amp, gt, lt, quot, tab-reference}
 use Rattle.xml.specs.Bytes.{line-feed-reference, long-declaration}
@@ -22,14 +24,20 @@ use Rattle.xml.specs.Writing.{escape, escaped, value, childless, content
 use Rattle.xml.specs.Writing as writing
 use Rattle.xml.specs.Laws.Structure.{Spot, attributes, children, behind-text, Formed, formed-nil, formed-attribute, formed-text}
 use Rattle.xml.specs.Laws.Structure.{formed-element, no-text, no-attribute, FormedRoot, formed-root, left-of, right-of}
+use Rattle.xml.specs.Laws.Structure.{spells-value, root-spelled}
 
 name-bytes : (r t : List ℕ) → every name-byte r ≡ true → NameBytes r (r ++ t) t
 name-bytes [] t h = no-name-byte
 name-bytes (b ∷ r) t h = name-byte-then (left-of (name-byte b) _ h) (name-bytes r t (right-of (name-byte b) _ h))
 
 named : (n t : List ℕ) → spells-name n ≡ true → Named n (n ++ t) t
-named [] t h = absurd (false≢true h)
-named (b ∷ r) t h = name (left-of (name-start b) _ h) (name-bytes r t (right-of (name-start b) _ h))
+named [] t h = absurd (false≢true (sym (no-empty .0) ∙ h))
+named (b ∷ r) t h = let x = spelling.name-bytes b r h in name (x .0) (name-bytes r t (x .1))
+
+-- the bytes of a text or a value
+value-bytes : (c : List ℕ) → spells-value c ≡ true → every text-byte c ≡ true
+value-bytes [] h = refl
+value-bytes (b ∷ c) h = text-bytes (b ∷ c) h
 
 -- an escaped byte, by those that are written as references
 escape-cases : (P : List ℕ → Type 0) (v : Bool) (b : ℕ) → (b ≡ ampersand → P (ampersand ∷ amp)) → (b ≡ less-than → P (ampersand ∷ lt))
@@ -142,7 +150,7 @@ value-of (b ∷ c) = refl
 
 -- an attribute, then l and x
 attribute-written : (n a : Name) (seen : List Name) (c l x t : List ℕ) (f : Shape) → spells-name a ≡ true → used seen a ≡ false
-    → every text-byte c ≡ true
+    → spells-value c ≡ true
     → Derives true (unspaced n (a ∷ seen)) (l ++ x) f t
     → Derives true (unspaced n seen) ((bytes " " ++ (a ++ (bytes "=\"" ++ (value (text-node c) ++ (bytes "\"" ++ l))))) ++ x)
     (node (attribute a) (text-node c) f) t
@@ -150,7 +158,8 @@ unfolding blank
 attribute-written n a seen c l x t f i h k p =
     let q = append-assoc a (equals-sign ∷ quotation-mark ∷ (escaped true c ++ (quotation-mark ∷ l))) x in
     let r = append-assoc (escaped true c) (quotation-mark ∷ l) x in
-    rw (value-of c, q, r) (spacing refl (derive-attribute double (named a _ i) h no-blank no-blank (value-written c (l ++ x) k) p))
+    rw (value-of c, q, r) (spacing refl (derive-attribute double (named a _ i) h no-blank no-blank (value-written c (l ++ x)
+    (value-bytes c k)) p))
 
 written : {p : Spot} {f : Shape} (n : Name) (t : List ℕ) → Formed p f → Good p n f t
 unfolding writing.attributes contents
@@ -161,7 +170,8 @@ written n t (formed-attribute {seen = seen} {a = a} c {f = f} i h k r) =
     attribute-written n a seen c (writing.attributes f) (ending n f ++ t) t f i h k (written n t r)
 written n t (formed-text {b = b} {c = c} {f = f} h r) =
     let x = written n t r in
-    rw (append-assoc (escaped false (b ∷ c)) (contents f) (close n t), x .1) (derive-text (text-written 0 (b ∷ c) (x .0) h) (x .2))
+    rw (append-assoc (escaped false (b ∷ c)) (contents f) (close n t), x .1) (derive-text (text-written 0 (b ∷ c) (x .0) (text-bytes
+    (b ∷ c) h)) (x .2))
 written n t (formed-element {m = m} {g = g} {f = f} i h r) =
     let later : List ℕ = contents f ++ close n t in
     let p = append-assoc m (writing.attributes g ++ (ending m g ++ contents f)) (close n t) in
@@ -180,4 +190,4 @@ written-root (formed-root {n = n} {f = f} i r) b =
 
 pub written-spells : {f : Shape} → FormedRoot f → Spells (long-declaration ++ (line-feed ∷ contents f)) f
 unfolding blank
-written-spells r = declared-long (written-root r (blank-then refl no-blank))
+written-spells r = (declared-long (written-root r (blank-then refl no-blank)), root-spelled r)

@@ -16,6 +16,7 @@ use Rattle.xml.specs.Laws.Words.{Words, references}
 use Rattle.xml.specs.Laws.Automaton.{Config, Event, born, byte, step, tell-bytes}
 use Rattle.xml.specs.Laws.Complete.{Accepts}
 use Rattle.xml.specs.Laws.Counts.{births, tail, peak, peak-bytes}
+use Rattle.xml.specs.Laws.Monitor.{off, monitor-off}
 use Rattle.xml.specs.Laws.Judge.{bad}
 use Rattle.xml.specs.Laws.Scan.{scan-at}
 use Rattle.xml.specs.Laws.Goes.{scan-full}
@@ -135,16 +136,19 @@ module _ (x : List ℕ) (stop at i n : ℕ) (b : List ℕ) (g : Decoding x stop 
               more = ap (peak 0) (y .tells) ∙ peak-bytes 0 (take n b) (y .later)
                   ∙ ap (λ (j : ℕ). peak j (y .later)) (omega (arith, length-take-le n b (omega arith)))
 
-              go : (t : Bool) → eqb (getD x i 0) ampersand ≡ t → scan-at x (C (y .k)) (births (y .later)) content-limit i ≡ bad 5 i
+              go : (t : Bool) → eqb (getD x i 0) ampersand ≡ t → scan-at x (C (y .k)) off (births (y .later)) content-limit i ≡ bad 5 i
               go true p =
                   scan-full x (C (y .k)) (births (y .later)) i h (R references) []
-                  (ap (step true (C (y .k))) (eqb-true (getD x i 0) ampersand p) ∙ q .refers-to (y .k)) refl content-limit
+                  (ap (step true (C (y .k))) (eqb-true (getD x i 0) ampersand p)
+                  ∙ q .refers-to (y .k)) off off (monitor-off []) refl content-limit
                   (omega (arith, q .due references))
               go false p =
                   let a = getD x i 0 in
                   let o = eqb-false a ampersand p in
                   scan-full x (C (y .k)) (births (y .later)) i h (C (brackets (y .k) a)) (byte (reads-as stop a) ∷ [])
-                  (q .plainly (y .k) a other (itself q (y .k) o (y .rest))) refl content-limit (omega arith)
+                  (q .plainly (y .k) a other (itself q (y .k) o (y .rest))) off off (monitor-off (byte
+                  (reads-as stop a) ∷ [])) refl content-limit
+                  (omega arith)
 
       -- a reference that goes wrong
       pub decode-lost : (c : Cursor) {j : ℕ} → getD x i 0 ≡ ampersand → Refers x (i + 1) (reference-at (drop (i + 1) x)) (NoReference j)

@@ -19,7 +19,8 @@ use Rattle.xml.specs.Laws.Tokens.{span, span-behind, name-at}
 use Rattle.xml.specs.Laws.Tells.{tells-step}
 use Rattle.xml.specs.Laws.Behind.{part-fresh, equals-fresh, some-byte, name-told, tag-name-ended, attribute-name-ended}
 use Rattle.xml_reader.specs.Steps.{Run}
-use Rattle.xml_reader.specs.Laws.Attributes.{start-name, naming}
+use Rattle.xml_reader.specs.Laws.Attributes.{naming}
+use Rattle.xml_reader.specs.Laws.Letters.{start-name}
 use Rattle.xml_reader.specs.Laws.StartTags.{tag-naming}
 use Rattle.xml_load.specs.Fill.{Row, told, Short, Spelled, InTag, AtAttribute, AtEquals, AtElement, Filling, Put}
 use Rattle.xml_load.specs.Laws.Rows.{split-rows}

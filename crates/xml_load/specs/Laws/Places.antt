@@ -1,7 +1,7 @@
 -- From one place of the reading to the next.
 use Prim.Native.Nat.{ℕ, suc, _+_, _-_, _≤_, _<_}
 use mathlib.Core.Path.{_≡_, refl, sym, ap, subst, _∙_}
-use mathlib.Core.Bool.{true}
+use mathlib.Core.Bool.{true, false}
 use mathlib.Core.List.{List, [], _∷_}
 use native.Mathlib.Omega.{arith}
 use native.Mathlib.Numerals.{add-one}
@@ -51,7 +51,7 @@ module _ {x s : List ℕ} {at d : ℕ} (F : Filling AtEquals x s at d) where
   B = F .rest
 
   pub unquoted : {j : ℕ} → EqualsRead x at (NoQuote j) → ⊥
-  unquoted (no-quote f) = never F (f (B .name) (B .names) (B .seen)) (B .rest)
+  unquoted (no-quote f) = never F (f false (B .name) (B .names) (B .seen)) (B .rest)
 
   -- what is read behind the quote
   record AtQuote (stop i : ℕ) : Type 0 where
@@ -106,7 +106,7 @@ module _ {x s : List ℕ} {at d : ℕ} (F : Filling InTag x s at d) where
   T = F .rest
 
   pub no-item : {j : ℕ} → ItemRead x at (Wrong j) → ⊥
-  no-item (tag-wrong f) = never F (f (T .name) (T .names) (T .seen)) (T .rest)
+  no-item (tag-wrong f) = never F (f false (T .name) (T .names) (T .seen)) (T .rest)
 
   pub tag-opened : {c : Cursor} → ItemRead x at (Open c) → Filling Behind x s (c .at) d × (at < c .at)
   tag-opened {c} (tag-open a i e f) =
@@ -204,7 +204,7 @@ module _ {x s : List ℕ} {at d : ℕ} (F : Filling AtTag x s at d) where
   G = F .rest
 
   pub no-tag : {j : ℕ} → MarkupRead x at (NoTag j) → ⊥
-  no-tag (markup-wrong f) = never F (f (G .name) (G .names)) (G .rest)
+  no-tag (markup-wrong f) = never F (f false (G .name) (G .names)) (G .rest)
 
   pub open-deep : 1 ≤ d
   unfolding depth
@@ -250,7 +250,7 @@ filled-done {x} {s} {s′} {at} {d} F h k =
     record {
       same = k;
       layout = F .layout;
-      nodes = λ f y. sym (rows-done s′) ∙ w ∙ ap (λ (g : Shape). flat 0 (tree-of (document g))) (one-tree (F .spelled) y);
+      nodes = λ f y. sym (rows-done s′) ∙ w ∙ ap (λ (g : Shape). flat 0 (tree-of (document g))) (one-tree (F .spelled .0) (y .0));
     }
   where
     go : (l : List Row) (ns : List Name) → d ≡ depth ns → Accepts true (closed ns) (drop at x) (told l []) → l ≡ []
@@ -267,7 +267,7 @@ module _ {x s : List ℕ} (b : Begun x s) where
   rows-told = sym (told-listed 1 (b .shape) [] [])
 
   started : Accepts true at-start (drop 0 x) (told (listed 1 (b .shape) []) [])
-  started = rw (← rows-told) (complete (b .spelled))
+  started = rw (← rows-told) (complete (b .spelled .0))
 
   short-rows : Short (listed 1 (b .shape) [])
   unfolding Short
@@ -275,12 +275,12 @@ module _ {x s : List ℕ} (b : Begun x s) where
 
   pub no-root-never : {j : ℕ} → RootRead x at-start 0 (NoRoot j) → ⊥
   no-root-never (no-root f) =
-      not-refused (f (length (listed 1 (b .shape) []))) started (omega (arith, births-told (listed 1 (b .shape) [])))
+      not-refused (f false (length (listed 1 (b .shape) []))) started (omega (arith, births-told (listed 1 (b .shape) [])))
       (peak-told 0 (listed 1 (b .shape) []) (omega arith) short-rows)
 
   pub begin-filling : {c : Cursor} → RootRead x at-start 0 (Root c) → Filling AtElement x s (c .at) 1
   unfolding Spelled depth
-  begin-filling {c} (root-at n f t) =
+  begin-filling {c} (root-at n f g t) =
       let y = t .told _ started in record {
         shape = b .shape;
         spelled = b .spelled;

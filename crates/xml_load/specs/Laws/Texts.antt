@@ -1,7 +1,7 @@
 -- A value or a text put behind the last node; places with rows put, or none.
 use Prim.Native.Nat.{ℕ, _+_, _≤_, _<_}
 use mathlib.Core.Path.{_≡_, refl, sym, ap, subst, _∙_}
-use mathlib.Core.Bool.{true}
+use mathlib.Core.Bool.{true, false}
 use mathlib.Core.List.{List, [], _∷_}
 use native.Mathlib.Omega.{arith}
 use lib.ListN.{length, getD, take, drop, length-append}
@@ -126,5 +126,5 @@ module _ {P : List ℕ → ℕ → ℕ → List Event → Type 0} {x s : List �
   pub short-told : peak 0 (told (F .rows) []) ≤ content-limit
   short-told = peak-told 0 (F .rows) (omega arith) (F .short)
 
-  pub never : {c : Config} {y j : ℕ} → ((n : ℕ) → Leads x c n at (bad y j)) → Accepts true c (drop at x) (told (F .rows) []) → ⊥
+  pub never : {c : Config} {y j : ℕ} → ((n : ℕ) → Leads false x c n at (bad y j)) → Accepts true c (drop at x) (told (F .rows) []) → ⊥
   never f r = not-refused (f (births (told (F .rows) []))) r (omega arith) short-told

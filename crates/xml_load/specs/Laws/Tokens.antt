@@ -70,7 +70,7 @@ module _ (x : List ℕ) (at to : ℕ) (r : Run name-byte x at to) where
 
   pub no-end : {j : ℕ} → CloseRead x to (Mismatch j) → (c : Cursor) → EndsAt x at c
   no-end (close-wrong f) c = record {
-    closes = λ n ns h {e} m a. absurd (not-refused (f n ns (births e)) (name-passed n ns h a) (omega arith) m);
+    closes = λ n ns h {e} m a. absurd (not-refused (f false n ns (births e)) (name-passed n ns h a) (omega arith) m);
   }
 
 -- a node put behind the last

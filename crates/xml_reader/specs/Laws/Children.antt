@@ -9,14 +9,16 @@ use lib.ListN.{length, getD}
 use lib.Dec.{eqb}
 use borrow.Author.Tests.{eqb-true, eqb-false}
 use Rattle.tree.specs.Content.{element-kind, name-start}
+use Rattle.tree.specs.Spelling.{Spelling, broken, spelling, spell, start-of}
 use Rattle.xml.specs.Bytes.{less-than}
 use Rattle.xml.specs.Grammar.{Name}
 use Rattle.xml.specs.Reading.{opener}
 use Rattle.xml.specs.Laws.Automaton.{Config, content, behind-open, tag-name, end-name, closed, born, byte, depth, move, step}
 use Rattle.xml.specs.Laws.Counts.{births, tail, peak}
+use Rattle.xml.specs.Laws.Monitor.{Monitor, on, seen, at-rest, is-on, seen-as, monitor}
 use Rattle.xml.specs.Laws.Judge.{Verdict, bad, byte-before, offset-before}
-use Rattle.xml.specs.Laws.Scan.{scan-at}
-use Rattle.xml.specs.Laws.Goes.{Leads, goes-then, stops-many, scan-born}
+use Rattle.xml.specs.Laws.Scan.{scan-at, scan-unspelled}
+use Rattle.xml.specs.Laws.Goes.{Leads, goes-then, scan-too-many, scan-born}
 use Rattle.xml_reader.specs.declared.Cursor.{Cursor}
 use Rattle.xml_reader.specs.declared.Child.{Child}
 use Rattle.xml_reader.specs.declared.Child.the-variants.{At, Stopped}
@@ -29,6 +31,7 @@ use Rattle.xml_reader.specs.Steps.{TextRead, text-past, text-refused, Ma
 use Rattle.xml_reader.specs.Elements.{stack, name-behind, Placed, Kept, ElementRead, element-opened, element-emptied, element-broken}
 use Rattle.xml_reader.specs.Elements.{EndRead, end-behind, end-mismatch}
 use Rattle.xml_reader.specs.Children.{opened, ending, Behind, Deep, ChildRead, child-at, child-stopped}
+use Rattle.xml_reader.specs.Laws.Spelling.{monitor-name}
 use Rattle.xml_reader.specs.Laws.Contents.{text-contents}
 use Rattle.xml_reader.specs.Laws.StartTags.{stack-same, placed-kept}
 
@@ -65,12 +68,12 @@ module _ (s os : List ℕ) (deep spare at : ℕ) (x : Deep s os deep spare) wher
   ending-is : ending (stack s os 0 deep) ≡ end-name n ns n
   ending-is = ap ending (innermost s os deep (x .some))
 
-  stopped : (os′ : List ℕ) (y j : ℕ) → Leads s (behind-open n ns) spare at (bad y j) → ChildRead s from at spare os′ (Stopped y j)
+  stopped : (os′ : List ℕ) (y j : ℕ) → Leads true s (behind-open n ns) spare at (bad y j) → ChildRead s from at spare os′ (Stopped y j)
   stopped os′ y j l = child-stopped {x = y} {j = j} (rw from-is l)
 
   -- behind a <
   pub tag-none : {j : ℕ} → MarkupRead s at (NoTag j) → ChildRead s from at spare os (Stopped 4 j)
-  tag-none {j} (markup-wrong f) = stopped os 4 j (f n ns spare)
+  tag-none {j} (markup-wrong f) = stopped os 4 j (f true n ns spare)
 
   -- an end tag
   pub tag-ended : {c : Cursor} {r : Child} → MarkupRead s at (EndTag c) → ChildRead s (ending (stack s os 0 deep)) (c .at) spare os r
@@ -103,50 +106,70 @@ module _ (s os : List ℕ) (deep spare at : ℕ) (x : Deep s os deep spare) wher
       unfolding step
       starts = rw e
 
-      pub start-many : Behind s at → spare ≡ 0 → ChildRead s from at spare os (Stopped 6 (at - 1))
-      unfolding births tail peak
-      start-many y l =
-          let p = offset-before s at (before at (y .not-first) (y .opens)) .0 in
-          stopped os 6 (at - 1)
-          (rw p at (stops-many s (behind-open n ns) spare at h (tag-name (n ∷ ns) (b ∷ [])) (depth (n ∷ ns)) element-kind (byte b ∷ [])
-          starts l (omega arith)))
-        where
-          before : (at : ℕ) → 1 ≤ at → getD s (at - 1) 0 ≡ less-than → opener (byte-before s at) ≡ true
-          before zero h o = absurd (omega arith)
-          before (suc i) h o = let p : suc i - 1 ≡ i = omega arith in let q : getD s i 0 ≡ less-than = rw p at o in rw q
+      -- no character begins with it
+      pub start-wrong : spell (start-of false) b ≡ broken → ChildRead s from at spare os (Stopped 4 at)
+      start-wrong q = stopped os 4 at (record {
+        leads = λ w o r k m.
+            scan-unspelled s (behind-open n ns) w spare k at h (tag-name (n ∷ ns) (b ∷ []))
+            (born (depth (n ∷ ns)) element-kind ∷ byte b ∷ []) starts
+            (monitor-name w o r (depth (n ∷ ns)) element-kind b refl ∙ ap seen-as q);
+      })
 
-      module _ (room : 1 ≤ spare) (os′ : List ℕ) (k : Kept deep os os′) where
-        born-to : {v : Verdict} → scan-at s (tag-name (n ∷ ns) (b ∷ [])) (spare - 1) 1 (at + 1) ≡ v → Leads s (behind-open n ns) spare at v
+      module _ {z : Spelling} (q : spell (start-of false) b ≡ spelling z) where
+        first-seen : (w : Monitor) → is-on w ≡ true → at-rest w ≡ true
+            → monitor w (born (depth (n ∷ ns)) element-kind ∷ byte b ∷ []) ≡ seen (on z)
+        first-seen w o r = monitor-name w o r (depth (n ∷ ns)) element-kind b refl ∙ ap seen-as q
+
+        pub start-many : Behind s at → spare ≡ 0 → ChildRead s from at spare os (Stopped 6 (at - 1))
         unfolding births tail peak
-        born-to p = record {
-          leads = λ j m.
-              scan-born s (behind-open n ns) spare at h (tag-name (n ∷ ns) (b ∷ [])) (depth (n ∷ ns)) element-kind (byte b ∷ []) starts refl
-              room j m
-              (omega arith) ∙ p;
-        }
+        start-many y l =
+            let p = offset-before s at (before at (y .not-first) (y .opens)) .0 in
+            stopped os 6 (at - 1) (record {
+              leads = λ w o r k m.
+                  scan-too-many s (behind-open n ns) spare at h (tag-name (n ∷ ns) (b ∷ [])) (depth (n ∷ ns)) element-kind (byte b ∷ [])
+                  starts w (on z) (first-seen w o r) l k m (omega arith)
+                  ∙ ap (bad 6) p;
+            })
+          where
+            before : (at : ℕ) → 1 ≤ at → getD s (at - 1) 0 ≡ less-than → opener (byte-before s at) ≡ true
+            before zero h o = absurd (omega arith)
+            before (suc i) h o = let p : suc i - 1 ≡ i = omega arith in let q : getD s i 0 ≡ less-than = rw p at o in rw q
 
-        -- the names around are those that were there
-        around : n ∷ ns ≡ stack s os′ 0 deep
-        around = sym (innermost s os deep (x .some)) ∙ sym (stack-same s os os′ deep k)
+        module _ (room : 1 ≤ spare) (os′ : List ℕ) (k : Kept deep os os′) where
+          born-to : {v : Verdict} → scan-at s (tag-name (n ∷ ns) (b ∷ [])) (on z) (spare - 1) 1 (at + 1) ≡ v
+              → Leads true s (behind-open n ns) spare at v
+          unfolding births tail peak
+          born-to p = record {
+            leads = λ w o r j m.
+                scan-born s (behind-open n ns) spare at h (tag-name (n ∷ ns) (b ∷ [])) (depth (n ∷ ns)) element-kind (byte b ∷ []) starts
+                w (on z) (first-seen w o r) refl
+                room j m
+                (omega arith) ∙ p;
+          }
 
-        pub start-broken : {y j : ℕ} → ElementRead s at (spare - 1) (Broken y j) → ChildRead s from at spare os′ (Stopped y j)
-        start-broken {y} {j} (element-broken f) = stopped os′ y j (born-to (f (n ∷ ns)))
+          -- the names around are those that were there
+          around : n ∷ ns ≡ stack s os′ 0 deep
+          around = sym (innermost s os deep (x .some)) ∙ sym (stack-same s os os′ deep k)
 
-        pub start-emptied : {c : Cursor} {m : ℕ} → ElementRead s at (spare - 1) (Emptied c m) → ChildRead s from at spare os′ (At c deep m)
-        start-emptied {c} {m} (element-emptied o f) =
-            child-at {c = c} {d = deep} {m = m}
-            (record { further = o .further; inside = o .inside; begins-here = o .begins-here; fewer = omega (arith, o .fewer) })
-            (omega (arith, x .room, o .fewer)) (k .as-long ∙ x .long) (placed-kept s os os′ deep (x .names) k)
-            (rw (from-is, ← around) (record { back = λ v y. born-to (f (n ∷ ns) v y) }))
+          pub start-broken : {y j : ℕ} → ElementRead s at (spare - 1) (Broken y j) → ChildRead s from at spare os′ (Stopped y j)
+          start-broken {y} {j} (element-broken f) = stopped os′ y j (born-to (f (n ∷ ns) z q))
 
-        pub start-opened : {c : Cursor} {m : ℕ} → getD os′ deep 0 + 1 ≡ at → ElementRead s at (spare - 1) (Opened c m)
-            → ChildRead s from at spare os′ (At c (deep + 1) m)
-        start-opened {c} {m} q (element-opened o f) =
-            child-at {c = c} {d = deep + 1} {m = m}
-            (record { further = o .further; inside = o .inside; begins-here = o .begins-here; fewer = omega (arith, o .fewer) })
-            (omega (arith, x .room, o .fewer)) (k .as-long ∙ x .long) (placed-next s os′ deep (placed-kept s os os′ deep (x .names) k)
-            (omega arith))
-            (rw (from-is, one-deeper s os′ deep, q, ← around) (record { back = λ v y. born-to (f (n ∷ ns) v y) }))
+          pub start-emptied : {c : Cursor} {m : ℕ} → ElementRead s at (spare - 1) (Emptied c m)
+              → ChildRead s from at spare os′ (At c deep m)
+          start-emptied {c} {m} (element-emptied o f) =
+              child-at {c = c} {d = deep} {m = m}
+              (record { further = o .further; inside = o .inside; begins-here = o .begins-here; fewer = omega (arith, o .fewer) })
+              (omega (arith, x .room, o .fewer)) (k .as-long ∙ x .long) (placed-kept s os os′ deep (x .names) k)
+              (rw (from-is, ← around) (record { back = λ v y. born-to (f (n ∷ ns) z q v y) }))
+
+          pub start-opened : {c : Cursor} {m : ℕ} → getD os′ deep 0 + 1 ≡ at → ElementRead s at (spare - 1) (Opened c m)
+              → ChildRead s from at spare os′ (At c (deep + 1) m)
+          start-opened {c} {m} e (element-opened o f) =
+              child-at {c = c} {d = deep + 1} {m = m}
+              (record { further = o .further; inside = o .inside; begins-here = o .begins-here; fewer = omega (arith, o .fewer) })
+              (omega (arith, x .room, o .fewer)) (k .as-long ∙ x .long) (placed-next s os′ deep (placed-kept s os os′ deep (x .names) k)
+              (omega arith))
+              (rw (from-is, one-deeper s os′ deep, e, ← around) (record { back = λ v y. born-to (f (n ∷ ns) z q v y) }))
 
   -- a text before it
   within-is : closed (stack s os 0 deep) ≡ content n ns

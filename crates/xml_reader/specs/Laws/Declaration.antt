@@ -15,6 +15,8 @@ use Rattle.xml.specs.Laws.Automaton.{at-start, behind-first, prolog, behind-roo
 use Rattle.xml.specs.Laws.Counts.{births, tail, peak}
 use Rattle.xml.specs.Laws.Phases.{phase, pending}
 use Rattle.xml.specs.Laws.Forces.{extent}
+use Rattle.xml.specs.Laws.Monitor.{Monitor, at-rest, monitor-quiet}
+use Rattle.xml.specs.Laws.Judge.{bad}
 use Rattle.xml.specs.Laws.Scan.{scan-at, scan-alike}
 use Rattle.xml.specs.Laws.Goes.{scan-quiet}
 use Rattle.xml.specs.Laws.Tokens.{Reach, got, lost, one-more, reach, Wording, Landed, landed-more, word-scan}
@@ -36,19 +38,20 @@ there s i b e h = go (leb (length s) i) refl
 
 module _ (s : List ℕ) where
   -- no declaration
-  plain-start : (getD s 0 0 ≡ less-than → getD s 1 0 ≡ 63 → ⊥) → (m k : ℕ) → k ≤ content-limit
-      → scan-at s at-start m k 0 ≡ scan-at s prolog m k 0
+  plain-start : (getD s 0 0 ≡ less-than → getD s 1 0 ≡ 63 → ⊥) → (x : Monitor) → at-rest x ≡ true → (m k : ℕ)
+      → k ≤ content-limit
+      → scan-at s at-start x m k 0 ≡ scan-at s prolog x m k 0
   unfolding step blank
-  plain-start f m k l = go (eqb (getD s 0 0) less-than) refl
+  plain-start f x r m k l = go (eqb (getD s 0 0) less-than) refl
     where
-      go : (t : Bool) → eqb (getD s 0 0) less-than ≡ t → scan-at s at-start m k 0 ≡ scan-at s prolog m k 0
-      go false e = scan-alike s at-start prolog m k 0 (λ h. rw e) refl
+      go : (t : Bool) → eqb (getD s 0 0) less-than ≡ t → scan-at s at-start x m k 0 ≡ scan-at s prolog x m k 0
+      go false e = scan-alike s at-start prolog x m k 0 (λ h. rw e) refl
       go true e =
           let b = eqb-true (getD s 0 0) less-than e in
           let h = there s 0 less-than b (omega arith) in
-          scan-quiet s at-start m 0 h behind-first (rw b) k (omega arith)
-          ∙ scan-alike s behind-first behind-root m k (0 + 1) (λ h. rw (ne-eqb (getD s 1 0) 63 (f b))) refl
-          ∙ sym (scan-quiet s prolog m 0 h behind-root (rw b) k (omega arith))
+          scan-quiet s at-start m 0 h behind-first (rw b) x r k (omega arith)
+          ∙ scan-alike s behind-first behind-root x m k (0 + 1) (λ h. rw (ne-eqb (getD s 1 0) 63 (f b))) refl
+          ∙ sym (scan-quiet s prolog m 0 h behind-root (rw b) x r k (omega arith))
 
   -- what is told
   plain-tells : (getD s 0 0 ≡ less-than → getD s 1 0 ≡ 63 → ⊥) → 0 < length s → 1 < length s → Tells s at-start 0 [] prolog 0
@@ -66,10 +69,12 @@ module _ (s : List ℕ) where
           rw (drop-cons s 0 0 h₀) (subst (λ (l : List Event). Accepts true prolog (getD s 0 0 ∷ drop 1 s) l) (sym (x .1)) (on p y))
 
   pub start-plain : {r : Prolog} → (getD s 0 0 ≡ less-than → getD s 1 0 ≡ 63 → ⊥) → RootRead s prolog 0 r → RootRead s at-start 0 r
-  start-plain f (root-at {c = c} a g w) = root-at {c = c} a
-      (λ m x v y. record { leads = λ k l. plain-start f m k l ∙ g m x v y .leads k l })
+  start-plain f (root-at {c = c} a g u w) = root-at {c = c} a
+      (λ m h y e v p. record { leads = λ x o r k l. plain-start f x r m k l ∙ g m h y e v p .leads x o r k l })
+      (λ m e. record { leads = λ x o r k l. plain-start f x r m k l ∙ u m e .leads x o r k l })
       (tells-then [] (plain-tells f (omega (arith, a .inside)) (omega (arith, a .inside, a .not-first))) w)
-  start-plain f (no-root {j = j} g) = no-root {j = j} (λ m. record { leads = λ k l. plain-start f m k l ∙ g m .leads k l })
+  start-plain f (no-root {j = j} g) =
+      no-root {j = j} (λ w m. record { leads = λ x o r k l. plain-start f x r m k l ∙ g w m .leads x o r k l })
 
   -- a declaration
   declaring : Wording declaration prolog (λ x. [])
@@ -82,18 +87,28 @@ module _ (s : List ℕ) where
   split (x ∷ y ∷ l) a b = rw (a, b)
 
   module _ (a : getD s 0 0 ≡ less-than) (b : getD s 1 0 ≡ 63) where
-    declared-start : (m k : ℕ) → k ≤ content-limit → scan-at s at-start m k 0 ≡ Landed s prolog (λ x. []) m k 0 (declaration-at s)
+    declared-start : (x : Monitor) → at-rest x ≡ true → (m k : ℕ) → k ≤ content-limit
+        → scan-at s at-start x m k 0 ≡ Landed s prolog (λ y. []) (λ y. x) m k 0 (declaration-at s)
     unfolding step blank name-start births tail peak
-    declared-start m k l =
-        let o : (x : Words) → k + pending (phase (declaration x)) ≤ content-limit = λ x. omega arith in
-        let e : ℕ → extent k [] prolog ≤ content-limit = λ x. omega arith in
+    declared-start x h m k l =
+        let o : (y : Words) → k + pending (phase (declaration y)) ≤ content-limit = λ y. omega arith in
+        let e : ℕ → extent k [] prolog ≤ content-limit = λ y. omega arith in
         let r = reach declarations (drop 2 s) in
-        let more = landed-more s declaration prolog (λ x. []) m k declaring o e in
-        scan-quiet s at-start m 0 (there s 0 less-than a (omega arith)) behind-first (rw a) k (omega arith)
-        ∙ scan-quiet s behind-first m 1 (there s 1 63 b (omega arith)) (declaration declarations) (rw b) k (omega arith)
-        ∙ word-scan s declaration prolog (λ x. []) m k declaring o e (drop 2 s) declarations 2 refl
+        let more = landed-more s declaration prolog (λ y. []) m k declaring x (λ y. x) h o e in
+        scan-quiet s at-start m 0 (there s 0 less-than a (omega arith)) behind-first (rw a) x h k (omega arith)
+        ∙ scan-quiet s behind-first m 1 (there s 1 63 b (omega arith)) (declaration declarations) (rw b) x h k (omega arith)
+        ∙ go o e r refl
         ∙ more 1 r ∙ more 0 (one-more r)
-        ∙ ap (Landed s prolog (λ x. []) m k 0) (declarations-at (drop 2 s) ∙ ap declaration-at (split s a b))
+        ∙ ap (Landed s prolog (λ y. []) (λ y. x) m k 0) (declarations-at (drop 2 s) ∙ ap declaration-at (split s a b))
+      where
+        go : ((y : Words) → k + pending (phase (declaration y)) ≤ content-limit) → (ℕ → extent k [] prolog ≤ content-limit) → (r : Reach)
+            → reach declarations (drop 2 s) ≡ r
+            → scan-at s (declaration declarations) x m k 2 ≡ Landed s prolog (λ y. []) (λ y. x) m k 2 (reach declarations (drop 2 s))
+        go o e (got v n) q =
+            word-scan s declaration prolog (λ y. []) m k declaring x (λ y. x) h o e (drop 2 s) declarations 2 refl (rw q
+            (monitor-quiet x h))
+        go o e (lost n) q =
+            word-scan s declaration prolog (λ y. []) m k declaring x (λ y. x) h o e (drop 2 s) declarations 2 refl (rw q tt)
 
     declared-tells : {x n : ℕ} → declaration-at s ≡ got x n → Tells s at-start 0 [] prolog n
     unfolding step blank name-start
@@ -112,17 +127,25 @@ module _ (s : List ℕ) where
             rw v at (tells-word s declaration prolog (λ x. []) declaring declarations 2 p)
         go (lost m) p q = absurd (let z : _≡_ {A = ℕ} 0 1 = cc in omega arith)
 
-    pub start-declared : {r : Prolog} (q : Reach) → declaration-at s ≡ q → DeclaredRead s q r → RootRead s at-start 0 r
+    -- behind it, or where it goes wrong
+    behind-whole : {v n : ℕ} → declaration-at s ≡ got v n → (x : Monitor) → at-rest x ≡ true → (m k : ℕ) → k ≤ content-limit
+        → scan-at s at-start x m k 0 ≡ scan-at s prolog x m k n
     unfolding tail
-    start-declared q e (behind-it {k = x} {n = n} (root-at {c = c} d g w)) = root-at {c = c} d
-        (λ m h v y. record { leads = λ k l. let p : 0 + n ≡ n = omega arith in declared-start m k l ∙ rw (e, p) (g m h v y .leads k l) })
+    behind-whole {v} {n} e x r m k l = let p : 0 + n ≡ n = omega arith in declared-start x r m k l ∙ rw (e, p)
+
+    behind-part : {n : ℕ} → declaration-at s ≡ lost n → (x : Monitor) → at-rest x ≡ true → (m k : ℕ) → k ≤ content-limit
+        → scan-at s at-start x m k 0 ≡ bad 4 n
+    behind-part {n} e x r m k l = let p : 0 + n ≡ n = omega arith in declared-start x r m k l ∙ rw (e, p)
+
+    pub start-declared : {r : Prolog} (q : Reach) → declaration-at s ≡ q → DeclaredRead s q r → RootRead s at-start 0 r
+    start-declared q e (behind-it (root-at {c = c} d g u w)) = root-at {c = c} d
+        (λ m h y f v q. record { leads = λ x o r k l. behind-whole e x r m k l ∙ g m h y f v q .leads x o r k l })
+        (λ m f. record { leads = λ x o r k l. behind-whole e x r m k l ∙ u m f .leads x o r k l })
         (tells-then [] (declared-tells e) w)
-    start-declared q e (behind-it {k = x} {n = n} (no-root {j = j} g)) = no-root {j = j} (λ m. record {
-      leads = λ k l.
-          let p : 0 + n ≡ n = omega arith in declared-start m k l ∙ rw (e, p) (g m .leads k l);
-    })
+    start-declared q e (behind-it (no-root {j = j} g)) =
+        no-root {j = j} (λ w m. record { leads = λ x o r k l. behind-whole e x r m k l ∙ g w m .leads x o r k l })
     start-declared q e (short-of-it {n = n}) =
-        no-root {j = n} (λ m. record { leads = λ k l. let p : 0 + n ≡ n = omega arith in declared-start m k l ∙ rw (e, p) })
+        no-root {j = n} (λ w m. record { leads = λ x o r k l. behind-part e x r m k l })
 
     pub start-short : {r : Prolog} → getD s 19 0 ≡ 63 → DeclaredRead s (word-at short-declaration 0 s) r → RootRead s at-start 0 r
     unfolding declaration-at

@@ -34,19 +34,20 @@ module _ (s : List ℕ) (n : Name) (ns : List Name) (m : ℕ) where
   unfolding agree
   agree-over x w at h = rw (drop-of-length-le s h)
 
-  whole-name : (w : List ℕ) (at : ℕ) → agree w (drop at s) ≡ length w → Goes s (end-name n ns w) m at (end-name n ns []) m (at + length w)
+  whole-name : (w : List ℕ) (at : ℕ) → agree w (drop at s) ≡ length w
+      → Goes true s (end-name n ns w) m at (end-name n ns []) m (at + length w)
   unfolding step
   whole-name [] at e = goes-same s (end-name n ns []) m at (at + 0) (omega arith)
   whole-name (x ∷ w) at e = go (leb (length s) at) refl (whole-name w (suc at))
     where
       go : (t : Bool) → leb (length s) at ≡ t
-          → (agree w (drop (suc at) s) ≡ length w → Goes s (end-name n ns w) m (suc at) (end-name n ns []) m (suc at + length w))
-          → Goes s (end-name n ns (x ∷ w)) m at (end-name n ns []) m (at + suc (length w))
+          → (agree w (drop (suc at) s) ≡ length w → Goes true s (end-name n ns w) m (suc at) (end-name n ns []) m (suc at + length w))
+          → Goes true s (end-name n ns (x ∷ w)) m at (end-name n ns []) m (at + suc (length w))
       go true q f = absurd (omega (arith, agree-over x w at (leb-true (length s) at q)))
       go false q f = next (leb-false (length s) at q) (eqb (getD s at 0) x) refl
         where
           next : at < length s → (y : Bool) → eqb (getD s at 0) x ≡ y
-              → Goes s (end-name n ns (x ∷ w)) m at (end-name n ns []) m (at + suc (length w))
+              → Goes true s (end-name n ns (x ∷ w)) m at (end-name n ns []) m (at + suc (length w))
           next h true y =
               let a : agree (x ∷ w) (drop at s) ≡ suc (agree w (drop (suc at) s)) = agree-here x w at h ∙ rw y in
               goes-then (goes-step s (end-name n ns (x ∷ w)) m at h (end-name n ns w) (rw y) refl)
@@ -55,14 +56,15 @@ module _ (s : List ℕ) (n : Name) (ns : List Name) (m : ℕ) where
           next h false y = let a : agree (x ∷ w) (drop at s) ≡ 0 = agree-here x w at h ∙ rw y in absurd (omega arith)
 
   part-name : (w : List ℕ) (at : ℕ) → (agree w (drop at s) ≡ length w → ⊥)
-      → Leads s (end-name n ns w) m at (bad 4 (at + agree w (drop at s)))
+      → Leads true s (end-name n ns w) m at (bad 4 (at + agree w (drop at s)))
   unfolding step agree
   part-name [] at e = absurd (e refl)
   part-name (x ∷ w) at e = go (leb (length s) at) refl (part-name w (suc at))
     where
       go : (t : Bool) → leb (length s) at ≡ t
-          → ((agree w (drop (suc at) s) ≡ length w → ⊥) → Leads s (end-name n ns w) m (suc at) (bad 4 (suc at + agree w (drop (suc at) s))))
-          → Leads s (end-name n ns (x ∷ w)) m at (bad 4 (at + agree (x ∷ w) (drop at s)))
+          → ((agree w (drop (suc at) s) ≡ length w → ⊥)
+          → Leads true s (end-name n ns w) m (suc at) (bad 4 (suc at + agree w (drop (suc at) s))))
+          → Leads true s (end-name n ns (x ∷ w)) m at (bad 4 (at + agree (x ∷ w) (drop at s)))
       go true q f =
           let h = leb-true (length s) at q in
           let p : at + agree (x ∷ w) (drop at s) ≡ at = omega (arith, agree-over x w at h) in
@@ -70,7 +72,7 @@ module _ (s : List ℕ) (n : Name) (ns : List Name) (m : ℕ) where
       go false q f = next (leb-false (length s) at q) (eqb (getD s at 0) x) refl
         where
           next : at < length s → (y : Bool) → eqb (getD s at 0) x ≡ y
-              → Leads s (end-name n ns (x ∷ w)) m at (bad 4 (at + agree (x ∷ w) (drop at s)))
+              → Leads true s (end-name n ns (x ∷ w)) m at (bad 4 (at + agree (x ∷ w) (drop at s)))
           next h true y =
               let a : agree (x ∷ w) (drop at s) ≡ suc (agree w (drop (suc at) s)) = agree-here x w at h ∙ rw y in
               let p : at + agree (x ∷ w) (drop at s) ≡ suc at + agree w (drop (suc at) s) = omega arith in
@@ -94,7 +96,7 @@ module _ (s : List ℕ) (at from to : ℕ) (r : Run name-byte s from to) (k : �
 
   module _ (h : k ≡ to - from) where
     to-close : (ns : List Name) (m : ℕ)
-        → Goes s (end-name (name-at s from) ns (name-at s from)) m at (end-name (name-at s from) ns []) m (at + k)
+        → Goes true s (end-name (name-at s from) ns (name-at s from)) m at (end-name (name-at s from) ns []) m (at + k)
     to-close ns m =
         let n = name-at s from in
         let e : k ≡ length n = h ∙ sym (length-name s from to r) in
@@ -104,4 +106,4 @@ module _ (s : List ℕ) (at from to : ℕ) (r : Run name-byte s from to) (k : �
     pub end-rest : {x : End} → CloseRead s (at + k) x → EndRead s (name-at s from) at x
     end-rest (close-behind {c = c} f g d w) =
         end-behind {c = c} (omega arith) g d (λ ns m. goes-then (to-close ns m) (w (name-at s from) ns .goes m))
-    end-rest (close-wrong {j = j} f) = end-mismatch {j = j} (λ ns m. to-close ns m .back _ (f (name-at s from) ns m))
+    end-rest (close-wrong {j = j} f) = end-mismatch {j = j} (λ ns m. to-close ns m .back _ (f true (name-at s from) ns m))

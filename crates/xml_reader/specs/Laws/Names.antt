@@ -20,17 +20,8 @@ use Rattle.bytes.specs.Laws.Order.{order-same, order-shorter, order-longer, ord
 use Rattle.bytes.specs.Sorted.{Increasing, Between, Inserted}
 use Rattle.bytes.specs.Laws.Entries.{each-entry, entry-added}
 use Rattle.xml_reader.specs.Steps.{Run}
+use Rattle.xml_reader.specs.Laws.Runs.{run-passes}
 use Rattle.xml_reader.specs.Elements.{Placed, Attributed, Kept, name-behind, attribute-names, EnterRead, is-entered}
-
-run-names : (l : List ℕ) → every name-byte (take (span name-byte l) l) ≡ true
-unfolding span
-run-names [] = refl
-run-names (b ∷ l) = go (name-byte b) refl (run-names l)
-  where
-    go : (t : Bool) → name-byte b ≡ t → every name-byte (take (span name-byte l) l) ≡ true
-        → every name-byte (take (cond t (suc (span name-byte l)) 0) (b ∷ l)) ≡ true
-    go true e h = rw (e, h)
-    go false e h = refl
 
 -- the bytes of a name
 pub name-of : (s : List ℕ) (from to : ℕ) → Run name-byte s from to → take (to - from) (drop from s) ≡ name-at s from
@@ -67,7 +58,7 @@ module _ (s : List ℕ) (from to other n : ℕ) (a : Run name-byte s from to) (g
   agrees-to : n ≡ agree (name-at s from) (name-at s other)
   unfolding name-at
   agrees-to = g .agrees ∙ ap (λ (x : List ℕ). agree x (drop other s)) (name-of s from to a)
-      ∙ sym (agree-name (name-at s from) (drop other s) (run-names (drop from s)))
+      ∙ sym (agree-name (name-at s from) (drop other s) (run-passes name-byte (drop from s)))
 
   length-there : length (name-at s other) ≡ span name-byte (drop other s)
   unfolding name-at

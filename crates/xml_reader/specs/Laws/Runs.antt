@@ -1,12 +1,13 @@
 -- The loops over runs of bytes and over words.
-use Prim.Native.Nat.{ℕ, _+_, _≤_, _<_}
+use Prim.Native.Nat.{ℕ, suc, _+_, _≤_, _<_}
 use mathlib.Core.Path.{_≡_, refl, _∙_}
-use mathlib.Core.Bool.{Bool, true, false}
-use mathlib.Core.List.{List}
+use mathlib.Core.Bool.{Bool, true, false, cond}
+use mathlib.Core.List.{List, [], _∷_}
 use native.Mathlib.Omega.{arith}
 use native.Mathlib.Numerals.{add-one}
-use lib.ListN.{length, getD, drop}
+use lib.ListN.{length, getD, take, drop}
 use lib.Seq.{getD-drop}
+use Rattle.tree.specs.Lists.{every}
 use Rattle.xml.specs.Bytes.{amp, apos, gt, lt, quot, tab-reference, line-feed-reference}
 use borrow.Author.Tests.{eq-eqb, ne-eqb}
 use Rattle.xml.specs.Laws.Tokens.{span, span-end, span-stop, span-go}
@@ -37,6 +38,16 @@ module _ (t : ℕ → Bool) (s : List ℕ) (from i : ℕ) (r : Running t s from 
   pub run-end : i ≤ length s → length s ≤ i → Run t s from i
   unfolding Running
   run-end l h = record { ends = omega (arith, r, span-end t s i h); inside = l }
+
+-- the bytes of a run pass the test
+pub run-passes : (t : ℕ → Bool) (l : List ℕ) → every t (take (span t l) l) ≡ true
+unfolding span
+run-passes t [] = refl
+run-passes t (b ∷ l) = go (t b) refl (run-passes t l)
+  where
+    go : (x : Bool) → t b ≡ x → every t (take (span t l) l) ≡ true → every t (take (cond x (suc (span t l)) 0) (b ∷ l)) ≡ true
+    go true e h = rw (e, h)
+    go false e h = refl
 
 -- a reference
 module _ (w s : List ℕ) (value at n : ℕ) (a : Agreement w s at n) where

@@ -5,31 +5,35 @@ use mathlib.Core.Bool.{Bool, true, false}
 use mathlib.Core.List.{List, [], _∷_}
 use native.Mathlib.Omega.{arith}
 use lib.Dec.{eqb}
-use lib.ListN.{length, getD, set, drop, length-set}
+use lib.ListN.{length, getD, set, length-set}
 use lib.Seq.{getD-set-same, getD-set-other}
 use borrow.Author.Tests.{eqb-true, eqb-false}
-use Rattle.tree.specs.Content.{content-limit, name-byte}
+use Rattle.tree.specs.Spelling.{Spelling, spelling, spell, start-of}
+use Rattle.xml.specs.Bytes.{blank, slash, greater-than}
 use Rattle.xml.specs.Grammar.{Name}
 use Rattle.xml.specs.Reading.{input-limit}
-use Rattle.xml.specs.Laws.Automaton.{behind-part, tag-name, step}
+use Rattle.xml.specs.Laws.Automaton.{behind-part, tag-name, tag-step, step}
+use Rattle.xml.specs.Laws.Monitor.{on}
+use Rattle.xml.specs.Laws.Judge.{Verdict}
 use Rattle.xml.specs.Laws.Scan.{scan-at, scan-alike}
-use Rattle.xml.specs.Laws.Goes.{Goes, goes-then, goes-same}
-use Rattle.xml.specs.Laws.Tokens.{span, span-behind, name-at, Naming, name-short, name-long}
+use Rattle.xml.specs.Laws.Goes.{Leads, Goes, goes-then, goes-same}
+use Rattle.xml.specs.Laws.Tokens.{name-at, Naming}
 use Rattle.xml_reader.specs.declared.Cursor.{Cursor}
 use Rattle.xml_reader.specs.declared.Item.{Item}
 use Rattle.xml_reader.specs.declared.Item.the-variants.{Open, Empty, Attribute, Wrong}
+use Rattle.xml_reader.specs.declared.Piece.the-variants.{Taken, Unfit}
 use Rattle.xml_reader.specs.declared.Read.{Read}
 use Rattle.xml_reader.specs.declared.Read.the-variants.{Past, Refused}
 use Rattle.xml_reader.specs.declared.Tag.{Tag}
 use Rattle.xml_reader.specs.declared.Tag.the-variants.{Opened, Emptied, Broken}
-use Rattle.xml_reader.specs.Steps.{Run, TagRead, tag-open, tag-empty, tag-attribute, tag-wrong}
+use Rattle.xml_reader.specs.Steps.{no-step, quiet-step, NamePlace, NameRead, TagRead, tag-open, tag-empty, tag-attribute, tag-wrong}
 use Rattle.bytes.specs.Sorted.{Lists}
 use Rattle.bytes.specs.Laws.Sorted.{lists-none}
 use Rattle.xml_reader.specs.Elements.{stack, Placed, Attributed, AttributeRead, attribute-past, attribute-refused, Kept}
 use Rattle.xml_reader.specs.Elements.{attribute-names, Entered, NamesRead, names-past, AttributeEnters, AttributesRead}
-use Rattle.xml_reader.specs.Elements.{attributes-opened, attributes-emptied, attributes-broken, Named, ElementRead, element-opened}
+use Rattle.xml_reader.specs.Elements.{attributes-opened, attributes-emptied, attributes-broken, Onward, ElementRead, element-opened}
 use Rattle.xml_reader.specs.Elements.{element-emptied, element-broken}
-use Rattle.xml_reader.specs.Laws.Attributes.{start-name}
+use Rattle.xml_reader.specs.Laws.Letters.{name-run, name-scan, name-stops, name-ended, quiet-either}
 
 -- offsets --------------------------------------------------------------------------------------
 
@@ -75,7 +79,7 @@ attribute-here {s} {i} z ez = go (subst (TagRead s behind-part i) ez z)
 pub record AttributesTo (s os : List ℕ) (lo count at spare i n : ℕ) : Type 0 where
   pub seen : List Name
   pub lists : Lists (attribute-names s os lo) count seen
-  pub comes : (m : Name) (ns : List Name) → Goes s (behind-part m ns []) spare at (behind-part m ns seen) n i
+  pub comes : (m : Name) (ns : List Name) → Goes true s (behind-part m ns []) spare at (behind-part m ns seen) n i
 
 pub attributes-start : (s os : List ℕ) (lo at spare : ℕ) → AttributesTo s os lo 0 at spare at spare
 attributes-start s os lo at spare = record {
@@ -86,7 +90,7 @@ attributes-start s os lo at spare = record {
 
 module _ (s os : List ℕ) (lo count at spare i n : ℕ) (t : AttributesTo s os lo count at spare i n) (a : at ≤ i) (b : n ≤ spare) where
   pub attributes-wrong : {j : ℕ} → TagRead s behind-part i (Wrong j) → AttributesRead s at spare (Broken 4 j)
-  attributes-wrong {j} (tag-wrong f) = attributes-broken {x = 4} {j = j} (λ m ns. t .comes m ns .back _ (f m ns (t .seen) n))
+  attributes-wrong {j} (tag-wrong f) = attributes-broken {x = 4} {j = j} (λ m ns. t .comes m ns .back _ (f true m ns (t .seen) n))
 
   pub attributes-open : {c : Cursor} → TagRead s behind-part i (Open c) → AttributesRead s at spare (Opened c n)
   attributes-open {c} (tag-open d e g f) =
@@ -148,35 +152,45 @@ pub tag-naming : (ns : List Name) → Naming (tag-name ns)
 unfolding step
 tag-naming ns = record { next = λ p b e. rw e; calm = λ p. refl }
 
-module _ (s : List ℕ) (at spare to : ℕ) (x : Named s at) (r : Run name-byte s at to) where
-  pub element-long : content-limit < to - at → ElementRead s at spare (Broken 5 (at + 32))
-  element-long h = element-broken {x = 5} {j = at + 32}
-      (λ ns. name-long s (tag-name ns) spare (tag-naming ns) at (x .inside) (start-name (getD s at 0) (x .starts)) (omega (arith, r .ends)))
+tag-place : (ns : List Name) → NamePlace (tag-name ns)
+unfolding step tag-step
+tag-place ns = record {
+  naming = tag-naming ns;
+  quiet = λ p b e. rw e
+      (quiet-either (blank b) quiet-step (quiet-either (eqb b slash) quiet-step (quiet-either (eqb b greater-than) quiet-step no-step)));
+  going = λ p. refl;
+}
 
-  module _ (short : to - at ≤ content-limit) where
+module _ (s : List ℕ) (at spare : ℕ) where
+  pub element-unfit : {x j : ℕ} → NameRead s at (Unfit x j) → ElementRead s at spare (Broken x j)
+  element-unfit {x} {j} f = element-broken {x = x} {j = j} (λ ns y e. name-stops f (tag-place ns) spare e)
+
+  module _ {end : Cursor} {n : ℕ} (f : NameRead s at (Taken end n)) where
     -- behind the name
-    to-part : (ns : List Name)
-        → scan-at s (tag-name ns (getD s at 0 ∷ [])) spare 1 (at + 1) ≡ scan-at s (behind-part (name-at s at) ns []) spare (to - at) to
+    to-part : (ns : List Name) {y : Spelling} → spell (start-of false) (getD s at 0) ≡ spelling y → {v : Verdict}
+        → Leads true s (behind-part (name-at s at) ns []) spare (end .at) v
+        → scan-at s (tag-name ns (getD s at 0 ∷ [])) (on y) spare 1 (at + 1) ≡ v
     unfolding step
-    to-part ns =
-        let p : span name-byte (drop at s) ≡ to - at = omega (arith, r .ends) in
-        let q : at + (to - at) ≡ to = omega (arith, r .ends) in
-        (rw (p, q) at (name-short s (tag-name ns) spare (tag-naming ns) at (x .inside) (start-name (getD s at 0) (x .starts))
-        (omega arith)))
-        ∙ scan-alike s (tag-name ns (name-at s at)) (behind-part (name-at s at) ns []) spare (to - at) to
-        (λ h. rw (rw (← r .ends) at (span-behind name-byte s at (omega (arith, r .ends))))) refl
+    to-part ns e g = name-scan f (tag-place ns) spare e (λ z o r.
+        scan-alike s (tag-name ns (name-at s at)) (behind-part (name-at s at) ns []) z spare (end .at - at) (end .at)
+        (λ h. rw (name-ended (name-run f .0) h)) refl
+        ∙ g .leads z o r (end .at - at) (name-run f .1))
 
-    pub element-rest : {y : Tag} → AttributesRead s to spare y → ElementRead s at spare y
-    element-rest (attributes-opened {c = c} {m = m} o f) =
-        element-opened {c = c} {m = m}
-        (record { further = omega (arith, o .further, r .ends); inside = o .inside; begins-here = o .begins-here; fewer = o .fewer })
-        (λ ns v y. to-part ns ∙ f (name-at s at) ns .back v y .leads (to - at) short)
-    element-rest (attributes-emptied {c = c} {m = m} o f) =
-        element-emptied {c = c} {m = m}
-        (record { further = omega (arith, o .further, r .ends); inside = o .inside; begins-here = o .begins-here; fewer = o .fewer })
-        (λ ns v y. to-part ns ∙ f (name-at s at) ns .back v y .leads (to - at) short)
-    element-rest (attributes-broken {x = x} {j = j} f) =
-        element-broken {x = x} {j = j} (λ ns. to-part ns ∙ f (name-at s at) ns .leads (to - at) short)
+    onward : {c : Cursor} {m : ℕ} → Onward s (end .at) spare c m → Onward s at spare c m
+    onward o = record {
+      further = omega (arith, o .further, name-run f .0 .ends);
+      inside = o .inside;
+      begins-here = o .begins-here;
+      fewer = o .fewer;
+    }
+
+    pub element-rest : {y : Tag} → AttributesRead s (end .at) spare y → ElementRead s at spare y
+    element-rest (attributes-opened {c = c} {m = m} o g) =
+        element-opened {c = c} {m = m} (onward o) (λ ns y e v l. to-part ns e (g (name-at s at) ns .back v l))
+    element-rest (attributes-emptied {c = c} {m = m} o g) =
+        element-emptied {c = c} {m = m} (onward o) (λ ns y e v l. to-part ns e (g (name-at s at) ns .back v l))
+    element-rest (attributes-broken {x = x} {j = j} g) =
+        element-broken {x = x} {j = j} (λ ns y e. to-part ns e (g (name-at s at) ns))
 
 pub placed-at : (s os : List ℕ) (n m : ℕ) → n ≡ m → Placed s os n → Placed s os m
 placed-at s os n m e p = subst (Placed s os) e p

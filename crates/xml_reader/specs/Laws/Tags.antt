@@ -54,7 +54,7 @@ blank-no-opener b h = for-blanks (λ b. opener b ≡ false) refl refl refl b h
 
 module _ (s : List ℕ) (i : ℕ) (F : Name → List Name → List Name → Config) (place : TagPlace F) where
   pub place-end : length s ≤ i → TagRead s F i (Wrong i)
-  place-end h = tag-wrong {j = i} (λ n ns seen m. stops-end s (F n ns seen) m i h (place .calm n ns seen))
+  place-end h = tag-wrong {j = i} (λ w n ns seen m. stops-end s (F n ns seen) m i h (place .calm n ns seen))
 
   module _ (h : i < length s) where
     pub place-close : (c : Cursor) → getD s i 0 ≡ greater-than → c .at ≡ i + 1 → TagRead s F i (Open c)
@@ -70,11 +70,11 @@ module _ (s : List ℕ) (i : ℕ) (F : Name → List Name → List Name → Conf
     module _ (e : getD s i 0 ≡ slash) where
       pub slash-end : length s ≤ i + 1 → TagRead s F i (Wrong (i + 1))
       slash-end k =
-          tag-wrong {j = i + 1} (λ n ns seen m. place-slash n ns seen e .goes m .back _ (stops-end s (behind-slash ns) m (i + 1) k refl))
+          tag-wrong {j = i + 1} (λ w n ns seen m. place-slash n ns seen e .goes m .back _ (stops-end s (behind-slash ns) m (i + 1) k refl))
 
       pub slash-wrong : i + 1 < length s → (getD s (i + 1) 0 ≡ greater-than → ⊥) → TagRead s F i (Wrong (i + 1))
       unfolding step
-      slash-wrong k o = tag-wrong {j = i + 1} (λ n ns seen m. place-slash n ns seen e .goes m .back _
+      slash-wrong k o = tag-wrong {j = i + 1} (λ w n ns seen m. place-slash n ns seen e .goes m .back _
           (stops-stuck s (behind-slash ns) m (i + 1) k (rw (ne-eqb (getD s (i + 1) 0) greater-than o))))
 
       pub slash-close : (c : Cursor) → i + 1 < length s → getD s (i + 1) 0 ≡ greater-than → c .at ≡ i + 1 + 1 → TagRead s F i (Empty c)
@@ -89,7 +89,7 @@ module _ (s : List ℕ) (i : ℕ) (F : Name → List Name → List Name → Conf
         → name-start (getD s i 0) ≡ false
         → TagRead s F i (Wrong i)
     unfolding tag-step
-    place-wrong a b d e = tag-wrong {j = i} (λ n ns seen m. stops-stuck s (F n ns seen) m i h
+    place-wrong a b d e = tag-wrong {j = i} (λ w n ns seen m. stops-stuck s (F n ns seen) m i h
         (place .alike n ns seen (getD s i 0) e ∙ rw (a, ne-eqb (getD s i 0) slash b, ne-eqb (getD s i 0) greater-than d)))
 
 -- behind a name or a value, with the blanks there --------------------------------------------
@@ -119,7 +119,7 @@ module _ (s : List ℕ) (at i : ℕ) (r : Run blank s at i) where
       tag-empty {c = c} (omega arith) b d (λ n ns seen. passes-then (spaces h n ns seen) (f n ns seen))
   behind-spaces h (tag-attribute {c = c} a b d e f) =
       tag-attribute {c = c} (omega arith) b d e (λ n ns seen. passes-then (spaces h n ns seen) (f n ns seen))
-  behind-spaces h (tag-wrong {j = j} f) = tag-wrong {j = j} (λ n ns seen m. spaces h n ns seen .goes m .back _ (f n ns seen m))
+  behind-spaces h (tag-wrong {j = j} f) = tag-wrong {j = j} (λ w n ns seen m. spaces h n ns seen .goes m .back _ (f w n ns seen m))
 
   pub part-any : {x : Item} → SlashRead s i x → TagRead s behind-part at x
   part-any {x} f = go (eqb i at) refl
@@ -137,7 +137,7 @@ module _ (s : List ℕ) (at i : ℕ) (r : Run blank s at i) where
     pub part-joined : i ≡ at → (getD s i 0 ≡ slash → ⊥) → (getD s i 0 ≡ greater-than → ⊥) → TagRead s behind-part at (Wrong i)
     unfolding step tag-step
     part-joined p b d = subst (λ (j : ℕ). TagRead s behind-part j (Wrong i)) p
-        (tag-wrong {j = i} (λ n ns seen m. stops-stuck s (behind-part n ns seen) m i h
+        (tag-wrong {j = i} (λ w n ns seen m. stops-stuck s (behind-part n ns seen) m i h
         (rw (no-blank-here, ne-eqb (getD s i 0) slash b, ne-eqb (getD s i 0) greater-than d))))
 
     pub part-attribute : (i ≡ at → ⊥) → name-start (getD s i 0) ≡ true → (c : Cursor) → c .at ≡ i → TagRead s behind-part at (Attribute c)
@@ -164,12 +164,12 @@ module _ (s : List ℕ) (at i : ℕ) (r : Run blank s at i) where
       (passes-same s (before-equals n ns seen) _ i (sym (r .ends)))
 
   pub sign-end : length s ≤ i → EqualsRead s at (NoQuote i)
-  sign-end h = no-quote {j = i} (λ n ns seen m. to-sign n ns seen .goes m .back _ (stops-end s (before-equals n ns seen) m i h refl))
+  sign-end h = no-quote {j = i} (λ w n ns seen m. to-sign n ns seen .goes m .back _ (stops-end s (before-equals n ns seen) m i h refl))
 
   module _ (h : i < length s) where
     pub sign-wrong : (getD s i 0 ≡ equals-sign → ⊥) → EqualsRead s at (NoQuote i)
     unfolding step
-    sign-wrong e = no-quote {j = i} (λ n ns seen m. to-sign n ns seen .goes m .back _
+    sign-wrong e = no-quote {j = i} (λ w n ns seen m. to-sign n ns seen .goes m .back _
         (stops-stuck s (before-equals n ns seen) m i h (rw (no-blank-here s at i r h, ne-eqb (getD s i 0) equals-sign e))))
 
     module _ (e : getD s i 0 ≡ equals-sign) (j : ℕ) (q : Run blank s (i + 1) j) where
@@ -182,12 +182,13 @@ module _ (s : List ℕ) (at i : ℕ) (r : Run blank s at i) where
           (passes-same s (behind-equals n ns seen) _ j (sym (q .ends)))))
 
       pub quote-end : length s ≤ j → EqualsRead s at (NoQuote j)
-      quote-end k = no-quote {j = j} (λ n ns seen m. to-quote n ns seen .goes m .back _ (stops-end s (behind-equals n ns seen) m j k refl))
+      quote-end k =
+          no-quote {j = j} (λ w n ns seen m. to-quote n ns seen .goes m .back _ (stops-end s (behind-equals n ns seen) m j k refl))
 
       module _ (k : j < length s) where
         pub quote-wrong : (getD s j 0 ≡ quotation-mark → ⊥) → (getD s j 0 ≡ apostrophe → ⊥) → EqualsRead s at (NoQuote j)
         unfolding step
-        quote-wrong a b = no-quote {j = j} (λ n ns seen m. to-quote n ns seen .goes m .back _
+        quote-wrong a b = no-quote {j = j} (λ w n ns seen m. to-quote n ns seen .goes m .back _
             (stops-stuck s (behind-equals n ns seen) m j k
             (rw (no-blank-here s (i + 1) j q k, ne-eqb (getD s j 0) quotation-mark a, ne-eqb (getD s j 0) apostrophe b))))
 
@@ -216,7 +217,7 @@ module _ (s : List ℕ) (at i : ℕ) (r : Run blank s at i) where
 
 module _ (s : List ℕ) (at : ℕ) where
   pub markup-over : length s ≤ at → MarkupRead s at (NoTag at)
-  markup-over h = markup-wrong {j = at} (λ n ns m. stops-end s (behind-open n ns) m at h refl)
+  markup-over h = markup-wrong {j = at} (λ w n ns m. stops-end s (behind-open n ns) m at h refl)
 
   module _ (h : at < length s) where
     pub markup-slash : (c : Cursor) → getD s at 0 ≡ slash → c .at ≡ at + 1 → MarkupRead s at (EndTag c)
@@ -226,7 +227,7 @@ module _ (s : List ℕ) (at : ℕ) where
     pub markup-other : (getD s at 0 ≡ slash → ⊥) → name-start (getD s at 0) ≡ false → MarkupRead s at (NoTag at)
     unfolding step
     markup-other e f =
-        markup-wrong {j = at} (λ n ns m. stops-stuck s (behind-open n ns) m at h (rw (f, ne-eqb (getD s at 0) slash e)))
+        markup-wrong {j = at} (λ w n ns m. stops-stuck s (behind-open n ns) m at h (rw (f, ne-eqb (getD s at 0) slash e)))
 
 -- from behind the name of an end tag -------------------------------------------------------------
 
@@ -237,12 +238,12 @@ module _ (s : List ℕ) (at i : ℕ) (r : Run blank s at i) where
       passes-then (passes-blanks s (end-name n ns []) (λ b e. rw e) refl at) (passes-same s (end-name n ns []) _ i (sym (r .ends)))
 
   pub close-over : length s ≤ i → CloseRead s at (Mismatch i)
-  close-over h = close-wrong {j = i} (λ n ns m. to-close n ns .goes m .back _ (stops-end s (end-name n ns []) m i h refl))
+  close-over h = close-wrong {j = i} (λ w n ns m. to-close n ns .goes m .back _ (stops-end s (end-name n ns []) m i h refl))
 
   module _ (h : i < length s) where
     pub close-other : (getD s i 0 ≡ greater-than → ⊥) → CloseRead s at (Mismatch i)
     unfolding step
-    close-other e = close-wrong {j = i} (λ n ns m. to-close n ns .goes m .back _
+    close-other e = close-wrong {j = i} (λ w n ns m. to-close n ns .goes m .back _
         (stops-stuck s (end-name n ns []) m i h (rw (no-blank-here s at i r h, ne-eqb (getD s i 0) greater-than e))))
 
     pub close-here : (c : Cursor) → getD s i 0 ≡ greater-than → c .at ≡ i + 1 → CloseRead s at (Behind c)

@@ -6,7 +6,7 @@ use lib.ListN.{length, take, drop, length-set}
 use Rattle.xml.specs.Laws.Fixed.{reference-at}
 use Rattle.xml_reader.specs.declared.Reference.{Reference}
 use Rattle.xml_reader.specs.Steps.{Refers}
-use Rattle.xml_reader.specs.Laws.Characters.{reference-inside}
+use Rattle.xml_reader.specs.Laws.Specials.{reference-inside}
 use Rattle.xml_load.specs.Laws.Decoding.{Decoding, decode-start, decode-end, decode-stop, decode-full, decode-lost, decode-byte}
 use Rattle.xml_load.specs.Laws.Decoding.{decode-reference}
 use Rattle.xml_load.proofs.filling.decode.Statement.{statement}

@@ -1,4 +1,5 @@
-use Rattle.xml_reader.specs.Laws.StartTags.{element-long, element-rest, kept-set, kept-same, kept-less, placed-push}
+use Rattle.xml_reader.specs.Laws.StartTags.{element-unfit, element-rest, kept-set, kept-same, kept-less, placed-push}
+use Rattle.xml_reader.specs.Laws.Letters.{name-as, name-run}
 use lib.Seq.{getD-set-same}
 use native.Mathlib.Omega.{arith}
 use Prim.Native.Nat.{_-_}
@@ -11,28 +12,38 @@ cast-names c =
     let pre = c .before .pre in
     omega (arith, pre .0 .inside, pre .2 .short)
 
+spelled-name-requires : tie.Need-spelled-name-requires
+spelled-name-requires c κs = let pre = c .before .pre in (pre .0 .inside, pre .0 .starts)
+
+attributes-requires : tie.Need-attributes-requires
+attributes-requires c κs =
+    let c2 = c .before .before in
+    let c4 = c2 .before .before in
+    let pre = c4 .before .before .pre in
+    let f = name-as (c2 .end .given .1) (c4 .spelled-name .ensures) in (
+      name-run f .0 .inside,
+      search needs,
+      placed-push _ _ _ _ (pre .2) (omega (arith, pre .0 .inside)) (omega (arith, pre .3)),
+      search needs,
+    )
+
 returns : tie.Need-returns
 returns c =
-    let a = c .before .before .before .before .args in
-    let pre = c .before .before .before .before .pre in
-    let name = c .before .before .name in (
-      element-long _ _ _ _ (pre .0) (name .ensures) (c .if1 .taken),
+    let c3 = c .before .before .before in
+    let a = c3 .before .before .args in
+    let pre = c3 .before .before .pre in (
+      element-unfit _ _ _ (name-as (c .before .x .given .1) (c3 .spelled-name .ensures)),
       kept-set _ _ _ _ _ (kept-same _ _) (search needs),
       omega (arith, pre .0 .not-first, getD-set-same (a .names .now) (a .depth) (a .self .at - 1) 0 (omega (arith, pre .3))),
     )
 
-attributes-requires : tie.Need-attributes-requires
-attributes-requires c κs =
-    let pre = c .before .before .before .before .before .pre in
-    (search needs, search needs, placed-push _ _ _ _ (pre .2) (omega (arith, pre .0 .inside)) (omega (arith, pre .3)), search needs)
-
 returns-2 : tie.Need-returns-2
 returns-2 c =
-    let a = c .before .before .before .before .before .before .args in
-    let pre = c .before .before .before .before .before .before .pre in
-    let name = c .before .before .before .before .name in
-    let if1 = c .before .before .if1 in (
-      element-rest _ _ _ _ (pre .0) (name .ensures) (if1 .left) (c .attributes .ensures .0),
+    let c3 = c .before .before .before in
+    let c5 = c3 .before .before in
+    let a = c5 .before .before .args in
+    let pre = c5 .before .before .pre in (
+      element-rest _ _ _ (name-as (c3 .end .given .1) (c5 .spelled-name .ensures)) (c .attributes .ensures .0),
       kept-less _ _ _ _ _ (kept-set _ _ _ (a .depth) (a .self .at - 1) (kept-same _ _) (search needs)) (c .attributes .ensures .1)
           (omega arith),
       omega (
@@ -44,5 +55,5 @@ returns-2 c =
     )
 
 pub start-tag-spec : {M : Type 1} → statement M
-start-tag-spec = tie.close (tie.spec (λ c. search needs) cast-names (λ c. search needs) (λ c. search needs) (λ c κs. search needs)
-    (λ c. search needs) (λ c. search needs) returns (λ c. search needs) attributes-requires returns-2)
+start-tag-spec = tie.close (tie.spec (λ c. search needs) cast-names (λ c. search needs) (λ c. search needs) spelled-name-requires
+    (λ c. search needs) (λ c. search needs) (λ c. search needs) attributes-requires returns returns-2)
