@@ -1,5 +1,4 @@
 // Load and write, answered by the number of 64 bits. Every contract is `Contract` of traces/specs/Contract.antt.
-use xml_load::loading;
 use xml_write::writer;
 ghost use Rattle.traces.specs.Exchange.{Request, with-none, with-one};
 ghost use Rattle.traces.specs.Contract.{Contract};
@@ -8,7 +7,7 @@ ghost use Rattle.traces.specs.Contract.{Contract};
 pub fn load(state: &mut [u8], xml: &[u8]) -> u64
     ensures { λ r. ⌜ Contract (with-none (Request.load (now (xml .entry))) (now (state .entry)) (now (state .exit)) r) ⌝ }
 {
-    let answer = loading::load(state, xml);
+    let answer = xml_load::load(state, xml);
     protocol::code(answer)
 }
 

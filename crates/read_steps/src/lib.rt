@@ -1,6 +1,4 @@
 // The steps that only read: C, R, TT and RR.
-pub mod reading;
-
 use locks::StepName;
 use protocol::Answer;
 use protocol::causes;
@@ -20,7 +18,7 @@ pub fn child(s: &mut [u8], t: u32, n: u32, k: u32) -> Answer
     if !verdict.free {
         return verdict.answer;
     }
-    let answer = reading::kth_child(s, at.t, at.place, k);
+    let answer = node_reading::kth_child(s, at.t, at.place, k);
     engine::grant(s, at, &way, need);
     answer
 }
@@ -42,7 +40,7 @@ pub fn read(s: &mut [u8], t: u32, n: u32, out: &mut [u8]) -> Answer
     if out.len() < size {
         return Answer::Refused(causes::SHORT_BUFFER);
     }
-    reading::content(s, at.place, out);
+    node_reading::content(s, at.place, out);
     engine::grant(s, at, &way, need);
     Answer::Count(size as u32)
 }
@@ -60,11 +58,11 @@ pub fn test_tree(s: &mut [u8], t: u32, n: u32, out: &mut [u8]) -> Answer
         return verdict.answer;
     }
     let mut nodes = [0u16; 1024];
-    let count = reading::select(s, at.t, at.place, &mut nodes);
+    let count = node_reading::select(s, at.t, at.place, &mut nodes);
     if out.len() < 4 * count {
         return Answer::Refused(causes::SHORT_BUFFER);
     }
-    reading::numbers(s, &nodes, count, out);
+    node_reading::numbers(s, &nodes, count, out);
     engine::grant(s, at, &way, need);
     Answer::Count(count as u32)
 }
@@ -85,15 +83,15 @@ pub fn read_tree(s: &mut [u8], t: u32, n: u32, out: &mut [u8], cells: &mut [u8])
         return verdict.answer;
     }
     let mut nodes = [0u16; 1024];
-    let count = reading::select(s, at.t, at.place, &mut nodes);
+    let count = node_reading::select(s, at.t, at.place, &mut nodes);
     if out.len() < 4 * count {
         return Answer::Refused(causes::SHORT_BUFFER);
     }
     if cells.len() < 33 * count {
         return Answer::Refused(causes::SHORT_BUFFER);
     }
-    reading::numbers(s, &nodes, count, out);
-    reading::cells(s, &nodes, count, cells);
+    node_reading::numbers(s, &nodes, count, out);
+    node_reading::cells(s, &nodes, count, cells);
     engine::grant(s, at, &way, need);
     Answer::Count(count as u32)
 }

@@ -1,6 +1,4 @@
 // The steps that change the tree: U, D, I and UU.
-pub mod writing;
-
 use locks::StepName;
 use protocol::Answer;
 use protocol::causes;
@@ -48,7 +46,7 @@ pub fn update(s: &mut [u8], t: u32, n: u32, b: &[u8]) -> Answer
         return verdict.answer;
     }
     engine::grant(s, at, &way, need);
-    writing::write(s, at.place, at.t, b);
+    node_writing::write(s, at.place, at.t, b);
     Answer::Done
 }
 
@@ -102,7 +100,7 @@ pub fn rename_tree(s: &mut [u8], t: u32, n: u32, a: &[u8], b: &[u8]) -> Answer
         return verdict.answer;
     }
     engine::grant(s, at, &way, need);
-    let hits = writing::rename_below(s, at.place, at.t, a, b);
+    let hits = node_writing::rename_below(s, at.place, at.t, a, b);
     Answer::Count(hits as u32)
 }
 
@@ -140,15 +138,15 @@ pub fn insert(s: &mut [u8], t: u32, m: u32, kind: u32, b: &[u8], n: u32, k: u32)
     if !verdict.free {
         return verdict.answer;
     }
-    if !writing::fits(s, at.place, at.t, kind, k) {
+    if !node_writing::fits(s, at.place, at.t, kind, k) {
         return Answer::Refused(causes::PLACE_NOT_ALLOWED);
     }
     if 1024 <= table::count(s) {
         return Answer::Refused(causes::NO_MORE_NODES);
     }
-    let q = writing::new_place(s, at.place, at.t, k);
+    let q = node_writing::new_place(s, at.place, at.t, k);
     let d = table::depth(s, at.place);
     engine::grant(s, at, &way, need);
-    writing::put(s, q, d + 1, m, kind as u8, at.t, b, need.fresh);
+    node_writing::put(s, q, d + 1, m, kind as u8, at.t, b, need.fresh);
     Answer::Done
 }

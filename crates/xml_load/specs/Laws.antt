@@ -1,11 +1,3 @@
-pub mod Element
-pub mod Whole
-pub mod Rows
-pub mod Tokens
-pub mod Decoding
-pub mod Texts
-pub mod Names
-pub mod Places
 pub mod Opens
 pub mod Judgement
 pub mod Empty

@@ -1,4 +1,2 @@
-pub mod Judged
-pub mod Fill
 pub mod Load
 pub mod Laws

@@ -1,6 +1,6 @@
 // The committed document in the lent bytes: the places of its nodes, and their contents.
 use table::layout;
-use xml_text::escaping;
+use xml_content::escaping;
 ghost use mathlib.Core.Path.{_≡_};
 ghost use mathlib.Core.Bool.{true};
 ghost use Prim.Native.Nat.{_<_, _≤_};

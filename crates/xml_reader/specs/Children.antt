@@ -10,7 +10,7 @@ use Rattle.xml.specs.Reading.{node-offset}
 use Rattle.xml.specs.Laws.Automaton.{Config, behind-open, end-name, epilog, closed}
 use Rattle.xml.specs.Laws.Judge.{bad}
 use Rattle.xml.specs.Laws.Goes.{Leads, Goes}
-use Rattle.xml_reader.specs.declared.Cursor.{Cursor}
+use Rattle.xml_tokens.specs.declared.Cursor.{Cursor}
 use Rattle.xml_reader.specs.declared.Child.{Child}
 use Rattle.xml_reader.specs.declared.Child.the-variants.{At, Stopped}
 use Rattle.xml_reader.specs.Elements.{stack, Placed, Onward}

@@ -15,13 +15,13 @@ use Rattle.xml.specs.Laws.Scan.{scan-at}
 use Rattle.xml.specs.Laws.Goes.{Leads, Goes}
 use Rattle.xml.specs.Laws.Tokens.{name-at}
 use Rattle.bytes.specs.Sorted.{entries, Among, Lists, Added}
-use Rattle.xml_reader.specs.declared.Cursor.{Cursor}
-use Rattle.xml_reader.specs.declared.End.{End}
-use Rattle.xml_reader.specs.declared.End.the-variants.{Behind, Mismatch}
+use Rattle.xml_tokens.specs.declared.Cursor.{Cursor}
+use Rattle.xml_tokens.specs.declared.End.{End}
+use Rattle.xml_tokens.specs.declared.End.the-variants.{Behind, Mismatch}
+use Rattle.xml_tokens.specs.declared.Read.{Read}
+use Rattle.xml_tokens.specs.declared.Read.the-variants.{Past, Refused}
 use Rattle.xml_reader.specs.declared.Tag.{Tag}
 use Rattle.xml_reader.specs.declared.Tag.the-variants.{Opened, Emptied, Broken}
-use Rattle.xml_reader.specs.declared.Read.{Read}
-use Rattle.xml_reader.specs.declared.Read.the-variants.{Past, Refused}
 
 -- the name behind the byte at an offset
 abbrev pub name-behind : List ℕ → ℕ → Name

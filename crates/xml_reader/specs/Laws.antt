@@ -1,13 +1,5 @@
-pub mod Runs
-pub mod Spelling
-pub mod Classes
-pub mod Characters
-pub mod Contents
-pub mod Tags
+pub mod Configurations
 pub mod Names
-pub mod Letters
-pub mod Plain
-pub mod Specials
 pub mod Attributes
 pub mod StartTags
 pub mod EndTags

@@ -1,5 +1,3 @@
-pub mod Classes
-pub mod Steps
 pub mod Elements
 pub mod Children
 pub mod Prolog

@@ -13,7 +13,7 @@ use Rattle.xml.specs.Laws.Scan.{scan-at}
 use Rattle.xml.specs.Laws.Goes.{Leads}
 use Rattle.xml.specs.Laws.Tokens.{Reach, got, lost}
 use Rattle.xml.specs.Laws.Tells.{Tells}
-use Rattle.xml_reader.specs.declared.Cursor.{Cursor}
+use Rattle.xml_tokens.specs.declared.Cursor.{Cursor}
 use Rattle.xml_reader.specs.declared.Prolog.{Prolog}
 use Rattle.xml_reader.specs.declared.Prolog.the-variants.{Root, NoRoot}
 use Rattle.xml_reader.specs.Elements.{Named}

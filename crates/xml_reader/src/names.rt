@@ -1,8 +1,8 @@
 // The names of the attributes of a start tag, kept in their order, so that a name is found by halving, whatever they are. What is kept of a
 // name is the offset of the byte before it: a name may begin at 65,536, one more than 16 bits hold.
-use super::peek;
 use bytes::Order;
 use bytes::Place;
+use xml_tokens::peek;
 ghost use mathlib.Core.Path.{_≡_};
 ghost use Prim.Native.Nat.{_+_, _<_, _≤_};
 ghost use lib.ListN.{length};
@@ -10,7 +10,7 @@ ghost use Rattle.tree.specs.Content.{name-byte};
 ghost use Rattle.xml.specs.Laws.Tokens.{name-at};
 ghost use Rattle.bytes.specs.Order.{Ordered};
 ghost use Rattle.bytes.specs.Sorted.{Increasing, Belongs};
-ghost use Rattle.xml_reader.specs.Steps.{Run};
+ghost use Rattle.xml_tokens.specs.Steps.{Run};
 ghost use Rattle.xml_reader.specs.Elements.{Placed, Attributed, Kept, attribute-names, EnterRead};
 
 // How the name that stands between two offsets lies to the one at another.

@@ -8,5 +8,3 @@ pub mod Judgement
 pub mod Documents
 pub mod Rules
 pub mod Next
-pub mod Copying
-pub mod Escaping

@@ -1,9 +1,9 @@
 // Write: the committed document as an XML text. Each piece of markup goes behind the last, into the rest of the lent bytes.
 use protocol::Answer;
+use xml_content::copying;
+use xml_content::escaping;
 use xml_measure::committed;
 use xml_measure::measuring;
-use xml_text::copying;
-use xml_text::escaping;
 use xml_text::markup;
 ghost use mathlib.Core.Path.{_≡_};
 ghost use mathlib.Core.List.{_++_};

@@ -19,7 +19,7 @@ use Rattle.table.specs.Layout.{nodes, Layout}
 use Rattle.rows.specs.Places.{number-of, subtree}
 use Rattle.rows.specs.Found.{kth-child}
 use Rattle.engine.specs.Way.{Places, nodes-of}
-use Rattle.read_steps.specs.Subtree.{Selected}
+use Rattle.node_reading.specs.Subtree.{Selected}
 use Rattle.read_steps.specs.Laws.Lengths.{length-numbers, length-cells}
 use Rattle.engine.specs.Contract.{Performed, Lent, no-room, room-of, rooms-of}
 use Rattle.engine.specs.Laws.Outcomes.{Grants, performed-grants, lent-grants}

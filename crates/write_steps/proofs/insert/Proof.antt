@@ -21,12 +21,12 @@ use Rattle.engine.proofs.admit.Reads as admit
 use Rattle.write_steps.proofs.insert_cause.Reads as insert-cause
 use Rattle.locks.proofs.needed.Reads as needed
 use Rattle.engine.proofs.judge.Reads as judge
-use Rattle.write_steps.proofs.writing.fits.Reads as fits
+use Rattle.node_writing.proofs.fits.Reads as fits
 use Rattle.table.proofs.count.Reads as count
-use Rattle.write_steps.proofs.writing.new_place.Reads as new-place
+use Rattle.node_writing.proofs.new_place.Reads as new-place
 use Rattle.table.proofs.depth.Reads as depth
 use Rattle.engine.proofs.grant.Reads as grant
-use Rattle.write_steps.proofs.writing.put.Reads as put
+use Rattle.node_writing.proofs.put.Reads as put
 
 -- where nothing up to the wait keeps the step from being granted
 abbrev Behind : Type 0

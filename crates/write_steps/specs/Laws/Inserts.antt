@@ -18,7 +18,7 @@ use Rattle.table.specs.Layout.{Entry, nodes, Left, header}
 use Rattle.table.specs.Laws.Kept.{left-kept, left-as, then-left}
 use Rattle.rows.specs.Places.{depth, item, children}
 use Rattle.rows.specs.Rows.{new-place, stepped}
-use Rattle.write_steps.specs.Writing.{new-node}
+use Rattle.node_writing.specs.Writing.{new-node}
 use Rattle.form.specs.Form.{valid, valid-document, valid-below, valid-rows}
 use Rattle.form.specs.Laws.Rows.{between-high}
 use Rattle.form.specs.Laws.Holds.{form-parts}

@@ -14,9 +14,9 @@ use Rattle.xml.specs.Laws.Judge.{judgement}
 use Rattle.xml.specs.Laws.Verdicts.{Means, judgement-means}
 use Rattle.xml.specs.Laws.Loadable.{lines-length}
 use Rattle.xml.specs.Laws.Readings.{faultless-loadable, one-reading}
-use Rattle.xml_load.specs.declared.judging.Judged.{Judged}
-use Rattle.xml_load.specs.declared.judging.Judged.the-variants.{Accepted, Rejected}
-use Rattle.xml_load.specs.Judged.{verdict}
+use Rattle.xml_judging.specs.declared.Judged.{Judged}
+use Rattle.xml_judging.specs.declared.Judged.the-variants.{Accepted, Rejected}
+use Rattle.xml_judging.specs.Judged.{verdict}
 use Rattle.xml_load.specs.Load.{Stands, Fails}
 
 module _ (limit : ℕ) (some : 2 ≤ limit) (few : limit ≤ node-limit) (x : List ℕ) where

@@ -23,7 +23,7 @@ use Rattle.engine.specs.Contract.{Performed}
 use Rattle.engine.specs.Laws.Outcomes.{Grants, performed-stays, performed-grants}
 use Rattle.xml.specs.Shape.{document}
 use Rattle.xml.specs.Reading.{ReadsAs}
-use Rattle.xml_load.specs.Fill.{Begun, Filled}
+use Rattle.xml_filling.specs.Fill.{Begun, Filled}
 use Rattle.xml_load.specs.Load.{Stands, Fails, Replaced}
 
 -- the function `replace` ---------------------------------------------------------------------

@@ -20,21 +20,21 @@ use Rattle.xml.specs.Laws.Judge.{Verdict, bad}
 use Rattle.xml.specs.Laws.Scan.{scan-at, scan-end, scan-stuck, scan-unspelled, scan-alike}
 use Rattle.xml.specs.Laws.Goes.{Leads, Goes, goes-then, scan-born, scan-too-many}
 use Rattle.xml.specs.Laws.Tokens.{name-at, Naming}
-use Rattle.xml_reader.specs.declared.Cursor.{Cursor}
-use Rattle.xml_reader.specs.declared.Equals.{Equals}
-use Rattle.xml_reader.specs.declared.Equals.the-variants.{Quoted, NoQuote}
-use Rattle.xml_reader.specs.declared.Piece.the-variants.{Taken, Unfit}
-use Rattle.xml_reader.specs.declared.Read.{Read}
-use Rattle.xml_reader.specs.declared.Read.the-variants.{Past, Refused}
-use Rattle.xml_reader.specs.Steps.{no-step, quiet-step, NamePlace, NameRead, EqualsRead, quoted, no-quote, TextRead, text-past}
-use Rattle.xml_reader.specs.Steps.{text-refused}
+use Rattle.xml_tokens.specs.declared.Cursor.{Cursor}
+use Rattle.xml_tokens.specs.declared.Equals.{Equals}
+use Rattle.xml_tokens.specs.declared.Equals.the-variants.{Quoted, NoQuote}
+use Rattle.xml_tokens.specs.declared.Piece.the-variants.{Taken, Unfit}
+use Rattle.xml_tokens.specs.declared.Read.{Read}
+use Rattle.xml_tokens.specs.declared.Read.the-variants.{Past, Refused}
+use Rattle.xml_tokens.specs.Steps.{no-step, quiet-step, NamePlace, NameRead, EqualsRead, quoted, no-quote, TextRead, text-past}
+use Rattle.xml_tokens.specs.Steps.{text-refused}
+use Rattle.xml_tokens.specs.Laws.Spelling.{monitor-name}
+use Rattle.xml_tokens.specs.Laws.Letters.{name-run, name-scan, name-stops, name-ended, quiet-either}
 use Rattle.bytes.specs.Sorted.{Among}
 use Rattle.bytes.specs.Laws.Sorted.{among-seen}
 use Rattle.xml_reader.specs.Elements.{Attributed, AttributeRead, attribute-past, attribute-refused, Kept, attribute-names, Entered}
 use Rattle.xml_reader.specs.Elements.{EnterRead, is-entered, is-repeated, NamesRead, names-past, names-refused, AttributeEnters}
-use Rattle.xml_reader.specs.Laws.Spelling.{monitor-name}
-use Rattle.xml_reader.specs.Laws.Letters.{name-run, name-scan, name-stops, name-ended, quiet-either}
-use Rattle.xml_reader.specs.Laws.Contents.{value-contents}
+use Rattle.xml_reader.specs.Laws.Configurations.{value-contents}
 
 module _ {s os os′ : List ℕ} {lo count at : ℕ} where
   repeated-of : {b : Bool} → EnterRead s os os′ lo count at b → b ≡ false → Among (attribute-names s os lo) count (name-at s at)

@@ -19,20 +19,20 @@ use Rattle.xml.specs.Laws.Monitor.{Monitor, on, seen, at-rest, is-on, seen-as, 
 use Rattle.xml.specs.Laws.Judge.{Verdict, bad, byte-before, offset-before}
 use Rattle.xml.specs.Laws.Scan.{scan-at, scan-unspelled}
 use Rattle.xml.specs.Laws.Goes.{Leads, goes-then, scan-too-many, scan-born}
-use Rattle.xml_reader.specs.declared.Cursor.{Cursor}
+use Rattle.xml_tokens.specs.declared.Cursor.{Cursor}
+use Rattle.xml_tokens.specs.declared.End.the-variants as end-variants
+use Rattle.xml_tokens.specs.declared.Markup.{Markup}
+use Rattle.xml_tokens.specs.declared.Markup.the-variants.{StartTag, EndTag, NoTag}
+use Rattle.xml_tokens.specs.declared.Read.the-variants.{Past, Refused}
+use Rattle.xml_tokens.specs.Steps.{TextRead, text-past, text-refused, MarkupRead, markup-start, markup-end, markup-wrong}
+use Rattle.xml_tokens.specs.Laws.Spelling.{monitor-name}
 use Rattle.xml_reader.specs.declared.Child.{Child}
 use Rattle.xml_reader.specs.declared.Child.the-variants.{At, Stopped}
-use Rattle.xml_reader.specs.declared.End.the-variants as end-variants
-use Rattle.xml_reader.specs.declared.Markup.{Markup}
-use Rattle.xml_reader.specs.declared.Markup.the-variants.{StartTag, EndTag, NoTag}
-use Rattle.xml_reader.specs.declared.Read.the-variants.{Past, Refused}
 use Rattle.xml_reader.specs.declared.Tag.the-variants.{Opened, Emptied, Broken}
-use Rattle.xml_reader.specs.Steps.{TextRead, text-past, text-refused, MarkupRead, markup-start, markup-end, markup-wrong}
 use Rattle.xml_reader.specs.Elements.{stack, name-behind, Placed, Kept, ElementRead, element-opened, element-emptied, element-broken}
 use Rattle.xml_reader.specs.Elements.{EndRead, end-behind, end-mismatch}
 use Rattle.xml_reader.specs.Children.{opened, ending, Behind, Deep, ChildRead, child-at, child-stopped}
-use Rattle.xml_reader.specs.Laws.Spelling.{monitor-name}
-use Rattle.xml_reader.specs.Laws.Contents.{text-contents}
+use Rattle.xml_reader.specs.Laws.Configurations.{text-contents}
 use Rattle.xml_reader.specs.Laws.StartTags.{stack-same, placed-kept}
 
 -- the innermost open element and those around it

@@ -16,12 +16,12 @@ use Rattle.xml.specs.Laws.Judge.{bad}
 use Rattle.xml.specs.Laws.Goes.{Leads, Goes, goes-then, goes-same, goes-step, stops-end, stops-stuck}
 use Rattle.xml.specs.Laws.Tokens.{name-at}
 use Rattle.xml.specs.Laws.Fixed.{agree}
-use Rattle.xml_reader.specs.declared.End.{End}
-use Rattle.xml_reader.specs.declared.End.the-variants.{Mismatch}
+use Rattle.xml_tokens.specs.declared.End.{End}
+use Rattle.xml_tokens.specs.declared.End.the-variants.{Mismatch}
 use Rattle.bytes.specs.Agreement.{Agreement}
-use Rattle.xml_reader.specs.Steps.{Run, CloseRead, close-behind, close-wrong}
+use Rattle.xml_tokens.specs.Steps.{Run, CloseRead, close-behind, close-wrong}
+use Rattle.xml_tokens.specs.Laws.Letters.{name-of, length-name}
 use Rattle.xml_reader.specs.Elements.{EndRead, end-behind, end-mismatch}
-use Rattle.xml_reader.specs.Laws.Names.{name-of, length-name}
 
 module _ (s : List ℕ) (n : Name) (ns : List Name) (m : ℕ) where
   -- a byte of the name

@@ -19,19 +19,10 @@ use Rattle.bytes.specs.Laws.Agreeing.{agree-most}
 use Rattle.bytes.specs.Laws.Order.{order-same, order-shorter, order-longer, order-smaller, order-greater}
 use Rattle.bytes.specs.Sorted.{Increasing, Between, Inserted}
 use Rattle.bytes.specs.Laws.Entries.{each-entry, entry-added}
-use Rattle.xml_reader.specs.Steps.{Run}
-use Rattle.xml_reader.specs.Laws.Runs.{run-passes}
+use Rattle.xml_tokens.specs.Steps.{Run}
+use Rattle.xml_tokens.specs.Laws.Runs.{run-passes}
+use Rattle.xml_tokens.specs.Laws.Letters.{name-of, length-name}
 use Rattle.xml_reader.specs.Elements.{Placed, Attributed, Kept, name-behind, attribute-names, EnterRead, is-entered}
-
--- the bytes of a name
-pub name-of : (s : List ℕ) (from to : ℕ) → Run name-byte s from to → take (to - from) (drop from s) ≡ name-at s from
-unfolding name-at
-name-of s from to r = let p : to - from ≡ span name-byte (drop from s) = omega (arith, r .ends) in rw p
-
-pub length-name : (s : List ℕ) (from to : ℕ) → Run name-byte s from to → length (name-at s from) ≡ to - from
-unfolding name-at
-length-name s from to r =
-    length-take-le (span name-byte (drop from s)) (drop from s) (span-length name-byte (drop from s)) ∙ omega (arith, r .ends)
 
 -- behind the end no name goes on
 beyond : (s : List ℕ) (i : ℕ) → length s ≤ i → name-byte (getD s i 0) ≡ false

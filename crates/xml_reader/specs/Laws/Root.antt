@@ -14,12 +14,12 @@ use Rattle.xml.specs.Laws.Monitor.{on, seen-as}
 use Rattle.xml.specs.Laws.Scan.{scan-unspelled}
 use Rattle.xml.specs.Laws.Goes.{stops-end, stops-stuck, scan-born}
 use Rattle.xml.specs.Laws.Tells.{tells-then, tells-step, Passes, passes-then, passes-same, passes-step, passes-blanks}
-use Rattle.xml_reader.specs.declared.Cursor.{Cursor}
+use Rattle.xml_tokens.specs.declared.Cursor.{Cursor}
+use Rattle.xml_tokens.specs.Steps.{Run}
+use Rattle.xml_tokens.specs.Laws.Spelling.{monitor-name}
+use Rattle.xml_tokens.specs.Laws.Tags.{no-blank-here}
 use Rattle.xml_reader.specs.declared.Prolog.the-variants.{Root, NoRoot}
-use Rattle.xml_reader.specs.Steps.{Run}
 use Rattle.xml_reader.specs.Prolog.{RootRead, root-at, no-root}
-use Rattle.xml_reader.specs.Laws.Spelling.{monitor-name}
-use Rattle.xml_reader.specs.Laws.Tags.{no-blank-here}
 
 module _ (s : List ℕ) (at i : ℕ) (r : Run blank s at i) where
   to-root : Passes s prolog at prolog i

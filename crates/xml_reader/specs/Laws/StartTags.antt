@@ -18,22 +18,22 @@ use Rattle.xml.specs.Laws.Judge.{Verdict}
 use Rattle.xml.specs.Laws.Scan.{scan-at, scan-alike}
 use Rattle.xml.specs.Laws.Goes.{Leads, Goes, goes-then, goes-same}
 use Rattle.xml.specs.Laws.Tokens.{name-at, Naming}
-use Rattle.xml_reader.specs.declared.Cursor.{Cursor}
-use Rattle.xml_reader.specs.declared.Item.{Item}
-use Rattle.xml_reader.specs.declared.Item.the-variants.{Open, Empty, Attribute, Wrong}
-use Rattle.xml_reader.specs.declared.Piece.the-variants.{Taken, Unfit}
-use Rattle.xml_reader.specs.declared.Read.{Read}
-use Rattle.xml_reader.specs.declared.Read.the-variants.{Past, Refused}
+use Rattle.xml_tokens.specs.declared.Cursor.{Cursor}
+use Rattle.xml_tokens.specs.declared.Item.{Item}
+use Rattle.xml_tokens.specs.declared.Item.the-variants.{Open, Empty, Attribute, Wrong}
+use Rattle.xml_tokens.specs.declared.Piece.the-variants.{Taken, Unfit}
+use Rattle.xml_tokens.specs.declared.Read.{Read}
+use Rattle.xml_tokens.specs.declared.Read.the-variants.{Past, Refused}
+use Rattle.xml_tokens.specs.Steps.{no-step, quiet-step, NamePlace, NameRead, TagRead, tag-open, tag-empty, tag-attribute, tag-wrong}
+use Rattle.xml_tokens.specs.Laws.Letters.{name-run, name-scan, name-stops, name-ended, quiet-either}
 use Rattle.xml_reader.specs.declared.Tag.{Tag}
 use Rattle.xml_reader.specs.declared.Tag.the-variants.{Opened, Emptied, Broken}
-use Rattle.xml_reader.specs.Steps.{no-step, quiet-step, NamePlace, NameRead, TagRead, tag-open, tag-empty, tag-attribute, tag-wrong}
 use Rattle.bytes.specs.Sorted.{Lists}
 use Rattle.bytes.specs.Laws.Sorted.{lists-none}
 use Rattle.xml_reader.specs.Elements.{stack, Placed, Attributed, AttributeRead, attribute-past, attribute-refused, Kept}
 use Rattle.xml_reader.specs.Elements.{attribute-names, Entered, NamesRead, names-past, AttributeEnters, AttributesRead}
 use Rattle.xml_reader.specs.Elements.{attributes-opened, attributes-emptied, attributes-broken, Onward, ElementRead, element-opened}
 use Rattle.xml_reader.specs.Elements.{element-emptied, element-broken}
-use Rattle.xml_reader.specs.Laws.Letters.{name-run, name-scan, name-stops, name-ended, quiet-either}
 
 -- offsets --------------------------------------------------------------------------------------
 

@@ -1,0 +1,4 @@
+pub mod Child
+pub mod Subtree
+pub mod Stores
+pub mod Buffers

@@ -1,8 +1,0 @@
-use Rattle.xml_load.specs.Laws.Whole.{limit-accepted, limit-long, limit-far, limit-near}
-use borrow.Author.Needs.{needs}
-use Rattle.xml_load.proofs.judging.limit_input.Statement.{statement}
-use Rattle.xml_load.proofs.judging.limit_input.Tie as tie
-
-pub limit-input-spec : {M : Type 1} → statement M
-limit-input-spec = tie.close (tie.spec (λ c. search needs) (λ c. search (limit-long, needs)) (λ c. search needs)
-    (λ c. search (limit-far, needs)) (λ c. search (limit-accepted, needs)) (λ c. search (limit-near, needs)))

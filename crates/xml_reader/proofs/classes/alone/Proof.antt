@@ -1,6 +1,0 @@
-use Rattle.xml_reader.specs.Laws.Classes.{none-alone, alone-ascii}
-use Rattle.xml_reader.proofs.classes.alone.Statement.{statement}
-use Rattle.xml_reader.proofs.classes.alone.Tie as tie
-
-pub alone-spec : {M : Type 1} → statement M
-alone-spec = tie.close (tie.spec (λ c. none-alone _ (c .if1 .taken)) (λ c. alone-ascii _ (c .if1 .left)))

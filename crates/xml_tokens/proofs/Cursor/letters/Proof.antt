@@ -1,0 +1,28 @@
+use borrow.Author.Needs.{needs}
+use Prim.Native.Nat.{_-_, _≤_}
+use borrow.Author.Tests.{lt-leb, le-leb}
+use lib.Dec.{leb}
+use lib.ListN.{length}
+use Rattle.xml_tokens.specs.Laws.Runs.{Running, run-start, run-turn, run-stop, run-end}
+use Rattle.xml_tokens.proofs.Cursor.letters.Statement.{statement}
+use Rattle.xml_tokens.proofs.Cursor.letters.Tie as tie
+
+abbrev Inv-loop : tie.InvT-loop
+Inv-loop s i₀ i = (i ≤ length s) × Running (leb 128) s i₀ i
+
+abbrev μ-loop : tie.MeasureT-loop
+μ-loop s i₀ i = length s - i
+
+loop-again : tie.Need-loop-again Inv-loop μ-loop
+loop-again c =
+    let l = c .before .before .before .loop in
+    (search needs, run-turn _ _ _ _ (l .inv .1) (search needs) (le-leb 128 _ (c .if1 .left)))
+
+returns-2 : tie.Need-returns-2 Inv-loop μ-loop
+returns-2 c =
+    let l = c .before .before .before .loop in
+    run-stop _ _ _ _ (l .inv .1) (search needs) (lt-leb 128 _ (c .if1 .taken))
+
+pub letters-spec : {M : Type 1} → statement M
+letters-spec = tie.close (tie.spec Inv-loop μ-loop (λ c. (search needs, run-start _ _ _)) (λ c. search needs) (λ c. search needs)
+    (λ c. search needs) loop-again (λ c. run-end _ _ _ _ (c .before .loop .inv .1) (search needs) (search needs)) returns-2)

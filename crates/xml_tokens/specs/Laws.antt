@@ -1,0 +1,9 @@
+pub mod Runs
+pub mod Spelling
+pub mod Classes
+pub mod Characters
+pub mod Contents
+pub mod Tags
+pub mod Letters
+pub mod Plain
+pub mod Specials
