@@ -9,6 +9,9 @@ struct engine {
     void *(*make)(void);   /* one engine of its own; start has not been called */
     void (*drop)(void *e);
     unsigned long (*faults)(void *e); /* what the engine's own checks found wrong so far; see each table */
+    /* What is open commits in this order, and the settings are written, all on a copy: the engine stays as it is. Answers the first commit
+     * that is not granted, or the write. */
+    noodlefen_answer (*finish)(void *e, const uint32_t *order, unsigned count, uint8_t *out, size_t out_len);
     /* The calls: noodlefen_answer (*start)(void *e) and so on. */
 #define STATE void *e
 #define READ_STATE void *e
@@ -16,10 +19,12 @@ struct engine {
 #include "calls.def"
 };
 
-/* The reference. A fault is a committed step that answered otherwise than the plain run. */
+/* The reference. A fault is a committed step that answered otherwise than the plain run; in finish also a step of an open transaction that
+ * did so in this order, and a document left that is not the held one. */
 extern const struct engine reference_engine;
 
-/* The functions of noodlefen.h. A fault is a call that changed its input, or changed the state bytes and was not granted. */
+/* The functions of noodlefen.h. A fault is a call that changed its input, or changed the state bytes and was not granted; also a finish
+ * that changed the state bytes. */
 extern const struct engine library_engine;
 
 /* The engine that a program tests: the library if it was linked, otherwise the reference. */

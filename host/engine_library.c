@@ -31,14 +31,12 @@ static uint8_t *within(const struct fence *fence, size_t length)
     return turn++ % 4 == 3 ? fence_begin(fence, length) : fence_end(fence, length);
 }
 
-static void *make(void)
+static struct library *with_length(size_t length)
 {
-    static unsigned made;
     struct library *l = calloc(1, sizeof *l);
     if (l == NULL)
         abort();
-    /* Mostly the exact need, at times the size that is never too short. */
-    l->length = made++ % 8 == 7 ? MOST_STATE : NOODLEFEN_STATE_BYTES;
+    l->length = length;
     l->fence = fence_new(l->length);
     l->state = within(&l->fence, l->length);
     l->before = malloc(l->fence.size);
@@ -49,6 +47,22 @@ static void *make(void)
     for (int i = 0; i < MOST_BUFFERS && buffers[i].fence.bytes == NULL; i++)
         buffers[i].fence = fence_new(MOST_BUFFER);
     return l;
+}
+
+/* Mostly the exact need, at times the size that is never too short. */
+static void *make(void)
+{
+    static unsigned made;
+    return with_length(made++ % 8 == 7 ? MOST_STATE : NOODLEFEN_STATE_BYTES);
+}
+
+/* The same state bytes within a fence of their own. */
+static struct library *copy_of(const struct library *l)
+{
+    struct library *copy = with_length(l->length);
+    memcpy(copy->state, l->state, l->length);
+    memcpy(copy->before, copy->fence.bytes, copy->fence.size);
+    return copy;
 }
 
 static void drop(void *e)
@@ -113,8 +127,29 @@ static noodlefen_answer checked(struct library *l, noodlefen_answer answer)
     static noodlefen_answer library_##name parameters { return checked(e, noodlefen_##name arguments); }
 #include "calls.def"
 
+static noodlefen_answer commit_and_write(void *e, const uint32_t *order, unsigned count, uint8_t *out, size_t out_len)
+{
+    for (unsigned i = 0; i < count; i++) {
+        noodlefen_answer answer = library_commit(e, order[i]);
+        if (!noodlefen_granted(answer))
+            return answer;
+    }
+    return library_write(e, out, out_len);
+}
+
+static noodlefen_answer finish(void *e, const uint32_t *order, unsigned count, uint8_t *out, size_t out_len)
+{
+    struct library *l = e, *copy = copy_of(l);
+    noodlefen_answer answer = commit_and_write(copy, order, count, out, out_len);
+    l->faults += copy->faults;
+    if (memcmp(l->fence.bytes, l->before, l->fence.size) != 0)
+        l->faults++;
+    drop(copy);
+    return answer;
+}
+
 const struct engine library_engine = {
-    "library", make, drop, faults,
+    "library", make, drop, faults, finish,
 #define CALL(name, parameters, arguments) library_##name,
 #include "calls.def"
 };

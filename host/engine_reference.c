@@ -5,6 +5,11 @@ static void *make(void) { return reference_new(); }
 static void drop(void *e) { reference_free(e); }
 static unsigned long faults(void *e) { return reference_disagreements(e); }
 
+static noodlefen_answer finish(void *e, const uint32_t *order, unsigned count, uint8_t *out, size_t out_len)
+{
+    return reference_finish(e, order, count, out, out_len);
+}
+
 #define STATE void *e
 #define READ_STATE void *e
 #define PASSED_STATE e
@@ -13,7 +18,7 @@ static unsigned long faults(void *e) { return reference_disagreements(e); }
 #include "calls.def"
 
 const struct engine reference_engine = {
-    "reference", make, drop, faults,
+    "reference", make, drop, faults, finish,
 #define CALL(name, parameters, arguments) of_##name,
 #include "calls.def"
 };

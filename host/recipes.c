@@ -265,6 +265,55 @@ static void two_deletions(void)
     print_answer("commit of the second tried", try_commit(2));
 }
 
+/* --- What the settings will be when all that is open has committed, in whatever order: all commit on a copy, and it is written. */
+static noodlefen_answer preview(uint8_t *out, size_t room)
+{
+    memcpy(copy, state, sizeof copy);
+    for (uint32_t t = 1; t <= NOODLEFEN_TRANSACTIONS; t++)
+        noodlefen_commit(copy, sizeof copy, t); /* refused for cause 3 where t is not open */
+    return noodlefen_write(copy, sizeof copy, out, room);
+}
+
+/* Commits three transactions in this order; whether the settings written then are these. */
+static int commits_leave(uint8_t *bytes, const uint32_t order[3], const uint8_t *settings, size_t length)
+{
+    static uint8_t out[NOODLEFEN_XML_BYTES];
+    for (int i = 0; i < 3; i++)
+        must(noodlefen_commit(bytes, NOODLEFEN_STATE_BYTES, order[i]));
+    noodlefen_answer written = must(noodlefen_write(bytes, NOODLEFEN_STATE_BYTES, out, sizeof out));
+    return noodlefen_value(written) == length && memcmp(out, settings, length) == 0;
+}
+
+/* Three engineers at settings beside each other: the second inserts between what the others change, and the third deletes the text of an
+ * element whose name the first has read. All six orders are tried on copies; then they commit in one of them. */
+static void who_first(void)
+{
+    static const uint32_t orders[6][3] = {{1, 2, 3}, {1, 3, 2}, {2, 1, 3}, {2, 3, 1}, {3, 1, 2}, {3, 2, 1}};
+    static uint8_t settings[NOODLEFEN_XML_BYTES];
+    uint8_t content[NOODLEFEN_CONTENT_BYTES];
+    noodlefen_node m;
+    int same = 0;
+    printf("who commits first\n");
+    begin_with("<line><speed>6</speed><lamp><bulb/><bulb/></lamp><door>shut</door></line>");
+    must(noodlefen_begin(state, sizeof state, 3));
+    must(update(state, 1, 3, "7"));
+    must(noodlefen_read(state, sizeof state, 1, 7, content, sizeof content));
+    must(insert_new(2, NOODLEFEN_ELEMENT, "ramp", 1, 2, &m));
+    must(noodlefen_rename_tree(state, sizeof state, 3, 4, (const uint8_t *)"bulb", 4, (const uint8_t *)"led", 3));
+    must(noodlefen_delete(state, sizeof state, 3, 8));
+    print_settings(state);
+    size_t length = (size_t)noodlefen_value(must(preview(settings, sizeof settings)));
+    printf("  when all have committed:\n");
+    print_settings(copy);
+    for (int i = 0; i < 6; i++) {
+        memcpy(copy, state, sizeof copy);
+        same += commits_leave(copy, orders[i], settings, length);
+    }
+    printf("  the same in %d of 6 orders\n", same);
+    printf("  the third, the first, the second: %s\n", commits_leave(state, orders[4], settings, length) ? "the same" : "FAILED");
+    print_settings(state);
+}
+
 /* --- The committed settings in the copy, with transaction 1 open in it: its steps there wait for nobody and lock nothing in the state. */
 static void copy_committed(void)
 {
@@ -362,6 +411,7 @@ int main(void)
     deletion();
     joining();
     two_deletions();
+    who_first();
     read_copy();
     predict();
     ring();

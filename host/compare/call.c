@@ -19,23 +19,24 @@ void lent_free(struct lent *lent)
     free(lent->cells);
 }
 
-static uint8_t pattern(size_t place)
+/* The pattern of all lent memory. It is made once, since a third of the time would go into it otherwise. */
+static const uint8_t *pattern(void)
 {
-    return (uint8_t)(0xA5 ^ place * 7);
+    static uint8_t bytes[BYTES_ROOM];
+    if (bytes[0] == 0)
+        for (size_t i = 0; i < BYTES_ROOM; i++)
+            bytes[i] = (uint8_t)(0xA5 ^ i * 7);
+    return bytes;
 }
 
 static void fill(uint8_t *bytes, size_t length)
 {
-    for (size_t i = 0; i < length; i++)
-        bytes[i] = pattern(i);
+    memcpy(bytes, pattern(), length);
 }
 
 static int filled(const uint8_t *bytes, size_t from, size_t length)
 {
-    for (size_t i = from; i < length; i++)
-        if (bytes[i] != pattern(i))
-            return 0;
-    return 1;
+    return from >= length || memcmp(bytes + from, pattern() + from, length - from) == 0;
 }
 
 void lent_fill(struct lent *lent, const struct call *call)
@@ -55,7 +56,7 @@ int lent_kept(const struct lent *lent, const struct call *call, noodlefen_answer
     size_t answered = 0, answered_cells = 0;
     if (noodlefen_granted(answer)) {
         uint64_t value = noodlefen_value(answer);
-        if (call->what == CALL_R || call->what == CALL_WRITE)
+        if (call->what == CALL_R || call->what == CALL_WRITE || call->what == CALL_FINISH)
             answered = value;
         if (call->what == CALL_TT || call->what == CALL_RR)
             answered = NOODLEFEN_NUMBER_BYTES * value;
@@ -71,6 +72,7 @@ noodlefen_answer make_call(const struct engine *engine, void *e, const struct ca
     case CALL_START: return engine->start(e);
     case CALL_LOAD: return engine->load(e, c->xml, c->xml_length);
     case CALL_WRITE: return engine->write(e, lent->bytes, c->room);
+    case CALL_FINISH: return engine->finish(e, c->order, c->count, lent->bytes, c->room);
     case CALL_BEGIN: return engine->begin(e, c->t);
     case CALL_COMMIT: return engine->commit(e, c->t);
     case CALL_ABORT: return engine->abort(e, c->t);
@@ -90,7 +92,7 @@ noodlefen_answer make_call(const struct engine *engine, void *e, const struct ca
 
 const char *call_word(enum call_name what)
 {
-    static const char *const words[CALLS] = {"start", "load", "write", "begin", "commit", "abort", "T", "C", "R", "U", "D", "I",
+    static const char *const words[CALLS] = {"start", "load", "write", "finish", "begin", "commit", "abort", "T", "C", "R", "U", "D", "I",
                                              "TT", "RR", "UU"};
     return words[what];
 }
@@ -108,12 +110,16 @@ static void print_bytes(FILE *file, const uint8_t *bytes, size_t length)
 
 void print_call(FILE *file, const struct call *c)
 {
-    if (c->what > CALL_WRITE)
+    if (c->what > CALL_FINISH)
         fprintf(file, "t%u ", (unsigned)c->t);
     fputs(call_word(c->what), file);
     switch (c->what) {
     case CALL_LOAD: fprintf(file, " %lu bytes", (unsigned long)c->xml_length); print_bytes(file, c->xml, c->xml_length); break;
     case CALL_WRITE: fprintf(file, " room %lu", (unsigned long)c->room); break;
+    case CALL_FINISH:
+        for (unsigned i = 0; i < c->count; i++)
+            fprintf(file, " t%u", (unsigned)c->order[i]);
+        break;
     case CALL_T:
     case CALL_D: fprintf(file, " %u", (unsigned)c->n); break;
     case CALL_C: fprintf(file, " %u %u", (unsigned)c->n, (unsigned)c->k); break;

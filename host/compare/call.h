@@ -6,8 +6,9 @@
 
 #include "../engine.h"
 
+/* The calls of noodlefen.h, and what is open finishing in some order (engine.h). */
 enum call_name {
-    CALL_START, CALL_LOAD, CALL_WRITE, CALL_BEGIN, CALL_COMMIT, CALL_ABORT, CALL_T, CALL_C, CALL_R, CALL_U, CALL_D, CALL_I,
+    CALL_START, CALL_LOAD, CALL_WRITE, CALL_FINISH, CALL_BEGIN, CALL_COMMIT, CALL_ABORT, CALL_T, CALL_C, CALL_R, CALL_U, CALL_D, CALL_I,
     CALL_TT, CALL_RR, CALL_UU, CALLS
 };
 
@@ -21,7 +22,9 @@ struct call {
     size_t a_length, b_length;
     const uint8_t *xml;                         /* load */
     size_t xml_length;
-    size_t room, cells_room;                    /* lent for the answer: write, R, TT, RR */
+    size_t room, cells_room;                    /* lent for the answer: write, finish, R, TT, RR */
+    uint32_t order[NOODLEFEN_TRANSACTIONS];     /* finish: the open transactions */
+    unsigned count, changing;                   /* finish: how many they are, and how many of them have changed something */
 };
 
 /* Lent memory with guard bytes behind it. */

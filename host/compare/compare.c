@@ -1,4 +1,5 @@
-/* compare.c: makes the same random calls on two engines and compares every answer and every lent byte. */
+/* compare.c: makes the same random calls on two engines and compares every answer and every lent byte; now and then also what is left when
+ * all that is open commits, in a random order. */
 #include <stdio.h>
 #include <stdlib.h>
 #include <string.h>
@@ -19,7 +20,7 @@ struct side {
 static struct side left, right;
 static unsigned long passed, failed;
 
-/* The calls of this episode, to be shown if one fails. */
+/* The calls of this episode so far, to be shown if one fails. */
 static struct call history[MOST_HISTORY];
 static unsigned history_length;
 
@@ -57,7 +58,7 @@ static void report(const char *what, const struct call *call, noodlefen_answer o
 {
     failed++;
     if (failed == 1)
-        for (unsigned i = 0; i + 1 < history_length; i++) {
+        for (unsigned i = 0; i < history_length; i++) {
             printf("    ");
             print_call(stdout, &history[i]);
             printf("\n");
@@ -95,6 +96,27 @@ static int agree(const struct call *call, noodlefen_answer *answer)
     return wrong == NULL;
 }
 
+/* Makes a call that the generator need not learn of. */
+static int agree_besides(const struct call *call)
+{
+    noodlefen_answer answer;
+    int well = agree(call, &answer);
+    if (well)
+        reached_count(call, answer, &left.lent);
+    return well;
+}
+
+/* Now and then, at call i: the whole committed document, and what is open finishing in some order, the oftener the more of it has changed
+ * something. */
+static int agree_on_documents(struct generator *g, unsigned long i)
+{
+    static const unsigned every[] = {16, 16, 4, 2, 1};
+    struct call write = {.what = CALL_WRITE, .room = NOODLEFEN_XML_BYTES}, finish;
+    generate_finish(g, &finish);
+    unsigned often = every[finish.changing < 4 ? finish.changing : 4];
+    return (i % 8 != 0 || agree_besides(&write)) && (i % often != 0 || agree_besides(&finish));
+}
+
 static void run(unsigned long calls, uint64_t seed)
 {
     static struct generator g;
@@ -108,18 +130,12 @@ static void run(unsigned long calls, uint64_t seed)
             renew(&right);
         }
         generate(&g, &call);
-        remember(&call);
         int well = agree(&call, &answer);
+        remember(&call);
         if (well) {
             generator_learn(&g, &call, answer);
             reached_count(&call, answer, &left.lent);
-            /* Now and then the whole committed document. */
-            if (i % 8 == 0) {
-                struct call write = {.what = CALL_WRITE, .room = 65536};
-                well = agree(&write, &answer);
-                if (well)
-                    reached_count(&write, answer, &left.lent);
-            }
+            well = agree_on_documents(&g, i);
         }
         if (well)
             passed++;

@@ -12,6 +12,7 @@ void generator_init(struct generator *g, uint64_t seed)
 {
     memset(g, 0, sizeof *g);
     g->random.state = seed;
+    g->orders.state = ~seed;
     g->xml = malloc(DOCUMENT_ROOM);
     if (g->xml == NULL)
         abort();
@@ -30,6 +31,7 @@ int generator_begins(const struct generator *g)
 static void forget(struct generator *g)
 {
     g->open = 0;
+    g->changing = 0;
     g->known = 1;
     g->seen[0] = (struct seen){.number = 0, .kind = NOODLEFEN_DOCUMENT, .count = 1};
 }
@@ -138,9 +140,12 @@ static noodlefen_node pick_alike(struct generator *g)
     }
 }
 
+/* Often the one that was asked for last, so that two engineers meet there. */
 static noodlefen_node pick_number(struct generator *g)
 {
     struct random *r = &g->random;
+    if (once_in(r, 8))
+        return g->asked;
     if (once_in(r, 40))
         return pick_any(g);
     if (once_in(r, 20))
@@ -228,6 +233,16 @@ static void pick_insert(struct generator *g, struct call *call)
     pick_content(g, call, call->kind == 4);
 }
 
+/* Where the last UU was asked, of its old name or of its new one, so that two engineers' renamings meet. */
+static void pick_same_renaming(struct generator *g, struct call *call)
+{
+    const struct call *last = &g->renaming;
+    int on = once_in(&g->random, 2);
+    call->n = last->n;
+    call->a_length = on ? last->b_length : last->a_length;
+    memcpy(call->a, on ? last->b : last->a, sizeof call->a);
+}
+
 static void pick_arguments(struct generator *g, struct call *call)
 {
     struct random *r = &g->random;
@@ -263,10 +278,14 @@ static void pick_arguments(struct generator *g, struct call *call)
     case CALL_UU:
         call->a_length = random_name(r, call->a);
         call->b_length = random_name(r, call->b);
+        if (once_in(r, 3))
+            pick_same_renaming(g, call);
+        g->renaming = *call;
         break;
     default:
         break;
     }
+    g->asked = call->what >= CALL_T ? call->n : g->asked;
 }
 
 static enum call_name pick_call(struct generator *g)
@@ -313,6 +332,20 @@ void generate(struct generator *g, struct call *call)
         pick_arguments(g, call);
 }
 
+void generate_finish(struct generator *g, struct call *call)
+{
+    memset(call, 0, sizeof *call);
+    call->what = CALL_FINISH;
+    call->room = NOODLEFEN_XML_BYTES;
+    for (uint32_t t = 1; t <= NOODLEFEN_TRANSACTIONS; t++)
+        if (g->open >> t & 1) {
+            unsigned place = below(&g->orders, call->count + 1);
+            call->order[call->count++] = call->order[place];
+            call->order[place] = t;
+            call->changing += g->changing >> t & 1;
+        }
+}
+
 static void learn_load(struct generator *g, uint64_t count)
 {
     forget(g);
@@ -335,6 +368,8 @@ void generator_learn(struct generator *g, const struct call *call, noodlefen_ans
         unlearn_number(g, call->n);
     if (!noodlefen_granted(answer))
         return;
+    if (call->what == CALL_U || call->what == CALL_D || call->what == CALL_I || (call->what == CALL_UU && value > 0))
+        g->changing |= 1u << call->t;
     switch (call->what) {
     case CALL_START:
         forget(g);
@@ -343,7 +378,10 @@ void generator_learn(struct generator *g, const struct call *call, noodlefen_ans
     case CALL_WRITE: g->written = value; break;
     case CALL_BEGIN: g->open |= 1u << call->t; break;
     case CALL_COMMIT:
-    case CALL_ABORT: g->open &= ~(1u << call->t); break;
+    case CALL_ABORT:
+        g->open &= ~(1u << call->t);
+        g->changing &= ~(1u << call->t);
+        break;
     case CALL_T: learn_number(g, call->n)->kind = (uint8_t)noodlefen_kind(answer); break;
     case CALL_C:
         if (noodlefen_kind(answer) != 0)
@@ -354,6 +392,7 @@ void generator_learn(struct generator *g, const struct call *call, noodlefen_ans
     case CALL_I: learn_insertion(g, call); break;
     case CALL_TT:
     case CALL_RR: learn_number(g, call->n)->count = (uint16_t)value; break;
+    case CALL_FINISH:
     case CALL_D:
     case CALL_UU:
     case CALLS: break;

@@ -9,6 +9,7 @@ enum { MOST_SEEN = 2048 };
 
 struct generator {
     struct random random;
+    struct random orders;      /* of their own, so that the calls do not depend on them */
     /* The episode: calls from a start on, with trees and transactions of one size. */
     unsigned calls_left, calls_made;
     int only_xml;              /* loads and writes only */
@@ -19,6 +20,7 @@ struct generator {
     enum { RANDOM_TREE, LIMIT_TREE } tree;
     /* What the answers so far have shown; only a guess at what comes next. */
     uint32_t open;             /* bit t for an open transaction t */
+    uint32_t changing;         /* bit t if it has changed something */
     unsigned known;            /* nodes that may be there; the first is the document */
     struct seen {
         noodlefen_node number;
@@ -26,6 +28,8 @@ struct generator {
         uint8_t length;        /* bytes of content when last seen */
         uint16_t count;        /* nodes in the subtree when last seen */
     } seen[MOST_SEEN];
+    noodlefen_node asked;      /* the node of the last step */
+    struct call renaming;      /* the last UU */
     size_t written;            /* bytes of the document when last written */
     uint8_t *xml;
 };
@@ -37,6 +41,9 @@ void generator_free(struct generator *g);
 int generator_begins(const struct generator *g);
 
 void generate(struct generator *g, struct call *call);
+
+/* All that is open, in a random order. */
+void generate_finish(struct generator *g, struct call *call);
 
 /* Tells the generator what the call answered. */
 void generator_learn(struct generator *g, const struct call *call, noodlefen_answer answer);

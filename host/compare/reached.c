@@ -14,7 +14,8 @@ enum {
     LITERAL, VALUE_TAB, VALUE_LINE_FEED, TEXT_TAB, TEXT_LINE_FEED,
     VALUE_WRONG, TEXT_WRONG, ENDS, VALUE_LONG, TEXT_LONG, VALUE_NODE, TEXT_NODE,
     WRITTEN_TAB, WRITTEN_LINE_FEED, WRITTEN_TEXT_TAB, WRITTEN_TEXT_LINE_FEED,
-    CONTENT_TAB, CONTENT_LINE_FEED, COUNTED
+    CONTENT_TAB, CONTENT_LINE_FEED,
+    FINISH_TWO, FINISH_THREE, FINISH_MORE, COUNTED
 };
 
 static struct counted counted[COUNTED] = {
@@ -39,6 +40,9 @@ static struct counted counted[COUNTED] = {
     [WRITTEN_TEXT_LINE_FEED] = {"written texts: line feeds", 100000, 0},
     [CONTENT_TAB] = {"granted U and I: tabs", 100000, 0},
     [CONTENT_LINE_FEED] = {"granted U and I: line feeds", 100000, 0},
+    [FINISH_TWO] = {"finished in some order: two that have changed something", 20000, 0},
+    [FINISH_THREE] = {"finished in some order: three", 20000, 0},
+    [FINISH_MORE] = {"finished in some order: more", 100000, 0},
 };
 
 static void count_if(int met, int what)
@@ -123,6 +127,8 @@ void reached_count(const struct call *call, noodlefen_answer answer, const struc
         count_if(memchr(call->a, '\t', call->a_length) != NULL, CONTENT_TAB);
         count_if(memchr(call->a, '\n', call->a_length) != NULL, CONTENT_LINE_FEED);
     }
+    if (call->what == CALL_FINISH && call->changing > 1)
+        count_if(1, call->changing == 2 ? FINISH_TWO : call->changing == 3 ? FINISH_THREE : FINISH_MORE);
     reached_characters(call, answer, lent);
 }
 
@@ -136,6 +142,7 @@ static unsigned possible(enum call_name what)
     case CALL_START: return G;
     case CALL_LOAD: return G | CAUSE(4) | CAUSE(5) | CAUSE(6) | CAUSE(15);
     case CALL_WRITE: return G | CAUSE(13) | CAUSE(14);
+    case CALL_FINISH: return G | CAUSE(14);
     case CALL_BEGIN: return G | CAUSE(1) | CAUSE(2);
     case CALL_COMMIT:
     case CALL_ABORT: return G | CAUSE(1) | CAUSE(3);

@@ -166,14 +166,12 @@ noodlefen_answer reference_load(struct reference *r, const uint8_t *xml, size_t 
     return granted(node_count(document, EVERYTHING));
 }
 
-noodlefen_answer reference_write(const struct reference *r, uint8_t *out, size_t out_len)
+static noodlefen_answer write_document(const struct node *document, uint8_t *out, size_t out_len)
 {
-    if (!r->started)
-        return refused(13, 0);
     uint8_t *written = malloc(MOST_WRITTEN);
     if (written == NULL)
         abort();
-    size_t length = xml_write(r->plain, written);
+    size_t length = xml_write(document, written);
     int fits = length <= out_len;
     if (length > 0 && fits)
         memcpy(out, written, length);
@@ -181,6 +179,11 @@ noodlefen_answer reference_write(const struct reference *r, uint8_t *out, size_t
     if (length == 0)
         return refused(14, 0);
     return fits ? granted(length) : refused(13, 0);
+}
+
+noodlefen_answer reference_write(const struct reference *r, uint8_t *out, size_t out_len)
+{
+    return r->started ? write_document(r->plain, out, out_len) : refused(13, 0);
 }
 
 noodlefen_answer reference_begin(struct reference *r, uint32_t t)
@@ -214,6 +217,23 @@ noodlefen_answer reference_commit(struct reference *r, uint32_t t)
     remove_deleted(r->held, t);
     close_transaction(r, t);
     return granted(0);
+}
+
+noodlefen_answer reference_finish(struct reference *r, const uint32_t *order, unsigned count, uint8_t *out, size_t out_len)
+{
+    int cause = r->started ? 0 : 13;
+    for (unsigned i = 0; i < count && cause == 0; i++)
+        cause = transaction_cause(r, order[i]);
+    if (cause != 0)
+        return refused(cause, 0);
+    struct node *document = node_copy(r->plain);
+    for (unsigned i = 0; i < count; i++)
+        r->disagreements += plain_commit(document, r->transactions[order[i]].first_step);
+    if (!same_documents(document, r->held, HELD))
+        r->disagreements++;
+    noodlefen_answer answer = write_document(document, out, out_len);
+    node_free(document);
+    return answer;
 }
 
 noodlefen_answer reference_abort(struct reference *r, uint32_t t)

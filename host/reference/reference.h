@@ -15,8 +15,13 @@ struct reference;
 struct reference *reference_new(void);
 void reference_free(struct reference *r);
 
-/* How many committed steps answered otherwise than the plain run does. Always 0 if the reference is right. */
+/* How many steps answered otherwise than the plain run does, in commits and in reference_finish, and how often a document left by the
+ * latter was not the held one. Always 0 if the reference is right. */
 unsigned long reference_disagreements(const struct reference *r);
+
+/* What is open finishes in this order, of all that are open: on a copy of the plain document the plain run takes the granted steps so far
+ * of each. Answers as a write of the document left does; nothing but the disagreements is changed. */
+noodlefen_answer reference_finish(struct reference *r, const uint32_t *order, unsigned count, uint8_t *out, size_t out_len);
 
 #define STATE struct reference *r
 #define READ_STATE const struct reference *r

@@ -55,14 +55,18 @@ void node_free(struct node *node)
 struct node *node_copy(const struct node *node)
 {
     struct node *copy = node_new(node->number, node->kind, node->content, node->length);
-    for (const struct node *child = node->first; child != NULL; child = child->next)
-        node_attach(copy, node_copy(child), NULL);
+    struct node **link = &copy->first;
+    for (const struct node *child = node->first; child != NULL; child = child->next) {
+        *link = node_copy(child);
+        (*link)->parent = copy;
+        link = &(*link)->next;
+    }
     return copy;
 }
 
 static int deleted(const struct node *node, uint32_t viewer)
 {
-    return viewer != EVERYTHING && node->deleted_by == viewer;
+    return node->deleted_by != 0 && (viewer == HELD || node->deleted_by == viewer);
 }
 
 int node_hidden(const struct node *node, uint32_t viewer)
@@ -121,6 +125,22 @@ struct node *node_child(const struct node *node, uint32_t k, uint32_t viewer)
         if (place++ == k)
             return child;
     return NULL;
+}
+
+static int same_node(const struct node *a, const struct node *b)
+{
+    int same_parent = a->parent == NULL || b->parent == NULL ? a->parent == b->parent : a->parent->number == b->parent->number;
+    return same_parent && a->number == b->number && a->kind == b->kind && same_bytes(a->content, a->length, b->content, b->length);
+}
+
+int same_documents(struct node *document, struct node *other, uint32_t viewer)
+{
+    struct node *a = document, *b = other;
+    while (a != NULL && b != NULL && same_node(a, b)) {
+        a = node_after(document, a, EVERYTHING);
+        b = node_after(other, b, viewer);
+    }
+    return a == NULL && b == NULL;
 }
 
 int same_bytes(const uint8_t *a, size_t a_length, const uint8_t *b, size_t b_length)

@@ -19,8 +19,9 @@ struct node {
     unsigned modes[MOST_TRANSACTIONS + 1];   /* modes[t]: the set of lock modes that t was granted here */
 };
 
-/* What a transaction sees of a tree is the tree without the nodes it deleted. The viewer EVERYTHING deleted none. */
-enum { EVERYTHING = 0 };
+/* What a transaction sees of a tree is the tree without the nodes it deleted. The viewer EVERYTHING deleted none; the viewer HELD sees the
+ * held document, without the nodes that any open transaction deleted. */
+enum { EVERYTHING = 0, HELD = MOST_TRANSACTIONS + 1 };
 
 struct node *node_new(noodlefen_node number, int kind, const uint8_t *content, size_t length);
 void node_set_content(struct node *node, const uint8_t *content, size_t length);
@@ -35,6 +36,9 @@ struct node *node_find(struct node *top, noodlefen_node number);               /
 size_t node_count(struct node *top, uint32_t viewer);
 size_t node_children(const struct node *node, uint32_t viewer);
 struct node *node_child(const struct node *node, uint32_t k, uint32_t viewer);       /* k from 1; NULL if there is none */
+
+/* Whether the document is what the viewer sees of the other one: numbers, kinds, contents, parents and order. */
+int same_documents(struct node *document, struct node *other, uint32_t viewer);
 
 int same_bytes(const uint8_t *a, size_t a_length, const uint8_t *b, size_t b_length);
 int name_allowed(const uint8_t *bytes, size_t length);

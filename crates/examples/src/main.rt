@@ -1,8 +1,9 @@
 // The examples of document 01 beside its lines P1 to P9, through the exported calls. A line for each call: what it is, G (granted), W
 // (waits) or R (refused), and a number: the length of write, the count of load, the cause of a refusal, else 0. A refusal of load has the
-// byte offset behind it. What was written follows the line of a write.
+// byte offset behind it. What was written follows the line of a write. In the end A.14 of document 02: three commit in every order.
 mod inputs;
 mod lines;
+mod orders;
 
 // Tree E is loaded.
 fn load_e(state: &mut [u8]) {
@@ -94,4 +95,8 @@ fn main() {
     many(&mut state, b"load of 1025 nodes", 1023);
     many(&mut state, b"load of 1024 nodes", 1022);
     full(&mut state);
+    lines::line(b"start", panel::noodlefen_start(&mut state));
+    load_e(&mut state);
+    orders::open(&mut state);
+    orders::all(state);
 }

@@ -57,6 +57,10 @@ with-entries t l L = record { initial = L .initial; committed = L .committed; op
 abbrev pub with-commit : {E : Type 0} → ℕ → Log E → Log E
 with-commit t L = record { initial = L .initial; committed = L .committed ++ (L .open-log t ∷ []); open-log = with-log t [] (L .open-log) }
 
+-- the committed transactions, in commit order, and then the transactions b, in this order: the entries of each
+abbrev pub committed-then : {E : Type 0} → Log E → List ℕ → List (List E)
+committed-then L b = L .committed ++ map (L .open-log) b
+
 -- the log after a call: whether it was granted, and the entries of the steps that were granted in it, which are logged whatever came of
 -- the whole call; one that is not granted has none today (`NotGranted` in serializability)
 abbrev pub logged : {E : Type 0} → Call → Bool → List E → Log E → Log E

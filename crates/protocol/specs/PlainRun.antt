@@ -21,17 +21,31 @@ use Rattle.protocol.specs.Calls.{granted, written, waits, refused, wait-
 use Rattle.protocol.specs.History.{history, state-after, log-after, plain, pending}
 use Rattle.protocol.specs.Examples.{Item, gives, is-pending, plain-is, does, played, from-E}
 
--- E with another text 5, and with other nodes behind the element speed
-abbrev E-with : String → Document → Document
-E-with speed behind = a-node 0 1 ""
+-- E with another text 5, with nodes behind it in the element speed, and with other nodes behind that element
+abbrev E-inside : String → Document → Document → Document
+E-inside speed inside behind = a-node 0 1 ""
     (a-node 1 2 "lift"
     (a-node 2 3 "rope" (a-node 3 4 "2" nil nil)
-    (a-node 4 2 "speed" (a-node 5 4 speed nil nil)
+    (a-node 4 2 "speed" (a-node 5 4 speed nil inside)
     behind))
     nil) nil
 
+abbrev E-with : String → Document → Document
+E-with speed behind = E-inside speed nil behind
+
 abbrev ramp : Document
 ramp = a-node 6 2 "ramp" nil nil
+
+abbrev lamp : Document
+lamp = a-node 9 2 "lamp" nil nil
+
+-- t1 updates 5, t2 deletes 6, t3 inserts 9 behind 5; then what follows
+abbrev three-open : List Item → List Item
+three-open l = gives (begin 3) (granted done)
+    ∷ does 1 (U 5 (bytes "7")) (granted done)
+    ∷ does 2 (D 6) (granted done)
+    ∷ does 3 (I 9 2 (bytes "lamp") 4 2) (granted done)
+    ∷ l
 
 abbrev pub plain-runs : List (List Item)
 plain-runs =
@@ -108,6 +122,21 @@ plain-runs =
     ∷ plain-is node-0-alone
     ∷ is-pending false
     ∷ gives (commit 2) (refused 3) ∷ []) ∷
+    -- A.14: whoever is open may commit first, and the same document is left
+    three-open (gives (commit 3) (granted done)
+    ∷ plain-is (E-inside "6" lamp ramp)
+    ∷ gives (commit 1) (granted done)
+    ∷ plain-is (E-inside "7" lamp ramp)
+    ∷ gives (commit 2) (granted done)
+    ∷ is-pending false
+    ∷ plain-is (E-inside "7" lamp nil) ∷ []) ∷
+    three-open (gives (commit 2) (granted done)
+    ∷ plain-is (E-inside "6" nil nil)
+    ∷ gives (commit 1) (granted done)
+    ∷ plain-is (E-inside "7" nil nil)
+    ∷ gives (commit 3) (granted done)
+    ∷ is-pending false
+    ∷ plain-is (E-inside "7" lamp nil) ∷ []) ∷
     []
 
 pub plain-runs-hold : map from-E plain-runs ≡ plain-runs

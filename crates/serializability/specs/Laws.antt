@@ -16,6 +16,7 @@ pub mod AnyOrder
 pub mod Held
 pub mod Pending
 pub mod Main
+pub mod OpenOrders
 pub mod Reached
 pub mod Tests
 pub mod Lines

@@ -7,15 +7,16 @@ use mathlib.Core.Bool.{Bool, true, false}
 use mathlib.Core.List.{List, [], _∷_, _++_, map, List·Memᴰ}
 use Rattle.tree.specs.Lists.{has, distinct, joined}
 use Rattle.tree.specs.Document.{Document, here, legal}
-use Rattle.tree.specs.Steps.{Step, Value, plain-value, unfit, target, plain-document, plain-answers}
+use Rattle.tree.specs.Steps.{Step, Value, done, plain-value, unfit, target, plain-document, plain-answers}
 use Rattle.locks.specs.Modes.{Mode, bit}
 use Rattle.locks.specs.Needs.{Lock, needs}
 use Rattle.protocol.specs.State.{State, start-state, Marked, is-transaction, transactions, nodes}
 use Rattle.protocol.specs.State.{callers-document, held-document, document-of, committed-document}
 use Rattle.protocol.specs.Lent.{Room}
 use Rattle.protocol.specs.Causes.{no-such-node}
-use Rattle.protocol.specs.Calls.{Call, start, abort, step, write, granted, written, waits, refused, blocks, next}
-use Rattle.protocol.specs.History.{Event, history, state-after, is-granted, fed, answered, plain, plain-run-answers, pending}
+use Rattle.protocol.specs.Calls.{Call, start, commit, abort, step, write, granted, written, waits, refused, blocks, next}
+use Rattle.protocol.specs.History.{Event, history, state-after, is-granted, committed-then, fed, answered, plain}
+use Rattle.protocol.specs.History.{plain-run-answers, pending}
 
 -- a list that begins with a start, which is always granted, and the state that it reaches. They begin in one fixed state: start forgets the
 -- state before it (`start-forgets`)
@@ -27,14 +28,13 @@ reached cs = state-after start-state (start ∷ cs)
 
 -- any order ----------------------------------------------------------------------------
 
--- the steps of the committed transactions, in commit order, and then of the transactions b, one transaction behind the other; one that is
--- not open has none
+-- the steps of the committed transactions and then of the transactions b, one transaction behind the other; one that is not open has none
 abbrev pub steps-of : List Event → List ℕ → List Step
-steps-of h b = joined (fed h .committed ++ map (fed h .open-log) b)
+steps-of h b = joined (committed-then (fed h) b)
 
 -- the answers that these steps had
 abbrev pub answers-of : List Event → List ℕ → List Value
-answers-of h b = joined (answered h .committed ++ map (answered h .open-log) b)
+answers-of h b = joined (committed-then (answered h) b)
 
 -- the plain rules run the committed transactions and then b: they leave the document d, and each step has the answer it had
 pub record Runs (h : List Event) (b : List ℕ) (d : Document) : Type 0 where
@@ -45,11 +45,21 @@ pub record Runs (h : List Event) (b : List ℕ) (d : Document) : Type 0 where
 abbrev pub AnyOrder : List Call → Type 0
 AnyOrder cs = (b : List ℕ) → distinct b ≡ true → Runs (since-start cs) b (document-of (λ u. has u b) (reached cs .tree))
 
+-- b is an order of the open transactions: it has each of them, once, and no other
+pub record OpenOrder (is-open : ℕ → Bool) (b : List ℕ) : Type 0 where
+  pub once : distinct b ≡ true
+  pub all : (u : ℕ) → has u b ≡ is-open u
+
 -- A.14: "let the plain rules run the committed transactions in commit order and then those still open, .. in an arbitrary order.
 -- Each step must have the answer it had here, and the document left must equal the held one"
 abbrev pub OpenInAnyOrder : List Call → Type 0
-OpenInAnyOrder cs = (b : List ℕ) → distinct b ≡ true → ((u : ℕ) → has u b ≡ reached cs .header .is-open u)
-    → Runs (since-start cs) b (held-document (reached cs))
+OpenInAnyOrder cs = (b : List ℕ) → OpenOrder (reached cs .header .is-open) b → Runs (since-start cs) b (held-document (reached cs))
+
+-- what is open commits, in any order: where each commit is granted, the committed document is then the one that was held before
+abbrev pub CommitInAnyOrder : List Call → Type 0
+CommitInAnyOrder cs = (b : List ℕ) → OpenOrder (reached cs .header .is-open) b
+    → ((e : Event) → List·Memᴰ e (history (reached cs) (map commit b)) → is-granted (e .outcome) ≡ true)
+    → committed-document (reached (cs ++ map commit b)) ≡ held-document (reached cs)
 
 -- demand 3 -----------------------------------------------------------------------------
 
@@ -94,6 +104,10 @@ NotGranted = (c : Call) (M : State) → is-granted (next c M .outcome) ≡ false
 abbrev pub StepGranted : Type 0
 StepGranted = (t : ℕ) (s : Step) (room : Room) (M : State) (v : Value) → next (step t s room) M .outcome ≡ granted v
     → next (step t s room) M .steps ≡ record { step = s; value = v } ∷ []
+
+-- every open transaction may commit: nothing but 1 and 3 refuses it
+abbrev pub CommitGranted : Type 0
+CommitGranted = (t : ℕ) (M : State) → is-transaction t ≡ true → M .header .is-open t ≡ true → next (commit t) M .outcome ≡ granted done
 
 -- demand 2: "a 16-bit set with bit t-1 for each such transaction t, and no other", never empty
 pub record WaitSet (w t : ℕ) (ls : List Lock) (M : State) : Type 0 where

@@ -1,5 +1,5 @@
--- What is claimed of every list of calls on one lent state: demands 1, 2 and 3. `delivered` (Laws/Main.antt) proves it from the contracts
--- of the exported functions alone.
+-- What is claimed of every list of calls on one lent state: demands 1, 2 and 3, and A.14. `delivered` (Laws/Main.antt) proves it from the
+-- contracts of the exported functions alone.
 use mathlib.Core.Path.{_≡_}
 use Prim.Native.Nat.{ℕ, _≤_, _<_}
 use mathlib.Core.Logic.{_↔_}
@@ -8,21 +8,20 @@ use mathlib.Core.List.{List, [], _∷_, _++_, map, List·Memᴰ}
 use lib.ListN.{length, take, drop}
 use Rattle.tree.specs.Document.{Document, node-0-alone}
 use Rattle.tree.specs.Lists.{has, joined}
-use Rattle.tree.specs.Steps.{Step, Value, PlainAnswer, plain-value, unfit, plain-answers}
+use Rattle.tree.specs.Steps.{Step, Value, PlainAnswer, plain-value, unfit, plain-document, plain-answers}
 use Rattle.locks.specs.Needs.{needs}
-use Rattle.protocol.specs.State.{State, start-state, callers-document, committed-document}
+use Rattle.protocol.specs.State.{State, start-state, callers-document, held-document, committed-document}
 use Rattle.protocol.specs.Lent.{Room, filled, first-lent, second-lent}
 use Rattle.protocol.specs.Causes.{causes}
-use Rattle.protocol.specs.Calls.{Call, start, load, begin, commit, abort, step, write, Outcome, granted, written, waits, refused}
-use Rattle.protocol.specs.Calls.{refused-at, next}
-use Rattle.protocol.specs.History.{Event, is-granted, Log, new-log, logged, fed, plain}
+use Rattle.protocol.specs.Calls.{Call, start, load, begin, commit, abort, step, write, next}
+use Rattle.protocol.specs.History.{Event, is-granted, Log, new-log, committed-then, logged, fed, plain}
 use Rattle.protocol.specs.Answers.{granted-answer, code-of, answer-of, lent-after, as-it-was}
 use Rattle.protocol.specs.declared.Answer.{Answer}
 use Rattle.protocol.specs.declared.Answer.the-variants.{Count, Refused}
 use Rattle.table.specs.Layout.{state-size}
 use Rattle.form.specs.Form.{form, Holds}
 use Rattle.engine.specs.Contract.{outside}
-use Rattle.serializability.specs.Theorem.{since-start, reached, WaitSet, Demand3}
+use Rattle.serializability.specs.Theorem.{since-start, reached, WaitSet, OpenOrder, Demand3}
 use Rattle.xml.specs.Writing as xml
 use Rattle.xml.specs.Writing.{ReadBack}
 use Rattle.xml_write.specs.Contract.{writing, text-after, write-answer, write-buffer}
@@ -189,9 +188,40 @@ AllAnswered [] (g ∷ gs) = ⊥
 AllAnswered (v ∷ vs) [] = ⊥
 AllAnswered (v ∷ vs) (g ∷ gs) = AnsweredWith v (g .exchange) × AllAnswered vs gs
 
--- "each granted step of a committed transaction has in the plain run the answer it had here"
-abbrev pub PlainAnswers : Log GrantedStep → Type 0
-PlainAnswers L = AllAnswered (plain-answers (L .initial) (steps (joined (L .committed)))) (joined (L .committed))
+-- the transactions ts, one behind the other, from the document d by the plain rules: each step has there the answer it had here
+abbrev pub PlainAnswers : Document → List (List GrantedStep) → Type 0
+PlainAnswers d ts = AllAnswered (plain-answers d (steps (joined ts))) (joined ts)
+
+-- and the document that they leave
+abbrev pub plain-left : Document → List (List GrantedStep) → Document
+plain-left d ts = plain-document d (steps (joined ts))
+
+-- A.14 ---------------------------------------------------------------------------------
+
+-- the state bytes behind the calls; s are those before
+abbrev pub last-state : List ℕ → List Exchange → List ℕ
+last-state s [] = s
+last-state s (x ∷ xs) = last-state (x .state .after) xs
+
+-- the plain rules run the committed transactions of the log L and then the transactions b: "each step must have the answer it had here", its
+-- number and what it put in lent buffers; d is left
+pub record RunsInOrder (L : Log GrantedStep) (b : List ℕ) (d : Document) : Type 0 where
+  pub answers : PlainAnswers (L .initial) (committed-then L b)
+  pub document : plain-left (L .initial) (committed-then L b) ≡ d
+
+-- of the log L of granted steps, the state bytes s behind them, and the state M that these hold
+pub record OpenInAnyOrder (L : Log GrantedStep) (s : List ℕ) (M : State) : Type 0 where
+  -- there is an order of what is open, so that the next claim is not empty
+  pub some-order : (b : List ℕ) × OpenOrder (M .header .is-open) b
+  -- "those still open .. in an arbitrary order .. and the document left must equal the held one"
+  pub runs : (b : List ℕ) → OpenOrder (M .header .is-open) b → RunsInOrder L b (held-document M)
+  -- whoever is open may commit first: the next call is granted if it commits an open transaction
+  pub commit-granted : (t : ℕ) → M .header .is-open t ≡ true
+      → (y : Exchange) → Linked s (y ∷ []) → y .request ≡ Request.commit t → outcome (y .code) ≡ 0
+  -- where the next calls commit what is open, in any order, and each is granted, the committed document is then the one held before
+  pub commits : (b : List ℕ) → OpenOrder (M .header .is-open) b → (ys : List Exchange) → Linked s ys → Made ys (map commit b)
+      → ((y : Exchange) → List·Memᴰ y ys → outcome (y .code) ≡ 0)
+      → (N : State) → Holds (last-state s ys) N → committed-document N ≡ held-document M
 
 -- all of them --------------------------------------------------------------------------
 
@@ -201,11 +231,6 @@ Each P before [] [] = Unit {0}
 Each P before [] (c ∷ cs) = ⊥
 Each P before (x ∷ xs) [] = ⊥
 Each P before (x ∷ xs) (c ∷ cs) = P before x c × Each P (before ++ (c ∷ [])) xs cs
-
--- the state bytes behind the calls; s are those before
-abbrev pub last-state : List ℕ → List Exchange → List ℕ
-last-state s [] = s
-last-state s (x ∷ xs) = last-state (x .state .after) xs
 
 -- of the calls that x, a granted start on any bytes, and xs make
 pub record Delivered (x : Exchange) (xs : List Exchange) : Type 0 where
@@ -224,4 +249,8 @@ pub record Delivered (x : Exchange) (xs : List Exchange) : Type 0 where
   pub writes : Each WritesPlain [] xs calls
   -- of the numbers and the bytes themselves: the plain run is fed from arguments and codes alone, and has the answers that were given
   pub feeds : Feeds (granted-steps (x ∷ xs) (start ∷ calls)) (since-start calls)
-  pub answers : PlainAnswers (granted-steps (x ∷ xs) (start ∷ calls))
+  -- "each granted step of a committed transaction has in the plain run the answer it had here"
+  pub answers : let L = granted-steps (x ∷ xs) (start ∷ calls) in PlainAnswers (L .initial) (L .committed)
+  -- A.14; a list of calls may end anywhere, so this is "at every moment"
+  pub open-in-any-order : let s = last-state (x .state .after) xs in
+      (M : State) → Holds s M → OpenInAnyOrder (granted-steps (x ∷ xs) (start ∷ calls)) s M

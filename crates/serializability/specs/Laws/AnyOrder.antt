@@ -1,14 +1,14 @@
 -- Any of the open transactions, in any order, behind the committed ones: the plain run leaves what the tree shows of them.
 use Prim.Native.Nat.{ℕ}
 use mathlib.Core.Path.{_≡_, refl}
-use mathlib.Core.List.{List, _++_, map}
+use mathlib.Core.List.{List, map}
 use Rattle.tree.specs.Lists.{has, joined}
 use Rattle.tree.specs.Document.{node-0-alone}
 use Rattle.serializability.specs.Laws.Runs.{Entry, Run, run-append, run-document, run-answers}
 use Rattle.serializability.specs.Laws.Orders.{joined-append}
 use Rattle.protocol.specs.State.{document-of, start-state}
 use Rattle.protocol.specs.Calls.{Call, next}
-use Rattle.protocol.specs.History.{history, state-after, Log, new-log, log-after, fed, answered}
+use Rattle.protocol.specs.History.{history, state-after, Log, new-log, committed-then, log-after, fed, answered}
 use Rattle.serializability.specs.Theorem.{since-start, reached, AnyOrder}
 use Rattle.serializability.specs.Laws.Logs.{read-off, joined-read}
 use Rattle.serializability.specs.Laws.Tracking.{Tracks, Tracked, calls-track, start-tracks}
@@ -36,7 +36,7 @@ module _ (cs : List Call) where
 
   -- of the committed transactions and then of b
   abbrev entries-of : List ℕ → List Entry
-  entries-of b = joined (entries .committed ++ map (entries .open-log) b)
+  entries-of b = joined (committed-then entries b)
 
   pub any-order : AnyOrder cs
   any-order b n = record {

@@ -9,7 +9,7 @@ use Rattle.tree.specs.Lists.{joined}
 use Rattle.tree.specs.Laws.Lists.{map-append, map-map}
 use Rattle.serializability.specs.Laws.Tests.{by-test}
 use Rattle.protocol.specs.Calls.{Call, start, load, begin, commit, abort, step, write, unreadable, stands-for}
-use Rattle.protocol.specs.History.{Log, with-log, logged}
+use Rattle.protocol.specs.History.{Log, with-log, committed-then, logged}
 
 module _ {X E : Type 0} (g : X → E) where
   -- each entry replaced by what g reads off it
@@ -39,8 +39,7 @@ module _ {X E : Type 0} (g : X → E) where
   map-joined (l ∷ ls) = rw (map-joined ls) (sym (map-append g l (joined ls)))
 
   -- of the committed transactions and then of b
-  pub joined-read : (L : Log X) (b : List ℕ)
-      → joined (map (map g) (L .committed) ++ map (λ u. map g (L .open-log u)) b) ≡ map g (joined (L .committed ++ map (L .open-log) b))
+  pub joined-read : (L : Log X) (b : List ℕ) → joined (committed-then (read-off L) b) ≡ map g (joined (committed-then L b))
   joined-read L b = rw (
     ← map-map (map g) (L .open-log) (λ u. map g (L .open-log u)) b (λ u m. refl),
     ← map-append (map g) (L .committed) (map (L .open-log) b),

@@ -1,4 +1,4 @@
--- Demand 3 and A.14, for every list of calls that begins with a start.
+-- Demand 3, for every list of calls that begins with a start.
 use Prim.Native.Nat.{ℕ}
 use mathlib.Core.Path.{_≡_, refl, sym, ap, _∙_}
 use mathlib.Core.Bool.{Bool, true, false, false≢true, true≢false}
@@ -12,29 +12,16 @@ use Rattle.serializability.specs.Laws.Runs.{run-document}
 use Rattle.protocol.specs.State.{State, start-state, is-transaction, transactions, held-document, document-of, committed-document}
 use Rattle.protocol.specs.Calls.{Call, start, load, begin, commit, abort, step, write, written, next}
 use Rattle.protocol.specs.History.{Event, history, state-after, event, fed, answered, plain, plain-run-answers, pending-in, pending}
-use Rattle.serializability.specs.Theorem.{since-start, reached, OpenInAnyOrder, writes-plain, Demand3}
+use Rattle.serializability.specs.Theorem.{since-start, reached, writes-plain, Demand3}
 use Rattle.serializability.specs.Laws.Reached.{always-reached}
 use Rattle.serializability.specs.Laws.Tracking.{Tracks}
-use Rattle.serializability.specs.Laws.Ends.{document-same}
 use Rattle.serializability.specs.Laws.AnyOrder.{entries, reached-tracks, fed-is, any-order}
-use Rattle.serializability.specs.Laws.Held.{held-shown}
 use Rattle.serializability.specs.Laws.Pending.{steps, log-run, quiet-held, held-quiet}
 
 -- a list of calls begins in one fixed state: start forgets the state before it
 pub start-forgets : (M : State) (cs : List Call) → (history M (start ∷ cs) ≡ since-start cs) × (state-after M (start ∷ cs) ≡ reached cs)
 unfolding history state-after next
 start-forgets M cs = (refl, refl)
-
--- A.14 ---------------------------------------------------------------------------------------
-
-pub open-in-any-order : (cs : List Call) → OpenInAnyOrder cs
-open-in-any-order cs b n o =
-    let tr = reached-tracks cs in
-    rw (
-      held-shown (tr .c) (entries cs .open-log) (reached cs) (tr .good),
-      document-same (reached cs .header .is-open) (λ u. has u b)
-          (reached cs .tree) (λ u. sym (o u)),
-    ) (any-order cs b n)
 
 -- demand 3 -------------------------------------------------------------------------------------
 
@@ -93,7 +80,7 @@ module _ (cs : List Call) where
 
 -- writes ---------------------------------------------------------------------------------------
 
-history-append : (M : State) (a b : List Call) → history M (a ++ b) ≡ history M a ++ history (state-after M a) b
+pub history-append : (M : State) (a b : List Call) → history M (a ++ b) ≡ history M a ++ history (state-after M a) b
 unfolding history state-after
 history-append M [] b = refl
 history-append M (c ∷ a) b = rw (history-append (next c M .state) a b)

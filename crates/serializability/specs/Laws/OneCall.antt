@@ -15,7 +15,7 @@ use Rattle.protocol.specs.Causes.{not-a-transaction, not-open, no-such-node}
 use Rattle.protocol.specs.Calls.{step, Outcome, granted, written, waits, refused, refused-at, Check, blocks, wait-set, step-checks, judged}
 use Rattle.protocol.specs.Calls.{next}
 use Rattle.protocol.specs.History.{is-granted}
-use Rattle.serializability.specs.Theorem.{NotGranted, StepGranted, Waiting, NoClashNoWait, FoundNotSeven}
+use Rattle.serializability.specs.Theorem.{NotGranted, StepGranted, CommitGranted, Waiting, NoClashNoWait, FoundNotSeven}
 use Rattle.serializability.specs.Laws.Outcomes.{checked-cases, checked-by, every-call}
 use Rattle.serializability.specs.Laws.WaitSet.{sum-bit, sum-bound, sum-none}
 
@@ -59,6 +59,10 @@ module _ (t : ℕ) (s : Step) (room : Room) (M : State) where
       let c = List·Memᴰ·eq-of-singleton (x .1) in
       let i : w ≡ set = ap (λ o. by-numbers o .1) (sym e ∙ x .3 ∙ ap (λ (z : Check). z .0) c) in
       (i, ap (λ z. eqb z 0) i ∙ not-true _ (sym (ap (λ (z : Check). z .1) c) ∙ x .2))
+
+pub commit-granted : CommitGranted
+unfolding next
+commit-granted t M h o = rw (h, o)
 
 -- the answer of a granted call
 value-of : Outcome → Value

@@ -1,30 +1,32 @@
--- Demand 3 of the numbers and the bytes: the log by the codes is the one that feeds the plain run, and its exchanges had these answers.
+-- Demand 3 and A.14 of the numbers and the bytes: the log by the codes is the one that feeds the plain run, and its exchanges had these
+-- answers.
 use mathlib.Core.Path.{_≡_, refl, sym, ap, subst, _∙_}
 use Prim.Native.Nat.{ℕ}
 use mathlib.Core.Bool.{Bool, true, false, cond, false≢true}
-use mathlib.Core.List.{List, [], _∷_, _++_, map}
+use mathlib.Core.List.{List, [], _∷_, _++_, map, append-nil}
 use mathlib.Core.Logic.{_↔_}
 use lib.ListN.{length}
 use borrow.Author.Tests.{eqb-true, eq-eqb}
-use Rattle.tree.specs.Document.{node-0-alone}
+use Rattle.tree.specs.Document.{Document, node-0-alone}
 use Rattle.tree.specs.Lists.{joined}
-use Rattle.tree.specs.Steps.{Step, Value, PlainAnswer, plain-value, plain-answers}
+use Rattle.tree.specs.Steps.{Step, Value, PlainAnswer, plain-value, plain-document, plain-answers}
 use Rattle.tree.specs.Laws.Tests.{refuted}
 use Rattle.tree.specs.Laws.Lists.{map-map}
 use Rattle.protocol.specs.State.{State}
 use Rattle.protocol.specs.Lent.{first-lent, second-lent}
 use Rattle.protocol.specs.Calls.{Call, start, load, begin, commit, abort, step, write}
 use Rattle.protocol.specs.Calls.{unreadable, stands-for, Outcome, StepAnswer, Next, next}
-use Rattle.protocol.specs.History.{history, state-after, is-granted, Log, new-log, logged, log-after, fed, answered, plain-run-answers}
+use Rattle.protocol.specs.History.{history, state-after, is-granted, Log, new-log, committed-then, logged, log-after, fed, answered}
 use Rattle.protocol.specs.Answers.{code-of, answer-of, lent-after, as-it-was}
 use Rattle.xml_write.specs.Contract.{writing, text-after}
-use Rattle.serializability.specs.Theorem.{since-start, reached}
+use Rattle.serializability.specs.Theorem.{since-start, reached, steps-of, answers-of, Runs}
 use Rattle.serializability.specs.Laws.Outcomes.{every-call}
-use Rattle.serializability.specs.Laws.Logs.{read-off, logged-read, map-joined}
-use Rattle.serializability.specs.Laws.Main.{is-write, further, demand-3}
+use Rattle.serializability.specs.Laws.Logs.{read-off, logged-read, joined-read}
+use Rattle.serializability.specs.Laws.AnyOrder.{any-order}
+use Rattle.serializability.specs.Laws.Main.{is-write, further}
 use Rattle.traces.specs.Exchange.{Exchange, outcome, told-granted}
 use Rattle.traces.specs.Theorem.{Demand2, Each, GrantedStep, granted-in, log-by-codes, granted-steps, steps, Feeds}
-use Rattle.traces.specs.Theorem.{Answered, AllAnswered, PlainAnswers}
+use Rattle.traces.specs.Theorem.{Answered, AllAnswered, PlainAnswers, plain-left, RunsInOrder}
 
 -- one call ---------------------------------------------------------------------------------
 
@@ -191,19 +193,37 @@ module _ (x : Exchange) (xs : List Exchange) (cs : List Call) (g : outcome (x .c
     open-log = λ t. steps-are (K .open-log t) ∙ sym (ap (λ (F : Log Step). F .open-log t) fed-is);
   })
 
-  pub plain-answers-given : PlainAnswers G
-  unfolding plain-run-answers
-  plain-answers-given = rw (codes-are, map-joined by-exchange (K .committed))
-      (subst (λ (vs : List PlainAnswer). AllAnswered vs (map by-exchange all)) (sym same) (all-answered all))
+  -- `Runs`, said of the log of exchanges
+  pub runs-given : (b : List ℕ) (d : Document) → Runs (since-start cs) b d → RunsInOrder G b d
+  runs-given b d r = rw codes-are (record { answers = answers-given; document = document-given })
     where
       all : List Given
-      all = joined (K .committed)
+      all = joined (committed-then K b)
 
-      same : plain-answers (K .initial) (steps (map by-exchange all)) ≡ map plain-value (map (λ g. g .taken .value) all)
-      same = rw (
-        steps-are all,
-        ← map-joined (λ (g : Given). g .taken .step) (K .committed),
-        ← map-joined (λ (g : Given). g .taken .value)
-            (K .committed),
-      )
-          (rw (fed-is, answered-is) at (demand-3 cs .answers))
+      same-steps : steps-of (since-start cs) b ≡ steps (map by-exchange all)
+      same-steps = rw (fed-is, joined-read (λ (g : Given). g .taken .step) K b) (sym (steps-are all))
+
+      same-values : answers-of (since-start cs) b ≡ map (λ g. g .taken .value) all
+      same-values = rw answered-is (joined-read (λ (g : Given). g .taken .value) K b)
+
+      first : fed (since-start cs) .initial ≡ K .initial
+      first = ap (λ (F : Log Step). F .initial) fed-is
+
+      same-answers : AllAnswered (plain-answers (K .initial) (steps (map by-exchange all))) (map by-exchange all)
+      same-answers =
+          let e : plain-answers (K .initial) (steps (map by-exchange all)) ≡ map plain-value (map (λ g. g .taken .value) all) =
+          rw (first, same-steps, same-values) at (r .answers) in
+          subst (λ (vs : List PlainAnswer). AllAnswered vs (map by-exchange all)) (sym e) (all-answered all)
+
+      same-document : plain-document (K .initial) (steps (map by-exchange all)) ≡ d
+      same-document = rw (first, same-steps) at (r .document)
+
+      answers-given : PlainAnswers (K .initial) (committed-then (read-off by-exchange K) b)
+      answers-given = rw (joined-read by-exchange K b) same-answers
+
+      document-given : plain-left (K .initial) (committed-then (read-off by-exchange K) b) ≡ d
+      document-given = rw (joined-read by-exchange K b) same-document
+
+  -- the committed transactions, and none behind them
+  pub plain-answers-given : PlainAnswers (G .initial) (G .committed)
+  plain-answers-given = rw (append-nil (G .committed)) at (runs-given [] _ (any-order cs [] refl) .answers)

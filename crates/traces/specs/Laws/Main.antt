@@ -1,25 +1,32 @@
 -- THE THEOREM: every list of calls on one lent state that begins with a granted start, from the contracts of the calls.
 use mathlib.Core.Path.{_≡_, refl, ap, ap₂, _∙_}
 use Prim.Native.Nat.{ℕ}
-use mathlib.Core.Bool.{false}
-use mathlib.Core.List.{List, [], _∷_, _++_, append-nil, append-assoc, List·Memᴰ, List·Memᴰ·head, List·Memᴰ·tail, List·Memᴰ·not-nil}
-use Rattle.protocol.specs.State.{State, start-state}
-use Rattle.protocol.specs.Calls.{Call, next}
-use Rattle.protocol.specs.History.{state-after}
+use mathlib.Core.Bool.{Bool, true, false, false≢true}
+use mathlib.Core.List.{List, [], _∷_, _++_, map, append-nil, append-assoc, List·Memᴰ, List·Memᴰ·head, List·Memᴰ·tail, List·Memᴰ·not-nil}
+use Rattle.tree.specs.Lists.{keep}
+use Rattle.tree.specs.Document.{Document}
+use Rattle.protocol.specs.State.{State, start-state, transactions, held-document, committed-document}
+use Rattle.protocol.specs.Calls.{Call, commit, next}
+use Rattle.protocol.specs.History.{Event, history, state-after, is-granted, Log}
 use Rattle.protocol.specs.Answers.{code-of, answer-of, granted-answer}
 use Rattle.protocol.specs.declared.Answer.the-variants.{Done}
 use Rattle.form.specs.Form.{Holds}
-use Rattle.serializability.specs.Theorem.{reached}
-use Rattle.serializability.specs.Laws.Main.{plain-committed, further, demand-3}
+use Rattle.form.specs.Laws.OneState.{holds-one}
+use Rattle.serializability.specs.Theorem.{since-start, reached, Runs, OpenOrder}
+use Rattle.serializability.specs.Laws.Main.{is-write, plain-committed, further, demand-3}
+use Rattle.serializability.specs.Laws.OneCall.{commit-granted}
+use Rattle.serializability.specs.Laws.AnyOrder.{reached-tracks}
+use Rattle.serializability.specs.Laws.OpenOrders.{some-order, open-in-any-order, commit-in-any-order}
 use Rattle.serializability.specs.Laws.Reached.{always-reached}
 use Rattle.traces.specs.Exchange.{Request, Exchange, outcome}
-use Rattle.traces.specs.Contract.{MakesCall, Contract}
-use Rattle.traces.specs.Theorem.{Linked, Trace, Made, no-call, call-then, Demand1, Demand2, WritesPlain, Each, last-state, Delivered}
+use Rattle.traces.specs.Contract.{makes-commit, MakesCall, Contract}
+use Rattle.traces.specs.Theorem.{Linked, Trace, Made, no-call, call-then, Demand1, Demand2, WritesPlain, GrantedStep, RunsInOrder}
+use Rattle.traces.specs.Theorem.{last-state, OpenInAnyOrder, Each, Delivered}
 use Rattle.traces.specs.Laws.Causes.{makes-one, makes-only}
 use Rattle.traces.specs.Laws.OneCall.{outcomes-of, demand-2, granted-text}
 use Rattle.traces.specs.Laws.Answers.{start-of, answers-of}
 use Rattle.traces.specs.Laws.StateBytes.{granted-size, state-bytes}
-use Rattle.traces.specs.Laws.Logs.{InReached, feeds, plain-answers-given}
+use Rattle.traces.specs.Laws.Logs.{InReached, feeds, runs-given, plain-answers-given}
 
 -- the calls that were made ----------------------------------------------------------------
 
@@ -81,6 +88,50 @@ each-part P Q f before [] (c ∷ cs) h = h
 each-part P Q f before (x ∷ xs) [] h = h
 each-part P Q f before (x ∷ xs) (c ∷ cs) h = (f before x c (h .0), each-part P Q f (before ++ (c ∷ [])) xs cs (h .1))
 
+-- A.14 ------------------------------------------------------------------------------------
+
+-- commits that are told as granted are granted
+commits-granted : (before : List Call) (ys : List Exchange) (b : List ℕ) → Each InReached before ys (map commit b)
+    → ((y : Exchange) → List·Memᴰ y ys → outcome (y .code) ≡ 0)
+    → (e : Event) → List·Memᴰ e (history (reached before) (map commit b)) → is-granted (e .outcome) ≡ true
+unfolding history is-write
+commits-granted before [] [] h g e i = absurd (List·Memᴰ·not-nil i)
+commits-granted before [] (t ∷ b) h g e i = absurd h
+commits-granted before (y ∷ ys) [] h g e i = absurd h
+commits-granted before (y ∷ ys) (t ∷ b) h g e (List·Memᴰ·head k) =
+    rw k (h .0 .as-granted (λ w. false≢true (ap is-write w)) .0 (g y (List·Memᴰ·head refl)))
+commits-granted before (y ∷ ys) (t ∷ b) h g e (List·Memᴰ·tail i) =
+    commits-granted (before ++ (commit t ∷ [])) ys b (h .1) (λ z j. g z (List·Memᴰ·tail j)) e (rw (further before (commit t)) i)
+
+-- of bytes that hold the state which the calls cs reach, and of a log whose runs are those of the history
+module _ (cs : List Call) (s : List ℕ) (h : Holds s (reached cs)) (L : Log GrantedStep)
+    (r : (b : List ℕ) (d : Document) → Runs (since-start cs) b d → RunsInOrder L b d) where
+  abbrev is-open : ℕ → Bool
+  is-open = reached cs .header .is-open
+
+  commit-told : (t : ℕ) → is-open t ≡ true → (y : Exchange) → Linked s (y ∷ []) → y .request ≡ Request.commit t → outcome (y .code) ≡ 0
+  unfolding is-write
+  commit-told t o y l q =
+      let m : MakesCall y (commit t) = rw q makes-commit in
+      both cs y (commit t) (l .0) m (holds-same (l .1) h) .0 .as-granted (λ w. false≢true (ap is-write w)) .1
+      (ap is-granted (commit-granted t (reached cs) (reached-tracks cs .good .numbered t o) o))
+
+  committed-held : (b : List ℕ) → OpenOrder is-open b → (ys : List Exchange) → Linked s ys → Made ys (map commit b)
+      → ((y : Exchange) → List·Memᴰ y ys → outcome (y .code) ≡ 0)
+      → (N : State) → Holds (last-state s ys) N → committed-document N ≡ held-document (reached cs)
+  committed-held b o ys l m g N n =
+      let e = holds-one N (reached (cs ++ map commit b)) n (holds-last cs s ys (map commit b) h l m) in
+      let d = each-part Both InReached (λ before y c p. p .0) cs ys (map commit b) (each-both cs s ys (map commit b) h l m) in
+      rw e (commit-in-any-order cs b o (commits-granted cs ys b d g))
+
+  in-any-order : (M : State) → Holds s M → OpenInAnyOrder L s M
+  in-any-order M k = rw (holds-one M (reached cs) k h) (record {
+    some-order = (keep is-open transactions, some-order cs);
+    runs = λ b o. r b (held-document (reached cs)) (open-in-any-order cs b o);
+    commit-granted = commit-told;
+    commits = committed-held;
+  })
+
 -- the start --------------------------------------------------------------------------------
 
 -- its answer
@@ -97,6 +148,8 @@ delivered x xs t =
     let h : Holds (x .state .after) (reached []) = demand-1 x (t .contract) .answers .starts (t .starts) n .left in
     let b = each-both [] (x .state .after) xs (m .0) h (t .linked) (m .1) in
     let e : Each InReached [] xs (m .0) = each-part Both InReached (λ before y c p. p .0) [] xs (m .0) b in
+    let s = last-state (x .state .after) xs in
+    let l : Holds s (reached (m .0)) = holds-last [] (x .state .after) xs (m .0) h (t .linked) (m .1) in
     record {
       calls = m .0;
       made = m .1;
@@ -104,12 +157,13 @@ delivered x xs t =
       start-code = start-code x (t .contract) (t .starts) (t .start-granted);
       start-buffers = let k = start-of x (t .contract) (t .starts) in (k .first, k .second);
       demand-1 = all-calls;
-      held = holds-last [] (x .state .after) xs (m .0) h (t .linked) (m .1);
+      held = l;
       demand-2 = e;
       demand-3 = demand-3 (m .0);
       writes = each-part Both WritesPlain (λ before y c p. p .1) [] xs (m .0) b;
       feeds = feeds x xs (m .0) (t .start-granted) e;
       answers = plain-answers-given x xs (m .0) (t .start-granted) e;
+      open-in-any-order = in-any-order (m .0) s l _ (runs-given x xs (m .0) (t .start-granted) e);
     }
   where
     all-calls : (y : Exchange) → List·Memᴰ y (x ∷ xs) → Demand1 y
