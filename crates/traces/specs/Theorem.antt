@@ -210,7 +210,7 @@ pub record RunsInOrder (L : Log GrantedStep) (b : List ℕ) (d : Document) : Typ
   pub document : plain-left (L .initial) (committed-then L b) ≡ d
 
 -- of the log L of granted steps, the state bytes s behind them, and the state M that these hold
-pub record OpenInAnyOrder (L : Log GrantedStep) (s : List ℕ) (M : State) : Type 0 where
+pub record FinishInAnyOrder (L : Log GrantedStep) (s : List ℕ) (M : State) : Type 0 where
   -- there is an order of what is open, so that the next claim is not empty
   pub some-order : (b : List ℕ) × OpenOrder (M .header .is-open) b
   -- "those still open .. in an arbitrary order .. and the document left must equal the held one"
@@ -253,4 +253,4 @@ pub record Delivered (x : Exchange) (xs : List Exchange) : Type 0 where
   pub answers : let L = granted-steps (x ∷ xs) (start ∷ calls) in PlainAnswers (L .initial) (L .committed)
   -- A.14; a list of calls may end anywhere, so this is "at every moment"
   pub open-in-any-order : let s = last-state (x .state .after) xs in
-      (M : State) → Holds s M → OpenInAnyOrder (granted-steps (x ∷ xs) (start ∷ calls)) s M
+      (M : State) → Holds s M → FinishInAnyOrder (granted-steps (x ∷ xs) (start ∷ calls)) s M

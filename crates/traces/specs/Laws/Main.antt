@@ -1,18 +1,18 @@
 -- THE THEOREM: every list of calls on one lent state that begins with a granted start, from the contracts of the calls.
 use mathlib.Core.Path.{_≡_, refl, ap, ap₂, _∙_}
 use Prim.Native.Nat.{ℕ}
-use mathlib.Core.Bool.{Bool, true, false, false≢true}
+use mathlib.Core.Bool.{true, false, false≢true}
 use mathlib.Core.List.{List, [], _∷_, _++_, map, append-nil, append-assoc, List·Memᴰ, List·Memᴰ·head, List·Memᴰ·tail, List·Memᴰ·not-nil}
 use Rattle.tree.specs.Lists.{keep}
 use Rattle.tree.specs.Document.{Document}
-use Rattle.protocol.specs.State.{State, start-state, transactions, held-document, committed-document}
+use Rattle.protocol.specs.State.{State, start-state, transactions, held-document}
 use Rattle.protocol.specs.Calls.{Call, commit, next}
 use Rattle.protocol.specs.History.{Event, history, state-after, is-granted, Log}
 use Rattle.protocol.specs.Answers.{code-of, answer-of, granted-answer}
 use Rattle.protocol.specs.declared.Answer.the-variants.{Done}
 use Rattle.form.specs.Form.{Holds}
 use Rattle.form.specs.Laws.OneState.{holds-one}
-use Rattle.serializability.specs.Theorem.{since-start, reached, Runs, OpenOrder}
+use Rattle.serializability.specs.Theorem.{since-start, reached, Runs}
 use Rattle.serializability.specs.Laws.Main.{is-write, plain-committed, further, demand-3}
 use Rattle.serializability.specs.Laws.OneCall.{commit-granted}
 use Rattle.serializability.specs.Laws.AnyOrder.{reached-tracks}
@@ -21,7 +21,7 @@ use Rattle.serializability.specs.Laws.Reached.{always-reached}
 use Rattle.traces.specs.Exchange.{Request, Exchange, outcome}
 use Rattle.traces.specs.Contract.{makes-commit, MakesCall, Contract}
 use Rattle.traces.specs.Theorem.{Linked, Trace, Made, no-call, call-then, Demand1, Demand2, WritesPlain, GrantedStep, RunsInOrder}
-use Rattle.traces.specs.Theorem.{last-state, OpenInAnyOrder, Each, Delivered}
+use Rattle.traces.specs.Theorem.{last-state, FinishInAnyOrder, Each, Delivered}
 use Rattle.traces.specs.Laws.Causes.{makes-one, makes-only}
 use Rattle.traces.specs.Laws.OneCall.{outcomes-of, demand-2, granted-text}
 use Rattle.traces.specs.Laws.Answers.{start-of, answers-of}
@@ -106,30 +106,19 @@ commits-granted before (y ∷ ys) (t ∷ b) h g e (List·Memᴰ·tail i) =
 -- of bytes that hold the state which the calls cs reach, and of a log whose runs are those of the history
 module _ (cs : List Call) (s : List ℕ) (h : Holds s (reached cs)) (L : Log GrantedStep)
     (r : (b : List ℕ) (d : Document) → Runs (since-start cs) b d → RunsInOrder L b d) where
-  abbrev is-open : ℕ → Bool
-  is-open = reached cs .header .is-open
-
-  commit-told : (t : ℕ) → is-open t ≡ true → (y : Exchange) → Linked s (y ∷ []) → y .request ≡ Request.commit t → outcome (y .code) ≡ 0
+  in-any-order : (M : State) → Holds s M → FinishInAnyOrder L s M
   unfolding is-write
-  commit-told t o y l q =
-      let m : MakesCall y (commit t) = rw q makes-commit in
-      both cs y (commit t) (l .0) m (holds-same (l .1) h) .0 .as-granted (λ w. false≢true (ap is-write w)) .1
-      (ap is-granted (commit-granted t (reached cs) (reached-tracks cs .good .numbered t o) o))
-
-  committed-held : (b : List ℕ) → OpenOrder is-open b → (ys : List Exchange) → Linked s ys → Made ys (map commit b)
-      → ((y : Exchange) → List·Memᴰ y ys → outcome (y .code) ≡ 0)
-      → (N : State) → Holds (last-state s ys) N → committed-document N ≡ held-document (reached cs)
-  committed-held b o ys l m g N n =
-      let e = holds-one N (reached (cs ++ map commit b)) n (holds-last cs s ys (map commit b) h l m) in
-      let d = each-part Both InReached (λ before y c p. p .0) cs ys (map commit b) (each-both cs s ys (map commit b) h l m) in
-      rw e (commit-in-any-order cs b o (commits-granted cs ys b d g))
-
-  in-any-order : (M : State) → Holds s M → OpenInAnyOrder L s M
   in-any-order M k = rw (holds-one M (reached cs) k h) (record {
-    some-order = (keep is-open transactions, some-order cs);
+    some-order = (keep (reached cs .header .is-open) transactions, some-order cs);
     runs = λ b o. r b (held-document (reached cs)) (open-in-any-order cs b o);
-    commit-granted = commit-told;
-    commits = committed-held;
+    commit-granted = λ t o y l q.
+        let m : MakesCall y (commit t) = rw q makes-commit in
+        both cs y (commit t) (l .0) m (holds-same (l .1) h) .0 .as-granted (λ w. false≢true (ap is-write w)) .1
+        (ap is-granted (commit-granted t (reached cs) (reached-tracks cs .good .numbered t o) o));
+    commits = λ b o ys l m g N n.
+        let e = holds-one N (reached (cs ++ map commit b)) n (holds-last cs s ys (map commit b) h l m) in
+        let d = each-part Both InReached (λ before y c p. p .0) cs ys (map commit b) (each-both cs s ys (map commit b) h l m) in
+        rw e (commit-in-any-order cs b o (commits-granted cs ys b d g));
   })
 
 -- the start --------------------------------------------------------------------------------
