@@ -49,9 +49,10 @@ static void move_row(uint8_t *s, unsigned from, unsigned to)
     s[AT_CHANGED + to] = s[AT_CHANGED + from];
 }
 
-/* Ends t in one pass over the rows: takes out those with the mark t in one column, clears the other marks t and the lock words of t. Free
- * slots have no locks, on which insert and load rely, so no other words have to be cleared. It stays so: on a row that is taken out there
- * are no locks of others, since t has LW on it or above it, which clashes with every mode, and a lock comes with one on each row above. */
+/* Ends t in one pass over the rows: takes out those with the mark t in one column, clears the other marks t and the lock words of t; then
+ * nobody is said to wait for t. Free slots have no locks, on which insert and load rely, so no other words have to be cleared. It stays so:
+ * on a row that is taken out there are no locks of others, since t has LW on it or above it, which clashes with every mode, and a lock
+ * comes with one on each row above. */
 static void end_transaction(uint8_t *s, uint32_t t, unsigned removed_mark, unsigned cleared_mark, int restore)
 {
     unsigned count = count_of(s), kept = 0;
@@ -76,6 +77,9 @@ static void end_transaction(uint8_t *s, uint32_t t, unsigned removed_mark, unsig
     }
     put16(s + AT_COUNT, kept);
     put16(s + AT_OPEN, open_set(s) & ~(1u << (t - 1)));
+    put_waits(s, t, 0);
+    for (unsigned u = 1; u <= TRANSACTIONS; u++)
+        put_waits(s, u, waits_of(s, u) & ~(1u << (t - 1)));
 }
 
 noodlefen_answer bench_commit(uint8_t *s, size_t length, uint32_t t)

@@ -24,7 +24,8 @@ enum {
     AT_CELL = AT_CHANGED + NODES,       /* by slot: length, content, zeros */
     AT_SAVED = AT_CELL + CELL * NODES,  /* by slot: the committed content of a changed node */
     AT_LOCKS = AT_SAVED + CELL * NODES, /* by transaction and slot: set of modes, empty unless it is open and the slot in use */
-    AT_END = AT_LOCKS + 2 * NODES * TRANSACTIONS
+    AT_WAITS = AT_LOCKS + 2 * NODES * TRANSACTIONS, /* by transaction: whom it waits for; at the same place as in the library's state */
+    AT_END = AT_WAITS + 2 * TRANSACTIONS
 };
 
 extern const uint8_t bench_mark[8];
@@ -63,6 +64,8 @@ static inline uint8_t *cell_at(uint8_t *s, unsigned slot) { return s + AT_CELL +
 static inline const uint8_t *cell_in(const uint8_t *s, unsigned row) { return s + AT_CELL + CELL * slot_of(s, row); }
 static inline uint8_t *saved_at(uint8_t *s, unsigned slot) { return s + AT_SAVED + CELL * slot; }
 static inline uint8_t *locks_of(uint8_t *s, unsigned t) { return s + AT_LOCKS + 2 * NODES * (t - 1); }
+static inline unsigned waits_of(const uint8_t *s, unsigned t) { return get16(s + AT_WAITS + 2 * (t - 1)); }
+static inline void put_waits(uint8_t *s, unsigned t, unsigned set) { put16(s + AT_WAITS + 2 * (t - 1), set); }
 
 static inline void put_cell(uint8_t *cell, const uint8_t *bytes, size_t length)
 {

@@ -63,14 +63,37 @@ static unsigned wait_set(uint8_t *s, unsigned t, const struct path *path, const 
     return set;
 }
 
+/* Whether t reaches itself, each waiting for the next, if it waits for this set. Each round takes one step more on all paths at once. */
+static int closes_ring(const uint8_t *s, unsigned t, unsigned set)
+{
+    unsigned reached = set, before = 0;
+    while (reached != before && (reached >> (t - 1) & 1) == 0) {
+        before = reached;
+        for (unsigned u = 1; before >> (u - 1) != 0; u++)
+            reached |= waits_of(s, u) & (0u - (before >> (u - 1) & 1));
+    }
+    return (int)(reached >> (t - 1) & 1);
+}
+
+/* The answer of a step that cannot be granted because of this set: it waits, or it is refused for the ring. */
+static noodlefen_answer wait_for(uint8_t *s, unsigned t, unsigned set)
+{
+    if (closes_ring(s, t, set))
+        return refused(17, 0);
+    put_waits(s, t, set);
+    return waits(set);
+}
+
 static void add_modes(uint8_t *locks, unsigned slot, unsigned modes)
 {
     put16(locks + 2 * slot, get16(locks + 2 * slot) | modes);
 }
 
+/* The locks of a step, and t waits for nobody any more. */
 static void grant(uint8_t *s, unsigned t, const struct path *path, const struct needs *needs)
 {
     uint8_t *locks = locks_of(s, t);
+    put_waits(s, t, 0);
     add_modes(locks, path->slots[0], needs->on);
     if (path->length > 1)
         add_modes(locks, path->slots[1], needs->parent);
@@ -109,7 +132,7 @@ noodlefen_answer bench_test(uint8_t *s, size_t length, uint32_t t, noodlefen_nod
         return refused(cause, 0);
     find_path(&path, s, row);
     if ((set = wait_set(s, t, &path, &needs_t)) != 0)
-        return waits(set);
+        return wait_for(s, t, set);
     grant(s, t, &path, &needs_t);
     unsigned depth = depth_of(s, row), parent = row;
     while (depth > 0 && depth_of(s, parent) >= depth)
@@ -125,7 +148,7 @@ noodlefen_answer bench_child(uint8_t *s, size_t length, uint32_t t, noodlefen_no
         return refused(cause, 0);
     find_path(&path, s, row);
     if ((set = wait_set(s, t, &path, &needs_c)) != 0)
-        return waits(set);
+        return wait_for(s, t, set);
     grant(s, t, &path, &needs_c);
     unsigned count = count_of(s), depth = depth_of(s, row);
     for (unsigned child = row + 1; child < count && depth_of(s, child) > depth && k > 0; child++)
@@ -144,7 +167,7 @@ noodlefen_answer bench_read(uint8_t *s, size_t length, uint32_t t, noodlefen_nod
         return refused(8, 0);
     find_path(&path, s, row);
     if ((set = wait_set(s, t, &path, &needs_r)) != 0)
-        return waits(set);
+        return wait_for(s, t, set);
     const uint8_t *cell = cell_in(s, row);
     if (out_len < cell[0])
         return refused(13, 0);
@@ -176,7 +199,7 @@ noodlefen_answer bench_update(uint8_t *s, size_t length, uint32_t t, noodlefen_n
         return refused(9, 0);
     find_path(&path, s, row);
     if ((set = wait_set(s, t, &path, &needs_u)) != 0)
-        return waits(set);
+        return wait_for(s, t, set);
     grant(s, t, &path, &needs_u);
     change_content(s, t, row, bytes, bytes_len);
     return granted(0);
@@ -192,7 +215,7 @@ noodlefen_answer bench_delete(uint8_t *s, size_t length, uint32_t t, noodlefen_n
         return refused(8, 0);
     find_path(&path, s, row);
     if ((set = wait_set(s, t, &path, &needs_d)) != 0)
-        return waits(set);
+        return wait_for(s, t, set);
     grant(s, t, &path, &needs_d);
     memset(s + AT_DELETED + row, (int)t, subtree_end(s, row) - row);
     return granted(0);
@@ -266,7 +289,7 @@ noodlefen_answer bench_insert(uint8_t *s, size_t length, uint32_t t, noodlefen_n
         return refused(10, 0);
     find_path(&path, s, row);
     if ((set = wait_set(s, t, &path, &needs_i)) != 0)
-        return waits(set);
+        return wait_for(s, t, set);
     if ((place = place_of(s, t, row, kind, k)) == 0)
         return refused(11, 0);
     if (count_of(s) == NODES)
@@ -298,7 +321,7 @@ noodlefen_answer bench_test_tree(uint8_t *s, size_t length, uint32_t t, noodlefe
         return refused(cause, 0);
     find_path(&path, s, row);
     if ((set = wait_set(s, t, &path, &needs_tt)) != 0)
-        return waits(set);
+        return wait_for(s, t, set);
     unsigned listed = list_rows(s, t, row, rows);
     if (numbers_len < 4 * (size_t)listed)
         return refused(13, 0);
@@ -318,7 +341,7 @@ noodlefen_answer bench_read_tree(uint8_t *s, size_t length, uint32_t t, noodlefe
         return refused(cause, 0);
     find_path(&path, s, row);
     if ((set = wait_set(s, t, &path, &needs_rr)) != 0)
-        return waits(set);
+        return wait_for(s, t, set);
     unsigned listed = list_rows(s, t, row, rows);
     if (numbers_len < 4 * (size_t)listed || cells_len < CELL * (size_t)listed)
         return refused(13, 0);
@@ -341,7 +364,7 @@ noodlefen_answer bench_rename_tree(uint8_t *s, size_t length, uint32_t t, noodle
         return refused(9, 0);
     find_path(&path, s, row);
     if ((set = wait_set(s, t, &path, &needs_uu)) != 0)
-        return waits(set);
+        return wait_for(s, t, set);
     grant(s, t, &path, &needs_uu);
     unsigned end = subtree_end(s, row), renamed = 0;
     for (unsigned at = row; at < end; at++) {

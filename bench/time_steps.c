@@ -5,18 +5,19 @@
 
 #include "timing.h"
 
-/* COMMIT is one of nothing; COMMIT_CHANGES and ABORT are of an update, an insertion and a deletion. The refused calls are commits of a
- * transaction that is not open, on a state without and with such changes: they end right behind the form check, and so show its time. From
- * COMPUTED on come the times of the ends less that of the form check. */
+/* WAITS is an R that waits for the last of the open ones, which waits for the one before it, and so on, so that the search for a ring is
+ * the longest; with one open there is none. COMMIT is one of nothing; COMMIT_CHANGES and ABORT are of an update, an insertion and a
+ * deletion. The refused calls are commits of a transaction that is not open, on a state without and with such changes: they end right
+ * behind the form check, and so show its time. From COMPUTED on come the times of the ends less that of the form check. */
 enum what {
-    T, C, R, U, D, I, TT, RR, UU, BEGIN, COMMIT, COMMIT_CHANGES, ABORT, REFUSED, REFUSED_CHANGES,
+    T, C, R, U, D, I, TT, RR, UU, WAITS, BEGIN, COMMIT, COMMIT_CHANGES, ABORT, REFUSED, REFUSED_CHANGES,
     COMPUTED, COMMIT_BEHIND = COMPUTED, COMMIT_CHANGES_BEHIND, ABORT_BEHIND, WHATS
 };
 enum { SIZES = 3, OPENS = 3, SAMPLES = 301, MOST_CALLS = COMPUTED - BEGIN, WORD = 18 };
 
 static const char *const words[WHATS] = {
-    "T", "C", "R", "U", "D", "I", "TT", "RR", "UU", "begin", "commit", "commit of changes", "abort", "refused", "refused, changes",
-    "commit", "commit of changes", "abort"
+    "T", "C", "R", "U", "D", "I", "TT", "RR", "UU", "R, waits", "begin", "commit", "commit of changes", "abort", "refused",
+    "refused, changes", "commit", "commit of changes", "abort"
 };
 static const unsigned sizes[SIZES] = {16, 128, 1024};
 static const unsigned opens[OPENS] = {1, 4, 16};
@@ -26,12 +27,19 @@ static uint8_t numbers[NOODLEFEN_NUMBER_BYTES * NOODLEFEN_NODES], cells[NOODLEFE
 /* Nodes of tree_document: the root is 1; a drive has an attribute, its text, an element, and its text behind it. */
 struct places {
     noodlefen_node drive, text, last;
+    noodlefen_node held; /* WAITS: what the last of the open transactions has updated */
 };
 
-static struct places places_in(unsigned nodes)
+/* Where transactions wait, each has updated a node of its own. */
+static noodlefen_node node_of(uint32_t t)
+{
+    return t - 1;
+}
+
+static struct places places_in(unsigned nodes, unsigned open)
 {
     unsigned drives = (nodes - 2) / 5, middle = 2 + 5 * (drives / 2);
-    struct places places = {middle, middle + 4, nodes - 2};
+    struct places places = {middle, middle + 4, nodes - 2, node_of(open)};
     return places;
 }
 
@@ -49,6 +57,7 @@ static noodlefen_answer call(const struct timed *engine, uint8_t *state, enum wh
     case TT: return engine->test_tree(state, length, 1, 0, numbers, sizeof numbers);
     case RR: return engine->read_tree(state, length, 1, 0, numbers, sizeof numbers, cells, sizeof cells);
     case UU: return engine->rename_tree(state, length, 1, 0, speed, 5, name, 5);
+    case WAITS: return engine->read(state, length, 1, at.held, cells, sizeof cells);
     case BEGIN: return engine->begin(state, length, 1);
     case COMMIT:
     case COMMIT_CHANGES: return engine->commit(state, length, 1);
@@ -65,10 +74,20 @@ static int has_changes(enum what what) { return what == COMMIT_CHANGES || what =
 /* An update and an insertion in one drive, and the next drive deleted. */
 static void make_changes(const struct timed *engine, uint8_t *state, struct places at)
 {
-    struct places kept = {at.drive - 5, at.text - 5, at.last};
+    struct places kept = {at.drive - 5, at.text - 5, at.last, at.held};
     must_grant(engine->name, "U", call(engine, state, U, kept));
     must_grant(engine->name, "I", call(engine, state, I, kept));
     must_grant(engine->name, "D", call(engine, state, D, at));
+}
+
+/* Each transaction but the first updates its node, and then waits for the one before it. */
+static void make_chain(const struct timed *engine, uint8_t *state, unsigned open)
+{
+    const size_t length = NOODLEFEN_STATE_BYTES;
+    for (uint32_t t = 2; t <= open; t++)
+        must_grant(engine->name, "U", engine->update(state, length, t, node_of(t), (const uint8_t *)"chain", 5));
+    for (uint32_t t = 3; t <= open; t++)
+        must_wait(engine->name, "R", engine->read(state, length, t, node_of(t - 1), cells, sizeof cells));
 }
 
 /* The state before the timed call: the tree loaded, transactions 1 to open begun, each other one with locks that do not clash. The one that
@@ -77,15 +96,17 @@ static void prepare(const struct timed *engine, uint8_t *state, enum what what, 
 {
     static char xml[NOODLEFEN_XML_BYTES];
     const size_t length = NOODLEFEN_STATE_BYTES;
-    struct places at = places_in(nodes);
+    struct places at = places_in(nodes, open);
     /* An insertion needs room for its node. */
     size_t xml_length = tree_document(xml, nodes - (what == I || has_changes(what)));
     must_grant(engine->name, "start", engine->start(state, length));
     must_grant(engine->name, "load", engine->load(state, length, (const uint8_t *)xml, xml_length));
     for (uint32_t t = 1; t <= open; t++)
         must_grant(engine->name, "begin", engine->begin(state, length, t));
-    for (uint32_t t = 2; t <= open; t++)
+    for (uint32_t t = 2; t <= open && what != WAITS; t++)
         must_grant(engine->name, "T", engine->test(state, length, t, at.last));
+    if (what == WAITS)
+        make_chain(engine, state, open);
     if (what == BEGIN)
         must_grant(engine->name, "abort", engine->abort(state, length, 1));
     if (is_refused(what) && open == NOODLEFEN_TRANSACTIONS)
@@ -105,6 +126,8 @@ static double time_call(const struct timed *engine, enum what what, struct place
     double time = now() - from;
     if (is_refused(what))
         must_refuse(engine->name, "commit", NOODLEFEN_NOT_OPEN, answer);
+    else if (what == WAITS)
+        must_wait(engine->name, words[what], answer);
     else
         must_grant(engine->name, words[what], answer);
     return time;
@@ -115,7 +138,7 @@ static void time_calls(int first, int count, int size, int open)
 {
     static uint8_t prepared[MOST_CALLS][MOST_ENGINES][NOODLEFEN_STATE_BYTES];
     static double samples[MOST_CALLS][MOST_ENGINES][SAMPLES];
-    struct places at = places_in(sizes[size]);
+    struct places at = places_in(sizes[size], opens[open]);
     for (int c = 0; c < count; c++)
         for (int e = 0; e < timed_count; e++)
             prepare(&timed_engines[e], prepared[c][e], (enum what)(first + c), sizes[size], opens[open]);
@@ -138,13 +161,13 @@ static void subtract_check(enum what computed, enum what end, enum what refused)
                 results[computed][s][o][e] = results[end][s][o][e] - results[refused][s][o][e];
 }
 
-/* The time of an engine in microseconds, or its ratio to that of another one; there is none of differences below a tenth of a
- * microsecond, which say nothing. */
+/* The time of an engine in microseconds, or its ratio to that of another one; there is none of what was not timed, and no ratio of
+ * differences below a tenth of a microsecond, which say nothing. */
 static void print_cell(const double *times, int engine, int other)
 {
-    if (other < 0)
+    if (other < 0 && times[engine] != 0)
         printf("%9.2f", times[engine] / 1000);
-    else if (times[engine] >= 100 && times[other] >= 100)
+    else if (other >= 0 && times[engine] >= 100 && times[other] >= 100)
         printf("%9.2f", times[engine] / times[other]);
     else
         printf("%9s", "-");
@@ -178,7 +201,7 @@ void time_steps(void)
     time_calls(T, 1, 0, 0); /* until the machine has its speed */
     for (int s = 0; s < SIZES; s++)
         for (int o = 0; o < OPENS; o++) {
-            for (int step = T; step <= UU; step++)
+            for (int step = T; step <= (opens[o] > 1 ? WAITS : UU); step++)
                 time_calls(step, 1, s, o);
             time_calls(BEGIN, MOST_CALLS, s, o);
         }

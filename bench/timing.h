@@ -36,6 +36,9 @@ size_t long_document(char *out);
 /* Stops the program if a call that is timed was not granted: its time would mean nothing. */
 void must_grant(const char *engine, const char *what, noodlefen_answer answer);
 
+/* The same if it does not wait. */
+void must_wait(const char *engine, const char *what, noodlefen_answer answer);
+
 /* The same if the answer is not the refusal for this cause. */
 void must_refuse(const char *engine, const char *what, unsigned cause, noodlefen_answer answer);
 

@@ -6,11 +6,12 @@
 #include "fence.h"
 
 enum { MOST_STATE = 1048576, MOST_BUFFER = 1 << 17, MOST_BUFFERS = 2 };
+enum { AT_SETS = 112656, SET_BYTES = 2 }; /* the remembered sets in the state, by transaction; docs/STATE.md */
 
 struct library {
     struct fence fence;
     uint8_t *state;   /* within the fence */
-    uint8_t *before;  /* the fence's bytes as the last granted call left them */
+    uint8_t *before;  /* the fence's bytes as the last call left them */
     size_t length;
     unsigned long faults;
 };
@@ -101,8 +102,30 @@ static uint8_t *lend(uint8_t *bytes, size_t length)
     return buffer->bytes;
 }
 
+static unsigned remembered(void *e, uint32_t t)
+{
+    const uint8_t *set = ((struct library *)e)->state + AT_SETS + SET_BYTES * (t - 1);
+    return set[0] | (unsigned)set[1] << 8;
+}
+
+/* Whether all bytes within the fence but these of the state are as they were. */
+static int kept_but(const struct library *l, size_t offset, size_t length)
+{
+    size_t from = (size_t)(l->state - l->fence.bytes) + offset, to = from + length;
+    return memcmp(l->fence.bytes, l->before, from) == 0 && memcmp(l->fence.bytes + to, l->before + to, l->fence.size - to) == 0;
+}
+
+/* Whether a call of t kept what it may not change: a granted one may change the state, one that waits the set of t, which it answers. */
+static int state_kept(struct library *l, uint32_t t, noodlefen_answer answer)
+{
+    if (!noodlefen_waits(answer))
+        return kept_but(l, 0, noodlefen_granted(answer) ? l->length : 0);
+    return t >= 1 && t <= NOODLEFEN_TRANSACTIONS && remembered(l, t) == noodlefen_value(answer)
+        && kept_but(l, AT_SETS + SET_BYTES * (t - 1), SET_BYTES);
+}
+
 /* Takes the outputs back, compares inputs and state with what they were, and answers the answer. */
-static noodlefen_answer checked(struct library *l, noodlefen_answer answer)
+static noodlefen_answer checked(struct library *l, uint32_t t, noodlefen_answer answer)
 {
     for (; in_use > 0; in_use--) {
         const struct buffer *buffer = &buffers[in_use - 1];
@@ -111,12 +134,14 @@ static noodlefen_answer checked(struct library *l, noodlefen_answer answer)
         else if (buffer->length > 0 && memcmp(buffer->given, buffer->bytes, buffer->length) != 0)
             l->faults++;
     }
-    size_t from = (size_t)(l->state - l->fence.bytes), to = noodlefen_granted(answer) ? from + l->length : from;
-    if (memcmp(l->fence.bytes, l->before, from) != 0 || memcmp(l->fence.bytes + to, l->before + to, l->fence.size - to) != 0)
+    if (!state_kept(l, t, answer))
         l->faults++;
     memcpy(l->before, l->fence.bytes, l->fence.size);
     return answer;
 }
+
+/* The transaction of the calls that name none. */
+static const uint32_t t = 0;
 
 #define STATE void *e
 #define READ_STATE void *e
@@ -124,7 +149,7 @@ static noodlefen_answer checked(struct library *l, noodlefen_answer answer)
 #define GIVEN(bytes) give(bytes, bytes##_len), bytes##_len
 #define LENT(bytes) lend(bytes, bytes##_len), bytes##_len
 #define CALL(name, parameters, arguments) \
-    static noodlefen_answer library_##name parameters { return checked(e, noodlefen_##name arguments); }
+    static noodlefen_answer library_##name parameters { return checked(e, t, noodlefen_##name arguments); }
 #include "calls.def"
 
 static noodlefen_answer commit_and_write(void *e, const uint32_t *order, unsigned count, uint8_t *out, size_t out_len)
@@ -149,7 +174,7 @@ static noodlefen_answer finish(void *e, const uint32_t *order, unsigned count, u
 }
 
 const struct engine library_engine = {
-    "library", make, drop, faults, finish,
+    "library", make, drop, faults, finish, remembered,
 #define CALL(name, parameters, arguments) library_##name,
 #include "calls.def"
 };

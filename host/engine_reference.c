@@ -10,6 +10,8 @@ static noodlefen_answer finish(void *e, const uint32_t *order, unsigned count, u
     return reference_finish(e, order, count, out, out_len);
 }
 
+static unsigned remembered(void *e, uint32_t t) { return reference_remembered(e, t); }
+
 #define STATE void *e
 #define READ_STATE void *e
 #define PASSED_STATE e
@@ -18,7 +20,7 @@ static noodlefen_answer finish(void *e, const uint32_t *order, unsigned count, u
 #include "calls.def"
 
 const struct engine reference_engine = {
-    "reference", make, drop, faults, finish,
+    "reference", make, drop, faults, finish, remembered,
 #define CALL(name, parameters, arguments) of_##name,
 #include "calls.def"
 };

@@ -134,7 +134,8 @@ static struct found look_for(uint32_t t, noodlefen_node parent, const char *name
 }
 
 /* Whether to make a step that waits once more. There is no queue, and nobody is told: a panel serves its engineer or sleeps for a
- * moment here. In this program the others do what they do meanwhile. */
+ * moment here. In this program the others do what they do meanwhile. A step that is refused is not made again, also if two would wait for
+ * each other (cause 17): then its engineer gives up. */
 static int again(noodlefen_answer answer, int *tries, void (*meanwhile)(int tries))
 {
     *tries += 1;

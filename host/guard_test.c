@@ -23,6 +23,7 @@ static const char *const names[CALLS] = {
 static const char tree_e[] = "<lift rope=\"2\"><speed>6</speed><ramp/></lift>";
 
 #define GRANTED(value) ((noodlefen_answer)(value) << 16)
+#define WAITS(set) ((noodlefen_answer)(set) << 16 | NOODLEFEN_WAITS)
 #define REFUSED(cause) ((noodlefen_answer)(cause) << 8 | NOODLEFEN_REFUSED)
 static const noodlefen_answer too_short = REFUSED(13);
 
@@ -166,7 +167,7 @@ static void test_short_buffers(enum call_name what, int at_end)
 
 static void test_short_states(enum call_name what, int at_end)
 {
-    static const size_t lengths[] = {0, 1, 7, 8, 9, 10, 11, 12, 15, 16, 17, 24, 4096, 8208, 8278, 79888, 79890,
+    static const size_t lengths[] = {0, 1, 7, 8, 9, 10, 11, 12, 15, 16, 17, 24, 4096, 8208, 8278, 79888, 79890, 112656, 112658,
                                      NOODLEFEN_STATE_BYTES - 2, NOODLEFEN_STATE_BYTES - 1};
     for (size_t i = 0; i < sizeof lengths / sizeof *lengths; i++) {
         struct slice slices[SLICES];
@@ -206,6 +207,21 @@ static void test_nulls(enum call_name what)
             test_null(what, set, lengths[i]);
 }
 
+/* A step that waits writes to no buffer, and one that is refused for 17 writes nothing at all. */
+static void test_ring(int at_end)
+{
+    struct slice slices[SLICES];
+    prepare(CALL_read, slices, at_end);
+    const struct slice state = slices[STATE_SLICE], out = slices[FIRST];
+    noodlefen_begin(state.bytes, state.length, 2);
+    noodlefen_update(state.bytes, state.length, 1, 5, (const uint8_t *)"7", 1);
+    noodlefen_update(state.bytes, state.length, 2, 3, (const uint8_t *)"3", 1);
+    set_access(fences[FIRST].bytes, fences[FIRST].size, READ_ONLY);
+    check(noodlefen_read(state.bytes, state.length, 1, 3, out.bytes, out.length) == WAITS(2), CALL_read, "a wait");
+    set_all(READ_ONLY);
+    check(noodlefen_read(state.bytes, state.length, 2, 5, out.bytes, out.length) == REFUSED(17), CALL_read, "a ring");
+}
+
 /* The helpers that look into bytes: up to the last one and no further. */
 static void test_helpers(void)
 {
@@ -236,6 +252,8 @@ int main(void)
         if (has_buffer((enum call_name)what, 0))
             test_nulls((enum call_name)what);
     }
+    test_ring(0);
+    test_ring(1);
     test_helpers();
     printf("%lu passed, %lu failed\n", passed, failed);
     return failed != 0;

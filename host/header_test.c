@@ -24,7 +24,7 @@ extern "C" {
 }
 #endif
 
-#if NOODLEFEN_VERSION != 1000 * NOODLEFEN_VERSION_MAJOR + NOODLEFEN_VERSION_MINOR || NOODLEFEN_VERSION < 2002
+#if NOODLEFEN_VERSION != 1000 * NOODLEFEN_VERSION_MAJOR + NOODLEFEN_VERSION_MINOR || NOODLEFEN_VERSION < 3000
 #error "the version"
 #endif
 
@@ -83,11 +83,14 @@ static void test_blocked_by(void)
 static void test_cause_texts(void)
 {
     const char *unknown = noodlefen_cause_text(16);
-    for (unsigned cause = 0; cause <= 15; cause++) {
+    for (unsigned cause = 0; cause <= NOODLEFEN_DEADLOCK; cause++) {
+        if (cause == 16) /* no call gives it */
+            continue;
         CHECK(strlen(noodlefen_cause_text(cause)) > 0 && strcmp(noodlefen_cause_text(cause), unknown) != 0);
         for (unsigned other = 0; other < cause; other++)
             CHECK(strcmp(noodlefen_cause_text(cause), noodlefen_cause_text(other)) != 0);
     }
+    CHECK(NOODLEFEN_DEADLOCK == 17 && strcmp(noodlefen_cause_text(18), unknown) == 0);
     CHECK(strcmp(noodlefen_cause_text(255), unknown) == 0 && strcmp(noodlefen_cause_text(0xFFFFFFFFu), unknown) == 0);
 }
 
@@ -140,8 +143,40 @@ static void test_calls(void)
     CHECK(noodlefen_list_number(numbers, 0) == fresh);
     CHECK(noodlefen_granted(noodlefen_delete(state, sizeof state, 1, text)));
     CHECK(noodlefen_granted(noodlefen_commit(state, sizeof state, 1)));
-    state[strlen(NOODLEFEN_FORMAT) - 1]++;
-    CHECK(noodlefen_begin(state, sizeof state, 1) == refused(NOODLEFEN_TOO_SHORT, 0));
+}
+
+/* As a panel tells a wait from a ring: both have read, and want to update. */
+static void test_ring(void)
+{
+    static const char xml[] = "<speed>6</speed>";
+    uint8_t content[NOODLEFEN_CONTENT_BYTES];
+    noodlefen_node text = 2;
+    CHECK(noodlefen_granted(noodlefen_start(state, sizeof state)));
+    CHECK(noodlefen_granted(noodlefen_load(state, sizeof state, (const uint8_t *)xml, strlen(xml))));
+    for (uint32_t t = 1; t <= 2; t++) {
+        CHECK(noodlefen_granted(noodlefen_begin(state, sizeof state, t)));
+        CHECK(noodlefen_granted(noodlefen_read(state, sizeof state, t, text, content, sizeof content)));
+    }
+    noodlefen_answer first = noodlefen_update(state, sizeof state, 1, text, (const uint8_t *)"7", 1);
+    noodlefen_answer second = noodlefen_update(state, sizeof state, 2, text, (const uint8_t *)"8", 1);
+    CHECK(noodlefen_waits(first) && noodlefen_blocked_by(first, 2) && noodlefen_cause(first) == NOODLEFEN_NO_CAUSE);
+    CHECK(noodlefen_refused(second) && noodlefen_cause(second) == NOODLEFEN_DEADLOCK && noodlefen_value(second) == 0);
+    CHECK(!noodlefen_waits(second) && !noodlefen_blocked_by(second, 1));
+    CHECK(noodlefen_granted(noodlefen_abort(state, sizeof state, 2)));
+    CHECK(noodlefen_granted(noodlefen_update(state, sizeof state, 1, text, (const uint8_t *)"7", 1)));
+}
+
+/* A state of an older form, which was shorter, or of one to come is refused. */
+static void test_format(void)
+{
+    size_t last = strlen(NOODLEFEN_FORMAT) - 1;
+    CHECK(strcmp(NOODLEFEN_FORMAT, "NFSTATE3") == 0);
+    CHECK(noodlefen_granted(noodlefen_start(state, sizeof state)));
+    CHECK(noodlefen_begin(state, 112656, 1) == refused(NOODLEFEN_TOO_SHORT, 0));
+    for (uint8_t digit = '1'; digit <= '4'; digit++) {
+        state[last] = digit;
+        CHECK(noodlefen_begin(state, sizeof state, 1) == (digit == '3' ? granted(0) : refused(NOODLEFEN_TOO_SHORT, 0)));
+    }
 }
 
 int main(void)
@@ -152,6 +187,8 @@ int main(void)
     test_cause_texts();
     test_positions();
     test_calls();
+    test_ring();
+    test_format();
     printf("%lu passed, %lu failed\n", passed, failed);
     return failed != 0;
 }

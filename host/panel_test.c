@@ -1,8 +1,9 @@
 /*
  * panel_test.c: calls the panel library as a panel does, and some ways that no panel should.
  *
- * Every lent buffer has guard bytes on both sides. After each call: guards and input unchanged; if it was not granted, state and
- * buffers unchanged; if it was, the bytes behind the answer unchanged. Last line 'N passed, 0 failed'.
+ * Every lent buffer has guard bytes on both sides. After each call: guards and input unchanged; if it was granted, the bytes behind the
+ * answer unchanged; if not, the buffers unchanged, and the state too, but for the two bytes of its transaction's set if it waits. Last line
+ * 'N passed, 0 failed'.
  */
 #include <stdio.h>
 #include <stdlib.h>
@@ -22,6 +23,8 @@ struct call {
 };
 
 enum { GUARD = 64 };
+enum { SETS = 112656, SET_BYTES = 2 }; /* where the remembered sets are in the state, by transaction; docs/STATE.md */
+enum { MOST_CAUSE = 17, NO_CALL_GIVES = 16 };
 
 /* Lent bytes with guards, and what they were before the call. */
 struct lent {
@@ -31,7 +34,7 @@ struct lent {
 };
 
 static unsigned long passed, failed;
-static unsigned long causes_seen[16], granted_seen, waits_seen;
+static unsigned long causes_seen[256], granted_seen, waits_seen;
 
 static uint64_t random_state = 1;
 
@@ -70,12 +73,34 @@ static struct lent lend(size_t length, size_t shift, const void *content)
     return lent;
 }
 
+/* Whether all bytes but these are as they were. */
+static int kept_but_part(const struct lent *lent, size_t offset, size_t length)
+{
+    size_t from = (size_t)(lent->bytes - lent->memory) + offset, to = from + length;
+    return offset + length <= lent->length && memcmp(lent->memory, lent->before, from) == 0
+        && memcmp(lent->memory + to, lent->before + to, lent->all - to) == 0;
+}
+
 /* Whether all bytes but those from the first to the answer's end are as they were. */
 static int kept_but(const struct lent *lent, size_t answered)
 {
-    size_t from = (size_t)(lent->bytes - lent->memory), to = from + answered;
-    return answered <= lent->length && memcmp(lent->memory, lent->before, from) == 0
-        && memcmp(lent->memory + to, lent->before + to, lent->all - to) == 0;
+    return kept_but_part(lent, 0, answered);
+}
+
+/* The set that is remembered of t. */
+static unsigned set_of(const struct lent *s, uint32_t t)
+{
+    const uint8_t *set = s->bytes + SETS + SET_BYTES * (t - 1);
+    return set[0] | (unsigned)set[1] << 8;
+}
+
+/* A granted call may change the state, but for write; one that waits, the set of its transaction, which it answers. */
+static int state_kept(const struct lent *s, const struct call *c, noodlefen_answer answer)
+{
+    if (!noodlefen_waits(answer))
+        return kept_but(s, noodlefen_granted(answer) && c->what != WRITE ? s->length : 0);
+    return c->t >= 1 && c->t <= NOODLEFEN_TRANSACTIONS && set_of(s, c->t) == noodlefen_value(answer)
+        && kept_but_part(s, SETS + SET_BYTES * (c->t - 1), SET_BYTES);
 }
 
 static void give_back(struct lent *lent)
@@ -133,9 +158,10 @@ static noodlefen_answer make(struct lent *state, const struct call *c, int line,
     memcpy(state->before, state->memory, state->all);
     noodlefen_answer answer = call_library(c, state, &a, &b, &out, &cells);
     int known = noodlefen_granted(answer) || (noodlefen_waits(answer) && noodlefen_cause(answer) == 0)
-        || (noodlefen_refused(answer) && noodlefen_cause(answer) >= 1 && noodlefen_cause(answer) <= 15);
+        || (noodlefen_refused(answer) && noodlefen_cause(answer) >= 1 && noodlefen_cause(answer) <= MOST_CAUSE
+            && noodlefen_cause(answer) != NO_CALL_GIVES);
     check(known, "an answer that no call gives", line);
-    check(kept_but(state, noodlefen_granted(answer) && c->what != WRITE ? state->length : 0), "state bytes or their guards", line);
+    check(state_kept(state, c, answer), "state bytes or their guards", line);
     check(kept_but(&a, 0) && kept_but(&b, 0), "input bytes", line);
     check(kept_but(&out, answered_bytes(c, answer)), "bytes around the answer", line);
     check(kept_but(&cells, answered_cells(c, answer)), "bytes around the cells", line);
@@ -145,7 +171,7 @@ static noodlefen_answer make(struct lent *state, const struct call *c, int line,
     }
     granted_seen += noodlefen_granted(answer) ? 1 : 0;
     waits_seen += noodlefen_waits(answer) ? 1 : 0;
-    causes_seen[noodlefen_cause(answer) & 15]++;
+    causes_seen[noodlefen_cause(answer)]++;
     give_back(&a);
     give_back(&b);
     give_back(&out);
@@ -227,6 +253,51 @@ static void test_steps(void)
     noodlefen_answer answer = make(&state, &(struct call){.what = WRITE, .room = 65536}, __LINE__, text);
     check(answer == granted(77) && strcmp(text, "<?xml version=\"1.0\" encoding=\"UTF-8\"?>\n"
           "<lift><pace>7</pace><ramp/><x/></lift>") == 0, "the written settings", __LINE__);
+}
+
+#define EXPECT_SETS(first, second, third) \
+    check(set_of(&state, 1) == (first) && set_of(&state, 2) == (second) && set_of(&state, 3) == (third), "the remembered sets", __LINE__)
+
+/* Waits are remembered and rings refused, where t1 has changed 5, t2 3 and t3 6. */
+static void test_rings(void)
+{
+    begin_with(tree_e);
+    EXPECT(granted(0), .what = BEGIN, .t = 3);
+    EXPECT(granted(0), .what = U, .t = 1, .n = 5, .a = "7");
+    EXPECT(granted(0), .what = U, .t = 2, .n = 3, .a = "3");
+    EXPECT(granted(0), .what = U, .t = 3, .n = 6, .a = "x");
+    EXPECT_SETS(0, 0, 0);
+    EXPECT(waits(2), .what = R, .t = 1, .n = 3, .room = 32);
+    EXPECT_SETS(2, 0, 0);
+    EXPECT(refused(17, 0), .what = R, .t = 2, .n = 5, .room = 32);
+    EXPECT(refused(17, 0), .what = RR, .t = 2, .n = 4, .room = 0, .cells_room = 0);
+    EXPECT(refused(17, 0), .what = UU, .t = 2, .n = 1, .a = "a", .b = "b");
+    EXPECT(refused(17, 0), .what = D, .t = 2, .n = 1);
+    EXPECT_SETS(2, 0, 0);
+    EXPECT(waits(4), .what = U, .t = 1, .n = 6, .a = "y");
+    EXPECT_SETS(4, 0, 0);
+    EXPECT(waits(1), .what = R, .t = 2, .n = 5, .room = 32);
+    EXPECT(refused(17, 0), .what = R, .t = 3, .n = 3, .room = 32);
+    EXPECT(refused(7, 0), .what = T, .t = 1, .n = 99);
+    EXPECT_SETS(4, 1, 0);
+    EXPECT(granted(1ull << 32), .what = T, .t = 1, .n = 0);
+    EXPECT_SETS(0, 1, 0);
+    EXPECT(waits(2), .what = R, .t = 3, .n = 3, .room = 32);
+    EXPECT(refused(17, 0), .what = U, .t = 1, .n = 6, .a = "y");
+    EXPECT_SETS(0, 1, 2);
+    EXPECT(granted(0), .what = COMMIT, .t = 1);
+    EXPECT_SETS(0, 0, 2);
+    EXPECT(granted(0), .what = BEGIN, .t = 1);
+    EXPECT(waits(2), .what = D, .t = 1, .n = 2);
+    EXPECT_SETS(2, 0, 2);
+    EXPECT(granted(0), .what = ABORT, .t = 2);
+    EXPECT_SETS(0, 0, 0);
+    EXPECT(granted(0), .what = D, .t = 1, .n = 2);
+    EXPECT(waits(1), .what = R, .t = 3, .n = 3, .room = 32);
+    EXPECT(refused(15, 0), .what = LOAD, .a = tree_e);
+    EXPECT_SETS(0, 0, 1);
+    EXPECT(granted(0), .what = START);
+    EXPECT_SETS(0, 0, 0);
 }
 
 /* Numbers past 65,535, in the arguments, in answers and in lists. */
@@ -335,7 +406,7 @@ static struct call plain_call(enum name what)
 static void test_short_states(void)
 {
     static const size_t lengths[] = {0, 1, 2, 3, 7, 8, 9, 15, 16, 17, 63, 255, 1000, 4096, 65535, 65536, NOODLEFEN_STATE_BYTES / 2,
-                                     NOODLEFEN_STATE_BYTES - 16, NOODLEFEN_STATE_BYTES - 2, NOODLEFEN_STATE_BYTES - 1};
+                                     SETS, NOODLEFEN_STATE_BYTES - 16, NOODLEFEN_STATE_BYTES - 2, NOODLEFEN_STATE_BYTES - 1};
     begin_with(tree_e);
     for (size_t i = 0; i < sizeof lengths / sizeof lengths[0]; i++)
         for (int what = 0; what < NAMES; what++) {
@@ -365,6 +436,50 @@ static void test_repeated_numbers(void)
     }
 }
 
+static void put_set(uint32_t t, unsigned set)
+{
+    state.bytes[SETS + SET_BYTES * (t - 1)] = (uint8_t)(set & 0xFF);
+    state.bytes[SETS + SET_BYTES * (t - 1) + 1] = (uint8_t)(set >> 8);
+}
+
+/* The form asks that only open transactions have a set, and only open ones are in it. */
+static void test_sets_of_form(void)
+{
+    static const noodlefen_answer well = NOODLEFEN_GRANTED | (noodlefen_answer)84 << 16;
+    begin_with(tree_e);
+    for (uint32_t t = 1; t <= NOODLEFEN_TRANSACTIONS; t++)
+        for (uint32_t u = 1; u <= NOODLEFEN_TRANSACTIONS; u++) {
+            int fits = t <= 2 && u <= 2; /* those that are open */
+            struct call c = plain_call(fits ? WRITE : (enum name)(LOAD + (t + u) % (NAMES - LOAD)));
+            c.room = 65536;
+            put_set(t, 1u << (u - 1));
+            check(make(&state, &c, __LINE__, NULL) == (fits ? well : refused(13, 0)), "the form of a set", __LINE__);
+            put_set(t, t <= 2 ? 3u | 1u << (u - 1) : 0);
+            EXPECT(fits || t > 2 ? well : refused(13, 0), .what = WRITE, .room = 65536);
+            put_set(t, 0);
+        }
+}
+
+/* Sets that no call leaves and the form does not look for: rings without the caller, and a transaction in its own set. */
+static void test_rings_in_bytes(void)
+{
+    begin_with(tree_e);
+    EXPECT(granted(0), .what = BEGIN, .t = 3);
+    EXPECT(granted(0), .what = U, .t = 1, .n = 5, .a = "7");
+    EXPECT(granted(0), .what = U, .t = 3, .n = 6, .a = "x");
+    put_set(1, 2);
+    put_set(2, 1);
+    EXPECT(waits(1), .what = R, .t = 3, .n = 5, .room = 32);
+    EXPECT(refused(17, 0), .what = R, .t = 2, .n = 6, .room = 32);
+    EXPECT(refused(17, 0), .what = R, .t = 2, .n = 5, .room = 32);
+    EXPECT_SETS(2, 1, 1);
+    for (uint32_t t = 1; t <= 3; t++)
+        put_set(t, 1u << (t - 1));
+    EXPECT(waits(1), .what = R, .t = 2, .n = 5, .room = 32);
+    EXPECT(waits(4), .what = R, .t = 1, .n = 6, .room = 32);
+    EXPECT_SETS(4, 1, 4);
+}
+
 /* States that no call left: each call answers 13 or goes on, and keeps to the lent bytes. */
 static void test_damaged_states(void)
 {
@@ -384,7 +499,7 @@ static void test_damaged_states(void)
             } else {
                 for (unsigned i = 0, flips = 1 + below(3); i < flips; i++) {
                     unsigned within[] = {32, 512, 16384, NOODLEFEN_STATE_BYTES};
-                    unsigned place = below(within[below(4)]);
+                    unsigned place = below(5) == 0 ? SETS + below(NOODLEFEN_STATE_BYTES - SETS) : below(within[below(4)]);
                     damaged.bytes[place] = (uint8_t)(below(2) ? below(256) : damaged.bytes[place] ^ 1u << below(8));
                 }
             }
@@ -406,6 +521,7 @@ static void test_all(size_t length, size_t shift)
     state = lend(length, shift, NULL);
     test_transactions();
     test_steps();
+    test_rings();
     test_numbers();
     test_documents();
     test_random_calls();
@@ -420,11 +536,13 @@ int main(void)
     state = lend(NOODLEFEN_STATE_BYTES, 3, NULL);
     test_short_states();
     test_repeated_numbers();
+    test_sets_of_form();
+    test_rings_in_bytes();
     test_damaged_states();
     give_back(&state);
     check(granted_seen > 0 && waits_seen > 0, "granted or waiting calls are missing", __LINE__);
-    for (int cause = 1; cause <= 15; cause++)
-        check(causes_seen[cause] > 0, "a cause was never given", __LINE__);
+    for (int cause = 1; cause <= MOST_CAUSE; cause++)
+        check(causes_seen[cause] > 0 || cause == NO_CALL_GIVES, "a cause was never given", __LINE__);
     printf("%lu passed, %lu failed\n", passed, failed);
     return failed != 0;
 }

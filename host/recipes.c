@@ -347,34 +347,75 @@ static void predict(void)
     print_answer("test tried on a copy", noodlefen_test(copy, sizeof copy, 2, 2));
 }
 
-/* --- Whether t waits, over others, for itself: waits_for[u] is the set of u's last call if that waits, otherwise 0. */
-static int in_ring(const uint64_t waits_for[NOODLEFEN_TRANSACTIONS + 1], uint32_t t)
+/* --- Whom an update that was refused for cause 17 would wait for, as a set, found on a copy: T on the document is always granted, and with
+ * it each other transaction waits for nobody there, so that there is no ring. */
+static uint64_t would_wait_for(uint32_t t, noodlefen_node n, const char *text)
 {
-    uint64_t reached = waits_for[t];
-    for (int round = 0; round < NOODLEFEN_TRANSACTIONS; round++)
-        for (uint32_t u = 1; u <= NOODLEFEN_TRANSACTIONS; u++)
-            if (reached >> (u - 1) & 1)
-                reached |= waits_for[u];
-    return (int)(reached >> (t - 1) & 1);
+    memcpy(copy, state, sizeof copy);
+    for (uint32_t other = 1; other <= NOODLEFEN_TRANSACTIONS; other++)
+        if (other != t)
+            noodlefen_test(copy, sizeof copy, other, 0); /* refused for cause 3 where it is not open */
+    noodlefen_answer answer = update(copy, t, n, text);
+    return noodlefen_waits(answer) ? noodlefen_value(answer) : 0;
 }
 
-/* Two engineers read a value, then change it: each waits for the other's lock of reading. */
-static void ring(void)
+static void print_set(const char *what, uint64_t set)
 {
-    uint64_t waits_for[NOODLEFEN_TRANSACTIONS + 1] = {0};
+    printf("  %s", what);
+    for (uint32_t t = 1; t <= NOODLEFEN_TRANSACTIONS; t++)
+        if (set >> (t - 1) & 1)
+            printf(" transaction %u", (unsigned)t);
+    printf("\n");
+}
+
+/* --- Gives way to the others of a ring: t ends, and what it has done is kept or taken back; then it begins anew, without locks. */
+static void give_way(uint32_t t, int keep)
+{
+    must(keep ? noodlefen_commit(state, sizeof state, t) : noodlefen_abort(state, sizeof state, t));
+    must(noodlefen_begin(state, sizeof state, t));
+}
+
+/* Two engineers read a value, then change it: each would wait for the other's lock of reading. The second has changed something else
+ * before, which it keeps or takes back. */
+static void ring(int keep)
+{
     uint8_t content[NOODLEFEN_CONTENT_BYTES];
-    printf("read, then update, by two engineers\n");
-    begin_with("<a>6</a>");
-    must(noodlefen_read(state, sizeof state, 1, 2, content, sizeof content));
-    must(noodlefen_read(state, sizeof state, 2, 2, content, sizeof content));
-    for (uint32_t t = 1; t <= 2; t++) {
-        noodlefen_answer answer = update(state, t, 2, "7");
-        waits_for[t] = noodlefen_waits(answer) ? noodlefen_value(answer) : 0;
-        print_answer(t == 1 ? "update by the first" : "update by the second", answer);
-        printf("  a ring: %s\n", in_ring(waits_for, t) ? "yes, the second aborts" : "no");
-    }
-    must(noodlefen_abort(state, sizeof state, 2));
-    print_answer("update by the first", update(state, 1, 2, "7"));
+    printf("read, then update, by two engineers: the second %s\n", keep ? "commits what it has done" : "aborts");
+    begin_with("<a><b>6</b><c>on</c></a>");
+    must(update(state, 2, 5, "off"));
+    must(noodlefen_read(state, sizeof state, 1, 3, content, sizeof content));
+    must(noodlefen_read(state, sizeof state, 2, 3, content, sizeof content));
+    print_answer("update by the first", update(state, 1, 3, "7"));
+    print_answer("update by the second", update(state, 2, 3, "8"));
+    print_answer("the same once more", update(state, 2, 3, "8"));
+    print_set("it would wait for", would_wait_for(2, 3, "8"));
+    give_way(2, keep);
+    print_answer("update by the first", update(state, 1, 3, "7"));
+    print_answer("update by the second, begun anew", update(state, 2, 3, "8"));
+    must(noodlefen_commit(state, sizeof state, 1));
+    print_answer("once the first has committed", update(state, 2, 3, "8"));
+    must(noodlefen_commit(state, sizeof state, 2));
+    print_settings(state);
+}
+
+/* --- Gives up a step that waits and keeps the transaction open: with T on the document, which is always granted and which nobody ever
+ * waits for, t waits no more. Without it t is remembered to wait, also if it never asks again. */
+static void stop_waiting(uint32_t t)
+{
+    must(noodlefen_test(state, sizeof state, t, 0));
+}
+
+/* The first engineer waits for the second, then changes its mind and goes on thinking. */
+static void given_up(void)
+{
+    printf("a wait given up\n");
+    begin_with("<a><b>6</b><c>on</c></a>");
+    must(update(state, 1, 3, "7"));
+    must(update(state, 2, 5, "off"));
+    print_answer("update by the first", update(state, 1, 5, "dim"));
+    print_answer("update by the second", update(state, 2, 3, "8"));
+    stop_waiting(1);
+    print_answer("the first has given up, update by the second", update(state, 2, 3, "8"));
 }
 
 /* --- Adds 1 to a number, in one hold of the mutex: what the transaction would read, from a copy, so that no lock of reading stands in
@@ -414,7 +455,9 @@ int main(void)
     who_first();
     read_copy();
     predict();
-    ring();
+    ring(0);
+    ring(1);
+    given_up();
     no_ring();
     return 0;
 }

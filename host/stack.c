@@ -54,6 +54,25 @@ static void *rename_tree(void *unused)
     return unused;
 }
 
+/* Of sixteen transactions each has updated the element 100 + t and asks for that of the next, the last for that of the first. */
+static noodlefen_answer ask(uint32_t t)
+{
+    return noodlefen_update(state, sizeof state, t, 101 + t % NOODLEFEN_TRANSACTIONS, bytes("pace"), 4);
+}
+
+static void *wait_last(void *unused) { answer = ask(15); return unused; }
+static void *close_ring(void *unused) { answer = ask(16); return unused; }
+
+static void make_chain(void)
+{
+    for (uint32_t t = 1; t <= NOODLEFEN_TRANSACTIONS; t++) {
+        noodlefen_begin(state, sizeof state, t);
+        noodlefen_update(state, sizeof state, t, 100 + t, bytes("speed"), 5);
+    }
+    for (uint32_t t = 1; t < 15; t++)
+        ask(t);
+}
+
 static size_t depth_of(void *(*call)(void *))
 {
     uint8_t *stack;
@@ -87,6 +106,17 @@ static void make_deepest(void)
     }
 }
 
+static size_t thread, most;
+
+static void measure(const char *name, void *(*call)(void *))
+{
+    size_t depth = depth_of(call);
+    depth = depth > thread ? depth - thread : 0;
+    most = depth > most ? depth : most;
+    printf("%-12s %-8s %6lu bytes\n", name, noodlefen_granted(answer) ? "granted" : noodlefen_waits(answer) ? "waits" : "refused",
+           (unsigned long)depth);
+}
+
 int main(void)
 {
     static const struct {
@@ -98,14 +128,13 @@ int main(void)
         {"abort", abort_it}, {"begin", begin}, {"delete", delete}, {"commit", commit}, {"begin", begin}, {"insert", insert},
         {"commit", commit},
     };
-    size_t thread = depth_of(nothing), most = 0;
+    thread = depth_of(nothing);
     make_deepest();
-    for (size_t i = 0; i < sizeof calls / sizeof *calls; i++) {
-        size_t depth = depth_of(calls[i].call);
-        depth = depth > thread ? depth - thread : 0;
-        most = depth > most ? depth : most;
-        printf("%-12s %-8s %6lu bytes\n", calls[i].name, noodlefen_granted(answer) ? "granted" : "not", (unsigned long)depth);
-    }
+    for (size_t i = 0; i < sizeof calls / sizeof *calls; i++)
+        measure(calls[i].name, calls[i].call);
+    make_chain();
+    measure("update", wait_last);
+    measure("update", close_ring);
     printf("at most %lu bytes\n", (unsigned long)most);
     return 0;
 }

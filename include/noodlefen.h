@@ -7,9 +7,14 @@
  * Slices of one call (state, input, output) must not overlap. A length of 0 wants a pointer that is not
  * NULL; the functions ending in _nullable also take NULL, which means length 0 whatever length is said.
  *
- * A call is granted, waits or is refused. Unless it is granted, nothing that was lent has changed. Bytes
- * of a lent buffer behind the answer keep their values. State bytes that are too short, or not of the form
- * (except at start), refuse any call with cause 13 before all else.
+ * A call is granted, waits or is refused. A refused call has changed nothing that was lent; one that waits has
+ * changed only what the state remembers of it (below). Bytes of a lent buffer behind the answer keep their values.
+ * State bytes that are too short, or not of the form (except at start), refuse any call with cause 13 before all else.
+ *
+ * Whom a transaction waits for is remembered in the state: the set that its last waiting step answered, until its
+ * next step that is granted or waits, or its end; a transaction that ends is struck from the sets of all others. A
+ * step whose wait would close a ring of transactions, each waiting for the next, is refused for 17 instead, so
+ * while any transaction is open, at least one of them waits for nobody in these sets.
  */
 #ifndef NOODLEFEN_H
 #define NOODLEFEN_H
@@ -24,17 +29,17 @@ extern "C" {
 /* The version of this interface. MAJOR grows when a program that was right has to be changed or compiled again, MINOR when calls
  * or causes are added, or when a file is read or written otherwise. NOODLEFEN_VERSION is a number that #if can compare: 1000 for
  * each MAJOR. */
-#define NOODLEFEN_VERSION_MAJOR 2
-#define NOODLEFEN_VERSION_MINOR 2
+#define NOODLEFEN_VERSION_MAJOR 3
+#define NOODLEFEN_VERSION_MINOR 0
 #define NOODLEFEN_VERSION (1000 * NOODLEFEN_VERSION_MAJOR + NOODLEFEN_VERSION_MINOR)
 
 /* The format mark: the first bytes of every started state. It changes whenever the form of the state bytes does, and a state with
  * another mark is refused for 13 by every call but start. To change the library, write the settings out with the old one and load
  * them with the new one; do not hand over state bytes. */
-#define NOODLEFEN_FORMAT "NFSTATE2"
+#define NOODLEFEN_FORMAT "NFSTATE3"
 
 /* The state's exact need in bytes; 1,048,576 are never too short. */
-#define NOODLEFEN_STATE_BYTES 112656
+#define NOODLEFEN_STATE_BYTES 112688
 
 /* A node number, 0 to 4,294,967,295. In a lent list of numbers it takes as many bytes as this type, four. Keep numbers in variables of
  * this type: C cuts a wider number without a word when it is handed over, and an int has no room for the upper half of them. */
@@ -79,7 +84,8 @@ enum noodlefen_causes {
     NOODLEFEN_FULL = 12,              /* insert: 1,024 nodes held */
     NOODLEFEN_TOO_SHORT = 13,         /* lent buffer too short for the answer, or state bytes too short or not of the form */
     NOODLEFEN_NOT_EXPRESSIBLE = 14,   /* write: not expressible */
-    NOODLEFEN_TRANSACTION_OPEN = 15   /* load while a transaction is open */
+    NOODLEFEN_TRANSACTION_OPEN = 15,  /* load while a transaction is open */
+    NOODLEFEN_DEADLOCK = 17           /* a step that would wait in a ring of transactions, each waiting for the next */
 };
 
 /* What a call answers: outcome (bits 0 to 7), cause (8 to 15) and value (16 to 63). Use the functions below. */
@@ -88,8 +94,8 @@ typedef uint64_t noodlefen_answer;
 /* Whether the call was granted. */
 static inline int noodlefen_granted(noodlefen_answer answer) { return (answer & 0xFF) == NOODLEFEN_GRANTED; }
 
-/* Whether the call waits: nothing has changed, and it may be made again later. noodlefen_value is the set of transactions
- * that it waits for, bit t-1 for transaction t. */
+/* Whether the call waits: nothing has changed but that its transaction is remembered as waiting, and it may be made again later.
+ * noodlefen_value is the set of transactions that it waits for, bit t-1 for transaction t. */
 static inline int noodlefen_waits(noodlefen_answer answer) { return (answer & 0xFF) == NOODLEFEN_WAITS; }
 
 /* Whether the call was refused, for the cause noodlefen_cause. */
@@ -118,6 +124,7 @@ static inline const char *noodlefen_cause_text(unsigned cause)
     case NOODLEFEN_TOO_SHORT: return "a lent buffer is too short, or the state is too short, damaged or never started";
     case NOODLEFEN_NOT_EXPRESSIBLE: return "the settings cannot be written as XML";
     case NOODLEFEN_TRANSACTION_OPEN: return "a transaction is open";
+    case NOODLEFEN_DEADLOCK: return "transactions would wait for each other in a ring";
     default: return "unknown cause";
     }
 }
@@ -171,7 +178,8 @@ static inline noodlefen_position noodlefen_position_of(const uint8_t *xml, size_
     return position;
 }
 
-/* Sets the state to the beginning: the document node 0 alone, nothing open. Ends all open transactions without committing them.
+/* Sets the state to the beginning: the document node 0 alone, nothing open, nobody waiting. Ends all open transactions without
+ * committing them.
  * Refused only if the state is too short (13). */
 noodlefen_answer noodlefen_start(uint8_t *state, size_t state_len);
 
@@ -197,45 +205,50 @@ noodlefen_answer noodlefen_commit(uint8_t *state, size_t state_len, uint32_t t);
  * Refused for 1 or 3. */
 noodlefen_answer noodlefen_abort(uint8_t *state, size_t state_len, uint32_t t);
 
+/* The nine steps. Each may wait, or be refused for 17 in the place of a wait. Then nothing has changed and t is still open, with all its
+ * locks; the same call gives 17 again until another transaction of the ring ends, is granted a step, or waits for others. So do not
+ * simply repeat it: abort t, or commit what it has done, so that the others can go on, and begin anew. */
+
 /* Step T: the kind of node n and its parent's number (0 for the document): noodlefen_kind and noodlefen_number.
- * Refused for 1, 3 or 7; may wait. */
+ * Refused for 1, 3, 7 or 17; may wait. */
 noodlefen_answer noodlefen_test(uint8_t *state, size_t state_len, uint32_t t, noodlefen_node n);
 
 /* Step C: number and kind of the k-th child of n, counted from 1; kind 0 if there is none.
- * Refused for 1, 3 or 7; may wait. */
+ * Refused for 1, 3, 7 or 17; may wait. */
 noodlefen_answer noodlefen_child(uint8_t *state, size_t state_len, uint32_t t, noodlefen_node n, uint32_t k);
 
 /* Step R: writes the content of n to out; the value is its length, at most 32.
- * Refused for 1, 3, 7, 8 or 13; may wait. */
+ * Refused for 1, 3, 7, 8, 17 or 13; may wait. */
 noodlefen_answer noodlefen_read(uint8_t *state, size_t state_len, uint32_t t, noodlefen_node n, uint8_t *out, size_t out_len);
 
 /* Step U: gives n the content bytes: a name for an element or attribute, a text for a text. A name is a Name of XML 1.0, Fifth
  * Edition, without colons, a text has that edition's characters but 13, both in UTF-8 and 1 to 32 bytes long.
- * Refused for 1, 3, 7, 8 or 9; may wait. */
+ * Refused for 1, 3, 7, 8, 9 or 17; may wait. */
 noodlefen_answer noodlefen_update(uint8_t *state, size_t state_len, uint32_t t, noodlefen_node n,
                                   const uint8_t *bytes, size_t bytes_len);
 
 /* Step D: deletes n and all below it. Their numbers stay held until t ends.
- * Refused for 1, 3, 7 or 8; may wait. */
+ * Refused for 1, 3, 7, 8 or 17; may wait. */
 noodlefen_answer noodlefen_delete(uint8_t *state, size_t state_len, uint32_t t, noodlefen_node n);
 
 /* Step I: a new node numbered m of a kind 2 to 4, with the content bytes as for noodlefen_update, becomes the k-th child of n.
- * Refused for 1, 3, 7, 8, 9, 10, 11 or 12; may wait (after 10, before 11). */
+ * Refused for 1, 3, 7, 8, 9, 10, 17, 11 or 12; may wait (in the place of 17). */
 noodlefen_answer noodlefen_insert(uint8_t *state, size_t state_len, uint32_t t, noodlefen_node m, uint32_t kind,
                                   const uint8_t *bytes, size_t bytes_len, noodlefen_node n, uint32_t k);
 
 /* Step TT: writes the numbers of n and all below it in document order, low byte first; the value is their count.
- * Read them with noodlefen_list_number. Refused for 1, 3, 7 or 13; may wait. */
+ * Read them with noodlefen_list_number. Refused for 1, 3, 7, 17 or 13; may wait. */
 noodlefen_answer noodlefen_test_tree(uint8_t *state, size_t state_len, uint32_t t, noodlefen_node n,
                                      uint8_t *numbers, size_t numbers_len);
 
 /* Step RR: as noodlefen_test_tree, and a cell of 33 bytes for each node: length, content, zeros.
- * Read them with noodlefen_cell_length and noodlefen_cell_content. Refused for 1, 3, 7 or 13 (either buffer); may wait. */
+ * Read them with noodlefen_cell_length and noodlefen_cell_content. Refused for 1, 3, 7, 17 or 13 (either buffer);
+ * may wait. */
 noodlefen_answer noodlefen_read_tree(uint8_t *state, size_t state_len, uint32_t t, noodlefen_node n,
                                      uint8_t *numbers, size_t numbers_len, uint8_t *cells, size_t cells_len);
 
 /* Step UU: each element in the subtree of n (n too) that is named from is named to; the value is how many.
- * Refused for 1, 3, 7 or 9; may wait. */
+ * Refused for 1, 3, 7, 9 or 17; may wait. */
 noodlefen_answer noodlefen_rename_tree(uint8_t *state, size_t state_len, uint32_t t, noodlefen_node n,
                                        const uint8_t *from, size_t from_len, const uint8_t *to, size_t to_len);
 

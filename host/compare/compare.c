@@ -5,6 +5,7 @@
 #include <string.h>
 #include <time.h>
 
+#include "../reference/reference.h"
 #include "call.h"
 #include "generate.h"
 #include "reached.h"
@@ -72,6 +73,15 @@ static void report(const char *what, const struct call *call, noodlefen_answer o
     printf("\n");
 }
 
+/* Whether both remember the same waits. */
+static int same_sets(void)
+{
+    for (uint32_t t = 1; t <= NOODLEFEN_TRANSACTIONS; t++)
+        if (left.engine->remembered(left.e, t) != right.engine->remembered(right.e, t))
+            return 0;
+    return 1;
+}
+
 /* Makes the call on both sides; answers whether they agree. */
 static int agree(const struct call *call, noodlefen_answer *answer)
 {
@@ -86,6 +96,8 @@ static int agree(const struct call *call, noodlefen_answer *answer)
         wrong = "other bytes in a lent buffer";
     else if (!lent_kept(&left.lent, call, one) || !lent_kept(&right.lent, call, other))
         wrong = "bytes behind the answer changed";
+    else if (!same_sets())
+        wrong = "another set remembered";
     else if (left.engine->faults(left.e) != 0)
         wrong = "the first engine's own check";
     else if (right.engine->faults(right.e) != 0)
@@ -135,6 +147,7 @@ static void run(unsigned long calls, uint64_t seed)
         if (well) {
             generator_learn(&g, &call, answer);
             reached_count(&call, answer, &left.lent);
+            reached_rings(&call, answer, reference_ring(left.e));
             well = agree_on_documents(&g, i);
         }
         if (well)

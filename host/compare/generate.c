@@ -32,6 +32,7 @@ static void forget(struct generator *g)
 {
     g->open = 0;
     g->changing = 0;
+    contention_forget(&g->contention);
     g->known = 1;
     g->seen[0] = (struct seen){.number = 0, .kind = NOODLEFEN_DOCUMENT, .count = 1};
 }
@@ -91,7 +92,8 @@ static void begin_episode(struct generator *g)
     const noodlefen_node fresh[] = {g->range, 65536 - FRESH / 2, UINT32_MAX - FRESH + 1, (noodlefen_node)random_word(r)};
     g->fresh = fresh[below(r, 4)];
     g->only_xml = once_in(r, 8);
-    g->transactions = once_in(r, 8) ? 16 : 1 + below(r, 4);
+    g->contended = !g->only_xml && g->range < 100 && once_in(r, 2);
+    g->transactions = once_in(r, g->contended ? 3 : 8) ? 16 : (g->contended ? 2 : 1) + below(r, 4);
 }
 
 static uint32_t pick_transaction(struct generator *g, int open)
@@ -243,10 +245,30 @@ static void pick_same_renaming(struct generator *g, struct call *call)
     memcpy(call->a, on ? last->b : last->a, sizeof call->a);
 }
 
+static enum call_name pick_call(struct generator *g);
+
+/* A node that transactions contend for: mostly one that another one has locks on, with a step that waits for them, or one of those that
+ * are shared out among the transactions, so that each gets locks of its own. */
+static void pick_contended(struct generator *g, struct call *call)
+{
+    struct random *r = &g->random;
+    const struct call *held = once_in(r, 3) ? NULL : contention_granted(&g->contention, r, call->t, g->transactions);
+    unsigned own = 2 + call->t % g->transactions + g->transactions * below(r, 1 + g->known / g->transactions);
+    call->n = own < g->known ? g->seen[own].number : pick_number(g);
+    if (held != NULL) {
+        call->n = held->what == CALL_I ? held->m : held->n;
+        while (!contention_waits(held, call->what))
+            call->what = pick_call(g);
+    }
+}
+
 static void pick_arguments(struct generator *g, struct call *call)
 {
     struct random *r = &g->random;
-    call->n = pick_number(g);
+    if (g->contended && call->what >= CALL_T && !once_in(r, 8))
+        pick_contended(g, call);
+    else
+        call->n = pick_number(g);
     const struct seen n = known_of(g, call->n);
     call->k = once_in(r, 40) ? 0xFFFFFFFFu : once_in(r, 40) ? (uint32_t)random_word(r)
             : once_in(r, 3) ? below(r, 2u + n.count) : below(r, 5);
@@ -290,9 +312,13 @@ static void pick_arguments(struct generator *g, struct call *call)
 
 static enum call_name pick_call(struct generator *g)
 {
-    static const unsigned weights[CALLS] = {[CALL_START] = 2, [CALL_LOAD] = 20, [CALL_WRITE] = 40, [CALL_BEGIN] = 100,
+    static const unsigned mostly[CALLS] = {[CALL_START] = 2, [CALL_LOAD] = 20, [CALL_WRITE] = 40, [CALL_BEGIN] = 100,
         [CALL_COMMIT] = 45, [CALL_ABORT] = 30, [CALL_T] = 60, [CALL_C] = 70, [CALL_R] = 80, [CALL_U] = 90, [CALL_D] = 60,
         [CALL_I] = 170, [CALL_TT] = 60, [CALL_RR] = 60, [CALL_UU] = 60};
+    static const unsigned contended[CALLS] = {[CALL_START] = 3, [CALL_LOAD] = 3, [CALL_WRITE] = 10, [CALL_BEGIN] = 60,
+        [CALL_COMMIT] = 15, [CALL_ABORT] = 15, [CALL_T] = 80, [CALL_C] = 80, [CALL_R] = 100, [CALL_U] = 120, [CALL_D] = 60,
+        [CALL_I] = 120, [CALL_TT] = 50, [CALL_RR] = 40, [CALL_UU] = 40};
+    const unsigned *weights = g->contended ? contended : mostly;
     unsigned total = 0, at;
     for (int i = 0; i < CALLS; i++)
         total += weights[i];
@@ -305,6 +331,23 @@ static enum call_name pick_call(struct generator *g)
     return CALL_WRITE;
 }
 
+/* The next call of a ring that is being made; where nothing is open, one is begun. Its contents are names, which every node takes. */
+static int pick_of_ring(struct generator *g, struct call *call)
+{
+    struct random *r = &g->random;
+    unsigned most = g->known - 1 < NOODLEFEN_TRANSACTIONS ? g->known - 1 : NOODLEFEN_TRANSACTIONS, place;
+    if (!g->contended || once_in(r, 20))
+        return 0;
+    if (g->open == 0 && most >= 2 && once_in(r, 2))
+        contention_plan(&g->contention, r, 2 + below(r, most - 1));
+    if (!contention_next(&g->contention, r, call, &place))
+        return 0;
+    call->n = g->seen[1 + place].number;
+    call->room = NOODLEFEN_CONTENT_BYTES;
+    call->a_length = call->what == CALL_U ? random_name(r, call->a) : 0;
+    return 1;
+}
+
 void generate(struct generator *g, struct call *call)
 {
     memset(call, 0, sizeof *call);
@@ -315,6 +358,8 @@ void generate(struct generator *g, struct call *call)
     }
     g->calls_left--;
     g->calls_made++;
+    if (g->calls_made > 1 && pick_of_ring(g, call))
+        return;
     if ((g->calls_made == 1 && !once_in(&g->random, 8)) || (g->only_xml && !once_in(&g->random, 3)))
         call->what = CALL_LOAD;
     else if (g->only_xml)
@@ -328,6 +373,8 @@ void generate(struct generator *g, struct call *call)
     call->t = pick_transaction(g, call->what != CALL_BEGIN);
     if (call->what == CALL_LOAD)
         pick_load(g, call);
+    else if (g->contended && call->what >= CALL_T && contention_repeats(&g->contention, &g->random, call->t))
+        *call = g->contention.hindered[call->t];
     else
         pick_arguments(g, call);
 }
@@ -364,6 +411,7 @@ static void learn_insertion(struct generator *g, const struct call *call)
 void generator_learn(struct generator *g, const struct call *call, noodlefen_answer answer)
 {
     uint64_t value = noodlefen_value(answer);
+    contention_learn(&g->contention, &g->random, call, answer);
     if (noodlefen_cause(answer) == NOODLEFEN_NO_NODE && once_in(&g->random, 2))
         unlearn_number(g, call->n);
     if (!noodlefen_granted(answer))

@@ -3,6 +3,7 @@
 #define GENERATE_H
 
 #include "call.h"
+#include "contention.h"
 #include "random.h"
 
 enum { MOST_SEEN = 2048 };
@@ -13,6 +14,7 @@ struct generator {
     /* The episode: calls from a start on, with trees and transactions of one size. */
     unsigned calls_left, calls_made;
     int only_xml;              /* loads and writes only */
+    int contended;               /* many transactions at few nodes, which seldom end: they wait for each other */
     unsigned transactions;     /* those in use are 1 to this */
     unsigned range;            /* numbers that load gives are mostly below this */
     noodlefen_node fresh;      /* fresh numbers are mostly from this on */
@@ -29,6 +31,7 @@ struct generator {
         uint16_t count;        /* nodes in the subtree when last seen */
     } seen[MOST_SEEN];
     noodlefen_node asked;      /* the node of the last step */
+    struct contention contention;
     struct call renaming;      /* the last UU */
     size_t written;            /* bytes of the document when last written */
     uint8_t *xml;

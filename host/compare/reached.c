@@ -4,7 +4,9 @@
 
 #include "place.h"
 
-enum { OUTCOMES = 17, DECLARATION = 39 }; /* granted, waits, causes 1 to 15; bytes of what write puts before the root */
+enum { MOST_CAUSE = 17, OUTCOMES = 2 + MOST_CAUSE }; /* granted, waits, causes from 1 on */
+enum { DECLARATION = 39 }; /* bytes of what write puts before the root */
+enum { LEAST_CALLS = 20000 }; /* fewer need not reach anything: they are few episodes */
 
 static unsigned long outcomes[CALLS][OUTCOMES];
 
@@ -114,7 +116,7 @@ void reached_count(const struct call *call, noodlefen_answer answer, const struc
 {
     int granted = noodlefen_granted(answer);
     unsigned cause = noodlefen_cause(answer);
-    outcomes[call->what][granted ? 0 : noodlefen_waits(answer) ? 1 : cause < 16 ? 1 + cause : 0]++;
+    outcomes[call->what][granted ? 0 : noodlefen_waits(answer) ? 1 : cause <= MOST_CAUSE ? 1 + cause : 0]++;
     if (call->what >= CALL_T && call->n > 65535)
         count_if(1, granted ? WIDE_GRANTED : noodlefen_waits(answer) ? WIDE_WAITS : WIDE_REFUSED);
     if (call->what == CALL_LOAD && granted)
@@ -132,12 +134,12 @@ void reached_count(const struct call *call, noodlefen_answer answer, const struc
     reached_characters(call, answer, lent);
 }
 
-/* Which outcomes each call can have, as bits: granted, waits, 1 to 15. */
+/* Which outcomes each call can have, as bits: granted, waits, causes from 1 on. */
 static unsigned possible(enum call_name what)
 {
     enum { G = 1, W = 2 };
 #define CAUSE(n) (4u << ((n) - 1))
-    const unsigned step = G | W | CAUSE(1) | CAUSE(3) | CAUSE(7);
+    const unsigned step = G | W | CAUSE(1) | CAUSE(3) | CAUSE(7) | CAUSE(17);
     switch (what) {
     case CALL_START: return G;
     case CALL_LOAD: return G | CAUSE(4) | CAUSE(5) | CAUSE(6) | CAUSE(15);
@@ -167,11 +169,21 @@ static void print_counted(const struct counted *of, int count)
         printf("%9lu  %s\n", of[what].times, of[what].what);
 }
 
+/* Whether there is a call that can have the outcome; no call gives 16. */
+static int some_call_has(int outcome)
+{
+    unsigned all = 0;
+    for (int what = 0; what < CALLS; what++)
+        all |= possible((enum call_name)what);
+    return (int)(all >> outcome & 1);
+}
+
 void reached_print(void)
 {
     printf("%-7s%9s%8s", "", "granted", "waits");
-    for (int cause = 1; cause <= 15; cause++)
-        printf("%7d", cause);
+    for (int cause = 1; cause <= MOST_CAUSE; cause++)
+        if (some_call_has(1 + cause))
+            printf("%7d", cause);
     printf("\n");
     for (int what = 0; what < CALLS; what++) {
         printf("%-7s", call_word((enum call_name)what));
@@ -180,21 +192,22 @@ void reached_print(void)
             int width = outcome == 0 ? 9 : outcome == 1 ? 8 : 7;
             if (can || outcomes[what][outcome] > 0)
                 printf("%*lu", width, outcomes[what][outcome]);
-            else
+            else if (some_call_has(outcome))
                 printf("%*s", width, ".");
         }
         printf("\n");
     }
     print_counted(counted, COUNTED);
+    print_counted(counted_rings, rings_counted);
     print_counted(counted_characters, characters_counted);
 }
 
 static unsigned long missing_of(const struct counted *of, int count, unsigned long calls)
 {
     unsigned long missing = 0;
-    for (int what = 0; what < count; what++)
-        if (calls >= of[what].enough && of[what].times == 0) {
-            printf("FAILED: not reached: %s\n", of[what].what);
+    for (int what = 0; what < count && calls >= LEAST_CALLS; what++)
+        if (of[what].times < calls / of[what].enough) {
+            printf("FAILED: reached %lu times and not %lu: %s\n", of[what].times, calls / of[what].enough, of[what].what);
             missing++;
         }
     return missing;
@@ -202,5 +215,6 @@ static unsigned long missing_of(const struct counted *of, int count, unsigned lo
 
 unsigned long reached_missing(unsigned long calls)
 {
-    return missing_of(counted, COUNTED, calls) + missing_of(counted_characters, characters_counted, calls);
+    return missing_of(counted, COUNTED, calls) + missing_of(counted_rings, rings_counted, calls)
+        + missing_of(counted_characters, characters_counted, calls);
 }

@@ -7,7 +7,7 @@
 /* Something that is counted besides the outcomes. */
 struct counted {
     const char *what;
-    unsigned long enough; /* so many calls reach it, or the generator has changed */
+    unsigned long enough; /* so many calls reach it, twice as many twice, and so on, or the generator has changed */
     unsigned long times;
 };
 
@@ -15,6 +15,11 @@ struct counted {
 extern struct counted counted_characters[];
 extern const int characters_counted;
 void reached_characters(const struct call *call, noodlefen_answer answer, const struct lent *lent);
+
+/* What has to do with rings of waiting transactions, and a call counted there: the shortest ring of a refusal for 17 has so many. */
+extern struct counted counted_rings[];
+extern const int rings_counted;
+void reached_rings(const struct call *call, noodlefen_answer answer, unsigned ring);
 
 /* Counts a call on which the engines agreed; lent is what it wrote. */
 void reached_count(const struct call *call, noodlefen_answer answer, const struct lent *lent);

@@ -4,6 +4,7 @@
 #include <string.h>
 
 #include "locks.h"
+#include "rings.h"
 #include "step.h"
 #include "xml.h"
 
@@ -27,6 +28,8 @@ struct reference {
     struct node *plain;  /* the document of the plain run, which write takes */
     int open[MOST_TRANSACTIONS + 1];
     struct transaction transactions[MOST_TRANSACTIONS + 1];
+    struct wait_sets remembered;
+    unsigned ring;       /* how many transactions the ring has for which a step was refused last */
     unsigned long disagreements;
 };
 
@@ -82,7 +85,7 @@ static void remove_deleted(struct node *top, uint32_t t)
     }
 }
 
-/* Forgets the transaction's lists and empties its lock sets. */
+/* Forgets the transaction's lists, empties its lock sets, and strikes it from what is remembered of waits. */
 static void close_transaction(struct reference *r, uint32_t t)
 {
     struct transaction *transaction = &r->transactions[t];
@@ -99,6 +102,7 @@ static void close_transaction(struct reference *r, uint32_t t)
     memset(transaction, 0, sizeof *transaction);
     for (struct node *node = r->held; node != NULL; node = node_after(r->held, node, EVERYTHING))
         node->modes[t] = 0;
+    set_strike(&r->remembered, t);
     r->open[t] = 0;
 }
 
@@ -139,9 +143,31 @@ void reference_free(struct reference *r)
     free(r);
 }
 
+/* Whether some are open and each of them waits for somebody. */
+static int all_wait(const struct reference *r)
+{
+    int any = 0, all = 1;
+    for (uint32_t t = 1; t <= MOST_TRANSACTIONS; t++)
+        if (r->open[t]) {
+            any = 1;
+            all = all && set_remembered(&r->remembered, t) != 0;
+        }
+    return any && all;
+}
+
 unsigned long reference_disagreements(const struct reference *r)
 {
-    return r->disagreements;
+    return r->disagreements + (all_wait(r) ? 1 : 0);
+}
+
+unsigned reference_remembered(const struct reference *r, uint32_t t)
+{
+    return set_remembered(&r->remembered, t);
+}
+
+unsigned reference_ring(const struct reference *r)
+{
+    return r->ring;
 }
 
 noodlefen_answer reference_start(struct reference *r)
@@ -316,6 +342,20 @@ struct lent {
     size_t length;
 };
 
+/* A step that has to wait. Its set takes the place of the one remembered of t; if that makes a ring, it is refused and all stays. */
+static noodlefen_answer wait_for(struct reference *r, uint32_t t, unsigned set)
+{
+    struct wait_sets then = r->remembered;
+    set_remember(&then, t, set);
+    unsigned ring = ring_length(&then);
+    if (ring != 0) {
+        r->ring = ring;
+        return refused(17, 0);
+    }
+    r->remembered = then;
+    return waits(set);
+}
+
 /* A step: the refusals in their order, with the wait between them. */
 static noodlefen_answer take_step(struct reference *r, uint32_t t, const struct step *step, struct lent out, struct lent cells)
 {
@@ -336,7 +376,7 @@ static noodlefen_answer take_step(struct reference *r, uint32_t t, const struct 
     needs_of(&needs, step, n);
     unsigned set = wait_set(&needs, t, r->open);
     if (set != 0)
-        return waits(set);
+        return wait_for(r, t, set);
 
     if (step->what == STEP_I && !place_allowed(n, step->kind, step->k, t))
         return refused(11, 0);
@@ -348,6 +388,7 @@ static noodlefen_answer take_step(struct reference *r, uint32_t t, const struct 
     if (result.length > out.length || result.cells_length > cells.length)
         return refused(13, 0);
 
+    set_remember(&r->remembered, t, 0);
     needs_grant(&needs, t);
     change_held(r, t, step, n);
     keep(&r->transactions[t], step, &result);

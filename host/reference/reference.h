@@ -16,8 +16,14 @@ struct reference *reference_new(void);
 void reference_free(struct reference *r);
 
 /* How many steps answered otherwise than the plain run does, in commits and in reference_finish, and how often a document left by the
- * latter was not the held one. Always 0 if the reference is right. */
+ * latter was not the held one; one more while each open transaction waits for somebody. Always 0 if the reference is right. */
 unsigned long reference_disagreements(const struct reference *r);
+
+/* Whom transaction t, 1 to 16, is remembered to wait for: bit u-1 for u. */
+unsigned reference_remembered(const struct reference *r, uint32_t t);
+
+/* How many transactions the shortest ring has for which a step was last refused (17). */
+unsigned reference_ring(const struct reference *r);
 
 /* What is open finishes in this order, of all that are open: on a copy of the plain document the plain run takes the granted steps so far
  * of each. Answers as a write of the document left does; nothing but the disagreements is changed. */

@@ -12,8 +12,9 @@
  * the length of R, the count of TT, RR and UU, the set of a wait, the cause of a refusal, else 0. T and C add the kind. The lent buffers
  * follow, as they are after the call, in hexadecimal, 33 bytes to a line; they held 0xff before. An empty line ends a section.
  *
- * State and buffers have exact lengths at guard pages. What should not be is printed too: a state that a call changed though it was not
- * granted, and bits of an answer that should be 0.
+ * State and buffers have exact lengths at guard pages. What should not be is printed too: a state that a refused call changed, or one that
+ * waits in other bytes than those of its transaction's remembered set, which have to be the set of the wait; and bits of an answer that
+ * should be 0.
  */
 #include <inttypes.h>
 #include <stdio.h>
@@ -24,6 +25,7 @@
 #include "noodlefen.h"
 
 enum { BEHIND = 8, MOST_BUFFERS = 2, MOST_BUFFER = 4096, BYTES_TO_A_LINE = 33 };
+enum { SETS = 112656, SET_BYTES = 2 }; /* where the remembered sets are in the state, by transaction; docs/STATE.md */
 
 enum name { START, BEGIN, COMMIT, ABORT, T, C, R, U, D, I, TT, RR, UU, NAMES };
 
@@ -83,12 +85,22 @@ static noodlefen_answer made_on(uint8_t *state, size_t length, const struct call
     abort();
 }
 
+/* What a wait of t changes. */
+static void remember(uint32_t t, uint64_t set)
+{
+    uint8_t *bytes = memory + SETS + SET_BYTES * (t - 1);
+    bytes[0] = (uint8_t)(set & 0xFF);
+    bytes[1] = (uint8_t)(set >> 8 & 0xFF);
+}
+
 /* Makes the call on the lent bytes of the state. */
 static noodlefen_answer make(const struct call *c)
 {
     uint8_t *state = fence_end(&state_fence, lent_state);
     memcpy(state, memory, lent_state);
     noodlefen_answer answer = made_on(state, lent_state, c);
+    if (noodlefen_waits(answer) && c->t >= 1 && c->t <= NOODLEFEN_TRANSACTIONS)
+        remember(c->t, noodlefen_value(answer));
     if (!noodlefen_granted(answer) && memcmp(state, memory, lent_state) != 0)
         puts("the state has changed");
     memcpy(memory, state, lent_state);

@@ -71,6 +71,8 @@ static noodlefen_answer call(const struct engine *engine, void *e, uint32_t t, c
     const char *what = w->list[0];
     noodlefen_node n = number(w, 1);
     noodlefen_answer answer = 0;
+    if (strcmp(what, "start") == 0)
+        return engine->start(e);
     if (strcmp(what, "begin") == 0)
         return engine->begin(e, t);
     if (strcmp(what, "commit") == 0)

@@ -189,6 +189,10 @@ static void run_vector(const struct engine *engine, const char *path, unsigned n
     } else {
         run_call(engine, of_case, (uint32_t)strtoul(line, NULL, 10), (char *)skip_word(line), got);
         right = strcmp(got, expected) == 0;
+        if (right && engine->faults(of_case) != 0) {
+            strcpy(got, "(the engine's own check)");
+            right = 0;
+        }
     }
     verdict(right, path, number, text, got);
 }

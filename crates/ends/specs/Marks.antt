@@ -1,12 +1,12 @@
 -- What a commit (true) or an abort (false) of a transaction does to the marks of a node; its locks are released on their own.
 use Prim.Native.Nat.{ℕ, _+_}
-use mathlib.Core.Bool.{Bool, true, false, cond, not, _&&_}
+use mathlib.Core.Bool.{Bool, true, false, cond}
 use mathlib.Core.List.{List}
 use lib.Dec.{eqb}
-use Rattle.protocol.specs.State.{nobody, writer-of, saved-of, Marked, Tree, seen-by, lasting, undone, commit-tree, abort-tree, with-open}
+use Rattle.protocol.specs.State.{nobody, writer-of, saved-of, Marked, Tree, seen-by, lasting, undone, commit-tree, abort-tree, ended}
 use Rattle.protocol.specs.Calls.{Call, commit, abort}
 use Rattle.table.specs.Fields.{field, with-field, with-bytes}
-use Rattle.table.specs.Layout.{is-open, Entry, Left, header}
+use Rattle.table.specs.Layout.{Entry, Left, header}
 use Rattle.rows.specs.Rows.{not-inserted-by}
 
 -- the call, what it keeps, what it leaves of that, and the tree
@@ -43,6 +43,6 @@ ended-marks false t a = without-mark 3 t (without-mark 1 t (rewritten t a))
 abbrev pub marks-sum : Marked → ℕ
 marks-sum a = writer-of (a .update) + a .inserter + a .deleter
 
--- what closing t leaves: these nodes, and the others open as they were
+-- what closing t leaves: these nodes, the others open as they were, t waiting for nobody and nobody for t
 abbrev pub Closed : ℕ → List ℕ → List ℕ → List Entry → Type 0
-Closed t s s′ ns = Left s s′ (with-open (λ u. not (eqb u t) && is-open s u) (header s)) ns
+Closed t s s′ ns = Left s s′ (ended t (header s)) ns

@@ -59,6 +59,7 @@ pub record Standing (s : List ℕ) (t n : ℕ) (a : Site) : Type 0 where
   pub same : a .t ≡ t
   pub low : 1 ≤ a .t
   pub high : a .t ≤ 16
+  pub is-open : is-open s (a .t) ≡ true
   pub inside : a .place < length (nodes s)
   pub number : number-of (item (nodes s) (a .place)) ≡ n
   pub seen : seen-at (a .t) (nodes s) (a .place) ≡ true

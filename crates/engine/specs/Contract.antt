@@ -1,26 +1,36 @@
 -- The contract of a call on lent bytes: begin, the nine steps, commit and abort, and load for what its input says.
 use mathlib.Core.Path.{_≡_}
 use Prim.Native.Nat.{ℕ, _+_}
-use mathlib.Core.Bool.{false}
+use mathlib.Core.Bool.{false, cond}
 use mathlib.Core.List.{List, [], _∷_, _++_}
 use lib.ListN.{length, take, drop}
 use Rattle.tree.specs.Document.{Document}
 use Rattle.tree.specs.Steps.{Value}
 use Rattle.protocol.specs.State.{State}
 use Rattle.protocol.specs.Lent.{Room}
-use Rattle.protocol.specs.Calls.{Call, Outcome, next}
+use Rattle.protocol.specs.Calls.{Call, start, load, begin, commit, abort, step, write, Outcome, next}
 use Rattle.protocol.specs.Answers.{answer-of, lent-after, as-it-was}
-use Rattle.protocol.specs.History.{is-granted}
+use Rattle.protocol.specs.History.{is-granted, is-wait}
 use Rattle.protocol.specs.declared.Answer.{Answer}
 use Rattle.protocol.specs.declared.Answer.the-variants.{Refused}
-use Rattle.table.specs.Layout.{state-size}
+use Rattle.table.specs.Layout.{state-size, set-at}
 use Rattle.form.specs.Form.{form, Holds}
 
--- the places of the state, offset and length, that a call which is not granted may change: none
-abbrev pub changed-by : Call → Outcome → List (ℕ × ℕ)
-changed-by call o = []
+-- where the set stands that is remembered of the transaction of a step: the place of the state, offset and length
+abbrev pub set-place : Call → List (ℕ × ℕ)
+set-place (step t s room) = (set-at t, 2) ∷ []
+set-place start = []
+set-place (load i) = []
+set-place (begin t) = []
+set-place (commit t) = []
+set-place (abort t) = []
+set-place write = []
 
--- the bytes without those places
+-- the places that a call which is not granted may change: "a wait changes only this memory, a refusal nothing"
+abbrev pub changed-by : Call → Outcome → List (ℕ × ℕ)
+changed-by c o = cond (is-wait o) (set-place c) []
+
+-- the bytes without those places; of several the one furthest behind is named first, since what is behind a place moves
 abbrev pub outside : List (ℕ × ℕ) → List ℕ → List ℕ
 outside [] s = s
 outside (p ∷ ps) s = outside ps (take (p .0) s ++ drop (p .0 + p .1) s)

@@ -1,18 +1,19 @@
 -- Locks granted along the way, by words.
 use Prim.Native.Nat.{ℕ, suc}
 use mathlib.Core.Path.{_≡_}
-use mathlib.Core.Bool.{cond}
+use mathlib.Core.Bool.{false, cond}
 use mathlib.Core.List.{List, [], _∷_}
 use lib.Dec.{eqb}
+use lib.ListN.{length}
 use Rattle.locks.specs.Modes.{union, in-word}
 use Rattle.tree.specs.Steps.{Step}
 use Rattle.locks.specs.Needs.{Need, need}
 use Rattle.locks.specs.Words.{words}
 use Rattle.locks.specs.declared.NeedWords.{NeedWords}
-use Rattle.protocol.specs.State.{Marked, with-held}
+use Rattle.protocol.specs.State.{Marked, with-held, set-header}
 use Rattle.table.specs.Lists.{modify}
 use Rattle.table.specs.Flat.{second}
-use Rattle.table.specs.Layout.{Entry, nodes, Kept}
+use Rattle.table.specs.Layout.{Entry, nodes, header, Left, Kept}
 use Rattle.rows.specs.Rows.{granted-along}
 use Rattle.engine.specs.Way.{Places, places-of}
 use Rattle.engine.specs.Waits.{word-at}
@@ -33,3 +34,12 @@ granted-on t w is l = granted-along t (w .node) (w .parent) (w .above) is l
 -- t was granted on the way what a step needs, whichever step needs these sets
 pub record Granted (s s′ : List ℕ) (t : ℕ) (w : NeedWords) (way : Places) : Type 0 where
   pub kept : (st : Step) → w ≡ words (need st) → Kept s s′ (granted-on t (need st) (places-of way) (nodes s))
+
+-- these nodes, as many as before, and t waits for nobody
+pub record Settled (s s′ : List ℕ) (t : ℕ) (ns : List Entry) : Type 0 where
+  pub left : Left s s′ (set-header t (λ u. false) (header s)) ns
+  pub many : length (nodes s′) ≡ length (nodes s)
+
+-- what a step that is granted leaves beside what it does itself: its locks on the way, and no wait
+pub record GrantedStep (s s′ : List ℕ) (t : ℕ) (w : NeedWords) (way : Places) : Type 0 where
+  pub settled : (st : Step) → w ≡ words (need st) → Settled s s′ t (granted-on t (need st) (places-of way) (nodes s))

@@ -1,8 +1,9 @@
--- What a step is judged by that was admitted: its own causes 8 to 10, the wait, then 11 to 13.
+-- What a step is judged by that was admitted: its own causes 8 to 10, the wait or 17, then 11 to 13.
 use mathlib.Core.Path.{_≡_}
 use Prim.Native.Nat.{ℕ}
 use mathlib.Core.Bool.{Bool, true, false, cond, not}
 use mathlib.Core.List.{List, [], _∷_, map}
+use lib.Dec.{eqb}
 use Rattle.tree.specs.Steps.{Step, Value, target, wrong-kind-on, wrong-content-on, misplaced-on}
 use Rattle.locks.specs.Needs.{need}
 use Rattle.locks.specs.Words.{words}
@@ -11,7 +12,8 @@ use Rattle.protocol.specs.Lent.{Room, has-room}
 use Rattle.protocol.specs.Causes.{kind-not-allowed, content-not-allowed, held-number, place-not-allowed, no-more-nodes, short-buffer}
 use Rattle.protocol.specs.Calls.{Call, step}
 use Rattle.protocol.specs.declared.Answer.{Answer}
-use Rattle.table.specs.Layout.{Entry, nodes, is-open}
+use Rattle.table.specs.Layout.{Entry, set-at, nodes, is-open}
+use Rattle.table.specs.Laws.Bytes.{put-word}
 use Rattle.rows.specs.Places.{item, ups, children}
 use Rattle.rows.specs.Found.{kind-of, used-in, limit-reached-in, answer-at, wait-word}
 use Rattle.engine.specs.Contract.{Performed, Lent}
@@ -53,10 +55,14 @@ pub record FirstOf (found later cause : ℕ) : Type 0 where
 
 -- the outcome ------------------------------------------------------------------------------
 
--- a call that is not granted: it answers r, and leaves the state and the lent buffers
-pub record Stopped (s : List ℕ) (r : Answer) (call : Call) : Type 0 where
-  pub performed : Performed s s r call
+-- a call that is not granted: it answers r, leaves the bytes s′, and leaves the lent buffers as they were
+pub record Stopped (s s′ : List ℕ) (r : Answer) (call : Call) : Type 0 where
+  pub performed : Performed s s′ r call
   pub lent : (lent : Value → List ℕ) (b : List ℕ) → Lent lent s b b call
+
+-- the bytes with the set w remembered of t; where it is empty, as they were
+unfoldable pub with-wait : ℕ → ℕ → List ℕ → List ℕ
+with-wait t w s = cond (eqb w 0) s (put-word s (set-at t) w)
 
 -- step st of t was admitted, has this first cause before the wait, and needs these sets
 pub record Asked (s : List ℕ) (t : ℕ) (a : Site) (cause : ℕ) (w : NeedWords) (st : Step) : Type 0 where
@@ -73,5 +79,9 @@ pub record Free (s : List ℕ) (t : ℕ) (a : Site) (w : NeedWords) (st : Step) 
 
 -- whatever the step: what keeps it from being granted, or that nothing does
 pub record Judged (s : List ℕ) (a : Site) (cause : ℕ) (w : NeedWords) (v : Verdict) : Type 0 where
-  pub stopped : v .free ≡ false → {t : ℕ} {st : Step} → Asked s t a cause w st → (room : Room) → Stopped s (v .answer) (step t st room)
+  -- the answer, where the wait is remembered
+  pub stopped : v .free ≡ false → {t : ℕ} {st : Step} → Asked s t a cause w st → (room : Room)
+      → Stopped s (with-wait (a .t) (v .set) s) (v .answer) (step t st room)
+  -- only a step that was admitted and has no cause before the wait waits
+  pub waiting : (v .set ≡ 0 → ⊥) → cause ≡ 0
   pub free : v .free ≡ true → {t : ℕ} {st : Step} → Asked s t a cause w st → Free s t a w st

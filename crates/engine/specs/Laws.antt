@@ -1,5 +1,6 @@
 pub mod Outcomes
 pub mod Admission
+pub mod Waiting
 pub mod Judgement
 pub mod Order
 pub mod Way

@@ -6,23 +6,27 @@ use locks::NeedWords;
 use locks::StepName;
 use protocol::Answer;
 use protocol::causes;
+use table::sets;
 use table::transactions;
 ghost use mathlib.Core.Path.{_≡_};
-ghost use mathlib.Core.Bool.{cond};
+ghost use mathlib.Core.Bool.{false, cond};
 ghost use Prim.Native.Nat.{_<_, _≤_};
 ghost use lib.ListN.{length};
 ghost use lib.Dec.{eqb};
 ghost use Rattle.tree.specs.Content.{document-kind};
 ghost use Rattle.tree.specs.Steps.{T, parent};
 ghost use Rattle.protocol.specs.Causes.{kind-not-allowed};
+ghost use Rattle.protocol.specs.State.{in-set, with-set};
+ghost use Rattle.protocol.specs.Rings.{in-ring};
 ghost use Rattle.protocol.specs.Calls.{step};
-ghost use Rattle.table.specs.Layout.{nodes, Layout};
+ghost use Rattle.protocol.specs.declared.Answer.the-variants.{Refused};
+ghost use Rattle.table.specs.Layout.{remembered, nodes, Layout};
 ghost use Rattle.rows.specs.Places.{item, numbers-above};
 ghost use Rattle.engine.specs.Way.{Climbed, Inside};
-ghost use Rattle.engine.specs.Grants.{Granted};
+ghost use Rattle.engine.specs.Grants.{GrantedStep};
 ghost use Rattle.engine.specs.Contract.{Performed, no-room};
 ghost use Rattle.engine.specs.Admission.{Caller, site, Admitted};
-ghost use Rattle.engine.specs.Judgement.{FirstOf, Judged};
+ghost use Rattle.engine.specs.Judgement.{FirstOf, Judged, with-wait};
 
 // The cause 13, 1 or 3 of a call of transaction t, or 0.
 pub fn caller(s: &[u8], t: u32) -> u8
@@ -105,41 +109,80 @@ pub fn document_cause(s: &[u8], found: u8, place: usize) -> u8
     0
 }
 
-// Whether nothing keeps a step from being granted, so far; else the refusal or the wait.
+// Whether nothing keeps a step from being granted, so far; else the refusal or the wait. The set is 0 unless the step waits.
 pub struct Verdict {
     pub free: bool,
+    pub set: u16,
     pub answer: Answer,
+}
+
+// Refused by this cause.
+fn refusal(cause: u8) -> Verdict
+    ensures { λ r. ⌜ r ≡ record { free = false; set = 0; answer = Refused cause } ⌝ }
+{
+    let answer = Answer::Refused(cause);
+    Verdict {
+        free: false,
+        set: 0,
+        answer,
+    }
+}
+
+// Whether transaction t would be in a ring of waiting transactions if it waited for this set.
+fn closes_ring(s: &[u8], t: usize, set: u16) -> bool
+    requires { ⌜ (Layout (now s)) × (1 ≤ t) × (t ≤ 16) ⌝ }
+    ensures { λ r. ⌜ r ≡ in-ring (with-set t (in-set set) (remembered (now (s .entry)))) t ⌝ }
+{
+    let mut words = sets::gather(s).words;
+    words[t - 1] = set;
+    deadlock::ring(&words, t)
 }
 
 // A step that was admitted, with the first cause before the wait, or 0, and what it needs: refused, or waiting, or free.
 pub fn judge(s: &[u8], at: Admission, way: &[u16; 1024], cause: u8, w: NeedWords) -> Verdict
-    requires { ⌜ (cause ≡ 0 → ((Layout (now s)) × Inside (nodes (now s)) (site at (now way) .way))) ⌝ }
+    requires { ⌜ (cause ≡ 0 → ((Layout (now s)) × (Inside (nodes (now s)) (site at (now way) .way)) × (1 ≤ at .t) × (at .t ≤ 16))) ⌝ }
     ensures { λ r. ⌜ Judged (now (s .entry)) (site at (now (way .entry))) cause w r ⌝ }
 {
     if cause != 0 {
-        let answer = Answer::Refused(cause);
-        return Verdict {
-            free: false,
-            answer,
-        };
+        return refusal(cause);
     }
     let set = locking::waits(s, at.t as usize, w, way, at.count);
-    if set != 0 {
-        let answer = Answer::Waits(set);
+    if set == 0 {
+        let answer = Answer::Done;
         return Verdict {
-            free: false,
+            free: true,
+            set,
             answer,
         };
     }
-    let answer = Answer::Done;
-    Verdict { free: true, answer }
+    if closes_ring(s, at.t as usize, set) {
+        return refusal(causes::DEADLOCK);
+    }
+    let answer = Answer::Waits(set);
+    Verdict {
+        free: false,
+        set,
+        answer,
+    }
 }
 
-// The locks of a step that is granted.
+// A step that is not granted: a wait is remembered, and a refusal changes nothing.
+pub fn stop(s: &mut [u8], at: Admission, verdict: Verdict) -> Answer
+    requires { ⌜ ((verdict .set ≡ 0 → ⊥) → ((Layout (now s)) × (1 ≤ at .t) × (at .t ≤ 16))) ⌝ }
+    ensures { λ r. ⌜ (r ≡ verdict .answer) × (now (s .exit) ≡ with-wait (at .t) (verdict .set) (now (s .entry))) ⌝ }
+{
+    if verdict.set != 0 {
+        sets::remember(s, at.t as usize, verdict.set);
+    }
+    verdict.answer
+}
+
+// Grants the locks of a step, and empties the wait set of its transaction.
 pub fn grant(s: &mut [u8], at: Admission, way: &[u16; 1024], w: NeedWords)
     requires { ⌜ (Layout (now s)) × (1 ≤ at .t) × (at .t ≤ 16) × Inside (nodes (now s)) (site at (now way) .way) ⌝ }
-    ensures { λ r. ⌜ Granted (now (s .entry)) (now (s .exit)) (at .t) w (site at (now (way .entry)) .way) ⌝ }
+    ensures { λ r. ⌜ GrantedStep (now (s .entry)) (now (s .exit)) (at .t) w (site at (now (way .entry)) .way) ⌝ }
 {
+    sets::remember(s, at.t as usize, 0);
     locking::grant(s, at.t as usize, w, way, at.count);
 }
 
@@ -163,7 +206,7 @@ pub fn test(s: &mut [u8], t: u32, n: u32) -> Answer
     let need = locks::needed(StepName::T);
     let verdict = judge(s, at, &way, at.cause, need);
     if !verdict.free {
-        return verdict.answer;
+        return stop(s, at, verdict);
     }
     let kind = table::kind(s, at.place);
     let parent = parent(s, at, &way);

@@ -1,6 +1,8 @@
 // The examples of document 01 beside its lines P1 to P9, through the exported calls. A line for each call: what it is, G (granted), W
-// (waits) or R (refused), and a number: the length of write, the count of load, the cause of a refusal, else 0. A refusal of load has the
-// byte offset behind it. What was written follows the line of a write. In the end A.14 of document 02: three commit in every order.
+// (waits) or R (refused), and a number: the length of write and of a read, the count of load, the set of a wait, the cause of a refusal,
+// else 0. A refusal of load has the byte offset behind it. What was written follows the line of a write. In the end two requests of
+// document 02: A.14, three commit in every order, and A.6, three that would wait for each other.
+mod deadlock;
 mod inputs;
 mod lines;
 mod orders;
@@ -85,7 +87,7 @@ fn full(state: &mut [u8]) {
 }
 
 fn main() {
-    let mut state = [0u8; 112656];
+    let mut state = [0u8; 112688];
     lines::line(b"start", panel::noodlefen_start(&mut state));
     load_e(&mut state);
     write(&state);
@@ -99,4 +101,9 @@ fn main() {
     load_e(&mut state);
     orders::open(&mut state);
     orders::all(state);
+    lines::line(b"start", panel::noodlefen_start(&mut state));
+    load_e(&mut state);
+    deadlock::hold(&mut state);
+    deadlock::ring(&mut state);
+    deadlock::give_way(&mut state);
 }

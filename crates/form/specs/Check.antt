@@ -1,14 +1,14 @@
 -- What the parts of the check of the form compute.
 use mathlib.Core.Path.{_≡_}
 use Prim.Native.Nat.{ℕ, zero, suc, _+_, _*_, _/_, _%_, _≤_, _<_}
-use mathlib.Core.Bool.{Bool, true, false, cond, _&&_, _||_}
+use mathlib.Core.Bool.{Bool, true, false, cond, not, _&&_, _||_}
 use mathlib.Core.List.{List, [], _∷_}
 use lib.ListN.{length, getD, set}
 use lib.Dec.{eqb, leb}
 use Rattle.tree.specs.Lists.{every, same}
 use Rattle.tree.specs.Content.{document-kind, between}
 use Rattle.locks.specs.Modes.{no-mode}
-use Rattle.protocol.specs.State.{nobody}
+use Rattle.protocol.specs.State.{nobody, transactions, in-set}
 use Rattle.protocol.specs.Calls.{node-limit}
 use Rattle.table.specs.Encoding.{state-size, format-mark, part, count, slot, depth, number, cell, decode, nodes}
 use Rattle.form.specs.Form.{in-range, valid-rows, cells, sizes-in-range}
@@ -63,6 +63,10 @@ pub record Chains (i : ℕ) (heads next : List ℕ) : Type 0 where
   pub places : length next ≡ 1024
   pub low : (b : ℕ) → getD heads b 0 ≤ i
   pub falls : (j : ℕ) → getD next j 0 ≤ j
+
+-- nobody is in the set w of t, or t and all in it are in the set `opens`, that of the open transactions
+unfoldable pub set-open : ℕ → ℕ → ℕ → Bool
+set-open opens t w = every (λ u. not (in-set w u) || (in-set opens t && in-set opens u)) transactions
 
 -- bytes long enough for a state, and a slot below 1,024 in each entry of the outline
 pub record Outlined (s : List ℕ) : Type 0 where

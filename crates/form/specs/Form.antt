@@ -1,13 +1,14 @@
 -- The form of the lent bytes (docs/STATE.md), and the state that bytes of the form hold.
 use mathlib.Core.Path.{_≡_}
 use Prim.Native.Nat.{ℕ, suc}
-use mathlib.Core.Bool.{Bool, true, false, _&&_, _||_}
+use mathlib.Core.Bool.{Bool, true, false, not, _&&_, _||_}
 use mathlib.Core.List.{List, [], _∷_}
 use lib.ListN.{length, getD}
 use lib.Dec.{eqb, leb, ltb}
 use Rattle.tree.specs.Lists.{every, distinct, same}
 use Rattle.tree.specs.Content.{document-kind, element-kind, text-kind, content-limit, between}
-use Rattle.protocol.specs.State.{nobody, Marked, Tree, State, writer-of}
+use Rattle.protocol.specs.State.{nobody, transactions, Marked, Tree, Header, State, writer-of}
+use Rattle.protocol.specs.Rings.{AmongOpen}
 use Rattle.protocol.specs.Calls.{node-limit}
 use Rattle.table.specs.Encoding.{tabulate, state-size, format-mark, part, count, slot, cell, Entry, nodes, unique, Layout, header}
 use Rattle.table.specs.Flat.{flat}
@@ -61,12 +62,17 @@ sizes-in-range c = leb (getD c 4 0) content-limit && (eqb (getD c 1 0) nobody ||
 unfoldable pub apart : ℕ → List ℕ → Bool
 apart limit l = every (λ k. ltb k limit) l && distinct l
 
--- long enough, the format mark, 1 to 1,024 nodes, slots that are a permutation of 0 to 1,023, sizes in range, rows of a tree, and no two
--- of one number
+-- only open transactions have a set that is not empty, and only open ones are in it (`AmongOpen`)
+unfoldable pub sets-open : Header → Bool
+sets-open h = every (λ t. every (λ u. not (h .remembered t u) || (h .is-open t && h .is-open u)) transactions) transactions
+
+-- long enough, the format mark, 1 to 1,024 nodes, slots that are a permutation of 0 to 1,023, sizes in range, rows of a tree, no two of
+-- one number, and wait sets of open transactions
 unfoldable pub form : List ℕ → Bool
 form s =
     leb state-size (length s) && same (part s 0 8) format-mark && between 1 node-limit (count s)
     && apart node-limit (slots s) && every sizes-in-range (cells s) && valid-rows (nodes s) && unique (nodes s)
+    && sets-open (header s)
 
 -- states -------------------------------------------------------------------------------------
 
@@ -77,3 +83,4 @@ pub record Holds (s : List ℕ) (M : State) : Type 0 where
   pub rows : nodes s ≡ flat 0 (M .tree)
   pub unique : unique (nodes s) ≡ true
   pub valid : valid-tree (M .tree) ≡ true
+  pub sets : AmongOpen (M .header)

@@ -8,6 +8,7 @@ pub mod Begins
 pub mod Fresh
 pub mod Marks
 pub mod Slots
+pub mod Sets
 pub mod Numbers
 pub mod Check
 pub mod Start

@@ -1,5 +1,6 @@
 // The form of the lent bytes (docs/STATE.md): its check, and the bytes of the beginning.
 mod numbers;
+mod sets;
 
 use table::layout;
 ghost use mathlib.Core.Path.{_≡_};
@@ -188,7 +189,10 @@ pub fn formed(s: &[u8]) -> bool
     if !nodes(s, n) {
         return false;
     }
-    numbers::distinct(s, n)
+    if !numbers::distinct(s, n) {
+        return false;
+    }
+    sets::among_open(s)
 }
 
 // The beginning ----------------------------------------------------------------------

@@ -1,4 +1,4 @@
--- The calls, as functions of the state to an outcome and a next state: document 01, "Steps" and "Refused calls".
+-- The calls, as functions of the state to an outcome and a next state: document 01, "Steps" and "Refused calls", and document 02, A.6.
 use Prim.Native.Nat.{ℕ, _+_, _-_, _^_}
 use mathlib.Core.Path.{_≡_}
 use mathlib.Core.Bool.{Bool, true, cond, not, _&&_}
@@ -12,11 +12,12 @@ use Rattle.locks.specs.Modes.{against}
 use Rattle.locks.specs.Needs.{Lock, needs}
 use Rattle.protocol.specs.State.{is-transaction, transactions, Marked, Tree, State, nodes, has-number, number-held, callers-document}
 use Rattle.protocol.specs.State.{committed-document, act, grant, commit-tree, abort-tree, tree-of}
-use Rattle.protocol.specs.State.{start-state, with-tree, opened, closed}
+use Rattle.protocol.specs.State.{in-set, with-set, start-state, with-tree, opened, closed, remembering, forgetting}
+use Rattle.protocol.specs.Rings.{in-ring}
 use Rattle.protocol.specs.Lent.{Room, has-room}
 use Rattle.protocol.specs.Causes.{not-a-transaction, already-open, not-open, no-such-node}
 use Rattle.protocol.specs.Causes.{kind-not-allowed, content-not-allowed, held-number}
-use Rattle.protocol.specs.Causes.{place-not-allowed, no-more-nodes, short-buffer, open-at-load}
+use Rattle.protocol.specs.Causes.{place-not-allowed, no-more-nodes, short-buffer, open-at-load, deadlock}
 
 -- "at most 1,024 nodes are held"
 abbrev pub node-limit : ℕ
@@ -73,14 +74,26 @@ becomes v M = record { outcome = granted v; steps = []; state = M }
 abbrev pub grants-step : Step → Value → State → Next
 grants-step s v M = record { outcome = granted v; steps = record { step = s; value = v } ∷ []; state = M }
 
+-- a step of t that is not granted: "a wait changes only this memory, a refusal nothing"
+abbrev pub held-back : ℕ → State → Outcome → Next
+held-back t M (waits w) = record { outcome = waits w; steps = []; state = remembering t (in-set w) M }
+held-back t M (granted v) = unchanged (granted v) M
+held-back t M (written d) = unchanged (written d) M
+held-back t M (refused c) = unchanged (refused c) M
+held-back t M (refused-at c o) = unchanged (refused-at c o) M
+
 -- a cause of refusal, or a wait, and whether it applies
 abbrev pub Check : Type 0
 Check = Outcome × Bool
 
--- the first check that applies is what the call returns, and nothing is changed; where none applies, n
-abbrev pub checked : List Check → State → Next → Next
-checked [] M n = n
-checked (c ∷ cs) M n = cond (c .1) (unchanged (c .0) M) (checked cs M n)
+-- the first check that applies is what the call returns, and what `stop` makes of it; where none applies, n
+abbrev pub checked : (Outcome → Next) → List Check → Next → Next
+checked stop [] n = n
+checked stop (c ∷ cs) n = cond (c .1) (stop (c .0)) (checked stop cs n)
+
+-- checks that can only refuse: the first that applies changes nothing
+abbrev pub refusing : List Check → State → Next → Next
+refusing cs M n = checked (λ o. unchanged o M) cs n
 
 -- waiting ------------------------------------------------------------------------------
 
@@ -110,29 +123,32 @@ number-in-use s f = any (λ m. number-held m f) (inserts s)
 abbrev pub limit-reached : ℕ → Step → Tree → Bool
 limit-reached limit s f = any (λ m. leb limit (length (nodes f))) (inserts s)
 
--- the wait: for those who hold a mode that clashes with a lock of the step
-abbrev pub wait-check : ℕ → List Lock → State → Check
-wait-check t ls M = (waits (wait-set t ls M), not (eqb (wait-set t ls M) 0))
+-- cause 17: "the new set, put in place of the caller's remembered one, would make a ring"; the step would wait for w
+abbrev pub closes-ring : ℕ → ℕ → State → Bool
+closes-ring t w M = not (eqb w 0) && in-ring (with-set t (in-set w) (M .header .remembered)) t
 
--- of a step of t, in the paper's order: 7, 8, 9, 10, wait, 11, 12, 13; d is the caller's document
+-- of a step of t, in the paper's order: 7, 8, 9, 10, wait or 17, 11, 12, 13; d is the caller's document
 abbrev pub step-checks : ℕ → Step → Room → State → Document → List Check
 step-checks t s room M d =
     (refused no-such-node, unknown s d)
     ∷ (refused kind-not-allowed, wrong-kind s d)
     ∷ (refused content-not-allowed, wrong-content s d)
     ∷ (refused held-number, number-in-use s (M .tree))
-    ∷ wait-check t (needs s d) M
+    ∷ (refused deadlock, closes-ring t (wait-set t (needs s d) M) M)
+    ∷ (waits (wait-set t (needs s d) M), not (eqb (wait-set t (needs s d) M) 0))
     ∷ (refused place-not-allowed, misplaced s d)
     ∷ (refused no-more-nodes, limit-reached node-limit s (M .tree))
     ∷ (refused short-buffer, not (has-room (answer s d) room)) ∷ []
 
+-- a granted step waits for nobody: the set of t is remembered "until its next granted or waiting step"
 unfoldable pub judged : ℕ → Step → Room → State → Document → Next
 judged t s room M d =
-    checked (step-checks t s room M d) M (grants-step s (answer s d) (with-tree M (grant t (needs s d) (act t s (M .tree)))))
+    checked (held-back t M) (step-checks t s room M d)
+    (grants-step s (answer s d) (forgetting t (with-tree M (grant t (needs s d) (act t s (M .tree))))))
 
 -- a call of a transaction: 1, then 3
 abbrev pub if-open : ℕ → State → Next → Next
-if-open t M n = checked ((refused not-a-transaction, not (is-transaction t)) ∷ (refused not-open, not (M .header .is-open t)) ∷ []) M n
+if-open t M n = refusing ((refused not-a-transaction, not (is-transaction t)) ∷ (refused not-open, not (M .header .is-open t)) ∷ []) M n
 
 -- calls --------------------------------------------------------------------------------
 
@@ -144,9 +160,9 @@ loaded (stands-for d h) M = becomes (how-many (length (lines d))) (with-tree M (
 unfoldable pub next : Call → State → Next
 next start M = becomes done start-state
 -- 15 before all that the input says
-next (load input) M = checked ((refused open-at-load, any (M .header .is-open) transactions) ∷ []) M (loaded input M)
+next (load input) M = refusing ((refused open-at-load, any (M .header .is-open) transactions) ∷ []) M (loaded input M)
 next (begin t) M =
-    checked ((refused not-a-transaction, not (is-transaction t)) ∷ (refused already-open, M .header .is-open t) ∷ []) M
+    refusing ((refused not-a-transaction, not (is-transaction t)) ∷ (refused already-open, M .header .is-open t) ∷ []) M
     (becomes done (opened t M))
 next (commit t) M = if-open t M (becomes done (closed t (commit-tree t (M .tree)) M))
 next (abort t) M = if-open t M (becomes done (closed t (abort-tree t (M .tree)) M))

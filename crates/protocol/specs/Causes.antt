@@ -1,4 +1,4 @@
--- The causes of a refusal, by their numbers: document 01, "Refused calls". src/causes.rt has the same names for the code.
+-- The causes of a refusal, by their numbers: document 01, "Refused calls", and document 02. src/causes.rt has the same names for the code.
 use Prim.Native.Nat.{ℕ}
 use mathlib.Core.List.{List, [], _∷_}
 
@@ -62,9 +62,13 @@ not-expressible = 14
 abbrev pub open-at-load : ℕ
 open-at-load = 15
 
+-- a wait that would make a ring of transactions each waiting for the next: document 02, A.6
+abbrev pub deadlock : ℕ
+deadlock = 17
+
 -- all that a call can be refused by
 abbrev pub causes : List ℕ
 causes =
     not-a-transaction ∷ already-open ∷ not-open ∷ not-of-grammar ∷ content-over-limit ∷ nodes-over-limit ∷ no-such-node ∷ kind-not-allowed
     ∷ content-not-allowed
-    ∷ held-number ∷ place-not-allowed ∷ no-more-nodes ∷ short-buffer ∷ not-expressible ∷ open-at-load ∷ []
+    ∷ held-number ∷ place-not-allowed ∷ no-more-nodes ∷ short-buffer ∷ not-expressible ∷ open-at-load ∷ deadlock ∷ []

@@ -1,4 +1,5 @@
--- Lists of calls, the plain run that they are compared with, and what is pending: document 01, "The plain run" and "Steps".
+-- Lists of calls, the plain run that they are compared with, and what is pending: document 01, "The plain run" and "Steps"; whom each
+-- transaction waits for by the answers that it had: document 02, A.6.
 use Prim.Native.Nat.{ℕ}
 use mathlib.Core.Bool.{Bool, true, false, cond, not, _&&_, _||_}
 use mathlib.Core.List.{List, [], _∷_, _++_, map}
@@ -6,7 +7,7 @@ use lib.Dec.{eqb}
 use Rattle.tree.specs.Lists.{any, same, joined}
 use Rattle.tree.specs.Document.{Document, lines, here, at, node-0-alone}
 use Rattle.tree.specs.Steps.{Step, Value, PlainAnswer, inserts, plain-document, plain-answers}
-use Rattle.protocol.specs.State.{State, transactions}
+use Rattle.protocol.specs.State.{State, transactions, in-set, WaitSets, with-set, struck}
 use Rattle.protocol.specs.Calls.{Call, start, load, begin, commit, abort, step, write, unreadable, stands-for}
 use Rattle.protocol.specs.Calls.{Outcome, granted, written, waits, refused, refused-at, StepAnswer, next}
 
@@ -111,3 +112,38 @@ pending-in d log e =
 -- something is pending; a transaction that is not open has no steps
 unfoldable pub pending : List Event → Bool
 pending h = any (λ t. pending-in (plain h) (fed h .open-log t) (plain-document (plain h) (fed h .open-log t))) transactions
+
+-- waiting ----------------------------------------------------------------------------------
+
+-- whether a call waits
+abbrev pub is-wait : Outcome → Bool
+is-wait (waits w) = true
+is-wait (granted v) = false
+is-wait (written d) = false
+is-wait (refused c) = false
+is-wait (refused-at c o) = false
+
+-- the set of a wait; 0 for other outcomes
+abbrev pub waited-for : Outcome → ℕ
+waited-for (waits w) = w
+waited-for (granted v) = 0
+waited-for (written d) = 0
+waited-for (refused c) = 0
+waited-for (refused-at c o) = 0
+
+-- "a waiting transaction's set is remembered until its next granted or waiting step, or its end; a transaction that ends is struck from all
+-- sets": what a call leaves of the sets r, by whether it was granted, and the set of a wait
+abbrev pub sets-left : Call → Bool → ℕ → WaitSets → WaitSets
+sets-left start g w r = cond g (λ t u. false) r
+-- granted only where nothing is open, and so all sets are empty
+sets-left (load i) g w r = r
+sets-left (begin t) g w r = r
+sets-left (commit t) g w r = cond g (struck t r) r
+sets-left (abort t) g w r = cond g (struck t r) r
+sets-left (step t s room) g w r = cond g (with-set t (λ u. false) r) (cond (eqb w 0) r (with-set t (in-set w) r))
+sets-left write g w r = r
+
+-- the sets that the answers tell, from the sets r on
+unfoldable pub sets-after : WaitSets → List Event → WaitSets
+sets-after r [] = r
+sets-after r (e ∷ es) = sets-after (sets-left (e .call) (is-granted (e .outcome)) (waited-for (e .outcome)) r) es

@@ -1,1 +1,3 @@
 pub mod Ascending
+pub mod Transactions
+pub mod WaitSets

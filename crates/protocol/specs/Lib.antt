@@ -1,5 +1,6 @@
 pub mod Causes
 pub mod State
+pub mod Rings
 pub mod Lent
 pub mod Calls
 pub mod Answers
@@ -8,4 +9,5 @@ pub mod Examples
 pub mod Mistakes
 pub mod Refusals
 pub mod PlainRun
+pub mod Deadlock
 pub mod Laws

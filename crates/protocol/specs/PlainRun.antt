@@ -15,6 +15,7 @@ use Rattle.tree.specs.Examples.{a-node, tree-E}
 use Rattle.locks.specs.Modes.{clash}
 use Rattle.locks.specs.Needs.{locks}
 use Rattle.protocol.specs.State.{nodes, callers-document, document-of, grant, commit-tree, abort-tree, tree-of}
+use Rattle.protocol.specs.Rings.{in-ring}
 use Rattle.protocol.specs.Lent.{first-lent, second-lent}
 use Rattle.protocol.specs.Calls.{loadable, start, begin, commit, abort, write}
 use Rattle.protocol.specs.Calls.{granted, written, waits, refused, wait-set, judged, next}
@@ -140,7 +141,7 @@ plain-runs =
     []
 
 pub plain-runs-hold : map from-E plain-runs ≡ plain-runs
-unfolding tree-E played from-E state-after history log-after plain pending next judged wait-set loadable first-lent second-lent
+unfolding tree-E played from-E state-after history log-after plain pending next judged wait-set in-ring loadable first-lent second-lent
     nodes callers-document document-of grant commit-tree abort-tree tree-of node-0-alone clash locks
     legal ruled lines select rows keep amend view place put within utf8 characters spells-name spells-text is-name is-text allowed takes
     attributes-first children-rule insert-at placed plain-document

@@ -18,6 +18,7 @@ use Rattle.tree.specs.Examples.{tree-E}
 use Rattle.locks.specs.Modes.{clash}
 use Rattle.locks.specs.Needs.{locks}
 use Rattle.protocol.specs.State.{start-state, nodes, callers-document, document-of, grant, commit-tree, abort-tree, tree-of}
+use Rattle.protocol.specs.Rings.{in-ring}
 use Rattle.protocol.specs.Lent.{first-lent, second-lent}
 use Rattle.protocol.specs.Calls.{node-limit, ascending-from, loadable, unreadable, stands-for, Call, start, load, begin}
 use Rattle.protocol.specs.Calls.{commit, abort, step, Outcome, granted, waits, refused, refused-at, wait-set, judged, next}
@@ -212,7 +213,7 @@ at-the-limit =
 
 pub refusals-hold :
     (map from-E refusals ≡ refusals) × (played (state-after start-state filling) (history start-state filling) at-the-limit ≡ at-the-limit)
-unfolding tree-E played from-E state-after history lent-after next judged wait-set loadable first-lent second-lent full
+unfolding tree-E played from-E state-after history lent-after next judged wait-set in-ring loadable first-lent second-lent full
     nodes callers-document document-of grant commit-tree abort-tree tree-of node-0-alone clash locks
     legal ruled lines select rows keep amend view place put within utf8 characters spells-name spells-text is-name is-text allowed takes
     attributes-first children-rule insert-at placed

@@ -1,5 +1,5 @@
 -- The engine's state: the open transactions, and the tree of all nodes held, each with its marks; documents are views of it.
-use Prim.Native.Nat.{ℕ}
+use Prim.Native.Nat.{ℕ, _-_}
 use mathlib.Core.Bool.{Bool, true, false, cond, not, _&&_, _||_}
 use mathlib.Core.List.{List, [], _∷_, map}
 use lib.Dec.{eqb}
@@ -8,7 +8,7 @@ use Rattle.tree.specs.Forest.{Forest, Row, rows, amend, view, put}
 use Rattle.tree.specs.Content.{between}
 use Rattle.tree.specs.Document.{Node, Document, node-0-alone}
 use Rattle.tree.specs.Steps.{Step, T, C, R, U, D, I, TT, RR, UU, is-named, with-content}
-use Rattle.locks.specs.Modes.{ModeSet, no-mode, union, among}
+use Rattle.locks.specs.Modes.{ModeSet, no-mode, union, among, bit}
 use Rattle.locks.specs.Needs.{Lock}
 
 -- transaction numbers are 1 to 16; 0 stands for nobody
@@ -64,9 +64,18 @@ with-held x a = record { now = a .now; update = a .update; inserter = a .inserte
 abbrev pub Tree : Type 0
 Tree = Forest Marked
 
--- what is not per node: which transactions are open
+-- a set of transactions as a word: "bit t-1 for each such transaction t"
+abbrev pub in-set : ℕ → ℕ → Bool
+in-set w t = cond (is-transaction t) (bit w (t - 1)) false
+
+-- the waits-for graph: for each transaction, the set of those that it waits for
+abbrev pub WaitSets : Type 0
+WaitSets = ℕ → ℕ → Bool
+
+-- what is not per node: which transactions are open, and the wait set that is remembered of each (A.6), which is empty where none is
 pub record Header : Type 0 where
   pub is-open : ℕ → Bool
+  pub remembered : WaitSets
 
 pub record State : Type 0 where
   pub header : Header
@@ -223,13 +232,16 @@ with-header h M = record { header = h; tree = M .tree }
 abbrev pub with-tree : State → Tree → State
 with-tree M f = record { header = M .header; tree = f }
 
--- a header with other open transactions
+-- a header with other open transactions, or with other remembered sets
 abbrev pub with-open : (ℕ → Bool) → Header → Header
-with-open f h = record { is-open = f }
+with-open f h = record { is-open = f; remembered = h .remembered }
+
+abbrev pub with-remembered : WaitSets → Header → Header
+with-remembered r h = record { is-open = h .is-open; remembered = r }
 
 -- "node 0 alone and nothing is open"
 abbrev pub start-header : Header
-start-header = record { is-open = λ u. false }
+start-header = record { is-open = λ u. false; remembered = λ u v. false }
 
 abbrev pub start-state : State
 start-state = record { header = start-header; tree = tree-of node-0-alone }
@@ -237,5 +249,33 @@ start-state = record { header = start-header; tree = tree-of node-0-alone }
 abbrev pub opened : ℕ → State → State
 opened t M = with-header (with-open (λ u. eqb u t || M .header .is-open u) (M .header)) M
 
+-- waiting ------------------------------------------------------------------------------
+
+-- the set of t is S, in place of the one before
+abbrev pub with-set : ℕ → (ℕ → Bool) → WaitSets → WaitSets
+with-set t S r u = cond (eqb u t) S (r u)
+
+abbrev pub set-header : ℕ → (ℕ → Bool) → Header → Header
+set-header t S h = with-remembered (with-set t S (h .remembered)) h
+
+-- the set of t is remembered as S, and nothing else changes
+abbrev pub remembering : ℕ → (ℕ → Bool) → State → State
+remembering t S M = with-header (set-header t S (M .header)) M
+
+-- t waits for nobody
+abbrev pub forgetting : ℕ → State → State
+forgetting t M = remembering t (λ u. false) M
+
+-- "a transaction that ends is struck from all sets", and its own is remembered until "its end"
+abbrev pub struck : ℕ → WaitSets → WaitSets
+struck t r u v = not (eqb u t) && (not (eqb v t) && r u v)
+
+abbrev pub struck-header : ℕ → Header → Header
+struck-header t h = with-remembered (struck t (h .remembered)) h
+
+-- the end of t: it is not open, it waits for nobody, and nobody waits for it
+abbrev pub ended : ℕ → Header → Header
+ended t h = struck-header t (with-open (λ u. not (eqb u t) && h .is-open u) h)
+
 abbrev pub closed : ℕ → Tree → State → State
-closed t f M = with-tree (with-header (with-open (λ u. not (eqb u t) && M .header .is-open u) (M .header)) M) f
+closed t f M = with-tree (with-header (ended t (M .header)) M) f

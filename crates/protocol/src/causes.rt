@@ -1,4 +1,4 @@
-// The causes of a refusal, by their numbers: document 01, "Refused calls". specs/Causes.antt has the same names.
+// The causes of a refusal, by their numbers: document 01, "Refused calls", and document 02. specs/Causes.antt has the same names.
 
 pub const NOT_A_TRANSACTION: u8 = 1;
 
@@ -29,3 +29,5 @@ pub const SHORT_BUFFER: u8 = 13;
 pub const NOT_EXPRESSIBLE: u8 = 14;
 
 pub const OPEN_AT_LOAD: u8 = 15;
+
+pub const DEADLOCK: u8 = 17;

@@ -3,6 +3,7 @@ ghost use mathlib.Core.Path.{_≡_};
 ghost use Rattle.protocol.specs.Answers.{code-of};
 
 pub mod causes;
+pub mod sets;
 
 // The outcomes of the calls.
 pub enum Answer {

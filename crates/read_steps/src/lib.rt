@@ -16,7 +16,7 @@ pub fn child(s: &mut [u8], t: u32, n: u32, k: u32) -> Answer
     let need = locks::needed(StepName::C);
     let verdict = engine::judge(s, at, &way, at.cause, need);
     if !verdict.free {
-        return verdict.answer;
+        return engine::stop(s, at, verdict);
     }
     let answer = node_reading::kth_child(s, at.t, at.place, k);
     engine::grant(s, at, &way, need);
@@ -34,7 +34,7 @@ pub fn read(s: &mut [u8], t: u32, n: u32, out: &mut [u8]) -> Answer
     let need = locks::needed(StepName::R);
     let verdict = engine::judge(s, at, &way, cause, need);
     if !verdict.free {
-        return verdict.answer;
+        return engine::stop(s, at, verdict);
     }
     let size = table::size(s, at.place, 0);
     if out.len() < size {
@@ -55,7 +55,7 @@ pub fn test_tree(s: &mut [u8], t: u32, n: u32, out: &mut [u8]) -> Answer
     let need = locks::needed(StepName::TT);
     let verdict = engine::judge(s, at, &way, at.cause, need);
     if !verdict.free {
-        return verdict.answer;
+        return engine::stop(s, at, verdict);
     }
     let mut nodes = [0u16; 1024];
     let count = node_reading::select(s, at.t, at.place, &mut nodes);
@@ -80,7 +80,7 @@ pub fn read_tree(s: &mut [u8], t: u32, n: u32, out: &mut [u8], cells: &mut [u8])
     let need = locks::needed(StepName::RR);
     let verdict = engine::judge(s, at, &way, at.cause, need);
     if !verdict.free {
-        return verdict.answer;
+        return engine::stop(s, at, verdict);
     }
     let mut nodes = [0u16; 1024];
     let count = node_reading::select(s, at.t, at.place, &mut nodes);

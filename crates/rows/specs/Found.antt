@@ -14,10 +14,12 @@ use Rattle.tree.specs.Steps.{Value, done, kind-parent, child-is, none, content-
 use Rattle.locks.specs.Modes.{Mode, against}
 use Rattle.locks.specs.Needs.{Need, need, locks, needs}
 use Rattle.locks.specs.Words.{word}
-use Rattle.protocol.specs.State.{Marked, State, callers-document, with-tree, act, grant}
+use Rattle.protocol.specs.State.{Marked, State, callers-document, with-tree, forgetting, act, grant}
 use Rattle.protocol.specs.Lent.{Room, has-room}
 use Rattle.protocol.specs.Causes.{kind-not-allowed, content-not-allowed, held-number, place-not-allowed, no-more-nodes, short-buffer}
-use Rattle.protocol.specs.Calls.{node-limit, wait-set, number-in-use, limit-reached, Next, checked, grants-step, refused, waits}
+use Rattle.protocol.specs.Causes.{deadlock}
+use Rattle.protocol.specs.Calls.{node-limit, wait-set, number-in-use, limit-reached, Next, checked, held-back, grants-step, refused, waits}
+use Rattle.protocol.specs.Calls.{closes-ring}
 use Rattle.table.specs.Layout.{Entry}
 use Rattle.rows.specs.Places.{item, number-of, place-of, ups, numbers-above, children, subtree}
 
@@ -91,13 +93,14 @@ pub record Found (l : List Entry) (t : ℕ) (s : Step) (M : State) (p : ℕ) : T
   pub full : limit-reached node-limit s (M .tree) ≡ limit-reached-in s l
   pub answers : answer s (callers-document t (M .tree)) ≡ answer-at s t l p
 
--- the whole judgement: 8, 9, 10, wait, 11, 12, 13, then granted
+-- the whole judgement: 8, 9, 10, wait or 17, 11, 12, 13, then granted
 unfoldable pub judged-at : ℕ → Step → Room → State → List Entry → ℕ → Next
 judged-at t s room M l p =
-    checked (
+    checked (held-back t M) (
     (refused kind-not-allowed, wrong-kind-on s (item l p .now .kind))
     ∷ (refused content-not-allowed, wrong-content-on s (item l p .now .kind))
     ∷ (refused held-number, used-in s l)
+    ∷ (refused deadlock, closes-ring t (wait-word t (need s) (M .header .is-open) (item l p ∷ ups l p)) M)
     ∷ (
       waits (wait-word t (need s) (M .header .is-open) (item l p ∷ ups l p)),
       not (eqb (wait-word t (need s) (M .header .is-open) (item l p ∷ ups l p)) 0),
@@ -105,4 +108,4 @@ judged-at t s room M l p =
     ∷ (refused place-not-allowed, misplaced-on s (item l p .now .kind) (map kind-of (children t l p)))
     ∷ (refused no-more-nodes, limit-reached-in s l)
     ∷ (refused short-buffer, not (has-room (answer-at s t l p) room)) ∷ [])
-    M (grants-step s (answer-at s t l p) (with-tree M (grant t (locks s (numbers-above l p)) (act t s (M .tree)))))
+    (grants-step s (answer-at s t l p) (forgetting t (with-tree M (grant t (locks s (numbers-above l p)) (act t s (M .tree))))))

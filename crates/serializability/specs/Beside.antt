@@ -17,6 +17,7 @@ use Rattle.tree.specs.Examples.{tree-E}
 use Rattle.locks.specs.Modes.{clash}
 use Rattle.locks.specs.Needs.{locks}
 use Rattle.protocol.specs.State.{State, start-state, nodes, callers-document, document-of, grant, commit-tree, abort-tree, tree-of}
+use Rattle.protocol.specs.Rings.{in-ring}
 use Rattle.protocol.specs.Lent.{first-lent, second-lent}
 use Rattle.protocol.specs.Calls.{loadable, Call, step, Outcome, granted, written, waits, refused, refused-at, wait-set, judged, next}
 use Rattle.protocol.specs.History.{state-after}
@@ -63,7 +64,7 @@ table =
     (uu 0, "+++------------++-----") ∷ []
 
 pub beside-holds : map (λ r. map (beside (state-after start-state opening) (r .0)) columns) table ≡ map (λ r. bytes (r .1)) table
-unfolding tree-E state-after next judged wait-set loadable first-lent second-lent
+unfolding tree-E state-after next judged wait-set in-ring loadable first-lent second-lent
     nodes callers-document document-of grant commit-tree abort-tree tree-of node-0-alone clash locks
     legal ruled lines select rows keep amend view place put within utf8 characters spells-name spells-text is-name is-text allowed takes
     attributes-first

@@ -1,5 +1,6 @@
 pub mod Outcomes
 pub mod WaitSet
+pub mod Rings
 pub mod OneCall
 pub mod Logs
 pub mod Shown
@@ -18,6 +19,7 @@ pub mod Pending
 pub mod Main
 pub mod OpenOrders
 pub mod Reached
+pub mod Deadlock
 pub mod Tests
 pub mod Lines
 pub mod Views
@@ -30,3 +32,4 @@ pub mod Orders
 pub mod Serial
 pub mod Rules
 pub mod Legal
+pub mod Remembered

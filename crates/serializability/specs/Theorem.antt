@@ -1,22 +1,25 @@
--- What is claimed of every list of calls that begins with a start: document 01, "The plain run" (demand 3), and document 02, A.14.
+-- What is claimed of every list of calls that begins with a start: document 01, "The plain run" (demand 3), and document 02, A.14 and A.6.
 -- Only definitions of tree, locks and protocol are used; the proofs are in Laws.
 use Prim.Native.Nat.{ℕ, _-_, _<_, _^_}
 use mathlib.Core.Path.{_≡_}
 use mathlib.Core.Logic.{_↔_}
-use mathlib.Core.Bool.{Bool, true, false}
+use mathlib.Core.Bool.{Bool, true, false, cond}
 use mathlib.Core.List.{List, [], _∷_, _++_, map, List·Memᴰ}
+use lib.Dec.{eqb}
 use Rattle.tree.specs.Lists.{has, distinct, joined}
 use Rattle.tree.specs.Document.{Document, here, legal}
 use Rattle.tree.specs.Steps.{Step, Value, done, plain-value, unfit, target, plain-document, plain-answers}
 use Rattle.locks.specs.Modes.{Mode, bit}
 use Rattle.locks.specs.Needs.{Lock, needs}
-use Rattle.protocol.specs.State.{State, start-state, Marked, is-transaction, transactions, nodes}
+use Rattle.protocol.specs.State.{State, start-state, Marked, is-transaction, transactions, nodes, in-set, WaitSets, with-set, remembering}
 use Rattle.protocol.specs.State.{callers-document, held-document, document-of, committed-document}
 use Rattle.protocol.specs.Lent.{Room}
-use Rattle.protocol.specs.Causes.{no-such-node}
-use Rattle.protocol.specs.Calls.{Call, start, commit, abort, step, write, granted, written, waits, refused, blocks, next}
+use Rattle.protocol.specs.Causes.{no-such-node, deadlock}
+use Rattle.protocol.specs.Rings.{AmongOpen, in-ring}
+use Rattle.protocol.specs.Calls.{Call, start, load, begin, commit, abort, step, write, Outcome, granted, written, waits, refused}
+use Rattle.protocol.specs.Calls.{blocks, wait-set, next}
 use Rattle.protocol.specs.History.{Event, history, state-after, is-granted, committed-then, fed, answered, plain}
-use Rattle.protocol.specs.History.{plain-run-answers, pending}
+use Rattle.protocol.specs.History.{plain-run-answers, pending, waited-for, sets-after}
 
 -- a list that begins with a start, which is always granted, and the state that it reaches. They begin in one fixed state: start forgets the
 -- state before it (`start-forgets`)
@@ -83,6 +86,44 @@ pub record Demand3 (cs : List Call) : Type 0 where
   pub aborted : held-document (all-aborted (reached cs)) ≡ plain (since-start cs)
   pub writes : writes-plain [] (since-start cs)
 
+-- A.6 ----------------------------------------------------------------------------------
+
+-- a path of waits leads from t to u: "each waiting for the next"
+pub data WaitPath (r : WaitSets) : ℕ → ℕ → Type 0 where
+  waits-for : {t u : ℕ} → r t u ≡ true → WaitPath r t u
+  waits-then : {t v u : ℕ} → r t v ≡ true → WaitPath r v u → WaitPath r t u
+
+-- a step of t that needs these locks would wait, and with its set in place of the remembered one a path of waits leads from t back to t
+pub record ClosesRing (t : ℕ) (ls : List Lock) (M : State) : Type 0 where
+  pub would-wait : wait-set t ls M ≡ 0 → ⊥
+  pub ring : WaitPath (with-set t (in-set (wait-set t ls M)) (M .header .remembered)) t t
+
+-- only transactions wait, and only for transactions
+abbrev pub AmongTransactions : WaitSets → Type 0
+AmongTransactions r = (t u : ℕ) → r t u ≡ true → (is-transaction t ≡ true) × (is-transaction u ≡ true)
+
+-- the test for a ring finds one of any length
+abbrev pub RingTest : Type 0
+RingTest = (r : WaitSets) → AmongTransactions r → (t : ℕ) → (in-ring r t ≡ true) ↔ WaitPath r t t
+
+-- "these sets" are those that the answers told: a wait's set, until the next granted or waiting step or the end
+abbrev pub AsTold : Type 0
+AsTold = (cs : List Call) → reached cs .header .remembered ≡ sets-after (λ t u. false) (since-start cs)
+
+-- 17 is given only for a ring
+abbrev pub DeadlockOnly : Type 0
+DeadlockOnly = (t : ℕ) (s : Step) (room : Room) (M : State) → next (step t s room) M .outcome ≡ refused deadlock
+    → ClosesRing t (needs s (callers-document t (M .tree))) M
+
+-- of the remembered sets in the state M
+pub record NoDeadlock (M : State) : Type 0 where
+  -- so where nothing is open, as after a start or a load, all sets are empty
+  pub among-open : AmongOpen (M .header)
+  pub no-ring : (t : ℕ) → WaitPath (M .header .remembered) t t → ⊥
+  -- "while any transaction is open, at least one of them waits for nobody in these sets"
+  pub one-free : (t : ℕ) → M .header .is-open t ≡ true
+      → (u : ℕ) × (M .header .is-open u ≡ true) × ((v : ℕ) → M .header .remembered u v ≡ false)
+
 -- the states that are reached ----------------------------------------------------------
 
 pub record Reached (M : State) : Type 0 where
@@ -96,9 +137,21 @@ pub record Reached (M : State) : Type 0 where
 
 -- one call -----------------------------------------------------------------------------
 
--- demand 1: a call that waits or is refused leaves the state as it was, and no step in it was granted
+-- what a call leaves that is not granted: a wait of t "changes only this memory, a refusal nothing"
+abbrev pub left-by : Call → Outcome → State → State
+left-by (step t s room) o M = cond (eqb (waited-for o) 0) M (remembering t (in-set (waited-for o)) M)
+left-by start o M = M
+left-by (load i) o M = M
+left-by (begin t) o M = M
+left-by (commit t) o M = M
+left-by (abort t) o M = M
+left-by write o M = M
+
+-- demand 1: no step was granted in a call that waits or is refused; a refusal leaves the state as it was, and a wait all but the set that
+-- is remembered of its transaction
 abbrev pub NotGranted : Type 0
-NotGranted = (c : Call) (M : State) → is-granted (next c M .outcome) ≡ false → (next c M .steps ≡ []) × (next c M .state ≡ M)
+NotGranted = (c : Call) (M : State) → is-granted (next c M .outcome) ≡ false
+    → (next c M .steps ≡ []) × (next c M .state ≡ left-by c (next c M .outcome) M)
 
 -- a granted step is the one that was asked for, and its answer is the one that the call returned
 abbrev pub StepGranted : Type 0

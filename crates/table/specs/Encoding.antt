@@ -7,18 +7,18 @@ use lib.Dec.{eqb}
 use lib.ListN.{length, getD, take, drop}
 use Rattle.tree.specs.Text.{bytes}
 use Rattle.tree.specs.Lists.{distinct}
-use Rattle.locks.specs.Modes.{ModeSet, no-mode, in-word, bit}
-use Rattle.protocol.specs.State.{nobody, is-transaction, Update, unwritten, wrote, Marked, Header}
+use Rattle.locks.specs.Modes.{ModeSet, no-mode, in-word}
+use Rattle.protocol.specs.State.{nobody, is-transaction, in-set, WaitSets, Update, unwritten, wrote, Marked, Header}
 
 -- offsets ----------------------------------------------------------------------------
 
 -- the bytes that a state takes; those behind are never touched
 abbrev pub state-size : ℕ
-state-size = 112656
+state-size = 112688
 
 -- the first eight bytes
 abbrev pub format-mark : List ℕ
-format-mark = bytes "NFSTATE2"
+format-mark = bytes "NFSTATE3"
 
 abbrev pub open-at : ℕ
 open-at = 8
@@ -37,6 +37,10 @@ cell-at k = 8208 + 70 * k
 -- the lock word of a transaction (from 1) and a slot
 abbrev pub lock-at : ℕ → ℕ → ℕ
 lock-at t k = 79888 + 2048 * (t - 1) + 2 * k
+
+-- the word of a transaction's remembered wait set
+abbrev pub set-at : ℕ → ℕ
+set-at t = 112656 + 2 * (t - 1)
 
 -- what they hold -----------------------------------------------------------------------
 
@@ -69,11 +73,15 @@ cell s k = part s (cell-at k) 70
 
 -- bit t-1 for each open transaction t
 unfoldable pub is-open : List ℕ → ℕ → Bool
-is-open s t = cond (is-transaction t) (bit (word s open-at) (t - 1)) false
+is-open s t = in-set (word s open-at) t
+
+-- the same for each transaction in its remembered set
+unfoldable pub remembered : List ℕ → WaitSets
+remembered s t u = cond (is-transaction t) (in-set (word s (set-at t)) u) false
 
 -- what is not per node
 abbrev pub header : List ℕ → Header
-header s = record { is-open = is-open s }
+header s = record { is-open = is-open s; remembered = remembered s }
 
 -- the modes that a transaction was granted on the node of a slot
 unfoldable pub held : List ℕ → ℕ → ℕ → ModeSet

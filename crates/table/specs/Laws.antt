@@ -6,6 +6,7 @@ pub mod Fields
 pub mod Texts
 pub mod Locks
 pub mod Bits
+pub mod Sets
 pub mod Opens
 pub mod First
 pub mod Entries

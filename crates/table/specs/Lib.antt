@@ -5,5 +5,6 @@ pub mod Encoding
 pub mod Layout
 pub mod Fields
 pub mod Transaction
+pub mod Sets
 pub mod Outline
 pub mod Laws

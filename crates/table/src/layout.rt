@@ -7,9 +7,9 @@ ghost use Rattle.table.specs.Layout.{word, double-word};
 ghost use Rattle.table.specs.Laws.Bytes.{put-word, put-double-word, Filled};
 
 // The first bytes of a state, and the bytes that it takes; those behind are never touched.
-pub const MARK: [u8; 8] = *b"NFSTATE2";
+pub const MARK: [u8; 8] = *b"NFSTATE3";
 
-pub const SIZE: usize = 112656;
+pub const SIZE: usize = 112688;
 
 // The most nodes.
 pub const NODES: usize = 1024;
@@ -32,6 +32,9 @@ pub const CELL: usize = 70;
 pub const LOCKS: usize = 79888;
 
 pub const WORDS: usize = 2048;
+
+// The remembered wait sets, a word for each transaction.
+pub const SETS: usize = 112656;
 
 pub fn join(low: u8, high: u8) -> u16
     ensures { λ r. ⌜ r ≡ low + 256 * high ⌝ }

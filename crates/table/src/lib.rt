@@ -1,7 +1,8 @@
-// The lent bytes: where they hold the nodes, the locks and the open transactions (docs/STATE.md). The contracts of
-// public functions speak of `nodes` alone.
+// The lent bytes: where they hold the nodes, the locks, the open transactions and the wait sets (docs/STATE.md). The contracts of
+// public functions speak of `header` and `nodes`, but for `sets::remember`, which names the bytes that a wait changes.
 pub mod layout;
 pub mod outline;
+pub mod sets;
 pub mod transactions;
 
 ghost use mathlib.Core.Path.{_≡_};

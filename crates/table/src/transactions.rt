@@ -1,30 +1,24 @@
 // Transactions in the lent bytes: which are open, and the modes that each was granted on each node.
 use crate::layout;
+use crate::sets;
 ghost use mathlib.Core.Path.{_≡_};
-ghost use mathlib.Core.Bool.{true, false, cond, not, _&&_, _||_};
-ghost use Prim.Native.Nat.{_^_, _<_, _≤_};
+ghost use mathlib.Core.Bool.{true, false, cond, not, _||_};
+ghost use Prim.Native.Nat.{_<_, _≤_};
 ghost use lib.ListN.{length, getD};
 ghost use lib.Dec.{eqb};
 ghost use Rattle.locks.specs.Modes.{in-word};
-ghost use Rattle.protocol.specs.State.{released, with-open};
+ghost use Rattle.protocol.specs.State.{released, with-open, ended};
 ghost use Rattle.table.specs.Lists.{modify};
 ghost use Rattle.table.specs.Flat.{second};
 ghost use Rattle.table.specs.Layout.{is-open, nodes, no-entry, Layout, Left, Kept, header};
 ghost use Rattle.table.specs.Fields.{with-modes, unlocked};
 ghost use Rattle.table.specs.Transaction.{Loaded};
 
-fn power(m: usize) -> u16
-    requires { ⌜ m < 16 ⌝ }
-    ensures { λ r. ⌜ r ≡ 2 ^ m ⌝ }
-{
-    1 << m
-}
-
 pub fn is_open(s: &[u8], t: usize) -> bool
     requires { ⌜ (Layout (now s)) × (1 ≤ t) × (t ≤ 16) ⌝ }
     ensures { λ r. ⌜ r ≡ is-open (now (s .entry)) t ⌝ }
 {
-    (layout::word(s, layout::OPEN) >> (t - 1)) % 2 == 1
+    protocol::sets::has(layout::word(s, layout::OPEN), t)
 }
 
 // Transaction t is opened if it was not open, else closed.
@@ -35,7 +29,7 @@ fn turn(s: &mut [u8], t: usize)
         (nodes (now (s .entry))) ⌝ }
 {
     let w = layout::word(s, layout::OPEN);
-    layout::set_word(s, layout::OPEN, w ^ power(t - 1));
+    layout::set_word(s, layout::OPEN, sets::turned(w, t));
 }
 
 pub fn open(s: &mut [u8], t: usize)
@@ -46,12 +40,13 @@ pub fn open(s: &mut [u8], t: usize)
     turn(s, t);
 }
 
+// Transaction t is not open; it waits for nobody, and nobody waits for it.
 pub fn close(s: &mut [u8], t: usize)
     requires { ⌜ (Layout (now s)) × (1 ≤ t) × (t ≤ 16) × (is-open (now s) t ≡ true) ⌝ }
-    ensures { λ r. ⌜ Left (now (s .entry)) (now (s .exit))
-        (with-open (λ u. not (eqb u t) && is-open (now (s .entry)) u) (header (now (s .entry)))) (nodes (now (s .entry))) ⌝ }
+    ensures { λ r. ⌜ Left (now (s .entry)) (now (s .exit)) (ended t (header (now (s .entry)))) (nodes (now (s .entry))) ⌝ }
 {
     turn(s, t);
+    sets::strike(s, t);
 }
 
 // The modes that transaction t was granted on the node at i, as a word.

@@ -1,6 +1,6 @@
 -- What a panel program hands over in a call, and what it gets back: numbers and bytes alone (include/noodlefen.h).
 use Prim.Native.Nat.{ℕ, _/_, _%_}
-use mathlib.Core.Bool.{Bool}
+use mathlib.Core.Bool.{Bool, cond}
 use mathlib.Core.List.{List, []}
 use lib.Dec.{eqb}
 use Rattle.tree.specs.Steps.{Step}
@@ -53,3 +53,10 @@ value code = code / 65536
 -- granted, by the number
 abbrev pub told-granted : ℕ → Bool
 told-granted code = eqb (outcome code) 0
+
+-- a wait, by the number, and its set; 0 where it is none
+abbrev pub told-waiting : ℕ → Bool
+told-waiting code = eqb (outcome code) 1
+
+abbrev pub told-set : ℕ → ℕ
+told-set code = cond (told-waiting code) (value code) 0

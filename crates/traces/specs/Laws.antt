@@ -5,5 +5,6 @@ pub mod OneCall
 pub mod StateBytes
 pub mod OneAnswer
 pub mod Logs
+pub mod Waiting
 pub mod Main
 pub mod Exports

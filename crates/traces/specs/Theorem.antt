@@ -1,5 +1,5 @@
--- What is claimed of every list of calls on one lent state: demands 1, 2 and 3, and A.14. `delivered` (Laws/Main.antt) proves it from the
--- contracts of the exported functions alone.
+-- What is claimed of every list of calls on one lent state: demands 1, 2 and 3, A.14 and A.6. `delivered` (Laws/Main.antt) proves it from
+-- the contracts of the exported functions alone.
 use mathlib.Core.Path.{_≡_}
 use Prim.Native.Nat.{ℕ, _≤_, _<_}
 use mathlib.Core.Logic.{_↔_}
@@ -10,22 +10,23 @@ use Rattle.tree.specs.Document.{Document, node-0-alone}
 use Rattle.tree.specs.Lists.{has, joined}
 use Rattle.tree.specs.Steps.{Step, Value, PlainAnswer, plain-value, unfit, plain-document, plain-answers}
 use Rattle.locks.specs.Needs.{needs}
-use Rattle.protocol.specs.State.{State, start-state, callers-document, held-document, committed-document}
+use Rattle.protocol.specs.State.{State, WaitSets, start-state, callers-document, held-document, committed-document}
 use Rattle.protocol.specs.Lent.{Room, filled, first-lent, second-lent}
-use Rattle.protocol.specs.Causes.{causes}
+use Rattle.protocol.specs.Causes.{causes, deadlock}
 use Rattle.protocol.specs.Calls.{Call, start, load, begin, commit, abort, step, write, next}
 use Rattle.protocol.specs.History.{Event, is-granted, Log, new-log, committed-then, logged, fed, plain}
+use Rattle.protocol.specs.History.{waited-for, sets-left}
 use Rattle.protocol.specs.Answers.{granted-answer, code-of, answer-of, lent-after, as-it-was}
 use Rattle.protocol.specs.declared.Answer.{Answer}
 use Rattle.protocol.specs.declared.Answer.the-variants.{Count, Refused}
-use Rattle.table.specs.Layout.{state-size}
+use Rattle.table.specs.Layout.{state-size, set-at}
 use Rattle.form.specs.Form.{form, Holds}
 use Rattle.engine.specs.Contract.{outside}
-use Rattle.serializability.specs.Theorem.{since-start, reached, WaitSet, OpenOrder, Demand3}
+use Rattle.serializability.specs.Theorem.{since-start, reached, WaitSet, OpenOrder, Demand3, ClosesRing, NoDeadlock}
 use Rattle.xml.specs.Writing as xml
 use Rattle.xml.specs.Writing.{ReadBack}
 use Rattle.xml_write.specs.Contract.{writing, text-after, write-answer, write-buffer}
-use Rattle.traces.specs.Exchange.{Request, Exchange, Memory, outcome, cause, value, told-granted}
+use Rattle.traces.specs.Exchange.{Request, Exchange, Memory, outcome, cause, value, told-granted, told-waiting, told-set}
 use Rattle.traces.specs.Contract.{MakesCall, Contract}
 
 -- lists of calls -----------------------------------------------------------------------
@@ -67,9 +68,19 @@ Same m = m .after ≡ m .before
 abbrev pub SameOutside : List (ℕ × ℕ) → Memory → Type 0
 SameOutside ps m = outside ps (m .after) ≡ outside ps (m .before)
 
--- the places of the state that a call may change which is not granted: none
+-- where the set stands that is remembered of the transaction of a step (A.6)
+abbrev pub remembered-at : Request → List (ℕ × ℕ)
+remembered-at (Request.step t s) = (set-at t, 2) ∷ []
+remembered-at Request.start = []
+remembered-at (Request.load xml) = []
+remembered-at Request.write = []
+remembered-at (Request.begin t) = []
+remembered-at (Request.commit t) = []
+remembered-at (Request.abort t) = []
+
+-- the places of the state that a call which is not granted may change: "a wait changes only this memory, a refusal nothing"
 abbrev pub changed-in : Exchange → List (ℕ × ℕ)
-changed-in x = []
+changed-in x = cond (told-waiting (x .code)) (remembered-at (x .request)) []
 
 -- the outcome of a call, and what it leaves, on any bytes
 pub record Outcomes (x : Exchange) : Type 0 where
@@ -77,7 +88,7 @@ pub record Outcomes (x : Exchange) : Type 0 where
   pub outcomes : outcome (x .code) ≤ 2
   pub causes : outcome (x .code) ≡ 2 → has (cause (x .code)) causes ≡ true
   pub no-cause : (outcome (x .code) ≡ 2 → ⊥) → cause (x .code) ≡ 0
-  -- a wait or a refusal: "left as it was: everything", but for the places of the state that a call changes which is not granted (none)
+  -- a wait or a refusal: "left as it was: everything", but for the set that a wait leaves to be remembered
   pub still : (outcome (x .code) ≡ 0 → ⊥) → SameOutside (changed-in x) (x .state) × Same (x .first) × Same (x .second)
   -- bytes behind the state are never touched
   pub long : length (x .state .after) ≡ length (x .state .before)
@@ -117,9 +128,14 @@ pub record Demand2 (M : State) (x : Exchange) (c : Call) : Type 0 where
   pub formed : form (x .state .after) ≡ true
   -- a call is told as granted exactly if the plain run is fed it as granted (write, which does nothing there, may be refused by 13 and 14)
   pub as-granted : (c ≡ write → ⊥) → (outcome (x .code) ≡ 0) ↔ (is-granted (next c M .outcome) ≡ true)
+  -- the number of a wait tells the set that is remembered then; no other call is told as waiting
+  pub as-waiting : told-set (x .code) ≡ waited-for (next c M .outcome)
   -- a wait names exactly the open transactions that hold a clashing mode
   pub wait-set : (t : ℕ) (s : Step) (room : Room) → c ≡ step t s room → outcome (x .code) ≡ 1
       → WaitSet (value (x .code)) t (needs s (callers-document t (M .tree))) M
+  -- 17 only where the step would wait and a path of waits would lead from its transaction back to itself
+  pub deadlock : (t : ℕ) (s : Step) (room : Room) → c ≡ step t s room → cause (x .code) ≡ deadlock
+      → ClosesRing t (needs s (callers-document t (M .tree))) M
   -- what a granted write gave is read back as the same tree, numbered anew
   pub read-back : c ≡ write → outcome (x .code) ≡ 0
       → (take (value (x .code)) (x .first .after) ≡ xml.write (committed-document M)) × ReadBack (committed-document M)
@@ -203,8 +219,8 @@ abbrev pub last-state : List ℕ → List Exchange → List ℕ
 last-state s [] = s
 last-state s (x ∷ xs) = last-state (x .state .after) xs
 
--- the plain rules run the committed transactions of the log L and then the transactions b: "each step must have the answer it had here", its
--- number and what it put in lent buffers; d is left
+-- the plain rules run the committed transactions of the log L and then the transactions b: "each step must have the answer it had here",
+-- its number and what it put in lent buffers; d is left
 pub record RunsInOrder (L : Log GrantedStep) (b : List ℕ) (d : Document) : Type 0 where
   pub answers : PlainAnswers (L .initial) (committed-then L b)
   pub document : plain-left (L .initial) (committed-then L b) ≡ d
@@ -222,6 +238,21 @@ pub record FinishInAnyOrder (L : Log GrantedStep) (s : List ℕ) (M : State) : T
   pub commits : (b : List ℕ) → OpenOrder (M .header .is-open) b → (ys : List Exchange) → Linked s ys → Made ys (map commit b)
       → ((y : Exchange) → List·Memᴰ y ys → outcome (y .code) ≡ 0)
       → (N : State) → Holds (last-state s ys) N → committed-document N ≡ held-document M
+
+-- A.6 ----------------------------------------------------------------------------------
+
+-- the sets that are remembered behind the exchanges, by their codes; r are those before
+unfoldable pub sets-by-codes : WaitSets → List Exchange → List Call → WaitSets
+sets-by-codes r [] cs = r
+sets-by-codes r (x ∷ xs) [] = r
+sets-by-codes r (x ∷ xs) (c ∷ cs) = sets-by-codes (sets-left c (told-granted (x .code)) (told-set (x .code)) r) xs cs
+
+-- of the sets r that the answers told, and the state M that the bytes hold behind them
+pub record Remembered (r : WaitSets) (M : State) : Type 0 where
+  -- "a waiting transaction's set is remembered until its next granted or waiting step, or its end"
+  pub told : M .header .remembered ≡ r
+  -- no ring, and "while any transaction is open, at least one of them waits for nobody in these sets"
+  pub no-deadlock : NoDeadlock M
 
 -- all of them --------------------------------------------------------------------------
 
@@ -254,3 +285,6 @@ pub record Delivered (x : Exchange) (xs : List Exchange) : Type 0 where
   -- A.14; a list of calls may end anywhere, so this is "at every moment"
   pub open-in-any-order : let s = last-state (x .state .after) xs in
       (M : State) → Holds s M → FinishInAnyOrder (granted-steps (x ∷ xs) (start ∷ calls)) s M
+  -- A.6, at every moment too
+  pub waiting : (M : State) → Holds (last-state (x .state .after) xs) M
+      → Remembered (sets-by-codes (λ t u. false) (x ∷ xs) (start ∷ calls)) M

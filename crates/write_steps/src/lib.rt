@@ -43,7 +43,7 @@ pub fn update(s: &mut [u8], t: u32, n: u32, b: &[u8]) -> Answer
     let need = locks::needed(StepName::U);
     let verdict = engine::judge(s, at, &way, cause, need);
     if !verdict.free {
-        return verdict.answer;
+        return engine::stop(s, at, verdict);
     }
     engine::grant(s, at, &way, need);
     node_writing::write(s, at.place, at.t, b);
@@ -62,7 +62,7 @@ pub fn delete(s: &mut [u8], t: u32, n: u32) -> Answer
     let need = locks::needed(StepName::D);
     let verdict = engine::judge(s, at, &way, cause, need);
     if !verdict.free {
-        return verdict.answer;
+        return engine::stop(s, at, verdict);
     }
     engine::grant(s, at, &way, need);
     table::set_deleter(s, at.place, at.t);
@@ -97,7 +97,7 @@ pub fn rename_tree(s: &mut [u8], t: u32, n: u32, a: &[u8], b: &[u8]) -> Answer
     let need = locks::needed(StepName::UU);
     let verdict = engine::judge(s, at, &way, cause, need);
     if !verdict.free {
-        return verdict.answer;
+        return engine::stop(s, at, verdict);
     }
     engine::grant(s, at, &way, need);
     let hits = node_writing::rename_below(s, at.place, at.t, a, b);
@@ -136,7 +136,7 @@ pub fn insert(s: &mut [u8], t: u32, m: u32, kind: u32, b: &[u8], n: u32, k: u32)
     let need = locks::needed(StepName::I);
     let verdict = engine::judge(s, at, &way, cause, need);
     if !verdict.free {
-        return verdict.answer;
+        return engine::stop(s, at, verdict);
     }
     if !node_writing::fits(s, at.place, at.t, kind, k) {
         return Answer::Refused(causes::PLACE_NOT_ALLOWED);

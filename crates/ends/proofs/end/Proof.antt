@@ -1,7 +1,7 @@
 use borrow.Author.Needs.{needs}
 use native.Mathlib.Omega.{arith}
 use Rattle.ends.specs.Laws.Calls.{document-stays, end-barred, end-done}
-use Rattle.ends.specs.Laws.Marks.{left-open, ended}
+use Rattle.ends.specs.Laws.Marks.{left-open, end-left}
 use Rattle.ends.proofs.end.Statement.{statement}
 use Rattle.ends.proofs.end.Tie as tie
 
@@ -29,7 +29,7 @@ returns-2 c =
     let opened = at-if1 .before .caller .ensures .opened (at-if1 .if1 .left) in
     let pass = c .before .before .before .before .before .before .one-pass .ensures in
     let commits = at-if1 .before .before .before .before .args .commits in
-    end-done commits opened (ended commits _ pass (c .before .before .close .ensures))
+    end-done commits opened (end-left commits _ pass (c .before .before .close .ensures))
 
 pub end-spec : {M : Type 1} → statement M
 end-spec = tie.close (tie.spec (λ c κs. search needs) (λ c. search needs) returns cast-one-pass one-pass-requires close-requires

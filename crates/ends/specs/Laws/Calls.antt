@@ -8,7 +8,8 @@ use lib.ListN.{length, getD}
 use lib.Dec.{eqb, leb}
 use borrow.Author.Tests.{le-leb, lt-leb, leb-true, leb-false, ne-eqb}
 use Rattle.tree.specs.Steps.{done}
-use Rattle.protocol.specs.State.{nobody, Header, State, Tree, opened, closed, with-open}
+use Rattle.protocol.specs.State.{nobody, Header, State, Tree, opened, closed, with-open, ended}
+use Rattle.protocol.specs.Laws.WaitSets.{among-begun, among-ended}
 use Rattle.protocol.specs.Calls.{Call, begin, refused, Next, unchanged, becomes, if-open, next}
 use Rattle.protocol.specs.Answers.{answer-of, granted-answer}
 use Rattle.protocol.specs.declared.Answer.the-variants.{Done, Refused}
@@ -127,6 +128,7 @@ module _ {s : List ℕ} {t : ℕ} (f : form s ≡ true) where
             rows = k .nodes ∙ h .rows;
             unique = rw (k .nodes) (h .unique);
             valid = h .valid;
+            sets = among-begun (M .header) (h .sets) t;
           });
           long = k .long;
           behind = k .behind;
@@ -176,11 +178,12 @@ end-done {s} {s′} {t} commits o k =
             layout = k .layout;
             long = k .long;
             behind = k .behind;
-            header = k .header ∙ ap (λ (q : Header). with-open (λ u. not (eqb u t) && q .is-open u) q) (h .header);
+            header = k .header ∙ ap (ended t) (h .header);
             nodes = k .nodes ∙ ap (two-passes commits t) (h .rows)
                 ∙ sym (end-rows commits t (M .tree));
           })
-          (end-unique commits t (M .tree) (holds-unique h)) (end-valid commits t (M .tree) (o .low) (h .valid)));
+          (end-unique commits t (M .tree) (holds-unique h)) (end-valid commits t (M .tree) (o .low) (h .valid))
+          (among-ended (M .header) (h .sets) t));
       long = k .long;
       behind = k .behind;
     })

@@ -1,21 +1,21 @@
 -- The marks of a node cleared one by one, and what an end leaves in all.
 use mathlib.Core.Path.{_≡_, refl, sym, ap, _∙_}
 use Prim.Native.Nat.{ℕ, zero, suc, _≤_}
-use mathlib.Core.Bool.{Bool, true, false, not, _&&_}
+use mathlib.Core.Bool.{Bool, true, false}
 use mathlib.Core.List.{List}
 use native.Mathlib.Omega.{arith}
 use lib.ListN.{getD}
 use lib.Dec.{eqb}
 use borrow.Author.Tests.{eq-eqb, ne-eqb}
-use Rattle.protocol.specs.State.{nobody, writer-of, Marked, Header, released, with-open}
+use Rattle.protocol.specs.State.{nobody, writer-of, Marked, Header, released, ended}
 use Rattle.table.specs.Lists.{modify}
 use Rattle.table.specs.Flat.{second}
 use Rattle.table.specs.Layout.{is-open, Entry, nodes, no-entry, Layout, Left, Kept, header}
 use Rattle.table.specs.Fields.{field, storable, with-field, has-text, restored}
 use Rattle.table.specs.Laws.Lists.{modify-modify, modify-same, modify-none}
-use Rattle.table.specs.Laws.Kept.{kept-same, kept-then, kept-as}
+use Rattle.table.specs.Laws.Kept.{kept-same, kept-then, kept-as, left-on}
 use Rattle.ends.specs.Marks.{at-end, without-mark, rewritten, ended-marks, Closed}
-use Rattle.ends.specs.Pass.{OnePass, Ended}
+use Rattle.ends.specs.Pass.{two-passes, OnePass, Ended}
 
 -- one node -------------------------------------------------------------------------------------
 
@@ -95,13 +95,7 @@ marks-whole commits t a = go commits (eqb (writer-of (a .update)) t) refl (eqb (
     go false false p y q false r = rw (p, r)
 
 -- an end: the one pass, and t closed
-pub ended : {s s₁ s₂ : List ℕ} {visits : ℕ} (commits : Bool) (t : ℕ) → OnePass commits t s s₁ visits
+pub end-left : {s s₁ s₂ : List ℕ} {visits : ℕ} (commits : Bool) (t : ℕ) → OnePass commits t s s₁ visits
     → Closed t s₁ s₂ (nodes s₁)
     → Ended commits t s s₂
-ended commits t a c = record {
-  layout = c .layout;
-  long = c .long ∙ a .left .long;
-  behind = c .behind ∙ a .left .behind;
-  header = c .header ∙ ap (λ (q : Header). with-open (λ u. not (eqb u t) && q .is-open u) q) (a .left .header);
-  nodes = c .nodes ∙ a .left .nodes;
-}
+end-left {s} commits t a c = left-on (two-passes commits t (nodes s)) (ended t) (λ ns. ns) (a .left) c

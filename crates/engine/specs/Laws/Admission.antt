@@ -120,6 +120,7 @@ admit-found {s} {t} {n} o p e w k c z =
         same = refl;
         low = o .low;
         high = o .high;
+        is-open = o .is-open;
         inside = k;
         number = at;
         seen = c .seen z;

@@ -19,15 +19,19 @@ use Rattle.locks.specs.Laws.Sets.{in-union, SameSets, need-sets}
 use Rattle.protocol.specs.State.{Marked, with-held}
 use Rattle.table.specs.Lists.{modify}
 use Rattle.table.specs.Flat.{second}
-use Rattle.table.specs.Layout.{Entry, nodes, no-entry, Layout, Kept}
+use Rattle.table.specs.Layout.{Entry, set-at, nodes, no-entry, Layout, Kept}
+use Rattle.table.specs.Sets.{WithSet}
 use Rattle.table.specs.Fields.{with-modes}
 use Rattle.table.specs.Laws.Lists.{modify-same}
-use Rattle.table.specs.Laws.Kept.{kept-same, kept-then, kept-as}
+use Rattle.table.specs.Laws.Bytes.{put-word}
+use Rattle.table.specs.Laws.Kept.{kept-same, kept-then, kept-as, left-then}
+use Rattle.table.specs.Laws.Sets.{remembered-left}
+use Rattle.protocol.specs.Laws.Transactions.{empty-set}
 use Rattle.rows.specs.Places.{item}
 use Rattle.rows.specs.Rows.{granted-modes, granted-along}
 use Rattle.engine.specs.Way.{Places, places-of, Inside}
 use Rattle.engine.specs.Waits.{word-at}
-use Rattle.engine.specs.Grants.{with-more, granted-from, granted-on}
+use Rattle.engine.specs.Grants.{with-more, granted-from, granted-on, Granted, GrantedStep}
 
 -- one node ---------------------------------------------------------------------------
 
@@ -108,3 +112,24 @@ module _ {s s′ : List ℕ} {t : ℕ} {m : NeedWords} {w : Places} {j : ℕ} (h
   granting-done k st e =
       let z : drop j (places-of w) ≡ [] = drop-of-length-le (places-of w) {i = j} (omega (arith, length-places)) in
       kept-as _ _ (sym (sym (along-words t (need st) (need-sets st) (places-of w) (nodes s)) ∙ rw (← e) (c .rest ∙ rw z))) (c .kept)
+
+-- a granted step -----------------------------------------------------------------------------
+
+-- first the set of t is emptied
+forgotten : (s s′ : List ℕ) (t : ℕ) → s′ ≡ put-word s (set-at t) 0 → Layout s → 1 ≤ t → t ≤ 16 → WithSet s s′ t (λ u. false)
+forgotten s s′ t e h a b = rw (← empty-set) (remembered-left s s′ t 0 e h a b)
+
+-- the places are where they were
+pub forgotten-inside : (s s′ : List ℕ) (t : ℕ) (w : Places) → s′ ≡ put-word s (set-at t) 0 → Layout s → 1 ≤ t → t ≤ 16
+    → Inside (nodes s) w → (Layout s′) × (1 ≤ t) × (t ≤ 16) × Inside (nodes s′) w
+forgotten-inside s s′ t w e h a b i = let f = forgotten s s′ t e h a b in (f .layout, a, b, rw (f .nodes) i)
+
+pub granted-step : (s s₁ s₂ : List ℕ) (t : ℕ) (m : NeedWords) (w : Places) → s₁ ≡ put-word s (set-at t) 0 → Layout s → 1 ≤ t → t ≤ 16
+    → Granted s₁ s₂ t m w → GrantedStep s s₂ t m w
+granted-step s s₁ s₂ t m w e h a b g = record {
+  settled = λ st x. let f = forgotten s s₁ t e h a b in let k = g .kept st x in
+      record {
+        left = left-then (nodes s) (granted-on t (need st) (places-of w)) f k;
+        many = k .many ∙ ap length (f .nodes);
+      };
+}

@@ -1,4 +1,4 @@
--- The two ways in which a call ends: it leaves everything as it was, or it is granted.
+-- Two of the ways in which a call ends: it leaves everything as it was, or it is granted. A wait is in Waiting.antt.
 use mathlib.Core.Path.{_≡_, refl, sym, ap, _∙_}
 use Prim.Native.Nat.{ℕ}
 use mathlib.Core.Bool.{Bool, true, false, false≢true}
@@ -30,12 +30,12 @@ lent-quiet lent (waits w) b h = refl
 lent-quiet lent (refused c) b h = refl
 lent-quiet lent (refused-at c o) b h = refl
 
--- a wait or a refusal: the definition leaves the state as it was; where the bytes are not of the form the answer is 13
+-- a refusal: the definition leaves the state as it was; where the bytes are not of the form the answer is 13
 pub stopped-stays : {s : List ℕ} {o : Outcome} {call : Call} {r : Answer} → (form s ≡ false → r ≡ Refused 13)
     → ((M : State) → Holds s M → next call M ≡ unchanged o M)
     → is-granted o ≡ false
     → ((writing : Document → Answer) → r ≡ answer-of writing o)
-    → Stopped s r call
+    → Stopped s s r call
 stopped-stays {o = o} u n q e = record {
   performed = record {
     unformed = λ x. (u x, refl);

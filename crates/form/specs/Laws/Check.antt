@@ -1,5 +1,5 @@
 -- The check of the rows, turn by turn, and the check as a whole.
-use mathlib.Core.Path.{_≡_, refl, sym, ap, ap₂, _∙_}
+use mathlib.Core.Path.{_≡_, refl, sym, ap₂, _∙_}
 use Prim.Native.Nat.{ℕ, suc, _+_, _≤_, _<_}
 use mathlib.Core.Bool.{Bool, true, false, _&&_, and-false}
 use mathlib.Core.List.{List, [], _∷_, map}
@@ -16,11 +16,12 @@ use Rattle.locks.specs.Modes.{no-mode}
 use Rattle.protocol.specs.State.{nobody}
 use Rattle.protocol.specs.Calls.{node-limit}
 use Rattle.table.specs.Layout.{state-size, format-mark, entry-at, word, part, count, slot, depth, number, cell, held, decode, Entry, entry}
-use Rattle.table.specs.Layout.{tabulate, nodes, no-entry}
+use Rattle.table.specs.Layout.{tabulate, nodes, header, no-entry}
 use Rattle.table.specs.Laws.Lists.{length-tabulate, getD-tabulate, map-tabulate}
 use Rattle.table.specs.Laws.Nodes.{length-nodes, node-at}
 use Rattle.rows.specs.Places.{number-of, unique}
-use Rattle.form.specs.Form.{in-range, valid, valid-document, valid-below, valid-rows, slots, cells, sizes-in-range, apart, form}
+use Rattle.form.specs.Form.{in-range, valid, valid-document, valid-below, valid-rows, slots, cells, sizes-in-range, apart}
+use Rattle.form.specs.Form.{sets-open, form}
 use Rattle.form.specs.Check.{valid-header, cell-in-range, valid-first, valid-nodes, Outlined}
 use Rattle.form.specs.Laws.Rows.{between-of, between-low, between-high}
 use Rattle.form.specs.Laws.Holds.{every-tabulate}
@@ -185,16 +186,19 @@ unfolding nodes entry decode
 numbers-are s = sym (map-tabulate (count s) (entry s) (number s) (λ x. number-of (x .1)) (λ j l. refl))
 
 -- the form, in the order of the check
-form-is : (s : List ℕ) → form s ≡ (valid-header s && (apart node-limit (slots s) && (valid-nodes s && unique (nodes s))))
+form-is : (s : List ℕ)
+    → form s ≡ (valid-header s && (apart node-limit (slots s) && (valid-nodes s && (unique (nodes s) && sets-open (header s)))))
 unfolding form valid-header valid-nodes
 form-is s =
     go (leb state-size (length s) && same (part s 0 8) format-mark && between 1 node-limit (count s)) (apart node-limit (slots s))
-    (every sizes-in-range (cells s)) (valid-rows (nodes s)) (unique (nodes s))
+    (every sizes-in-range (cells s)) (valid-rows (nodes s)) (unique (nodes s)) (sets-open (header s))
   where
-    go : (h a z r u : Bool) → (h && a && z && r && u) ≡ (h && (a && ((z && r) && u)))
-    go false a z r u = refl
-    go true true z r u = refl
-    go true false z r u = refl
+    go : (h a z r u o : Bool) → (h && a && z && r && u && o) ≡ (h && (a && ((z && r) && (u && o))))
+    go false a z r u o = refl
+    go true false z r u o = refl
+    go true true false r u o = refl
+    go true true true false u o = refl
+    go true true true true u o = refl
 
 module _ (s : List ℕ) where
   header-parts : valid-header s ≡ true → (leb state-size (length s) ≡ true) × (between 1 node-limit (count s) ≡ true)
@@ -252,5 +256,12 @@ module _ (s : List ℕ) where
       pub formed-nodes : valid-nodes s ≡ false → false ≡ form s
       formed-nodes f = sym (form-is s ∙ rw (h, k, f))
 
-      pub formed-numbers : valid-nodes s ≡ true → (n : ℕ) → n ≡ count s → distinct (tabulate n (number s)) ≡ form s
-      formed-numbers f n e = ap (λ (m : ℕ). distinct (tabulate m (number s))) e ∙ sym (form-is s ∙ rw (h, k, f, numbers-are s))
+      module _ (f : valid-nodes s ≡ true) (n : ℕ) (e : n ≡ count s) where
+        same-numbers : unique (nodes s) ≡ distinct (tabulate n (number s))
+        same-numbers = rw (numbers-are s, e)
+
+        pub formed-numbers : distinct (tabulate n (number s)) ≡ false → false ≡ form s
+        formed-numbers d = sym (form-is s ∙ rw (h, k, f, same-numbers, d))
+
+        pub formed-sets : distinct (tabulate n (number s)) ≡ true → sets-open (header s) ≡ form s
+        formed-sets d = sym (form-is s ∙ rw (h, k, f, same-numbers, d))

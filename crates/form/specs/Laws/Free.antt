@@ -22,6 +22,7 @@ holds-same l h = record {
   rows = l .nodes ∙ h .rows;
   unique = rw (l .nodes) (h .unique);
   valid = h .valid;
+  sets = h .sets;
 }
 
 -- only the saved content in the cell of slot k and its size may differ

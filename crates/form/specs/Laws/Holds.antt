@@ -1,7 +1,7 @@
 -- Bytes of the form hold a state, and what holds a state is of the form.
 use mathlib.Core.Path.{_≡_, refl, sym, ap, _∙_}
-use Prim.Native.Nat.{ℕ, zero, suc, _<_}
-use mathlib.Core.Bool.{Bool, true, false, _&&_, _||_}
+use Prim.Native.Nat.{ℕ, zero, suc, _-_, _≤_, _<_}
+use mathlib.Core.Bool.{Bool, true, false, cond, not, _&&_, _||_, false≢true}
 use mathlib.Core.List.{List, List·Memᴰ, List·Memᴰ·head, List·Memᴰ·tail}
 use native.Mathlib.Omega.{arith}
 use lib.ListN.{length, getD}
@@ -13,13 +13,17 @@ use Rattle.tree.specs.Laws.Tests.{and-left, and-right}
 use Rattle.tree.specs.Laws.Lists.{every-at}
 use Rattle.tree.specs.Laws.Distinct.{distinct-one}
 use Rattle.tree.specs.Laws.Compare.{same-equal, same-self}
-use Rattle.protocol.specs.State.{nobody, State}
+use Rattle.locks.specs.Modes.{bit}
+use Rattle.protocol.specs.State.{nobody, is-transaction, transactions, Header, State}
+use Rattle.protocol.specs.Rings.{AmongOpen}
 use Rattle.protocol.specs.Calls.{node-limit}
-use Rattle.table.specs.Layout.{tabulate, state-size, format-mark, part, count, slot, cell, header, nodes, Sized, Layout}
+use Rattle.table.specs.Layout.{tabulate, state-size, format-mark, set-at, word, part, count, slot, cell, is-open, remembered, header, nodes}
+use Rattle.table.specs.Layout.{Sized, Layout}
 use Rattle.table.specs.Laws.Lists.{map-tabulate}
 use Rattle.table.specs.Laws.Nodes.{length-nodes}
+use Rattle.protocol.specs.Laws.Transactions.{transaction-low, transaction-high}
 use Rattle.rows.specs.Places.{unique}
-use Rattle.form.specs.Form.{valid-rows, valid-tree, slots, cells, sizes-in-range, apart, form, Holds}
+use Rattle.form.specs.Form.{valid-rows, valid-tree, slots, cells, sizes-in-range, apart, sets-open, form, Holds}
 use Rattle.form.specs.Laws.Rows.{and-of, between-of, between-low, between-high, valid-forest}
 
 -- tests of lists that are given by a rule ---------------------------------------------------------
@@ -79,6 +83,48 @@ of-sized c z = rw (le-leb (getD c 4 0) content-limit (z .now)) (go (eqb (getD c 
     go true e = refl
     go false e = le-leb (getD c 5 0) content-limit (z .saved (eqb-false (getD c 1 0) nobody e))
 
+-- wait sets --------------------------------------------------------------------------------------------
+
+-- a test of all sixteen transactions
+module _ (q : ℕ → Bool) where
+  pub of-sixteen : every q transactions ≡ true → (t : ℕ) → 1 ≤ t → t ≤ 16 → q t ≡ true
+  unfolding tabulate
+  of-sixteen h t a b = let e : suc (t - 1) ≡ t = omega arith in ap q (sym e) ∙ every-tabulate q 16 suc h (t - 1) (omega arith)
+
+  pub all-sixteen : ((t : ℕ) → 1 ≤ t → t ≤ 16 → q t ≡ true) → every q transactions ≡ true
+  unfolding tabulate
+  all-sixteen h = tabulate-every q 16 suc (λ i k. h (suc i) (omega arith) (omega arith))
+
+-- no set is that of another number, or has one
+waiting : (s : List ℕ) (t u : ℕ) → remembered s t u ≡ true → (is-transaction t ≡ true) × (is-transaction u ≡ true)
+unfolding remembered
+waiting s t u e = go (is-transaction t) (is-transaction u) e
+  where
+    go : (a b : Bool) → cond a (cond b (bit (word s (set-at t)) (u - 1)) false) false ≡ true → (a ≡ true) × (b ≡ true)
+    go true true e = (refl, refl)
+    go true false e = absurd (false≢true e)
+    go false b e = absurd (false≢true e)
+
+-- the test of the sets is exact
+open-among : (s : List ℕ) → sets-open (header s) ≡ true → AmongOpen (header s)
+unfolding sets-open
+open-among s h t u e =
+    let w = waiting s t u e in
+    let all = of-sixteen (λ t. every (λ u. not (remembered s t u) || (is-open s t && is-open s u)) transactions) h t
+    (transaction-low t (w .0)) (transaction-high t (w .0)) in
+    let one = of-sixteen (λ u. not (remembered s t u) || (is-open s t && is-open s u)) all u
+    (transaction-low u (w .1)) (transaction-high u (w .1)) in
+    let both : (is-open s t && is-open s u) ≡ true = rw e at one in
+    (and-left (is-open s t) _ both, and-right (is-open s t) _ both)
+
+among-open : (h : Header) → AmongOpen h → sets-open h ≡ true
+unfolding sets-open
+among-open h f = all-sixteen _ (λ t a b. all-sixteen _ (λ u c d. go t u (h .remembered t u) refl))
+  where
+    go : (t u : ℕ) (x : Bool) → h .remembered t u ≡ x → (not x || (h .is-open t && h .is-open u)) ≡ true
+    go t u true e = and-of (f t u e .0) (f t u e .1)
+    go t u false e = refl
+
 -- the theorems ------------------------------------------------------------------------------------------
 
 -- the tests of the form, one by one
@@ -90,11 +136,13 @@ pub record Parts (s : List ℕ) : Type 0 where
   pub sizes : every sizes-in-range (cells s) ≡ true
   pub rows : valid-rows (nodes s) ≡ true
   pub unique : unique (nodes s) ≡ true
+  pub sets : sets-open (header s) ≡ true
 
-all-seven : (a b c d e f g : Bool) → (a && b && c && d && e && f && g) ≡ true
-    → (a ≡ true) × (b ≡ true) × (c ≡ true) × (d ≡ true) × (e ≡ true) × (f ≡ true) × (g ≡ true)
-all-seven a b c d e f g h =
-    let h₆ = and-left (a && b && c && d && e && f) g h in
+all-eight : (a b c d e f g o : Bool) → (a && b && c && d && e && f && g && o) ≡ true
+    → (a ≡ true) × (b ≡ true) × (c ≡ true) × (d ≡ true) × (e ≡ true) × (f ≡ true) × (g ≡ true) × (o ≡ true)
+all-eight a b c d e f g o h =
+    let h₇ = and-left (a && b && c && d && e && f && g) o h in
+    let h₆ = and-left (a && b && c && d && e && f) g h₇ in
     let h₅ = and-left (a && b && c && d && e) f h₆ in
     let h₄ = and-left (a && b && c && d) e h₅ in
     let h₃ = and-left (a && b && c) d h₄ in
@@ -105,21 +153,23 @@ all-seven a b c d e f g h =
       and-right (a && b && c) d h₄,
       and-right (a && b && c && d) e h₅,
       and-right (a && b && c && d && e) f h₆,
-      and-right (a && b && c && d && e && f) g h,
+      and-right (a && b && c && d && e && f) g h₇,
+      and-right (a && b && c && d && e && f && g) o h,
     )
 
 pub form-parts : {s : List ℕ} → form s ≡ true → Parts s
 unfolding form
 form-parts {s} h =
-    let p = all-seven (leb state-size (length s)) (same (part s 0 8) format-mark) (between 1 node-limit (count s))
+    let p = all-eight (leb state-size (length s)) (same (part s 0 8) format-mark) (between 1 node-limit (count s))
     (apart node-limit (slots s))
-    (every sizes-in-range (cells s)) (valid-rows (nodes s)) (unique (nodes s)) h in
-    record { size = p .0; mark = p .1; count = p .2; slots = p .3; sizes = p .4; rows = p .5; unique = p .6 }
+    (every sizes-in-range (cells s)) (valid-rows (nodes s)) (unique (nodes s)) (sets-open (header s)) h in
+    record { size = p .0; mark = p .1; count = p .2; slots = p .3; sizes = p .4; rows = p .5; unique = p .6; sets = p .7 }
 
 pub parts-form : {s : List ℕ} → Parts s → form s ≡ true
 unfolding form
 parts-form {s} p =
-    and-of (and-of (and-of (and-of (and-of (and-of (p .size) (p .mark)) (p .count)) (p .slots)) (p .sizes)) (p .rows)) (p .unique)
+    and-of (and-of (and-of (and-of (and-of (and-of (and-of (p .size) (p .mark)) (p .count)) (p .slots)) (p .sizes)) (p .rows)) (p .unique))
+    (p .sets)
 
 pub form-layout : {s : List ℕ} → form s ≡ true → Layout s
 unfolding slots cells apart
@@ -141,7 +191,14 @@ form-holds s h =
     let p = form-parts h in
     let t = valid-forest (nodes s) (p .rows) in (
       record { header = header s; tree = t .0 },
-      record { layout = form-layout h; header = refl; rows = t .1; unique = p .unique; valid = ap valid-rows (sym (t .1)) ∙ p .rows },
+      record {
+        layout = form-layout h;
+        header = refl;
+        rows = t .1;
+        unique = p .unique;
+        valid = ap valid-rows (sym (t .1)) ∙ p .rows;
+        sets = open-among s (p .sets);
+      },
     )
 
 pub holds-form : {s : List ℕ} {M : State} → Holds s M → form s ≡ true
@@ -156,4 +213,5 @@ holds-form {s} {M} h = let l = h .layout in
       sizes = tabulate-every sizes-in-range (count s) (λ i. cell s (slot s i)) (λ i a. of-sized (cell s (slot s i)) (l .sizes i a));
       rows = rw (h .rows) (h .valid);
       unique = h .unique;
+      sets = rw (h .header) (among-open (M .header) (h .sets));
     })

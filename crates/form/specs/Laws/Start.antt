@@ -12,14 +12,16 @@ use borrow.Author.Tests.{eq-eqb, ne-eqb, lt-ltb, le-ltb, ltb-true, ltb-false, le
 use Rattle.tree.specs.Forest.{view}
 use Rattle.tree.specs.Document.{Node, node-0-alone}
 use Rattle.locks.specs.Modes.{no-mode, in-word}
-use Rattle.protocol.specs.State.{is-transaction, unmarked, tree-of, with-open, start-header, start-state}
-use Rattle.table.specs.Layout.{tabulate, state-size, format-mark, entry-at, lock-at, word, double-word, part, count, slot, depth, number}
-use Rattle.table.specs.Layout.{cell, is-open, held, decode, entry, nodes, Layout}
+use Rattle.protocol.specs.State.{is-transaction, in-set, unmarked, tree-of, start-state}
+use Rattle.protocol.specs.Laws.WaitSets.{among-start}
+use Rattle.table.specs.Layout.{tabulate, state-size, format-mark, entry-at, lock-at, set-at, word, double-word, part, count, slot, depth}
+use Rattle.table.specs.Layout.{number, cell, is-open, remembered, held, decode, entry, nodes, Layout}
 use Rattle.table.specs.Flat.{flat}
 use Rattle.table.specs.Laws.Bytes.{Filled, filled-more, length-part, part-at, drop-high}
-use Rattle.table.specs.Laws.Nodes.{length-nodes}
+use Rattle.table.specs.Laws.Nodes.{length-nodes, header-is}
 use Rattle.table.specs.Laws.Fields.{cell-byte}
-use Rattle.table.specs.Laws.Locks.{no-modes, transaction-low, transaction-high}
+use Rattle.table.specs.Laws.Locks.{no-modes}
+use Rattle.protocol.specs.Laws.Transactions.{transaction-low, transaction-high, empty-set}
 use Rattle.rows.specs.Places.{unique}
 use Rattle.form.specs.Form.{Holds}
 use Rattle.form.specs.Start.{outline-byte, start-byte, Started}
@@ -91,6 +93,18 @@ module _ (s : List ℕ) (l : state-size ≤ length s) (b : (j : ℕ) → j < sta
       go : (x : Bool) → cond x false false ≡ false
       go true = refl
       go false = refl
+
+  sets-are : remembered s ≡ (λ t u. false)
+  unfolding remembered
+  sets-are = fun-ext (λ t. fun-ext (λ u. go t u (is-transaction t) refl))
+    where
+      go : (t u : ℕ) (x : Bool) → is-transaction t ≡ x → cond x (in-set (word s (set-at t)) u) false ≡ false
+      go t u true e =
+          let a : 1 ≤ t = transaction-low t e in
+          let z : t ≤ 16 = transaction-high t e in
+          rw (word-is (set-at t) (omega arith), byte-behind (set-at t) (omega arith), byte-behind (set-at t + 1) (omega arith))
+          (ap (λ (S : ℕ → Bool). S u) empty-set)
+      go t u false e = refl
 
   slot-is : (i : ℕ) → i < 1024 → slot s i ≡ i
   unfolding slot
@@ -165,11 +179,12 @@ module _ (s : List ℕ) (l : state-size ≤ length s) (b : (j : ℕ) → j < sta
   unfolding tree-of node-0-alone view flat
   start-holds = record {
     layout = start-layout;
-    header = ap (λ (f : ℕ → Bool). with-open f start-header) open-is;
+    header = header-is s open-is sets-are;
     rows = nodes-is;
     unique =
         rw nodes-is;
     valid = valid-start;
+    sets = among-start;
   }
 
 -- the calls ------------------------------------------------------------------------------------------
@@ -190,7 +205,7 @@ started-short s h = record {
   behind = refl;
 }
 
-pub started : (s s′ s″ : List ℕ) → state-size ≤ length s → Filled 0 8209 start-byte s s′ → Filled 8209 104447 (λ j. 0) s′ s″
+pub started : (s s′ s″ : List ℕ) → state-size ≤ length s → Filled 0 8209 start-byte s s′ → Filled 8209 104479 (λ j. 0) s′ s″
     → Started s s″ true
 started s s′ s″ h f g = record {
   answer = sym (le-leb state-size (length s) h);

@@ -16,6 +16,7 @@ use Rattle.tree.specs.Laws.Tests.{and-left, and-right}
 use Rattle.locks.specs.Needs.{Lock}
 use Rattle.protocol.specs.State.{nobody, Marked, Tree, State, has-number, seen-by, written-by, deleted-by, unmarked, inserted-by}
 use Rattle.protocol.specs.State.{granted-to, lasting, undone, mark, renamed, act, grant, commit-tree, abort-tree, tree-of, start-state}
+use Rattle.protocol.specs.Rings.{AmongOpen}
 use Rattle.table.specs.Flat.{flat}
 use Rattle.table.specs.Layout.{Entry, Left}
 use Rattle.rows.specs.Places.{item, number-of, unique}
@@ -30,8 +31,8 @@ use Rattle.form.specs.Laws.Valid.{valid-put}
 
 -- after any change
 pub holds-left : {s s′ : List ℕ} (M : State) → Left s s′ (M .header) (flat 0 (M .tree)) → unique (flat 0 (M .tree)) ≡ true
-    → valid-tree (M .tree) ≡ true → Holds s′ M
-holds-left M l u f = record { layout = l .layout; header = l .header; rows = l .nodes; unique = rw (l .nodes) u; valid = f }
+    → valid-tree (M .tree) ≡ true → AmongOpen (M .header) → Holds s′ M
+holds-left M l u f a = record { layout = l .layout; header = l .header; rows = l .nodes; unique = rw (l .nodes) u; valid = f; sets = a }
 
 -- in terms of the tree
 pub holds-unique : {s : List ℕ} {M : State} → Holds s M → unique (flat 0 (M .tree)) ≡ true

@@ -1,6 +1,6 @@
--- Two sets of modes as words have a mode in common exactly if the bits of both do. Assumes nothing.
+-- Words of the same bits are the same; two have a mode in common exactly if the bits of both do. Assumes nothing.
 use Prim.Native.Nat.{ℕ, zero, suc, _+_, _*_, _/_, _%_, _^_, _<_, min}
-use mathlib.Core.Path.{_≡_, refl, ap, _∙_}
+use mathlib.Core.Path.{_≡_, refl, sym, ap, _∙_}
 use mathlib.Core.Bool.{Bool, true, false, not, _&&_, _||_}
 use native.Mathlib.Omega.{arith}
 use native.Mathlib.Nat.{pow-succ', div-div-eq-div-mul, lt-of-le-of-lt}
@@ -42,6 +42,22 @@ places-next x (suc n) i = rw (bit-next x i, places-next x n (suc i))
 
 bit-first : (x : ℕ) → bit x 0 ≡ eqb (x % 2) 1
 bit-first x = let e : x / 2 ^ 0 ≡ x = omega arith in rw e
+
+-- words of the same bits are the same
+pub same-bits : (n x y : ℕ) → x < 2 ^ n → y < 2 ^ n → ((i : ℕ) → i < n → bit x i ≡ bit y i) → x ≡ y
+same-bits zero x y a b h = omega arith
+same-bits (suc n) x y a b h =
+    let high : x / 2 ≡ y / 2 = same-bits n (x / 2) (y / 2) (omega (arith, pow-succ' 2 n)) (omega (arith, pow-succ' 2 n))
+    (λ i k. sym (bit-next x i) ∙ h (suc i) (omega arith) ∙ bit-next y i) in
+    let low : eqb (x % 2) 1 ≡ eqb (y % 2) 1 = sym (bit-first x) ∙ h 0 (omega arith) ∙ bit-first y in
+    go (eqb (y % 2) 1) refl low high
+  where
+    go : (e : Bool) → eqb (y % 2) 1 ≡ e → eqb (x % 2) 1 ≡ e → x / 2 ≡ y / 2 → x ≡ y
+    go true q p r = omega (arith, eqb-true (x % 2) 1 p, eqb-true (y % 2) 1 q)
+    go false q p r =
+        let m : x % 2 ≡ 1 → ⊥ = eqb-false (x % 2) 1 p in
+        let n : y % 2 ≡ 1 → ⊥ = eqb-false (y % 2) 1 q in
+        omega arith
 
 pub no-bit : (n x : ℕ) → x < 2 ^ n → not (eqb x 0) ≡ some-place (bit x) n 0
 unfolding some-place

@@ -112,13 +112,16 @@ bits-or x y h k = go (eqb x 1) refl (eqb y 1) refl
 low : (q m : ℕ) → m < 2 → (q * 2 + m) % 2 ≡ m
 low q m h = omega arith
 
-pub in-union : (v w : ℕ) (a : Mode) → in-word (bitOr v w) a ≡ union (in-word v) (in-word w) a
-in-union v w a =
-    let x = v / 2 ^ index a in
-    let y = w / 2 ^ index a in
+pub bit-or : (v w i : ℕ) → bit (bitOr v w) i ≡ (bit v i || bit w i)
+bit-or v w i =
+    let x = v / 2 ^ i in
+    let y = w / 2 ^ i in
     let h : x % 2 < 2 = omega arith in
     let k : y % 2 < 2 = omega arith in
-    rw (or-shr v w (index a), or-step x y, low (bitOr (x / 2) (y / 2)) (max (x % 2) (y % 2)) (omega arith)) (bits-or (x % 2) (y % 2) h k)
+    rw (or-shr v w i, or-step x y, low (bitOr (x / 2) (y / 2)) (max (x % 2) (y % 2)) (omega arith)) (bits-or (x % 2) (y % 2) h k)
+
+pub in-union : (v w : ℕ) (a : Mode) → in-word (bitOr v w) a ≡ union (in-word v) (in-word w) a
+in-union v w a = bit-or v w (index a)
 
 -- the word of a list of modes, where the test says so
 sets-same : List Mode → Bool

@@ -48,11 +48,11 @@ pub not-none : _≡_ {A = ℕ} 13 0 → ⊥
 not-none z = omega arith
 
 -- both contracts, or all three, of a step that is not granted
-module _ {s : List ℕ} {r : Answer} {call : Call} (x : Stopped s r call) where
-  pub stopped-one : (b : List ℕ) → Performed s s r call × Lent first-lent s b b call
+module _ {s s′ : List ℕ} {r : Answer} {call : Call} (x : Stopped s s′ r call) where
+  pub stopped-one : (b : List ℕ) → Performed s s′ r call × Lent first-lent s b b call
   stopped-one b = (x .performed, x .lent first-lent b)
 
-  pub stopped-two : (b q : List ℕ) → Performed s s r call × Lent first-lent s b b call × Lent second-lent s q q call
+  pub stopped-two : (b q : List ℕ) → Performed s s′ r call × Lent first-lent s b b call × Lent second-lent s q q call
   stopped-two b q = (x .performed, x .lent first-lent b, x .lent second-lent q)
 
 -- C has no lent buffer

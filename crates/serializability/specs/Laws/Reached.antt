@@ -87,13 +87,14 @@ Kept M = Released (M .header .is-open) (M .tree)
 call-kept : (M : State) → Kept M → (c : Call) → Kept (next c M .state)
 unfolding Kept Released
 call-kept M k = every-call (λ c n. Kept (n .state)) M (record {
-  refusal = λ c o g i. k;
+  refusal = λ c n i. k;
   at-start = load-released (λ u. false) node-0-alone;
   at-unread = λ c i. k;
   at-load = λ d h. load-released (M .header .is-open) d;
   at-begin = λ t h o r i u m e. rw (k r i u m e) (or-true (eqb u t));
   at-commit = λ t h o. commit-released (M .header .is-open) t (M .tree) k;
   at-abort = λ t h o. abort-released (M .header .is-open) t (M .tree) k;
+  at-wait = λ t s room h o e z. k;
   at-step = λ t s room h o p. step-released (M .header .is-open) t s _ (M .tree) o k;
   at-write = k;
 })

@@ -19,13 +19,13 @@ use Rattle.serializability.specs.Laws.Orders.{joined-append, logs}
 use Rattle.serializability.specs.Laws.Legal.{legal-parts}
 use Rattle.protocol.specs.State.{nobody, State, Marked, is-transaction, unmarked, commit-tree, tree-of, start-state, with-tree, opened}
 use Rattle.protocol.specs.State.{closed}
-use Rattle.protocol.specs.Calls.{Call, loadable, StepAnswer, Next, next}
+use Rattle.protocol.specs.Calls.{Call, step, loadable, StepAnswer, Next, next}
 use Rattle.protocol.specs.History.{history, state-after, is-granted, Log, new-log, with-log, with-commit, logged, log-after}
 use Rattle.serializability.specs.Laws.Outcomes.{every-call}
 use Rattle.serializability.specs.Laws.Logs.{read-off, logged-read, with-log-same, logged-none}
 use Rattle.serializability.specs.Laws.Shown.{Place, Inside, load-shown}
 use Rattle.serializability.specs.Laws.Numbers as places
-use Rattle.serializability.specs.Laws.Whole.{Good, entry, step-good}
+use Rattle.serializability.specs.Laws.Whole.{Good, good-remembering, entry, step-good}
 use Rattle.serializability.specs.Laws.Ends.{commit-good, abort-good}
 
 -- a tree without marks ------------------------------------------------------------------------
@@ -150,17 +150,18 @@ module _ (L : Log Entry) (M : State) (tr : Tracks L M) where
   call-tracks : (c : Call) → Entered L c (next c M)
   unfolding loadable
   call-tracks = every-call (Entered L) M (record {
-    refusal = λ c o g i. no-step refl (rw (g, logged-none c L) tr);
+    refusal = λ c n i. no-step refl (rw (logged-none c L) tr);
     at-start = no-step refl start-tracks;
     at-unread = λ c i. no-step refl tr;
     at-load = λ d h. no-step refl (new-tracks d (and-left _ _ (and-left _ _ h)) M (tr .good .numbered));
     at-begin = λ t h o. no-step refl (stays _ _ (begin-good t h o));
     at-commit = λ t h o. no-step refl (commit-tracks t h);
     at-abort = λ t h o. no-step refl (stays _ _ (abort-good (tr .c) (L .open-log) M (tr .good) t (somebody t h)));
+    at-wait = λ t s room h o e z. no-step refl (rw (logged-none (step t s room) L) (stays _ _ (good-remembering (tr .good) t _)));
     at-step = λ t s room h o p. record {
       entries = entry t M s ∷ [];
       read = refl;
-      tracks = stays _ _ (step-good (tr .c) (L .open-log) M (tr .good) t s h o p);
+      tracks = stays _ _ (good-remembering (step-good (tr .c) (L .open-log) M (tr .good) t s h o p) t (λ u. false));
     };
     at-write = no-step refl tr;
   })

@@ -22,7 +22,7 @@ use Rattle.serializability.specs.Laws.Runs.{Entry, Valid, Clear}
 use Rattle.serializability.specs.Laws.Orders.{Distinct, permutation-back, to-front}
 use Rattle.serializability.specs.Laws.Serial.{Serial, reorder, noted, in-noted, Grantable, grant, grant-other}
 use Rattle.protocol.specs.State.{nobody, State, Tree, is-transaction, number-held, seen-by, shown, as-shown, callers-document, document-of}
-use Rattle.protocol.specs.State.{act, with-tree}
+use Rattle.protocol.specs.State.{act, with-tree, remembering}
 use Rattle.serializability.specs.Laws.Outcomes.{Passed}
 use Rattle.serializability.specs.Laws.Shown.{Place, Inside, path, numbers-of, grant-shown}
 use Rattle.serializability.specs.Laws.Numbers.{number-of, place-held}
@@ -72,6 +72,18 @@ pub record Good (c : Document) (log : ℕ → List Entry) (M : State) : Type 0 w
 pub log-open : {c : Document} {log : ℕ → List Entry} {M : State} → Good c log M → (u : ℕ) {y : Entry} → List·Memᴰ y (log u)
     → M .header .is-open u ≡ true
 log-open g u i = affirmed _ (λ e. List·Memᴰ·not-nil (rw (g .closed u e) at i))
+
+-- neither logs nor documents look at the remembered wait sets
+pub good-remembering : {c : Document} {log : ℕ → List Entry} {M : State} → Good c log M → (t : ℕ) (S : ℕ → Bool)
+    → Good c log (remembering t S M)
+good-remembering g t S = record {
+  closed = g .closed;
+  numbered = g .numbered;
+  covered = g .covered;
+  standing = g .standing;
+  brought = g .brought;
+  serial = g .serial;
+}
 
 -- a granted step -------------------------------------------------------------------------------
 

@@ -72,7 +72,7 @@ module _ (s s₁ s₂ s₃ s₄ : List ℕ) (n p k d m : ℕ) (h : Layout s) (c 
   -- the free slot's cell is nobody's
   first-left : Left s s₁ (header s) (nodes s)
   first-left =
-      left-none one h (omega arith) (omega (arith, in-range)) (λ z. omega arith) (same-header one (omega arith))
+      left-none one h (omega arith) (omega (arith, in-range)) (λ z. omega arith) (same-header one (omega arith) (omega (arith, in-range)))
       (λ j b. (
         other-cell one (slot s j) (λ q. let z : j ≡ n = h .apart j n (omega arith) room (q ∙ e) in omega arith),
         same-held one (omega (arith, in-range)) (slot s j),

@@ -22,16 +22,21 @@ kept-as {s} {s′} ns ms e k = subst (λ (l : List Entry). Kept s s′ l) e k
 pub kept-same : (s : List ℕ) → Layout s → Kept s s (nodes s)
 kept-same s h = record { layout = h; long = refl; behind = refl; header = refl; many = refl; nodes = refl }
 
--- a change that leaves the header, after one that may have changed it or the number of nodes
-pub then-left : {s s′ s″ : List ℕ} {q : Header} (ns : List Entry) (f : List Entry → List Entry) → Left s s′ q ns
-    → Left s′ s″ (header s′) (f (nodes s′)) → Left s s″ q (f ns)
-then-left ns f a b = record {
+-- one change after the other
+pub left-on : {s s′ s″ : List ℕ} {q : Header} (ns : List Entry) (g : Header → Header) (f : List Entry → List Entry) → Left s s′ q ns
+    → Left s′ s″ (g (header s′)) (f (nodes s′)) → Left s s″ (g q) (f ns)
+left-on ns g f a b = record {
   layout = b .layout;
   long = b .long ∙ a .long;
   behind = b .behind ∙ a .behind;
-  header = b .header ∙ a .header;
+  header = b .header ∙ ap g (a .header);
   nodes = b .nodes ∙ ap f (a .nodes);
 }
+
+-- a change that leaves the header, after one that may have changed it or the number of nodes
+pub then-left : {s s′ s″ : List ℕ} {q : Header} (ns : List Entry) (f : List Entry → List Entry) → Left s s′ q ns
+    → Left s′ s″ (header s′) (f (nodes s′)) → Left s s″ q (f ns)
+then-left ns f a b = left-on ns (λ q. q) f a b
 
 pub left-then : {s s′ s″ : List ℕ} {q : Header} (ns : List Entry) (f : List Entry → List Entry) → Left s s′ q ns → Kept s′ s″ (f (nodes s′))
     → Left s s″ q (f ns)

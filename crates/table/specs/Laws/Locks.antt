@@ -7,11 +7,12 @@ use mathlib.Core.List.{List}
 use native.Mathlib.Omega.{arith}
 use lib.ListN.{length, getD, set}
 use lib.Seq.{getD-set-same, getD-set-other}
-use lib.Dec.{eqb, ltb, leb}
+use lib.Dec.{eqb, ltb}
 use borrow.Author.Count.{below-more}
-use borrow.Author.Tests.{ltb-true, ltb-false, lt-ltb, le-ltb, leb-true, le-leb, eqb-true, eqb-false}
-use Rattle.tree.specs.Laws.Tests.{and-left, and-right, refuted}
+use borrow.Author.Tests.{ltb-true, ltb-false, lt-ltb, le-ltb, eqb-true, eqb-false}
+use Rattle.tree.specs.Laws.Tests.{refuted}
 use Rattle.locks.specs.Modes.{ModeSet, no-mode, in-word, index}
+use Rattle.protocol.specs.Laws.Transactions.{transaction-low, transaction-high, is-transaction-of}
 use Rattle.protocol.specs.State.{is-transaction, Marked, released, with-held}
 use Rattle.table.specs.Lists.{modify}
 use Rattle.table.specs.Flat.{second}
@@ -22,16 +23,6 @@ use Rattle.table.specs.Laws.Lists.{modify-modify, modify-same, modify-no
 use Rattle.table.specs.Laws.Bytes.{Only, only-none, only-wider, only-word, put-word, word-put, word-off}
 use Rattle.table.specs.Laws.Kept.{kept-same, kept-then, kept-as}
 use Rattle.table.specs.Laws.Nodes.{node-at, length-nodes, same-cell, kept-of}
-
--- 1 to 16
-pub transaction-low : (t : ℕ) → is-transaction t ≡ true → 1 ≤ t
-transaction-low t h = leb-true 1 t (and-left (leb 1 t) (leb t 16) h)
-
-pub transaction-high : (t : ℕ) → is-transaction t ≡ true → t ≤ 16
-transaction-high t h = leb-true t 16 (and-right (leb 1 t) (leb t 16) h)
-
-pub is-transaction-of : (t : ℕ) → 1 ≤ t → t ≤ 16 → is-transaction t ≡ true
-is-transaction-of t a b = rw (le-leb 1 t a, le-leb t 16 b)
 
 -- the empty word
 pub no-modes : in-word 0 ≡ no-mode

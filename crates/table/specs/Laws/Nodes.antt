@@ -1,17 +1,18 @@
 -- What a change of the bytes leaves: one law for all changes, and its cases for the outline, the cells and the lock words.
-use mathlib.Core.Path.{_≡_, refl, sym, ap, _∙_, fun-ext}
+use mathlib.Core.Path.{_≡_, refl, sym, ap, ap₂, _∙_, fun-ext}
 use Prim.Native.Nat.{ℕ, _+_, _-_, _≤_, _<_}
-use mathlib.Core.Bool.{Bool, true, false, cond}
+use mathlib.Core.Bool.{Bool, true, false}
 use mathlib.Core.List.{List}
 use native.Mathlib.Omega.{arith}
 use lib.ListN.{length, getD}
 use lib.Dec.{eqb}
 use borrow.Author.Tests.{eqb-true, eqb-false}
-use Rattle.locks.specs.Modes.{ModeSet, bit}
-use Rattle.protocol.specs.State.{is-transaction, Marked, Header, with-open}
+use Rattle.locks.specs.Modes.{ModeSet}
+use Rattle.protocol.specs.State.{in-set, WaitSets, Marked, Header}
 use Rattle.table.specs.Lists.{modify}
 use Rattle.table.specs.Layout.{tabulate, state-size, open-at, count-at, entry-at, cell-at, lock-at, count, slot, depth, number, cell}
-use Rattle.table.specs.Layout.{is-open, held, decode, Entry, entry, nodes, no-entry, Sized, Layout, Left, Kept, header}
+use Rattle.table.specs.Layout.{set-at, is-open, remembered, header, held, decode, Entry, entry, nodes, no-entry, Sized, Layout}
+use Rattle.table.specs.Layout.{Left, Kept}
 use Rattle.table.specs.Flat.{second}
 use Rattle.table.specs.Laws.Lists.{length-tabulate, getD-tabulate, tabulate-same, modify-tabulate}
 use Rattle.table.specs.Laws.Bytes.{Only, word-off, double-word-off, part-off, drop-high, length-part}
@@ -47,14 +48,25 @@ placed-as e a b c = record { slot = e .slot ∙ a; depth = e .depth ∙ b; numbe
 pub placed-then : {s s′ : List ℕ} {i j k d n : ℕ} → Placed s j k d n → Copy s j s′ i → Placed s′ i k d n
 placed-then a b = placed-as b (a .slot) (a .depth) (a .number)
 
+-- the header by its fields
+pub header-is : (s : List ℕ) {f : ℕ → Bool} {r : WaitSets} → is-open s ≡ f → remembered s ≡ r → header s
+    ≡ record { is-open = f; remembered = r }
+header-is s e d = ap₂ (λ (f : ℕ → Bool) (r : WaitSets). record { is-open = f; remembered = r }) e d
+
 -- what a change outside of a region leaves there --------------------------------------------
 
 module _ {k n : ℕ} {s s′ : List ℕ} (o : Only k n s s′) where
-  -- the header, once for all its fields
-  pub same-header : count-at ≤ k → header s′ ≡ header s
+  -- the header, field by field
+  pub same-open : (k < count-at → k + n ≤ open-at) → is-open s′ ≡ is-open s
   unfolding is-open
-  same-header low =
-      ap (λ (w : ℕ). with-open (λ t. cond (is-transaction t) (bit w (t - 1)) false) (header s)) (word-off o open-at (λ z. omega arith))
+  same-open h = ap in-set (word-off o open-at (λ z. h (omega arith)))
+
+  pub same-remembered : k + n ≤ set-at 1 → remembered s′ ≡ remembered s
+  unfolding remembered
+  same-remembered h = fun-ext (λ t. fun-ext (λ u. rw (word-off o (set-at t) (λ z. omega arith))))
+
+  pub same-header : count-at ≤ k → k + n ≤ set-at 1 → header s′ ≡ header s
+  same-header low high = header-is s′ (same-open (λ z. omega arith)) (same-remembered high)
 
   pub same-count : (k < entry-at 0 → k + n ≤ count-at) → count s′ ≡ count s
   unfolding count
@@ -137,14 +149,14 @@ module _ {k n : ℕ} {s s′ : List ℕ} (o : Only k n s s′) (h : Layout s) (m
 
 -- the header stays too -------------------------------------------------------------------------
 
-module _ {k n : ℕ} {s s′ : List ℕ} (o : Only k n s s′) (low : cell-at 0 ≤ k) (h : Layout s) (b : k + n ≤ state-size) where
+module _ {k n : ℕ} {s s′ : List ℕ} (o : Only k n s s′) (low : cell-at 0 ≤ k) (h : Layout s) (b : k + n ≤ set-at 1) where
   kept-all : (ns : List Entry) → tabulate (count s) (entry s′) ≡ ns → ((j : ℕ) → j < count s → Sized (cell s′ (slot s j))) → Kept s s′ ns
   kept-all ns e z =
-      kept-left (left-all o h (omega arith) b (λ x. omega arith) (same-header o (omega arith)) ns e z)
+      kept-left (left-all o h (omega arith) (omega arith) (λ x. omega arith) (same-header o (omega arith) b) ns e z)
       (length-nodes s′ ∙ same-count o (λ x. omega arith) ∙ sym (length-nodes s))
 
   nodes-as : (i : ℕ) → i < count s → entry s′ i ≡ (depth s i, decode (number s i) (cell s′ (slot s i)) (held s′ (slot s i)))
-  nodes-as i l = let m : count s ≤ 1024 = h .room in entry-as o h (omega arith) b (λ x. omega arith) i (omega arith)
+  nodes-as i l = let m : count s ≤ 1024 = h .room in entry-as o h (omega arith) (omega arith) (λ x. omega arith) i (omega arith)
 
   -- one node changed
   pub kept-of :

@@ -1,14 +1,14 @@
 -- A call is refused by one of the causes alone; every request makes one call.
 use mathlib.Core.Path.{_≡_, refl, ap}
 use Prim.Native.Nat.{ℕ}
-use mathlib.Core.Bool.{true, false≢true}
+use mathlib.Core.Bool.{true}
 use mathlib.Core.List.{List}
 use Rattle.tree.specs.Lists.{has}
 use Rattle.protocol.specs.State.{State}
 use Rattle.protocol.specs.Lent.{Room}
 use Rattle.protocol.specs.Causes.{causes}
-use Rattle.protocol.specs.Calls.{Call, load, unreadable, Outcome, granted, written, waits, refused, refused-at, next}
-use Rattle.serializability.specs.Laws.Outcomes.{is-refusal, every-call}
+use Rattle.protocol.specs.Calls.{Call, load, unreadable, next}
+use Rattle.serializability.specs.Laws.Outcomes.{every-call}
 use Rattle.xml.specs.Reading.{Fault, wrong-byte, too-soon, too-long, long-content, many-nodes}
 use Rattle.xml.specs.Reading as reading
 use Rattle.xml.specs.Laws.Readings as readings
@@ -46,25 +46,19 @@ fault-listed (too-long h) = refl
 fault-listed (long-content h) = refl
 fault-listed (many-nodes h) = refl
 
-refusal-listed : (o : Outcome) → is-refusal o ≡ true → listed o ≡ true
-refusal-listed (granted v) h = refl
-refusal-listed (written d) h = refl
-refusal-listed (waits w) h = refl
-refusal-listed (refused c) h = h
-refusal-listed (refused-at c i) h = absurd (false≢true h)
-
 unread-listed : {room : Room} {q : Request} {c i : ℕ} → Makes room q (load (unreadable c i)) → has c causes ≡ true
 unread-listed (makes-load (reading.refused f g)) = fault-listed f
 
 pub all-listed : {room : Room} {q : Request} {c : Call} → Makes room q c → (M : State) → listed (next c M .outcome) ≡ true
 all-listed {room} {q} {c} m M = every-call (λ c n. Makes room q c → listed (n .outcome) ≡ true) M (record {
-  refusal = λ c o g h m. refusal-listed o h;
+  refusal = λ c cause h m. h;
   at-start = λ m. refl;
   at-unread = λ c i m. unread-listed m;
   at-load = λ d h m. refl;
   at-begin = λ t i o m. refl;
   at-commit = λ t i o m. refl;
   at-abort = λ t i o m. refl;
+  at-wait = λ t s room i o r z m. refl;
   at-step = λ t s room i o p m. refl;
   at-write = λ m. refl;
 }) c m

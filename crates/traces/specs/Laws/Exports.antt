@@ -13,17 +13,17 @@ use Rattle.tree.specs.Steps.{Step, Value, done, how-many, answer}
 use Rattle.tree.specs.Laws.Tests.{and-left, and-right}
 use Rattle.tree.specs.Laws.Lists.{every-at}
 use Rattle.locks.specs.Needs.{needs}
-use Rattle.protocol.specs.State.{State, is-transaction, callers-document, act, grant, with-tree}
+use Rattle.protocol.specs.State.{State, is-transaction, callers-document, act, grant, with-tree, forgetting}
 use Rattle.protocol.specs.Lent.{Room, has-room, first-lent, second-lent}
 use Rattle.protocol.specs.Causes.{not-a-transaction, not-open}
 use Rattle.protocol.specs.Calls.{Input, Call, start, load, begin, commit, abort, step, write, Outcome, granted, written, waits, refused}
-use Rattle.protocol.specs.Calls.{refused-at, Next, grants-step, Check, checked, step-checks, judged, next}
+use Rattle.protocol.specs.Calls.{refused-at, Next, unchanged, held-back, grants-step, Check, checked, step-checks, judged, next}
 use Rattle.protocol.specs.History.{is-granted}
 use Rattle.protocol.specs.Answers.{code-of, lent-after, as-it-was}
 use Rattle.protocol.specs.declared.Answer.{Answer}
 use Rattle.engine.specs.Contract.{Performed, Lent, no-room, room-of, rooms-of}
 use Rattle.ends.specs.Ends.{Restarted}
-use Rattle.serializability.specs.Laws.Outcomes.{AllPassed, checked-cases, every-call}
+use Rattle.serializability.specs.Laws.Outcomes.{AllPassed, checked-cases, held-back-outcome, every-call}
 use Rattle.xml.specs.Reading.{ReadsAs}
 use Rattle.xml.specs.Laws.Readings.{reading}
 use Rattle.traces.specs.Exchange.{Request, Exchange, with-none, with-one, with-two}
@@ -61,11 +61,11 @@ not-granted-unlent lent (refused c) h = refl
 not-granted-unlent lent (refused-at c i) h = refl
 
 -- behind checks, none of which grants
-behind-checks : (lent : Value → List ℕ) (cs : List Check) (M : State) (n : Next) → every (λ c. not (is-granted (c .0))) cs ≡ true
-    → (AllPassed cs → Unlent lent n) → Unlent lent (checked cs M n)
-behind-checks lent cs M n h g =
-    checked-cases (Unlent lent) cs M n
-    (λ c i e. not-granted-unlent lent (c .0) (not-true _ (every-at (λ c. not (is-granted (c .0))) cs h i))) g
+behind-checks : (lent : Value → List ℕ) (stop : Outcome → Next) → ((o : Outcome) → stop o .outcome ≡ o) → (cs : List Check) (n : Next)
+    → every (λ c. not (is-granted (c .0))) cs ≡ true → (AllPassed cs → Unlent lent n) → Unlent lent (checked stop cs n)
+behind-checks lent stop same cs n h g =
+    checked-cases (Unlent lent) stop cs n
+    (λ c i e. rw (same (c .0)) (not-granted-unlent lent (c .0) (not-true _ (every-at (λ c. not (is-granted (c .0))) cs h i)))) g
 
 -- a step is granted only where there is room
 step-quiet : (lent : Value → List ℕ) (t : ℕ) (s : Step) (room : Room) (M : State) → ((v : Value) → has-room v room ≡ true → lent v ≡ [])
@@ -73,9 +73,10 @@ step-quiet : (lent : Value → List ℕ) (t : ℕ) (s : Step) (room : Room) (M :
 unfolding next judged lent-after
 step-quiet lent t s room M h =
     let d = callers-document t (M .tree) in
-    let n : Next = grants-step s (answer s d) (with-tree M (grant t (needs s d) (act t s (M .tree)))) in
-    behind-checks lent (open-checks t M) M (judged t s room M d) refl (λ _. behind-checks lent (step-checks t s room M d) M n refl (λ p.
-    rw (h (answer s d) (not-false _ (p .1 .1 .1 .1 .1 .1 .1 .0)))))
+    let n : Next = grants-step s (answer s d) (forgetting t (with-tree M (grant t (needs s d) (act t s (M .tree))))) in
+    behind-checks lent (λ o. unchanged o M) (λ o. refl) (open-checks t M) (judged t s room M d) refl
+    (λ _. behind-checks lent (held-back t M) (held-back-outcome t M) (step-checks t s room M d) n refl
+    (λ p. rw (h (answer s d) (not-false _ (p .1 .1 .1 .1 .1 .1 .1 .1 .0)))))
 
 no-bytes : (l : List ℕ) → length l ≤ 0 → l ≡ []
 no-bytes [] h = refl
@@ -103,13 +104,14 @@ module _ (lent : Value → List ℕ) (h : lent done ≡ []) (k : (n : ℕ) → l
   others-unlent : (c : Call) (M : State) → Quiet c (next c M)
   unfolding lent-after is-step
   others-unlent c M = every-call Quiet M (record {
-    refusal = λ c o g r i. not-granted-unlent lent o g;
+    refusal = λ c cause r i. refl;
     at-start = λ i. rw h;
     at-unread = λ c o i. refl;
     at-load = λ d l i. rw (k (length (lines d)));
     at-begin = λ t a o i. rw h;
     at-commit = λ t a o i. rw h;
     at-abort = λ t a o i. rw h;
+    at-wait = λ t s room a o r z i. refl;
     at-step = λ t s room a o p i. absurd (true≢false i);
     at-write = λ i. refl;
   }) c

@@ -15,7 +15,7 @@ use Rattle.tree.specs.Laws.Lists.{map-map}
 use Rattle.protocol.specs.State.{State}
 use Rattle.protocol.specs.Lent.{first-lent, second-lent}
 use Rattle.protocol.specs.Calls.{Call, start, load, begin, commit, abort, step, write}
-use Rattle.protocol.specs.Calls.{unreadable, stands-for, Outcome, StepAnswer, Next, next}
+use Rattle.protocol.specs.Calls.{unreadable, stands-for, Outcome, waits, refused, StepAnswer, Next, next}
 use Rattle.protocol.specs.History.{history, state-after, is-granted, Log, new-log, committed-then, logged, log-after, fed, answered}
 use Rattle.protocol.specs.Answers.{code-of, answer-of, lent-after, as-it-was}
 use Rattle.xml_write.specs.Contract.{writing, text-after}
@@ -63,27 +63,28 @@ module _ (x : Exchange) where
   Gives c n = (is-write c ≡ false → told-granted (x .code) ≡ is-granted (n .outcome)) → Meets n
       → (gs : List Given) × (map (λ g. g .taken) gs ≡ n .steps) × (map by-exchange gs ≡ granted-in x c)
 
-  refused-none : (c : Call) (o : Outcome) → is-granted o ≡ false → (is-write c ≡ false → told-granted (x .code) ≡ is-granted o)
+  none-taken : (c : Call) (o : Outcome) → is-granted o ≡ false → (is-write c ≡ false → told-granted (x .code) ≡ is-granted o)
       → [] ≡ granted-in x c
   unfolding is-write
-  refused-none start o g t = none-granted (told-granted (x .code))
-  refused-none (load i) o g t = none-granted (told-granted (x .code))
-  refused-none (begin u) o g t = none-granted (told-granted (x .code))
-  refused-none (commit u) o g t = none-granted (told-granted (x .code))
-  refused-none (abort u) o g t = none-granted (told-granted (x .code))
-  refused-none (step u s room) o g t = rw (t refl, g)
-  refused-none write o g t = none-granted (told-granted (x .code))
+  none-taken start o g t = none-granted (told-granted (x .code))
+  none-taken (load i) o g t = none-granted (told-granted (x .code))
+  none-taken (begin u) o g t = none-granted (told-granted (x .code))
+  none-taken (commit u) o g t = none-granted (told-granted (x .code))
+  none-taken (abort u) o g t = none-granted (told-granted (x .code))
+  none-taken (step u s room) o g t = rw (t refl, g)
+  none-taken write o g t = none-granted (told-granted (x .code))
 
   gives : (c : Call) (M : State) → Gives c (next c M)
   unfolding answer-of lent-after is-write
   gives c M = every-call Gives M (record {
-    refusal = λ c o g r t m. ([], refl, refused-none c o g t);
+    refusal = λ c cause r t m. ([], refl, none-taken c (refused cause) refl t);
     at-start = λ t m. ([], refl, none-granted (told-granted (x .code)));
     at-unread = λ c i t m. ([], refl, none-granted (told-granted (x .code)));
     at-load = λ d h t m. ([], refl, none-granted (told-granted (x .code)));
     at-begin = λ u i o t m. ([], refl, none-granted (told-granted (x .code)));
     at-commit = λ u i o t m. ([], refl, none-granted (told-granted (x .code)));
     at-abort = λ u i o t m. ([], refl, none-granted (told-granted (x .code)));
+    at-wait = λ u s room i o r z t m. ([], refl, none-taken (step u s room) (waits 0) refl t);
     at-step = λ u s room i o p t m. (
       record { taken = _; exchange = x; answered = record { code = m .code; first = m .first; second = m .second } }
           ∷ [],
@@ -113,7 +114,7 @@ abbrev pub InReached : List Call → Exchange → Call → Type 0
 InReached before x c = Demand2 (reached before) x c
 
 module _ (M : State) (x : Exchange) (c : Call) (d : Demand2 M x c) where
-  same-told : is-write c ≡ false → told-granted (x .code) ≡ is-granted (next c M .outcome)
+  pub same-told : is-write c ≡ false → told-granted (x .code) ≡ is-granted (next c M .outcome)
   unfolding is-write
   same-told w = granted-same (x .code) (is-granted (next c M .outcome)) (d .as-granted (λ e. false≢true (sym w ∙ ap is-write e)))
 

@@ -27,6 +27,7 @@ use Rattle.traces.specs.Laws.OneCall.{outcomes-of, demand-2, granted-tex
 use Rattle.traces.specs.Laws.Answers.{start-of, answers-of}
 use Rattle.traces.specs.Laws.StateBytes.{granted-size, state-bytes}
 use Rattle.traces.specs.Laws.Logs.{InReached, feeds, runs-given, plain-answers-given}
+use Rattle.traces.specs.Laws.Waiting.{waiting-told}
 
 -- the calls that were made ----------------------------------------------------------------
 
@@ -153,6 +154,7 @@ delivered x xs t =
       feeds = feeds x xs (m .0) (t .start-granted) e;
       answers = plain-answers-given x xs (m .0) (t .start-granted) e;
       open-in-any-order = in-any-order (m .0) s l _ (runs-given x xs (m .0) (t .start-granted) e);
+      waiting = λ M k. rw (holds-one M (reached (m .0)) k l) (waiting-told x xs (m .0) (t .start-granted) e);
     }
   where
     all-calls : (y : Exchange) → List·Memᴰ y (x ∷ xs) → Demand1 y

@@ -1,20 +1,20 @@
 -- Demands 1 and 2 on one call, from its contract.
 use mathlib.Core.Path.{_≡_, refl, sym, ap, _∙_}
 use Prim.Native.Nat.{ℕ, suc, _≤_}
-use mathlib.Core.Bool.{Bool, true, false, cond, _&&_, false≢true}
+use mathlib.Core.Bool.{Bool, true, false, cond, _&&_, false≢true, true≢false}
 use mathlib.Core.List.{List, [], _∷_}
 use native.Mathlib.Omega.{arith}
 use lib.ListN.{length, drop, length-append}
 use lib.Seq.{take-append-seam}
 use lib.Dec.{leb}
-use borrow.Author.Tests.{leb-true, leb-false}
+use borrow.Author.Tests.{leb-true, leb-false, ne-eqb}
 use Rattle.tree.specs.Forest.{Forest, nil, node, rows, view}
 use Rattle.tree.specs.Document.{Node, Document, ordered, legal, lines}
 use Rattle.tree.specs.Steps.{Value, done, how-many}
 use Rattle.protocol.specs.State.{State, start-state, shown, as-shown, document-of, committed-document}
-use Rattle.protocol.specs.Lent.{filled, first-lent, second-lent}
+use Rattle.protocol.specs.Lent.{Room, filled, first-lent, second-lent}
 use Rattle.protocol.specs.Calls.{node-limit, Call, start, write, Outcome, granted, written, waits, refused, refused-at, next}
-use Rattle.protocol.specs.History.{is-granted}
+use Rattle.protocol.specs.History.{is-granted, is-wait}
 use Rattle.protocol.specs.Answers.{code-of, answer-of, granted-answer, lent-after, as-it-was}
 use Rattle.protocol.specs.declared.Answer.{Answer}
 use Rattle.protocol.specs.declared.Answer.the-variants.{Done, Count, Refused}
@@ -22,16 +22,19 @@ use Rattle.table.specs.Flat.{flat}
 use Rattle.table.specs.Layout.{state-size}
 use Rattle.form.specs.Form.{form, Holds}
 use Rattle.form.specs.Laws.Holds.{form-holds, holds-form}
-use Rattle.serializability.specs.Laws.OneCall.{waiting}
+use Rattle.engine.specs.Contract.{set-place}
+use Rattle.serializability.specs.Laws.Main.{is-write}
+use Rattle.serializability.specs.Laws.OneCall.{waiting, deadlock-only, step-not-at}
 use Rattle.xml.specs.Writing as xml
 use Rattle.xml.specs.Laws.Expressible.{read-back}
-use Rattle.traces.specs.Exchange.{Exchange, outcome, value}
+use Rattle.traces.specs.Exchange.{Request, Exchange, outcome, value}
 use Rattle.xml_write.specs.Contract.{writable, writing, text-after, write-answer, write-buffer}
 use Rattle.xml_write.specs.Laws.Calls.{legal-writing}
 use Rattle.traces.specs.Contract as contract
+use Rattle.traces.specs.Contract.{Makes, makes-start, makes-load, makes-write, makes-begin, makes-commit, makes-abort, makes-step}
 use Rattle.traces.specs.Contract.{MakesCall, Ensured, Contract}
-use Rattle.traces.specs.Theorem.{Same, ByDefinition, Outcomes, Demand2}
-use Rattle.traces.specs.Laws.Codes.{listed, Told, told, not-written, count-value}
+use Rattle.traces.specs.Theorem.{Same, SameOutside, remembered-at, changed-in, ByDefinition, Outcomes, Demand2}
+use Rattle.traces.specs.Laws.Codes.{listed, Told, told, told-cause, not-written, count-value}
 use Rattle.traces.specs.Laws.Causes.{makes-one, all-listed}
 use Rattle.traces.specs.Laws.Answers.{ensured-cases, ensured-by}
 
@@ -39,7 +42,7 @@ use Rattle.traces.specs.Laws.Answers.{ensured-cases, ensured-by}
 
 -- by an outcome that the number tells
 told-demand : (x : Exchange) (o : Outcome) → Told (x .code) o
-    → (is-granted o ≡ false → Same (x .state) × Same (x .first) × Same (x .second))
+    → (is-granted o ≡ false → SameOutside (changed-in x) (x .state) × Same (x .first) × Same (x .second))
     → length (x .state .after) ≡ length (x .state .before) → drop state-size (x .state .after) ≡ drop state-size (x .state .before)
     → Outcomes x
 told-demand x o t k l b = record {
@@ -50,6 +53,25 @@ told-demand x o t k l b = record {
   long = l;
   behind = b;
 }
+
+-- where it is no wait, every byte of the state is as it was
+told-still : (x : Exchange) (o : Outcome) → Told (x .code) o → is-wait o ≡ false → Same (x .state) → SameOutside (changed-in x) (x .state)
+told-still x o t n e = rw (t .wait ∙ n) e
+
+told-quiet : (x : Exchange) (o : Outcome) → Told (x .code) o → is-wait o ≡ false → Same (x .state) → Same (x .first) → Same (x .second)
+    → length (x .state .after) ≡ length (x .state .before) → drop state-size (x .state .after) ≡ drop state-size (x .state .before)
+    → Outcomes x
+told-quiet x o t n e f k = told-demand x o t (λ _. (told-still x o t n e, f, k))
+
+-- where the set stands that a call of protocol may change, by the request
+same-place : {room : Room} {q : Request} {c : Call} → Makes room q c → set-place c ≡ remembered-at q
+same-place makes-start = refl
+same-place (makes-load h) = refl
+same-place makes-write = refl
+same-place makes-begin = refl
+same-place makes-commit = refl
+same-place makes-abort = refl
+same-place makes-step = refl
 
 kept-buffer : (lent : Value → List ℕ) (o : Outcome) (b : List ℕ) → is-granted o ≡ false → lent-after lent as-it-was o b ≡ b
 unfolding lent-after
@@ -69,20 +91,21 @@ module _ (x : Exchange) (r : Answer) (e : x .code ≡ code-of r) where
   tells : (o : Outcome) → listed o ≡ true → r ≡ answer-of (λ d. Done) o → Told (x .code) o
   tells o l f = rw (e, f) (told o l)
 
-  step-demand : (c : Call) → contract.OnState x r c → ((M : State) → listed (next c M .outcome) ≡ true) → Outcomes x
-  step-demand c h l = go (form (x .state .before)) refl
+  step-demand : (c : Call) → MakesCall x c → contract.OnState x r c → ((M : State) → listed (next c M .outcome) ≡ true) → Outcomes x
+  step-demand c m h l = go (form (x .state .before)) refl
     where
       go : (f : Bool) → form (x .state .before) ≡ f → Outcomes x
       go false f =
           let u = h .performed .unformed f in
-          told-demand x (refused 13) (rw (e, u .0) told-13) (λ _. (u .1, h .first .unformed f, h .second .unformed f)) (h .performed .long)
+          told-quiet x (refused 13) (rw (e, u .0) told-13) refl (u .1) (h .first .unformed f) (h .second .unformed f) (h .performed .long)
           (h .performed .behind)
       go true f =
           let M = form-holds (x .state .before) f in
           let o = next c (M .0) .outcome in
-          told-demand x o (tells o (l (M .0)) (h .performed .answer (M .0) (M .1) (λ d. Done)))
+          let t = tells o (l (M .0)) (h .performed .answer (M .0) (M .1) (λ d. Done)) in
+          told-demand x o t
           (λ g. (
-            h .performed .still (M .0) (M .1) g,
+            rw (t .wait, ← same-place m) (h .performed .still (M .0) (M .1) g),
             h .first .filled (M .0) (M .1) ∙ kept-buffer first-lent o (x .first .before) g,
             h .second .filled (M .0) (M .1) ∙ kept-buffer second-lent o (x .second .before) g,
           ))
@@ -95,7 +118,7 @@ module _ (x : Exchange) (r : Answer) (e : x .code ≡ code-of r) where
       go : (f : Bool) → leb state-size (length (x .state .before)) ≡ f → Outcomes x
       go false f =
           let u = h .restarted .short (leb-false state-size (length (x .state .before)) f) in
-          told-demand x (refused 13) (rw (e, u .0) told-13) (λ _. (u .1, h .first, h .second)) (h .restarted .long) (h .restarted .behind)
+          told-quiet x (refused 13) (rw (e, u .0) told-13) refl (u .1) (h .first) (h .second) (h .restarted .long) (h .restarted .behind)
       go true f =
           told-demand x (granted done)
           (tells (granted done) refl (h .restarted .answer (leb-true state-size (length (x .state .before)) f) start-state (λ d. Done)))
@@ -112,8 +135,8 @@ module _ (x : Exchange) (r : Answer) (e : x .code ≡ code-of r) where
       go true true a f =
           told-demand x (granted (how-many (length (xml.write d)))) (tells (granted (how-many (length (xml.write d)))) refl a)
           (λ g. absurd (false≢true (sym g))) (ap length s) (ap (drop state-size) s)
-      go true false a f = told-demand x (refused 13) (tells (refused 13) refl a) (λ _. (s, f, k)) (ap length s) (ap (drop state-size) s)
-      go false q a f = told-demand x (refused 14) (tells (refused 14) refl a) (λ _. (s, f, k)) (ap length s) (ap (drop state-size) s)
+      go true false a f = told-quiet x (refused 13) (tells (refused 13) refl a) refl s f k (ap length s) (ap (drop state-size) s)
+      go false q a f = told-quiet x (refused 14) (tells (refused 14) refl a) refl s f k (ap length s) (ap (drop state-size) s)
 
   write-demand : contract.Write x r → Outcomes x
   unfolding answer-of write-answer write-buffer
@@ -123,13 +146,13 @@ module _ (x : Exchange) (r : Answer) (e : x .code ≡ code-of r) where
           → x .first .after ≡ cond o (text-after (x .first .before) d) (x .first .before) → Outcomes x
       by-order d true a f = writing-demand d a f (h .state) (h .second)
       by-order d false a f =
-          told-demand x (refused 14) (tells (refused 14) refl a) (λ _. (h .state, f, h .second)) (ap length (h .state))
+          told-quiet x (refused 14) (tells (refused 14) refl a) refl (h .state) f (h .second) (ap length (h .state))
           (ap (drop state-size) (h .state))
 
       go : (f : Bool) → form (x .state .before) ≡ f → Outcomes x
       go false f =
           let u = h .written .unformed f in
-          told-demand x (refused 13) (rw (e, u .0) told-13) (λ _. (h .state, u .1, h .second)) (ap length (h .state))
+          told-quiet x (refused 13) (rw (e, u .0) told-13) refl (h .state) (u .1) (h .second) (ap length (h .state))
           (ap (drop state-size) (h .state))
       go true f =
           let M = form-holds (x .state .before) f in
@@ -140,9 +163,9 @@ module _ (x : Exchange) (r : Answer) (e : x .code ≡ code-of r) where
 pub outcomes-of : (x : Exchange) → Contract x → Outcomes x
 outcomes-of x k =
     let m = makes-one _ (x .request) in
-    ensured-cases x (k .answer) (λ c. ((M : State) → listed (next c M .outcome) ≡ true) → Outcomes x)
-    (λ h l. start-demand x (k .answer) (k .code) h) (λ h l. write-demand x (k .answer) (k .code) h)
-    (λ c h l. step-demand x (k .answer) (k .code) c h l) (m .0) (k .ensured (m .0) (m .1)) (all-listed (m .1))
+    ensured-cases x (k .answer) (λ c. MakesCall x c → ((M : State) → listed (next c M .outcome) ≡ true) → Outcomes x)
+    (λ h n l. start-demand x (k .answer) (k .code) h) (λ h n l. write-demand x (k .answer) (k .code) h)
+    (λ c h n l. step-demand x (k .answer) (k .code) c n h l) (m .0) (k .ensured (m .0) (m .1)) (m .1) (all-listed (m .1))
 
 -- demand 2 ------------------------------------------------------------------------------
 
@@ -209,6 +232,10 @@ module _ (M : State) (x : Exchange) (r : Answer) (e : x .code ≡ code-of r) (b 
     by-definition = d;
     formed = holds-form (d .left);
     as-granted = λ _. t .as-granted;
+    as-waiting = t .set;
+    deadlock = λ u s room k w.
+        let o = ap (λ (y : Call). next y M .outcome) (sym k) in
+        deadlock-only u s room M (o ∙ told-cause (x .code) _ t (λ i j h. step-not-at u s room M i j (o ∙ h)) 17 (λ z. omega arith) w);
     wait-set = λ u s room k w. waiting u s room M (value (x .code)) (ap (λ (y : Call). next y M .outcome) (sym k) ∙ t .waiting w);
     read-back = λ k g. absurd (not-written r (committed-document M) (λ w. given w ∙ ap (λ (y : Call). answer-of w (next y M .outcome)) k));
   }
@@ -217,12 +244,14 @@ module _ (M : State) (x : Exchange) (r : Answer) (e : x .code ≡ code-of r) (b 
       t = tells x r e (next c M .outcome) l (given (λ d. Done))
 
   write-meets : legal (committed-document M) ≡ true → ByDefinition writing text-after M x write → Demand2 M x write
-  unfolding next lent-after answer-of
+  unfolding next lent-after answer-of is-write
   write-meets l d = record {
     held = b;
     by-definition = d;
     formed = holds-form (d .left);
     as-granted = λ n. absurd (n refl);
+    as-waiting = rw (ne-eqb (outcome (x .code)) 1 (λ w. write-no-wait (x .first .before) (committed-document M) (rw (d .code) at w)));
+    deadlock = λ t s room k w. absurd (true≢false (ap is-write k));
     wait-set = λ t s room k w. absurd (write-no-wait (x .first .before) (committed-document M) (rw (d .code) at w));
     read-back = λ k g.
         let m = committed-document M in

@@ -10,7 +10,8 @@ use Rattle.engine.specs.Contract.{no-room}
 use Rattle.engine.specs.Admission.{site}
 use Rattle.engine.specs.Judgement.{Free}
 use Rattle.engine.specs.Laws.Outcomes.{performed-grants}
-use Rattle.engine.specs.Laws.Judgement.{ready, admitted-place, step-stopped, step-free, free-fits, free-refused, free-granted, free-locked}
+use Rattle.engine.specs.Laws.Judgement.{ready, admitted-place, stop-ready, step-stopped, step-free, free-fits, free-refused, free-granted}
+use Rattle.engine.specs.Laws.Judgement.{free-locked}
 use Rattle.write_steps.specs.Laws.Contents.{allowed-short, kind-small}
 use Rattle.write_steps.specs.Laws.Inserts.{standing-depth, insert-misplaced, insert-full, insert-spare, insert-counted, insert-left}
 use Rattle.write_steps.proofs.insert.Statement.{statement}
@@ -21,6 +22,7 @@ use Rattle.engine.proofs.admit.Reads as admit
 use Rattle.write_steps.proofs.insert_cause.Reads as insert-cause
 use Rattle.locks.proofs.needed.Reads as needed
 use Rattle.engine.proofs.judge.Reads as judge
+use Rattle.engine.proofs.stop.Reads as stop
 use Rattle.node_writing.proofs.fits.Reads as fits
 use Rattle.table.proofs.count.Reads as count
 use Rattle.node_writing.proofs.new_place.Reads as new-place
@@ -40,6 +42,8 @@ Behind =
       needed.Learnt,
       judge.Asked,
       judge.Learnt,
+      stop.Asked,
+      stop.Learnt,
       fits.Asked,
       fits.Learnt,
       count.Asked,
@@ -68,14 +72,23 @@ free c =
 judge-requires : tie.Need-judge-requires
 judge-requires c κs = ready (c .before .before .before .before .before .admit .ensures) (c .before .before .before .insert-cause .ensures)
 
+stop-requires : tie.Need-stop-requires
+stop-requires c κs =
+    let at-judge = c .before .before .before in
+    let at-needed = at-judge .before .before .before in
+    let at-insert-cause = at-needed .before in
+    let at-admit = at-insert-cause .before .before in
+    stop-ready (at-admit .admit .ensures) (at-insert-cause .insert-cause .ensures) (at-judge .judge .ensures)
+
 returns : tie.Need-returns
 returns c =
-    let at-judge = c .before .before in
+    let at-if1 = c .before .before .before .before in
+    let at-judge = at-if1 .before .before in
     let at-needed = at-judge .before .before .before in
     let at-insert-cause = at-needed .before in
     let at-admit = at-insert-cause .before .before in
     step-stopped name.I (I _ _ _ _ _) refl (at-admit .admit .ensures) (at-insert-cause .insert-cause .ensures)
-    (at-needed .needed .ensures) (at-judge .judge .ensures) (c .if1 .taken) no-room .performed
+    (at-needed .needed .ensures) (at-judge .judge .ensures) (at-if1 .if1 .taken) no-room (c .before .before .stop .ensures) .performed
 
 fits-requires : tie.Need-fits-requires
 fits-requires c κs =
@@ -145,7 +158,7 @@ put-requires c κs =
     let at-needed = at-count .before .before .before .before .before .before .before .before .before .before in
     let f = free (at-count .before .before .before .before .before) in
     let g = free-locked f (at-grant .grant .ensures) in (
-      g .layout,
+      g .left .layout,
       omega (arith, g .many, at-count .count .ensures, at-if3 .if3 .left),
       omega (arith, g .many, at-new-place .new-place .ensures .1),
       allowed-short _ _ (not-false _ (free-fits f .1)),
@@ -174,5 +187,6 @@ returns-4 c =
 
 pub insert-spec : {M : Type 1} → statement M
 insert-spec = tie.close (tie.spec (λ c κs. search needs) (λ c κs. admitted-place (c .before .admit .ensures)) (λ c κs. search needs)
-    judge-requires (λ c. search needs) returns fits-requires (λ c. search needs) returns-2 count-requires (λ c. search needs) returns-3
+    judge-requires stop-requires (λ c. search needs) returns fits-requires (λ c. search needs) returns-2 count-requires
+    (λ c. search needs) returns-3
     new-place-requires depth-requires grant-requires add-put cast-put put-requires (λ c. search needs) returns-4)

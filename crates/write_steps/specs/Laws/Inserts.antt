@@ -15,7 +15,8 @@ use Rattle.locks.specs.declared.NeedWords.{NeedWords}
 use Rattle.protocol.specs.Lent.{first-lent, second-lent}
 use Rattle.table.specs.Lists.{insert}
 use Rattle.table.specs.Layout.{Entry, nodes, Left, header}
-use Rattle.table.specs.Laws.Kept.{left-kept, left-as, then-left}
+use Rattle.protocol.specs.State.{set-header}
+use Rattle.table.specs.Laws.Kept.{left-as, then-left}
 use Rattle.rows.specs.Places.{depth, item, children}
 use Rattle.rows.specs.Rows.{new-place, stepped}
 use Rattle.node_writing.specs.Writing.{new-node}
@@ -26,7 +27,7 @@ use Rattle.engine.specs.Contract.{no-room}
 use Rattle.engine.specs.Admission.{Site, Standing}
 use Rattle.engine.specs.Judgement.{first-cause, late-causes, Free}
 use Rattle.engine.specs.Laws.Judgement.{free-locked}
-use Rattle.engine.specs.Grants.{Granted}
+use Rattle.engine.specs.Grants.{GrantedStep}
 
 -- depths are small -------------------------------------------------------------------------
 
@@ -75,10 +76,10 @@ module _ {s : List ℕ} {t : ℕ} {a : Site} {w : NeedWords} {m kind n k : ℕ} 
 
   -- the rows
   pub insert-left : {s₁ s₂ : List ℕ} (q d : ℕ) → q ≡ new-place (a .t) k (a .place) (nodes s) → d ≡ depth (nodes s) (a .place)
-      → Granted s s₁ (a .t) w (a .way)
+      → GrantedStep s s₁ (a .t) w (a .way)
       → Left s₁ s₂ (header s₁) (insert q (d + 1, new-node (a .t) m kind b) (nodes s₁))
-      → Left s s₂ (header s) (stepped (a .t) (I m kind b n k) (a .place) (nodes s))
+      → Left s s₂ (set-header (a .t) (λ u. false) (header s)) (stepped (a .t) (I m kind b n k) (a .place) (nodes s))
   unfolding stepped
   insert-left q d x y g l =
       left-as _ _ (rw (x, y, add-one (depth (nodes s) (a .place))))
-      (then-left _ (insert q (d + 1, new-node (a .t) m kind b)) (left-kept (free-locked f g)) l)
+      (then-left _ (insert q (d + 1, new-node (a .t) m kind b)) (free-locked f g .left) l)

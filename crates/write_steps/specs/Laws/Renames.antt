@@ -20,7 +20,7 @@ use Rattle.rows.specs.Rows.{granted-modes, granted-along, granted-up}
 use Rattle.rows.specs.Laws.Ends.{prune-map}
 use Rattle.rows.specs.Laws.Lists.{map-modify, map-drop}
 use Rattle.locks.specs.declared.NeedWords.{NeedWords}
-use Rattle.engine.specs.Grants.{Granted}
+use Rattle.engine.specs.Grants.{GrantedStep}
 use Rattle.engine.specs.Judgement.{Free}
 use Rattle.engine.specs.Laws.Judgement.{free-locked}
 use Rattle.engine.specs.Admission.{Site}
@@ -87,8 +87,8 @@ named-granted t st p a l =
 
 -- what was counted with the locks granted is what there was before
 pub named-locked : {s s₁ : List ℕ} {t : ℕ} {at : Site} {w : NeedWords} {n r : ℕ} {a b : List ℕ} → Free s t at w (UU n a b)
-    → Granted s s₁ (at .t) w (at .way)
+    → GrantedStep s s₁ (at .t) w (at .way)
     → r ≡ named-in (at .t) a (at .place) (nodes s₁)
     → r ≡ named-in (at .t) a (at .place) (nodes s)
 named-locked {s} {at = at} {n = n} {a = a} {b = b} f g e =
-    e ∙ rw (free-locked f g .nodes) (named-granted (at .t) (UU n a b) (at .place) a (nodes s))
+    e ∙ rw (free-locked f g .left .nodes) (named-granted (at .t) (UU n a b) (at .place) a (nodes s))

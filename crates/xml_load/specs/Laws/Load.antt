@@ -76,6 +76,7 @@ module _ {s : List ℕ} (f : form s ≡ true) where
         rows = k .nodes (d .shape) (d .spelled);
         unique = rw (k .nodes (d .shape) (d .spelled)) (unique-load D (legal-of D (d .fits)));
         valid = valid-load D (legal-of D (d .fits));
+        sets = h .sets;
       }
 
       counted : node-limit - left ≡ length (lines D)
