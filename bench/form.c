@@ -1,6 +1,6 @@
 #include "state.h"
 
-const uint8_t bench_mark[8] = {'n', 'o', 'o', 'd', 'l', 'e', 'f', 3};
+const uint8_t bench_mark[8] = {'n', 'o', 'o', 'd', 'l', 'e', 'f', 4};
 
 /* 1,024 slots below 1,024 are a permutation if each is met. Bytes instead of bits: no store has to wait for the one before. */
 static int slots_are_permutation(const uint8_t *s)
@@ -94,8 +94,8 @@ int bench_form(const uint8_t *s, size_t length, uint32_t n, unsigned *row)
 {
     if (length < AT_END || memcmp(s, bench_mark, 8) != 0)
         return 0;
-    unsigned count = count_of(s);
-    if (count - 1 >= NODES || (s[AT_REST] | s[AT_REST + 1] | s[AT_REST + 2] | s[AT_REST + 3]) != 0)
+    unsigned count = rows_in(s);
+    if (count - 1 >= NODES)
         return 0;
     return slots_are_permutation(s) && rows_are_of_form(s, count) && marks_are_of_form(s, count) && waits_are_of_form(s)
         && numbers_are_distinct(s, count, n, row);

@@ -300,7 +300,7 @@ noodlefen_answer bench_load(uint8_t *s, size_t length, const uint8_t *xml, size_
     memset(rows.cells[0], 0, CELL);
     if (!read_document(&r))
         return refused(r.cause, r.offset);
-    put16(s + AT_COUNT, rows.count);
+    put16(s + AT_ROWS, rows.count);
     for (unsigned i = 0; i < NODES; i++)
         put16(s + AT_SLOT + 2 * i, i);
     for (unsigned i = 0; i < rows.count; i++) {
@@ -311,6 +311,8 @@ noodlefen_answer bench_load(uint8_t *s, size_t length, const uint8_t *xml, size_
     memset(s + AT_INSERTED, 0, NODES);
     memset(s + AT_DELETED, 0, NODES);
     memset(s + AT_CHANGED, 0, NODES);
+    memset(s + AT_COUNT, 0, 4 * NODES);
+    put32(s + AT_COMMITS, 0);
     memcpy(s + AT_CELL, rows.cells, CELL * (size_t)rows.count);
     return granted(rows.count);
 }

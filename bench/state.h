@@ -6,14 +6,14 @@
 
 #include "engine.h"
 
-enum { NODES = 1024, CELL = 33, TRANSACTIONS = 16 };
+enum { NODES = 1024, CELL = 33, TRANSACTIONS = 16, COMMITS = 1000000 };
 
-/* Rows are in document order; the first count of them are in use. Slots keep their place while rows move. */
+/* Rows are in document order; the first of them are in use. Slots keep their place while rows move. */
 enum {
     AT_MARK = 0,                        /* 8 bytes that say that this is a state */
-    AT_COUNT = 8,                       /* rows in use */
+    AT_ROWS = 8,                        /* how many rows are in use */
     AT_OPEN = 10,                       /* bit t-1 for each open transaction t */
-    AT_REST = 12,                       /* 4 bytes of zero */
+    AT_COMMITS = 12,                    /* commits since the last start or load; at the same place as in the library's state */
     AT_NUMBER = 16,                     /* by row: node number */
     AT_SLOT = AT_NUMBER + 4 * NODES,    /* by row: slot; a permutation, those of rows not in use are free */
     AT_DEPTH = AT_SLOT + 2 * NODES,     /* by row: 0 for the document */
@@ -23,7 +23,8 @@ enum {
     AT_CHANGED = AT_DELETED + NODES,    /* by row: the open transaction that changed its committed content, or 0 */
     AT_CELL = AT_CHANGED + NODES,       /* by slot: length, content, zeros */
     AT_SAVED = AT_CELL + CELL * NODES,  /* by slot: the committed content of a changed node */
-    AT_LOCKS = AT_SAVED + CELL * NODES, /* by transaction and slot: set of modes, empty unless it is open and the slot in use */
+    AT_COUNT = AT_SAVED + CELL * NODES, /* by slot: the commit that inserted the node or last updated it, 0 for none */
+    AT_LOCKS = AT_COUNT + 4 * NODES,    /* by transaction and slot: set of modes, empty unless it is open and the slot in use */
     AT_WAITS = AT_LOCKS + 2 * NODES * TRANSACTIONS, /* by transaction: whom it waits for; at the same place as in the library's state */
     AT_END = AT_WAITS + 2 * TRANSACTIONS
 };
@@ -55,7 +56,8 @@ static inline void put32(uint8_t *bytes, uint32_t word)
     memcpy(bytes, &word, 4);
 }
 
-static inline unsigned count_of(const uint8_t *s) { return get16(s + AT_COUNT); }
+static inline unsigned rows_in(const uint8_t *s) { return get16(s + AT_ROWS); }
+static inline uint32_t commits_in(const uint8_t *s) { return get32(s + AT_COMMITS); }
 static inline unsigned open_set(const uint8_t *s) { return get16(s + AT_OPEN); }
 static inline uint32_t number_of(const uint8_t *s, unsigned row) { return get32(s + AT_NUMBER + 4 * row); }
 static inline unsigned slot_of(const uint8_t *s, unsigned row) { return get16(s + AT_SLOT + 2 * row); }
@@ -63,6 +65,7 @@ static inline unsigned depth_of(const uint8_t *s, unsigned row) { return get16(s
 static inline uint8_t *cell_at(uint8_t *s, unsigned slot) { return s + AT_CELL + CELL * slot; }
 static inline const uint8_t *cell_in(const uint8_t *s, unsigned row) { return s + AT_CELL + CELL * slot_of(s, row); }
 static inline uint8_t *saved_at(uint8_t *s, unsigned slot) { return s + AT_SAVED + CELL * slot; }
+static inline uint8_t *count_at(uint8_t *s, unsigned slot) { return s + AT_COUNT + 4 * slot; }
 static inline uint8_t *locks_of(uint8_t *s, unsigned t) { return s + AT_LOCKS + 2 * NODES * (t - 1); }
 static inline unsigned waits_of(const uint8_t *s, unsigned t) { return get16(s + AT_WAITS + 2 * (t - 1)); }
 static inline void put_waits(uint8_t *s, unsigned t, unsigned set) { put16(s + AT_WAITS + 2 * (t - 1), set); }

@@ -110,7 +110,7 @@ static inline unsigned first_causes(const uint8_t *s, size_t length, uint32_t t,
         return 1;
     if ((open_set(s) >> (t - 1) & 1) == 0)
         return 3;
-    if (*row == count_of(s) || s[AT_DELETED + *row] == t)
+    if (*row == rows_in(s) || s[AT_DELETED + *row] == t)
         return 7;
     return 0;
 }
@@ -118,7 +118,7 @@ static inline unsigned first_causes(const uint8_t *s, size_t length, uint32_t t,
 /* The row behind the subtree of this one. */
 static unsigned subtree_end(const uint8_t *s, unsigned row)
 {
-    unsigned count = count_of(s), depth = depth_of(s, row), end = row + 1;
+    unsigned count = rows_in(s), depth = depth_of(s, row), end = row + 1;
     while (end < count && depth_of(s, end) > depth)
         end++;
     return end;
@@ -150,7 +150,7 @@ noodlefen_answer bench_child(uint8_t *s, size_t length, uint32_t t, noodlefen_no
     if ((set = wait_set(s, t, &path, &needs_c)) != 0)
         return wait_for(s, t, set);
     grant(s, t, &path, &needs_c);
-    unsigned count = count_of(s), depth = depth_of(s, row);
+    unsigned count = rows_in(s), depth = depth_of(s, row);
     for (unsigned child = row + 1; child < count && depth_of(s, child) > depth && k > 0; child++)
         if (depth_of(s, child) == depth + 1 && s[AT_DELETED + child] != t && --k == 0)
             return granted(number_of(s, child) + ((uint64_t)s[AT_KIND + child] << 32));
@@ -224,7 +224,7 @@ noodlefen_answer bench_delete(uint8_t *s, size_t length, uint32_t t, noodlefen_n
 /* The row where a k-th child of the kind goes, or 0 if the place is not allowed. */
 static unsigned place_of(const uint8_t *s, unsigned t, unsigned row, unsigned kind, uint32_t k)
 {
-    unsigned count = count_of(s), depth = depth_of(s, row), children = 0, place = 0, at = row + 1;
+    unsigned count = rows_in(s), depth = depth_of(s, row), children = 0, place = 0, at = row + 1;
     unsigned before = 3, behind = 4; /* kinds of the neighbours, if there are any */
     for (; at < count && depth_of(s, at) > depth; at++) {
         if (depth_of(s, at) != depth + 1 || s[AT_DELETED + at] == t)
@@ -246,7 +246,7 @@ static unsigned place_of(const uint8_t *s, unsigned t, unsigned row, unsigned ki
 
 static void insert_row(uint8_t *s, unsigned row, uint32_t number, unsigned depth, unsigned kind, unsigned t)
 {
-    unsigned count = count_of(s), after = count - row, slot = slot_of(s, count);
+    unsigned count = rows_in(s), after = count - row, slot = slot_of(s, count);
     memmove(s + AT_NUMBER + 4 * (row + 1), s + AT_NUMBER + 4 * row, 4 * after);
     memmove(s + AT_SLOT + 2 * (row + 1), s + AT_SLOT + 2 * row, 2 * after);
     memmove(s + AT_DEPTH + 2 * (row + 1), s + AT_DEPTH + 2 * row, 2 * after);
@@ -261,12 +261,12 @@ static void insert_row(uint8_t *s, unsigned row, uint32_t number, unsigned depth
     s[AT_INSERTED + row] = (uint8_t)t;
     s[AT_DELETED + row] = 0;
     s[AT_CHANGED + row] = 0;
-    put16(s + AT_COUNT, count + 1);
+    put16(s + AT_ROWS, count + 1);
 }
 
 static int number_held(const uint8_t *s, uint32_t number)
 {
-    unsigned count = count_of(s), found = 0;
+    unsigned count = rows_in(s), found = 0;
     for (unsigned row = 0; row < count; row++)
         found |= number_of(s, row) == number;
     return (int)found;
@@ -292,7 +292,7 @@ noodlefen_answer bench_insert(uint8_t *s, size_t length, uint32_t t, noodlefen_n
         return wait_for(s, t, set);
     if ((place = place_of(s, t, row, kind, k)) == 0)
         return refused(11, 0);
-    if (count_of(s) == NODES)
+    if (rows_in(s) == NODES)
         return refused(12, 0);
     grant(s, t, &path, &needs_i);
     insert_row(s, place, m, depth_of(s, row) + 1, kind, t);

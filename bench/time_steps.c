@@ -5,18 +5,18 @@
 
 #include "timing.h"
 
-/* WAITS is an R that waits for the last of the open ones, which waits for the one before it, and so on, so that the search for a ring is
- * the longest; with one open there is none. COMMIT is one of nothing; COMMIT_CHANGES and ABORT are of an update, an insertion and a
- * deletion. The refused calls are commits of a transaction that is not open, on a state without and with such changes: they end right
- * behind the form check, and so show its time. From COMPUTED on come the times of the ends less that of the form check. */
+/* COUNT is count_of. WAITS is an R that waits for the last of the open ones, which waits for the one before it, and so on, so that the
+ * search for a ring is the longest; with one open there is none. COMMIT is one of nothing; COMMIT_CHANGES and ABORT are of an update, an
+ * insertion and a deletion. The refused calls are commits of a transaction that is not open, on a state without and with such changes: they
+ * end right behind the form check, and so show its time. From COMPUTED on come the times of the ends less that of the form check. */
 enum what {
-    T, C, R, U, D, I, TT, RR, UU, WAITS, BEGIN, COMMIT, COMMIT_CHANGES, ABORT, REFUSED, REFUSED_CHANGES,
+    COUNT, T, C, R, U, D, I, TT, RR, UU, WAITS, BEGIN, COMMIT, COMMIT_CHANGES, ABORT, REFUSED, REFUSED_CHANGES,
     COMPUTED, COMMIT_BEHIND = COMPUTED, COMMIT_CHANGES_BEHIND, ABORT_BEHIND, WHATS
 };
 enum { SIZES = 3, OPENS = 3, SAMPLES = 301, MOST_CALLS = COMPUTED - BEGIN, WORD = 18 };
 
 static const char *const words[WHATS] = {
-    "T", "C", "R", "U", "D", "I", "TT", "RR", "UU", "R, waits", "begin", "commit", "commit of changes", "abort", "refused",
+    "count_of", "T", "C", "R", "U", "D", "I", "TT", "RR", "UU", "R, waits", "begin", "commit", "commit of changes", "abort", "refused",
     "refused, changes", "commit", "commit of changes", "abort"
 };
 static const unsigned sizes[SIZES] = {16, 128, 1024};
@@ -48,6 +48,7 @@ static noodlefen_answer call(const struct timed *engine, uint8_t *state, enum wh
     const size_t length = NOODLEFEN_STATE_BYTES;
     static const uint8_t name[] = "winch", speed[] = "speed", text[] = "7.5";
     switch (what) {
+    case COUNT: return engine->count_of(state, length, at.text);
     case T: return engine->test(state, length, 1, at.text);
     case C: return engine->child(state, length, 1, at.drive, 2);
     case R: return engine->read(state, length, 1, at.text, cells, sizeof cells);
@@ -68,6 +69,7 @@ static noodlefen_answer call(const struct timed *engine, uint8_t *state, enum wh
     }
 }
 
+static int has_call(const struct timed *engine, enum what what) { return what != COUNT || engine->count_of != NULL; }
 static int is_refused(enum what what) { return what == REFUSED || what == REFUSED_CHANGES; }
 static int has_changes(enum what what) { return what == COMMIT_CHANGES || what == ABORT || what == REFUSED_CHANGES; }
 
@@ -146,11 +148,13 @@ static void time_calls(int first, int count, int size, int open)
         for (int c = 0; c < count; c++)
             for (int turn = 0; turn < timed_count; turn++) {
                 int e = engine_at(turn, i);
-                samples[c][e][i] = time_call(&timed_engines[e], (enum what)(first + c), at, prepared[c][e]);
+                if (has_call(&timed_engines[e], (enum what)(first + c)))
+                    samples[c][e][i] = time_call(&timed_engines[e], (enum what)(first + c), at, prepared[c][e]);
             }
     for (int c = 0; c < count; c++)
         for (int e = 0; e < timed_count; e++)
-            results[first + c][size][open][e] = median(samples[c][e], SAMPLES);
+            if (has_call(&timed_engines[e], (enum what)(first + c)))
+                results[first + c][size][open][e] = median(samples[c][e], SAMPLES);
 }
 
 static void subtract_check(enum what computed, enum what end, enum what refused)
@@ -201,7 +205,7 @@ void time_steps(void)
     time_calls(T, 1, 0, 0); /* until the machine has its speed */
     for (int s = 0; s < SIZES; s++)
         for (int o = 0; o < OPENS; o++) {
-            for (int step = T; step <= (opens[o] > 1 ? WAITS : UU); step++)
+            for (int step = COUNT; step <= (opens[o] > 1 ? WAITS : UU); step++)
                 time_calls(step, 1, s, o);
             time_calls(BEGIN, MOST_CALLS, s, o);
         }

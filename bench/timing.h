@@ -7,7 +7,7 @@
 /* The functions that are timed, for each engine. */
 struct timed {
     const char *name;
-    /* The calls: noodlefen_answer (*start)(uint8_t *state, size_t state_len) and so on. */
+    /* The calls: noodlefen_answer (*start)(uint8_t *state, size_t state_len) and so on; count_of is NULL if the engine has it not. */
 #define CALL(name, parameters, arguments) noodlefen_answer(*name) parameters;
 #include "../host/calls.def"
 };

@@ -120,7 +120,7 @@ static void open_node(struct writer *w, unsigned row, unsigned depth)
 
 static void write_rows(struct writer *w)
 {
-    unsigned count = count_of(w->s), open = 0;
+    unsigned count = rows_in(w->s), open = 0;
     w->length = 0;
     w->rows[0] = 0;
     w->has_content[0] = 0;

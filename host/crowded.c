@@ -1,6 +1,6 @@
 /*
- * crowded.c: how long T takes at worst: on 1,024 nodes whose numbers all stand in one bucket of the form check, which every call makes
- * once. No load gives such numbers, but a panel that means harm can insert them. Last line 'N passed, 0 failed'.
+ * crowded.c: how long T and count_of take at worst: on 1,024 nodes whose numbers all stand in one bucket of the form check, which every
+ * call makes once. No load gives such numbers, but a panel that means harm can insert them. Last line 'N passed, 0 failed'.
  */
 #define _POSIX_C_SOURCE 199309L
 #include <stdio.h>
@@ -60,13 +60,16 @@ static double now(void)
     return 1e6 * (double)time.tv_sec + 1e-3 * (double)time.tv_nsec;
 }
 
+static noodlefen_answer test(noodlefen_node n) { return noodlefen_test(state, sizeof state, 1, n); }
+static noodlefen_answer count_of(noodlefen_node n) { return noodlefen_count_of(state, sizeof state, n); }
+
 /* The least of some times, in microseconds: what else the machine does can only add to it. */
-static double time_of_test(noodlefen_node n)
+static double time_of(noodlefen_answer (*call)(noodlefen_node), noodlefen_node n)
 {
     double least = 1e18;
     for (int i = 0; i < SAMPLES; i++) {
         double from = now();
-        noodlefen_answer answer = noodlefen_test(state, sizeof state, 1, n);
+        noodlefen_answer answer = call(n);
         double taken = now() - from;
         must(answer);
         least = taken < least ? taken : least;
@@ -74,16 +77,29 @@ static double time_of_test(noodlefen_node n)
     return least;
 }
 
+static int passed, failed;
+
+static void check(int right, const char *what)
+{
+    passed += right;
+    failed += !right;
+    if (!right)
+        printf("FAILED: %s\n", what);
+}
+
+static void compare(const char *name, noodlefen_answer (*call)(noodlefen_node))
+{
+    double plain = time_of(call, build(0)), crowded = time_of(call, build(1));
+    printf("%-8s on 1,024 nodes numbered from 0: %.1f microseconds\n", name, plain);
+    printf("%-8s on 1,024 nodes of one bucket:   %.1f microseconds, at most %d\n", name, crowded, MOST_MICROSECONDS);
+    check(crowded <= MOST_MICROSECONDS, "too long");
+    check(crowded >= 4 * plain, "hardly longer, so they share no bucket: has its hash changed?");
+}
+
 int main(void)
 {
-    double plain = time_of_test(build(0)), crowded = time_of_test(build(1));
-    int fast = crowded <= MOST_MICROSECONDS, shared = crowded >= 4 * plain;
-    printf("T on 1,024 nodes numbered from 0: %.1f microseconds\n", plain);
-    printf("T on 1,024 nodes of one bucket:   %.1f microseconds, at most %d\n", crowded, MOST_MICROSECONDS);
-    if (!fast)
-        printf("FAILED: too long\n");
-    if (!shared)
-        printf("FAILED: hardly longer, so they share no bucket: has its hash changed?\n");
-    printf("%d passed, %d failed\n", fast + shared, 2 - fast - shared);
-    return !fast || !shared;
+    compare("T", test);
+    compare("count_of", count_of);
+    printf("%d passed, %d failed\n", passed, failed);
+    return failed != 0;
 }

@@ -13,6 +13,8 @@ struct engine {
      * that is not granted, or the write. */
     noodlefen_answer (*finish)(void *e, const uint32_t *order, unsigned count, uint8_t *out, size_t out_len);
     unsigned (*remembered)(void *e, uint32_t t); /* whom t, 1 to 16, is remembered to wait for: bit u-1 for u */
+    uint32_t (*commits)(void *e);                /* how many were granted since the last granted start or load */
+    void (*put_commits)(void *e, uint32_t commits); /* as if so many had been granted, the further ones of transactions without a step */
     /* The calls: noodlefen_answer (*start)(void *e) and so on. */
 #define STATE void *e
 #define READ_STATE void *e
@@ -20,12 +22,14 @@ struct engine {
 #include "calls.def"
 };
 
-/* The reference. A fault is a committed step that answered otherwise than the plain run; in finish also a step of an open transaction that
- * did so in this order, and a document left that is not the held one. While each open transaction waits for somebody there is one more. */
+/* The reference. A fault is a committed step that answered otherwise than the plain run, and a commit that left nodes with other counts; in
+ * finish also a step of an open transaction that answered otherwise in this order, and a document left that is not the held one. While each
+ * open transaction waits for somebody there is one more. */
 extern const struct engine reference_engine;
 
-/* The functions of noodlefen.h. A fault is a call that changed its input, was refused and changed the state bytes, or waits and changed
- * others of them than those of its remembered set, which have to be the set that it answers; also a finish that changed the state bytes. */
+/* The functions of noodlefen.h. A fault is a call that changed its input, only reads the state or was refused and changed its bytes, or
+ * waits and changed others of them than those of its remembered set, which have to be the set that it answers; also a finish that changed
+ * the state bytes. */
 extern const struct engine library_engine;
 
 /* The engine that a program tests: the library if it was linked, otherwise the reference. */

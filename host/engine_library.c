@@ -6,7 +6,8 @@
 #include "fence.h"
 
 enum { MOST_STATE = 1048576, MOST_BUFFER = 1 << 17, MOST_BUFFERS = 2 };
-enum { AT_SETS = 112656, SET_BYTES = 2 }; /* the remembered sets in the state, by transaction; docs/STATE.md */
+/* In the state, by docs/STATE.md: the commits so far, low byte first, and the remembered sets by transaction. */
+enum { AT_COMMITS = 12, COMMITS_BYTES = 4, AT_SETS = 116752, SET_BYTES = 2 };
 
 struct library {
     struct fence fence;
@@ -25,6 +26,9 @@ static struct buffer {
     size_t length;
 } buffers[MOST_BUFFERS];
 static unsigned in_use;
+
+/* Whether the call that is being made only reads the state. */
+static int only_reads;
 
 static uint8_t *within(const struct fence *fence, size_t length)
 {
@@ -108,6 +112,23 @@ static unsigned remembered(void *e, uint32_t t)
     return set[0] | (unsigned)set[1] << 8;
 }
 
+static uint32_t commits(void *e)
+{
+    const uint8_t *bytes = ((struct library *)e)->state + AT_COMMITS;
+    uint32_t count = 0;
+    for (int i = COMMITS_BYTES; i > 0; i--)
+        count = count << 8 | bytes[i - 1];
+    return count;
+}
+
+static void put_commits(void *e, uint32_t count)
+{
+    struct library *l = e;
+    for (int i = 0; i < COMMITS_BYTES; i++)
+        l->state[AT_COMMITS + i] = (uint8_t)(count >> 8 * i & 0xFF);
+    memcpy(l->before, l->fence.bytes, l->fence.size);
+}
+
 /* Whether all bytes within the fence but these of the state are as they were. */
 static int kept_but(const struct library *l, size_t offset, size_t length)
 {
@@ -115,11 +136,12 @@ static int kept_but(const struct library *l, size_t offset, size_t length)
     return memcmp(l->fence.bytes, l->before, from) == 0 && memcmp(l->fence.bytes + to, l->before + to, l->fence.size - to) == 0;
 }
 
-/* Whether a call of t kept what it may not change: a granted one may change the state, one that waits the set of t, which it answers. */
+/* Whether a call of t kept what it may not change: a granted one may change the state if it does not only read it, one that waits the set
+ * of t, which it answers. */
 static int state_kept(struct library *l, uint32_t t, noodlefen_answer answer)
 {
     if (!noodlefen_waits(answer))
-        return kept_but(l, 0, noodlefen_granted(answer) ? l->length : 0);
+        return kept_but(l, 0, noodlefen_granted(answer) && !only_reads ? l->length : 0);
     return t >= 1 && t <= NOODLEFEN_TRANSACTIONS && remembered(l, t) == noodlefen_value(answer)
         && kept_but(l, AT_SETS + SET_BYTES * (t - 1), SET_BYTES);
 }
@@ -136,8 +158,16 @@ static noodlefen_answer checked(struct library *l, uint32_t t, noodlefen_answer 
     }
     if (!state_kept(l, t, answer))
         l->faults++;
-    memcpy(l->before, l->fence.bytes, l->fence.size);
+    if (!only_reads)
+        memcpy(l->before, l->fence.bytes, l->fence.size);
+    only_reads = 0;
     return answer;
+}
+
+static const uint8_t *reads(const struct library *l)
+{
+    only_reads = 1;
+    return l->state;
 }
 
 /* The transaction of the calls that name none. */
@@ -146,6 +176,7 @@ static const uint32_t t = 0;
 #define STATE void *e
 #define READ_STATE void *e
 #define PASSED_STATE ((struct library *)e)->state, ((struct library *)e)->length
+#define PASSED_READ_STATE reads(e), ((struct library *)e)->length
 #define GIVEN(bytes) give(bytes, bytes##_len), bytes##_len
 #define LENT(bytes) lend(bytes, bytes##_len), bytes##_len
 #define CALL(name, parameters, arguments) \
@@ -174,7 +205,7 @@ static noodlefen_answer finish(void *e, const uint32_t *order, unsigned count, u
 }
 
 const struct engine library_engine = {
-    "library", make, drop, faults, finish, remembered,
+    "library", make, drop, faults, finish, remembered, commits, put_commits,
 #define CALL(name, parameters, arguments) library_##name,
 #include "calls.def"
 };

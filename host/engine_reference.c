@@ -11,6 +11,8 @@ static noodlefen_answer finish(void *e, const uint32_t *order, unsigned count, u
 }
 
 static unsigned remembered(void *e, uint32_t t) { return reference_remembered(e, t); }
+static uint32_t commits(void *e) { return reference_commits(e); }
+static void put_commits(void *e, uint32_t count) { reference_put_commits(e, count); }
 
 #define STATE void *e
 #define READ_STATE void *e
@@ -20,7 +22,7 @@ static unsigned remembered(void *e, uint32_t t) { return reference_remembered(e,
 #include "calls.def"
 
 const struct engine reference_engine = {
-    "reference", make, drop, faults, finish, remembered,
+    "reference", make, drop, faults, finish, remembered, commits, put_commits,
 #define CALL(name, parameters, arguments) of_##name,
 #include "calls.def"
 };

@@ -40,6 +40,7 @@ static const struct call calls[CALLS] = {
     [CALL_start] = {.exact = GRANTED(0)},
     [CALL_load] = {.input = {tree_e}, .exact = GRANTED(7), .none = REFUSED(4)},
     [CALL_write] = {.room = {84}, .exact = GRANTED(84), .none = REFUSED(13)},
+    [CALL_count_of] = {.n = 5, .exact = GRANTED(0)},
     [CALL_begin] = {.t = 2, .exact = GRANTED(0)},
     [CALL_commit] = {.t = 1, .exact = GRANTED(0)},
     [CALL_abort] = {.t = 1, .exact = GRANTED(0)},
@@ -167,8 +168,8 @@ static void test_short_buffers(enum call_name what, int at_end)
 
 static void test_short_states(enum call_name what, int at_end)
 {
-    static const size_t lengths[] = {0, 1, 7, 8, 9, 10, 11, 12, 15, 16, 17, 24, 4096, 8208, 8278, 79888, 79890, 112656, 112658,
-                                     NOODLEFEN_STATE_BYTES - 2, NOODLEFEN_STATE_BYTES - 1};
+    static const size_t lengths[] = {0, 1, 7, 8, 9, 10, 11, 12, 15, 16, 17, 24, 4096, 8208, 8278, 8282, 83984, 83986, 112688,
+                                     116752, 116754, NOODLEFEN_STATE_BYTES - 2, NOODLEFEN_STATE_BYTES - 1};
     for (size_t i = 0; i < sizeof lengths / sizeof *lengths; i++) {
         struct slice slices[SLICES];
         prepare(what, slices, at_end);
@@ -222,6 +223,42 @@ static void test_ring(int at_end)
     check(noodlefen_read(state.bytes, state.length, 2, 5, out.bytes, out.length) == REFUSED(17), CALL_read, "a ring");
 }
 
+/* A call that only reads the state, where nobody may write to it: the committed settings, while transaction 1 has changed them. */
+static void test_only_reading(int at_end)
+{
+    struct slice slices[SLICES];
+    prepare(CALL_write, slices, at_end);
+    const struct slice state = slices[STATE_SLICE], out = slices[FIRST];
+    noodlefen_update(state.bytes, state.length, 1, 3, (const uint8_t *)"2", 1);
+    noodlefen_commit(state.bytes, state.length, 1);
+    noodlefen_begin(state.bytes, state.length, 1);
+    noodlefen_update(state.bytes, state.length, 1, 5, (const uint8_t *)"7", 1);
+    noodlefen_delete(state.bytes, state.length, 1, 6);
+    noodlefen_insert(state.bytes, state.length, 1, 9, 4, (const uint8_t *)"x", 1, 4, 1);
+    set_access(fences[STATE_SLICE].bytes, fences[STATE_SLICE].size, READ_ONLY);
+    check(noodlefen_write(state.bytes, state.length, out.bytes, out.length) == GRANTED(84), CALL_write, "a state to be read");
+    check(noodlefen_write(state.bytes, state.length, out.bytes, out.length - 1) == too_short, CALL_write, "a state to be read, 13");
+    for (noodlefen_node n = 0; n <= 6; n++)
+        check(noodlefen_count_of(state.bytes, state.length, n) == GRANTED(n == 3 ? 1 : 0), CALL_count_of, "a state to be read");
+    check(noodlefen_count_of(state.bytes, state.length, 9) == REFUSED(7), CALL_count_of, "a state to be read, 7");
+    check(noodlefen_count_of(state.bytes, state.length, 4294967295u) == REFUSED(7), CALL_count_of, "a state to be read, 7");
+}
+
+/* A commit that is refused for 18 writes nothing. Bytes 12 to 15 of the state have the number of commits. */
+static void test_last_commit(int at_end)
+{
+    struct slice slices[SLICES];
+    prepare(CALL_commit, slices, at_end);
+    const struct slice state = slices[STATE_SLICE];
+    noodlefen_update(state.bytes, state.length, 1, 5, (const uint8_t *)"7", 1);
+    memcpy(state.bytes + 12, "\x40\x42\x0F\0", 4); /* 1,000,000 */
+    set_all(READ_ONLY);
+    check(noodlefen_commit(state.bytes, state.length, 1) == REFUSED(18), CALL_commit, "no more commits");
+    check(noodlefen_commit(state.bytes, state.length, 2) == REFUSED(3), CALL_commit, "not open, no more commits");
+    set_all(READ_AND_WRITE);
+    check(noodlefen_abort(state.bytes, state.length, 1) == GRANTED(0), CALL_abort, "no more commits");
+}
+
 /* The helpers that look into bytes: up to the last one and no further. */
 static void test_helpers(void)
 {
@@ -252,8 +289,11 @@ int main(void)
         if (has_buffer((enum call_name)what, 0))
             test_nulls((enum call_name)what);
     }
-    test_ring(0);
-    test_ring(1);
+    for (int at_end = 0; at_end < 2; at_end++) {
+        test_ring(at_end);
+        test_only_reading(at_end);
+        test_last_commit(at_end);
+    }
     test_helpers();
     printf("%lu passed, %lu failed\n", passed, failed);
     return failed != 0;

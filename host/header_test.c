@@ -24,7 +24,7 @@ extern "C" {
 }
 #endif
 
-#if NOODLEFEN_VERSION != 1000 * NOODLEFEN_VERSION_MAJOR + NOODLEFEN_VERSION_MINOR || NOODLEFEN_VERSION < 3000
+#if NOODLEFEN_VERSION != 1000 * NOODLEFEN_VERSION_MAJOR + NOODLEFEN_VERSION_MINOR || NOODLEFEN_VERSION < 4000
 #error "the version"
 #endif
 
@@ -56,6 +56,7 @@ static void test_answers(void)
     noodlefen_answer child = granted(0xFFFFFFFE + (3ull << 32));
     CHECK(noodlefen_granted(child) && !noodlefen_waits(child) && !noodlefen_refused(child));
     CHECK(noodlefen_number(child) == 0xFFFFFFFE && noodlefen_kind(child) == NOODLEFEN_ATTRIBUTE && noodlefen_cause(child) == 0);
+    CHECK(noodlefen_count(granted(1000000)) == 1000000 && noodlefen_count(granted(0xFFFFFFFF + (1ull << 32))) == 0xFFFFFFFF);
     noodlefen_answer refusal = refused(NOODLEFEN_LOADED_NODES, 65535);
     CHECK(noodlefen_refused(refusal) && noodlefen_cause(refusal) == 6 && noodlefen_value(refusal) == 65535);
 }
@@ -83,14 +84,14 @@ static void test_blocked_by(void)
 static void test_cause_texts(void)
 {
     const char *unknown = noodlefen_cause_text(16);
-    for (unsigned cause = 0; cause <= NOODLEFEN_DEADLOCK; cause++) {
+    for (unsigned cause = 0; cause <= NOODLEFEN_NO_MORE_COMMITS; cause++) {
         if (cause == 16) /* no call gives it */
             continue;
         CHECK(strlen(noodlefen_cause_text(cause)) > 0 && strcmp(noodlefen_cause_text(cause), unknown) != 0);
         for (unsigned other = 0; other < cause; other++)
             CHECK(strcmp(noodlefen_cause_text(cause), noodlefen_cause_text(other)) != 0);
     }
-    CHECK(NOODLEFEN_DEADLOCK == 17 && strcmp(noodlefen_cause_text(18), unknown) == 0);
+    CHECK(NOODLEFEN_NO_MORE_COMMITS == 18 && strcmp(noodlefen_cause_text(19), unknown) == 0);
     CHECK(strcmp(noodlefen_cause_text(255), unknown) == 0 && strcmp(noodlefen_cause_text(0xFFFFFFFFu), unknown) == 0);
 }
 
@@ -166,16 +167,42 @@ static void test_ring(void)
     CHECK(noodlefen_granted(noodlefen_update(state, sizeof state, 1, text, (const uint8_t *)"7", 1)));
 }
 
+/* As a panel asks which commit set something: the same text confirmed, another one not committed yet. */
+static void test_counts(void)
+{
+    static const char xml[] = "<lift><speed>6</speed></lift>";
+    const uint8_t *shown = state; /* a program that only shows the settings */
+    noodlefen_node speed = 2, text = 3, fresh = 4294967295u;
+    CHECK(NOODLEFEN_COMMITS == 1000000);
+    CHECK(noodlefen_granted(noodlefen_start(state, sizeof state)));
+    CHECK(noodlefen_granted(noodlefen_load(state, sizeof state, (const uint8_t *)xml, strlen(xml))));
+    CHECK(noodlefen_granted(noodlefen_begin(state, sizeof state, 1)));
+    CHECK(noodlefen_granted(noodlefen_update(state, sizeof state, 1, text, (const uint8_t *)"6", 1)));
+    CHECK(noodlefen_count(noodlefen_count_of(shown, sizeof state, text)) == 0);
+    CHECK(noodlefen_granted(noodlefen_commit(state, sizeof state, 1)));
+    CHECK(noodlefen_granted(noodlefen_begin(state, sizeof state, 1)));
+    CHECK(noodlefen_granted(noodlefen_update(state, sizeof state, 1, text, (const uint8_t *)"7", 1)));
+    CHECK(noodlefen_granted(noodlefen_insert(state, sizeof state, 1, fresh, NOODLEFEN_TEXT, (const uint8_t *)"m/s", 3, speed, 2)));
+    noodlefen_answer told = noodlefen_count_of(shown, sizeof state, text);
+    CHECK(noodlefen_granted(told) && noodlefen_count(told) == 1 && noodlefen_value(told) == 1);
+    CHECK(noodlefen_count_of(shown, sizeof state, fresh) == refused(NOODLEFEN_NO_NODE, 0));
+    CHECK(noodlefen_granted(noodlefen_commit(state, sizeof state, 1)));
+    CHECK(noodlefen_count(noodlefen_count_of(shown, sizeof state, text)) == 2);
+    CHECK(noodlefen_count(noodlefen_count_of(shown, sizeof state, fresh)) == 2);
+    CHECK(noodlefen_count(noodlefen_count_of(shown, sizeof state, speed)) == 0);
+    CHECK(noodlefen_count_of(shown, sizeof state - 1, text) == refused(NOODLEFEN_TOO_SHORT, 0));
+}
+
 /* A state of an older form, which was shorter, or of one to come is refused. */
 static void test_format(void)
 {
     size_t last = strlen(NOODLEFEN_FORMAT) - 1;
-    CHECK(strcmp(NOODLEFEN_FORMAT, "NFSTATE3") == 0);
+    CHECK(strcmp(NOODLEFEN_FORMAT, "NFSTATE4") == 0);
     CHECK(noodlefen_granted(noodlefen_start(state, sizeof state)));
-    CHECK(noodlefen_begin(state, 112656, 1) == refused(NOODLEFEN_TOO_SHORT, 0));
-    for (uint8_t digit = '1'; digit <= '4'; digit++) {
+    CHECK(noodlefen_begin(state, 112688, 1) == refused(NOODLEFEN_TOO_SHORT, 0));
+    for (uint8_t digit = '1'; digit <= '5'; digit++) {
         state[last] = digit;
-        CHECK(noodlefen_begin(state, sizeof state, 1) == (digit == '3' ? granted(0) : refused(NOODLEFEN_TOO_SHORT, 0)));
+        CHECK(noodlefen_begin(state, sizeof state, 1) == (digit == '4' ? granted(0) : refused(NOODLEFEN_TOO_SHORT, 0)));
     }
 }
 
@@ -188,6 +215,7 @@ int main(void)
     test_positions();
     test_calls();
     test_ring();
+    test_counts();
     test_format();
     printf("%lu passed, %lu failed\n", passed, failed);
     return failed != 0;

@@ -2,8 +2,8 @@
  * panel_test.c: calls the panel library as a panel does, and some ways that no panel should.
  *
  * Every lent buffer has guard bytes on both sides. After each call: guards and input unchanged; if it was granted, the bytes behind the
- * answer unchanged; if not, the buffers unchanged, and the state too, but for the two bytes of its transaction's set if it waits. Last line
- * 'N passed, 0 failed'.
+ * answer unchanged, and the state too if the call only reads it; if not, the buffers unchanged, and the state too, but for the two bytes of
+ * its transaction's set if it waits. Last line 'N passed, 0 failed'.
  */
 #include <stdio.h>
 #include <stdlib.h>
@@ -11,7 +11,7 @@
 
 #include "noodlefen.h"
 
-enum name { START, LOAD, WRITE, BEGIN, COMMIT, ABORT, T, C, R, U, D, I, TT, RR, UU, NAMES };
+enum name { START, LOAD, WRITE, COUNT, BEGIN, COMMIT, ABORT, T, C, R, U, D, I, TT, RR, UU, NAMES };
 
 struct call {
     enum name what;
@@ -23,8 +23,12 @@ struct call {
 };
 
 enum { GUARD = 64 };
-enum { SETS = 112656, SET_BYTES = 2 }; /* where the remembered sets are in the state, by transaction; docs/STATE.md */
-enum { MOST_CAUSE = 17, NO_CALL_GIVES = 16 };
+enum { MOST_CAUSE = 18, NO_CALL_GIVES = 16 };
+
+/* Where things are in the state, by docs/STATE.md: the number of nodes and the commits so far; the outline by places, with slots and
+ * numbers; the cells by slots, with counts; the remembered sets by transaction. */
+enum { HELD = 10, COMMITS = 12, OUTLINE = 16, ENTRY = 8, NUMBER = 4, CELLS = 8208, CELL_LENGTH = 74, CELL_COUNT = 70, SETS = 116752,
+       SET_BYTES = 2 };
 
 /* Lent bytes with guards, and what they were before the call. */
 struct lent {
@@ -94,11 +98,11 @@ static unsigned set_of(const struct lent *s, uint32_t t)
     return set[0] | (unsigned)set[1] << 8;
 }
 
-/* A granted call may change the state, but for write; one that waits, the set of its transaction, which it answers. */
+/* A granted call may change the state, if it does not only read it; one that waits, the set of its transaction, which it answers. */
 static int state_kept(const struct lent *s, const struct call *c, noodlefen_answer answer)
 {
     if (!noodlefen_waits(answer))
-        return kept_but(s, noodlefen_granted(answer) && c->what != WRITE ? s->length : 0);
+        return kept_but(s, noodlefen_granted(answer) && c->what != WRITE && c->what != COUNT ? s->length : 0);
     return c->t >= 1 && c->t <= NOODLEFEN_TRANSACTIONS && set_of(s, c->t) == noodlefen_value(answer)
         && kept_but_part(s, SETS + SET_BYTES * (c->t - 1), SET_BYTES);
 }
@@ -118,6 +122,7 @@ static noodlefen_answer call_library(const struct call *c, const struct lent *s,
     case START: return noodlefen_start(state, length);
     case LOAD: return noodlefen_load(state, length, a->bytes, a->length);
     case WRITE: return noodlefen_write(state, length, out->bytes, out->length);
+    case COUNT: return noodlefen_count_of(state, length, c->n);
     case BEGIN: return noodlefen_begin(state, length, c->t);
     case COMMIT: return noodlefen_commit(state, length, c->t);
     case ABORT: return noodlefen_abort(state, length, c->t);
@@ -300,6 +305,130 @@ static void test_rings(void)
     EXPECT_SETS(0, 0, 0);
 }
 
+static uint32_t number_at(const uint8_t *bytes) { return noodlefen_list_number(bytes, 0); }
+
+static void put_number(uint8_t *bytes, uint32_t number)
+{
+    for (int i = 0; i < 4; i++)
+        bytes[i] = (uint8_t)(number >> 8 * i & 0xFF);
+}
+
+/* The count bytes of the node of this number, which has to be held. */
+static uint8_t *count_bytes(noodlefen_node n)
+{
+    unsigned held = state.bytes[HELD] | (unsigned)state.bytes[HELD + 1] << 8;
+    for (unsigned place = 0; place < held && place < NOODLEFEN_NODES; place++) {
+        const uint8_t *entry = state.bytes + OUTLINE + ENTRY * place;
+        unsigned slot = entry[0] | (unsigned)entry[1] << 8;
+        if (number_at(entry + NUMBER) == n && slot < NOODLEFEN_NODES)
+            return state.bytes + CELLS + CELL_LENGTH * slot + CELL_COUNT;
+    }
+    check(0, "a node is not in the outline", __LINE__);
+    return state.bytes + CELLS + CELL_COUNT;
+}
+
+/* The counts of nodes 0 to 6, as the call tells them and as they are in the state; so many commits. */
+static void expect_counts(uint32_t commits, const uint32_t *counts, int line)
+{
+    check(number_at(state.bytes + COMMITS) == commits, "the number of commits", line);
+    for (noodlefen_node n = 0; n <= 6; n++) {
+        noodlefen_answer answer = make(&state, &(struct call){.what = COUNT, .n = n}, line, NULL);
+        check(answer == granted(counts[n]) && noodlefen_count(answer) == counts[n], "a count", line);
+        check(number_at(count_bytes(n)) == counts[n], "a count in the state", line);
+    }
+}
+
+#define EXPECT_COUNTS(commits, ...) expect_counts(commits, (const uint32_t[]){__VA_ARGS__}, __LINE__)
+
+/* Which commit inserted a node or last updated it. */
+static void test_counts(void)
+{
+    begin_with(tree_e);
+    EXPECT_COUNTS(0, 0, 0, 0, 0, 0, 0, 0);
+    EXPECT(refused(7, 0), .what = COUNT, .n = 7);
+    EXPECT(refused(7, 0), .what = COUNT, .n = 65536 + 5);
+    EXPECT(refused(7, 0), .what = COUNT, .n = 0xFFFFFFFF);
+    EXPECT(granted(0), .what = U, .t = 1, .n = 5, .a = "6");
+    EXPECT(granted(0), .what = I, .t = 1, .m = 0xFFFFFFFF, .kind = 2, .a = "door", .n = 1, .k = 4);
+    EXPECT(granted(0), .what = U, .t = 2, .n = 3, .a = "3");
+    EXPECT_COUNTS(0, 0, 0, 0, 0, 0, 0, 0);
+    EXPECT(refused(7, 0), .what = COUNT, .n = 0xFFFFFFFF);
+    check(number_at(count_bytes(0xFFFFFFFF)) == 0, "the count of a node that is not committed", __LINE__);
+    EXPECT(granted(0), .what = COMMIT, .t = 2);
+    EXPECT_COUNTS(1, 0, 0, 0, 1, 0, 0, 0);
+    EXPECT(granted(0), .what = COMMIT, .t = 1);
+    EXPECT_COUNTS(2, 0, 0, 0, 1, 0, 2, 0);
+    EXPECT(granted(2), .what = COUNT, .n = 0xFFFFFFFF);
+    EXPECT(granted(0), .what = BEGIN, .t = 1);
+    EXPECT(granted(1), .what = UU, .t = 1, .n = 0, .a = "ramp", .b = "ramp");
+    EXPECT(granted(0), .what = D, .t = 1, .n = 4);
+    EXPECT(granted(0), .what = U, .t = 1, .n = 2, .a = "cord");
+    EXPECT_COUNTS(2, 0, 0, 0, 1, 0, 2, 0);
+    EXPECT(granted(0), .what = ABORT, .t = 1);
+    EXPECT_COUNTS(2, 0, 0, 0, 1, 0, 2, 0);
+    EXPECT(granted(0), .what = BEGIN, .t = 16);
+    EXPECT(granted(0), .what = COMMIT, .t = 16);
+    EXPECT(granted(0), .what = BEGIN, .t = 16);
+    EXPECT(granted(1), .what = UU, .t = 16, .n = 0, .a = "ramp", .b = "ramp");
+    EXPECT(granted(0), .what = D, .t = 16, .n = 0xFFFFFFFF);
+    EXPECT(granted(2), .what = COUNT, .n = 0xFFFFFFFF);
+    EXPECT(granted(0), .what = COMMIT, .t = 16);
+    EXPECT_COUNTS(4, 0, 0, 0, 1, 0, 2, 4);
+    EXPECT(refused(7, 0), .what = COUNT, .n = 0xFFFFFFFF);
+    EXPECT(refused(4, 2), .what = LOAD, .a = "<a");
+    EXPECT_COUNTS(4, 0, 0, 0, 1, 0, 2, 4);
+    EXPECT(granted(7), .what = LOAD, .a = tree_e);
+    EXPECT_COUNTS(0, 0, 0, 0, 0, 0, 0, 0);
+    EXPECT(granted(0), .what = BEGIN, .t = 1);
+    EXPECT(granted(0), .what = U, .t = 1, .n = 6, .a = "x");
+    EXPECT(granted(0), .what = COMMIT, .t = 1);
+    EXPECT_COUNTS(1, 0, 0, 0, 0, 0, 0, 1);
+    EXPECT(granted(0), .what = START);
+    check(number_at(state.bytes + COMMITS) == 0, "the number of commits", __LINE__);
+    EXPECT(granted(0), .what = COUNT, .n = 0);
+    EXPECT(refused(7, 0), .what = COUNT, .n = 6);
+}
+
+/* So many commits are granted and no more, by a number of them in the state. */
+static void test_last_commits(void)
+{
+    static const uint32_t beyond[] = {1000000, 1000001, 16777216, 0x80000000u, 0xFFFFFFFFu};
+    begin_with(tree_e);
+    EXPECT(granted(0), .what = U, .t = 1, .n = 5, .a = "7");
+    EXPECT(granted(0), .what = U, .t = 2, .n = 3, .a = "3");
+    put_number(state.bytes + COMMITS, NOODLEFEN_COMMITS - 1);
+    EXPECT(granted(0), .what = COMMIT, .t = 1);
+    EXPECT_COUNTS(1000000, 0, 0, 0, 0, 0, 1000000, 0);
+    EXPECT(granted(0), .what = BEGIN, .t = 1);
+    for (size_t i = 0; i < sizeof beyond / sizeof *beyond; i++) {
+        put_number(state.bytes + COMMITS, beyond[i]);
+        EXPECT(refused(1, 0), .what = COMMIT, .t = 0);
+        EXPECT(refused(1, 0), .what = COMMIT, .t = 17);
+        EXPECT(refused(3, 0), .what = COMMIT, .t = 3);
+        EXPECT(refused(18, 0), .what = COMMIT, .t = 1);
+        EXPECT(refused(18, 0), .what = COMMIT, .t = 2);
+        EXPECT(refused(3, 0), .what = ABORT, .t = 3);
+        EXPECT_COUNTS(beyond[i], 0, 0, 0, 0, 0, 1000000, 0);
+    }
+    EXPECT(granted(1), .what = R, .t = 2, .n = 3, .room = 1);
+    EXPECT(waits(2), .what = R, .t = 1, .n = 3, .room = 1);
+    EXPECT(granted(0), .what = ABORT, .t = 2);
+    EXPECT(refused(15, 0), .what = LOAD, .a = tree_e);
+    EXPECT(granted(0), .what = ABORT, .t = 1);
+    EXPECT(granted(0), .what = BEGIN, .t = 2);
+    EXPECT(refused(18, 0), .what = COMMIT, .t = 2);
+    EXPECT(granted(0), .what = ABORT, .t = 2);
+    EXPECT(granted(7), .what = LOAD, .a = tree_e);
+    EXPECT(granted(0), .what = BEGIN, .t = 2);
+    EXPECT(granted(0), .what = U, .t = 2, .n = 3, .a = "3");
+    EXPECT(granted(0), .what = COMMIT, .t = 2);
+    EXPECT_COUNTS(1, 0, 0, 0, 1, 0, 0, 0);
+    put_number(state.bytes + COMMITS, 0xFFFFFFFFu);
+    EXPECT(granted(0), .what = START);
+    EXPECT(granted(0), .what = BEGIN, .t = 1);
+    EXPECT(granted(0), .what = COMMIT, .t = 1);
+}
+
 /* Numbers past 65,535, in the arguments, in answers and in lists. */
 static void test_numbers(void)
 {
@@ -372,7 +501,7 @@ static struct call random_call(void)
     static const char *const documents[] = {tree_e, "<a/>", "<a b='c'>d<e/>f</a>", "<a", "<a b='' b=''/>", "",
                                             "<\xC3\xA4>\xE3\x81\x82</\xC3\xA4>", "<a>\xC3</a>"};
     enum { DOCUMENTS = sizeof documents / sizeof *documents, CONTENTS = sizeof contents / sizeof *contents };
-    struct call c = {.what = below(30) == 0 ? (enum name)below(BEGIN) : (enum name)(BEGIN + below(NAMES - BEGIN))};
+    struct call c = {.what = below(30) == 0 ? (enum name)below(BEGIN) : below(10) == 0 ? COUNT : (enum name)(BEGIN + below(NAMES - BEGIN))};
     c.t = below(20) == 0 ? below(40) : 1 + below(3);
     c.n = random_number(12);
     c.m = random_number(14);
@@ -405,8 +534,9 @@ static struct call plain_call(enum name what)
 
 static void test_short_states(void)
 {
-    static const size_t lengths[] = {0, 1, 2, 3, 7, 8, 9, 15, 16, 17, 63, 255, 1000, 4096, 65535, 65536, NOODLEFEN_STATE_BYTES / 2,
-                                     SETS, NOODLEFEN_STATE_BYTES - 16, NOODLEFEN_STATE_BYTES - 2, NOODLEFEN_STATE_BYTES - 1};
+    static const size_t lengths[] = {0, 1, 2, 3, 7, 8, 9, 11, 12, 13, 15, 16, 17, 63, 255, 1000, 4096, 65535, 65536,
+                                     NOODLEFEN_STATE_BYTES / 2, 112656, 112688, SETS, NOODLEFEN_STATE_BYTES - 16,
+                                     NOODLEFEN_STATE_BYTES - 2, NOODLEFEN_STATE_BYTES - 1};
     begin_with(tree_e);
     for (size_t i = 0; i < sizeof lengths / sizeof lengths[0]; i++)
         for (int what = 0; what < NAMES; what++) {
@@ -420,7 +550,7 @@ static void test_short_states(void)
 /* The form asks that no two nodes have the same number, all four bytes of it; docs/STATE.md says where they are. */
 static void test_repeated_numbers(void)
 {
-    enum { OUTLINE = 16, ENTRY = 8, NUMBER = 4, PLACE = 4 };
+    enum { PLACE = 4 };
     static const uint8_t same[] = {6, 0, 0, 0};
     uint8_t *number = state.bytes + OUTLINE + ENTRY * PLACE + NUMBER;
     begin_with(tree_e);
@@ -434,6 +564,34 @@ static void test_repeated_numbers(void)
         struct call c = plain_call((enum name)what);
         check(make(&state, &c, __LINE__, NULL) == refused(13, 0), "a repeated number is not refused", __LINE__);
     }
+}
+
+/* Every number of commits and every count is of the form, and what stands there is told. */
+static void test_counts_of_form(void)
+{
+    static const uint32_t numbers[] = {1, 255, 256, 65535, 65536, 999999, 1000000, 1000001, 0x12345678, 0x7FFFFFFF, 0x80000000u,
+                                       0xFFFFFFFFu};
+    begin_with(tree_e);
+    for (size_t i = 0; i < sizeof numbers / sizeof *numbers; i++) {
+        put_number(state.bytes + COMMITS, numbers[i]);
+        for (noodlefen_node n = 0; n <= 6; n++) {
+            put_number(count_bytes(n), numbers[i]);
+            EXPECT(granted(numbers[i]), .what = COUNT, .n = n);
+            put_number(count_bytes(n), n);
+        }
+        EXPECT_COUNTS(numbers[i], 0, 1, 2, 3, 4, 5, 6);
+    }
+    /* Whoever inserted, deleted or updated a node: only what is committed is told. */
+    put_number(state.bytes + COMMITS, 999990);
+    EXPECT(granted(0), .what = U, .t = 1, .n = 5, .a = "7");
+    EXPECT(granted(0), .what = D, .t = 2, .n = 6);
+    EXPECT(granted(0), .what = I, .t = 1, .m = 9, .kind = 4, .a = "x", .n = 4, .k = 1);
+    put_number(count_bytes(9), 77);
+    EXPECT(refused(7, 0), .what = COUNT, .n = 9);
+    EXPECT_COUNTS(999990, 0, 1, 2, 3, 4, 5, 6);
+    EXPECT(granted(0), .what = COMMIT, .t = 1);
+    EXPECT(granted(999991), .what = COUNT, .n = 9);
+    EXPECT_COUNTS(999991, 0, 1, 2, 3, 4, 999991, 6);
 }
 
 static void put_set(uint32_t t, unsigned set)
@@ -499,7 +657,8 @@ static void test_damaged_states(void)
             } else {
                 for (unsigned i = 0, flips = 1 + below(3); i < flips; i++) {
                     unsigned within[] = {32, 512, 16384, NOODLEFEN_STATE_BYTES};
-                    unsigned place = below(5) == 0 ? SETS + below(NOODLEFEN_STATE_BYTES - SETS) : below(within[below(4)]);
+                    unsigned place = below(5) == 0 ? SETS + below(NOODLEFEN_STATE_BYTES - SETS)
+                        : below(8) == 0 ? COMMITS + below(4) : below(within[below(4)]);
                     damaged.bytes[place] = (uint8_t)(below(2) ? below(256) : damaged.bytes[place] ^ 1u << below(8));
                 }
             }
@@ -522,6 +681,8 @@ static void test_all(size_t length, size_t shift)
     test_transactions();
     test_steps();
     test_rings();
+    test_counts();
+    test_last_commits();
     test_numbers();
     test_documents();
     test_random_calls();
@@ -536,6 +697,7 @@ int main(void)
     state = lend(NOODLEFEN_STATE_BYTES, 3, NULL);
     test_short_states();
     test_repeated_numbers();
+    test_counts_of_form();
     test_sets_of_form();
     test_rings_in_bytes();
     test_damaged_states();

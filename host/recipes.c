@@ -1,7 +1,7 @@
 /*
  * recipes.c: the recipes of docs/PANEL.md, tried. Each is a function that a panel can copy, and a run of it that is printed.
  *
- *   recipes      prints recipes.txt; recipes_shared.c has those for several processes
+ *   recipes      prints recipes.txt; recipes_shared.c has those for several processes, handover.c prints a sheet of counts
  */
 #include <stdio.h>
 #include <stdlib.h>
@@ -265,12 +265,16 @@ static void two_deletions(void)
     print_answer("commit of the second tried", try_commit(2));
 }
 
-/* --- What the settings will be when all that is open has committed, in whatever order: all commit on a copy, and it is written. */
+/* --- What the settings will be when all that is open has committed, in whatever order: all commit on a copy, and it is written. Refused
+ * for cause 18 if not all of them can commit any more. */
 static noodlefen_answer preview(uint8_t *out, size_t room)
 {
     memcpy(copy, state, sizeof copy);
-    for (uint32_t t = 1; t <= NOODLEFEN_TRANSACTIONS; t++)
-        noodlefen_commit(copy, sizeof copy, t); /* refused for cause 3 where t is not open */
+    for (uint32_t t = 1; t <= NOODLEFEN_TRANSACTIONS; t++) {
+        noodlefen_answer answer = noodlefen_commit(copy, sizeof copy, t); /* refused for cause 3 where t is not open */
+        if (noodlefen_cause(answer) == NOODLEFEN_NO_MORE_COMMITS)
+            return answer;
+    }
     return noodlefen_write(copy, sizeof copy, out, room);
 }
 
@@ -444,6 +448,39 @@ static void no_ring(void)
     print_settings(state);
 }
 
+/* --- Commits count from 1 again: the committed settings are written and loaded, which numbers all nodes anew. What is open is aborted. */
+static noodlefen_answer renew(void)
+{
+    static uint8_t out[NOODLEFEN_XML_BYTES];
+    noodlefen_answer written = noodlefen_write(state, sizeof state, out, sizeof out);
+    if (!noodlefen_granted(written))
+        return written; /* nothing has changed */
+    for (uint32_t t = 1; t <= NOODLEFEN_TRANSACTIONS; t++)
+        noodlefen_abort(state, sizeof state, t); /* refused for cause 3 where t is not open */
+    return noodlefen_load(state, sizeof state, out, (size_t)noodlefen_value(written));
+}
+
+/* The first engineer changes a value while others commit so often that no further commit is granted. */
+static void no_more_commits(void)
+{
+    printf("a commit after 1,000,000 others\n");
+    begin_with("<a>6</a>");
+    must(update(state, 1, 2, "7"));
+    for (int i = 0; i < NOODLEFEN_COMMITS; i++) {
+        must(noodlefen_begin(state, sizeof state, 3));
+        must(noodlefen_commit(state, sizeof state, 3));
+    }
+    print_answer("commit", noodlefen_commit(state, sizeof state, 1));
+    print_answer("once more", noodlefen_commit(state, sizeof state, 1));
+    print_settings(state);
+    print_answer("written and loaded", renew());
+    must(noodlefen_begin(state, sizeof state, 1));
+    must(update(state, 1, 2, "7"));
+    print_answer("the change made again, commit", noodlefen_commit(state, sizeof state, 1));
+    printf("  its count: %u\n", (unsigned)noodlefen_count(must(noodlefen_count_of(state, sizeof state, 2))));
+    print_settings(state);
+}
+
 int main(void)
 {
     numbers();
@@ -459,5 +496,6 @@ int main(void)
     ring(1);
     given_up();
     no_ring();
+    no_more_commits();
     return 0;
 }

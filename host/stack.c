@@ -26,6 +26,7 @@ static void *nothing(void *unused) { return unused; }
 static void *start(void *unused) { answer = noodlefen_start(state, sizeof state); return unused; }
 static void *load(void *unused) { answer = noodlefen_load(state, sizeof state, xml, xml_length); return unused; }
 static void *write(void *unused) { answer = noodlefen_write(state, sizeof state, out, sizeof out); return unused; }
+static void *count_of(void *unused) { answer = noodlefen_count_of(state, sizeof state, 900); return unused; }
 static void *begin(void *unused) { answer = noodlefen_begin(state, sizeof state, 1); return unused; }
 static void *commit(void *unused) { answer = noodlefen_commit(state, sizeof state, 1); return unused; }
 static void *abort_it(void *unused) { answer = noodlefen_abort(state, sizeof state, 1); return unused; }
@@ -123,10 +124,10 @@ int main(void)
         const char *name;
         void *(*call)(void *);
     } calls[] = {
-        {"start", start}, {"load", load}, {"write", write}, {"begin", begin}, {"test", test}, {"child", child}, {"read", read},
-        {"test_tree", test_tree}, {"read_tree", read_tree}, {"update", update}, {"rename_tree", rename_tree}, {"delete", delete},
-        {"abort", abort_it}, {"begin", begin}, {"delete", delete}, {"commit", commit}, {"begin", begin}, {"insert", insert},
-        {"commit", commit},
+        {"start", start}, {"load", load}, {"write", write}, {"count_of", count_of}, {"begin", begin}, {"test", test}, {"child", child},
+        {"read", read}, {"test_tree", test_tree}, {"read_tree", read_tree}, {"update", update}, {"rename_tree", rename_tree},
+        {"delete", delete}, {"abort", abort_it}, {"begin", begin}, {"delete", delete}, {"commit", commit}, {"begin", begin},
+        {"insert", insert}, {"commit", commit},
     };
     thread = depth_of(nothing);
     make_deepest();

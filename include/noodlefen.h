@@ -15,6 +15,9 @@
  * next step that is granted or waits, or its end; a transaction that ends is struck from the sets of all others. A
  * step whose wait would close a ring of transactions, each waiting for the next, is refused for 17 instead, so
  * while any transaction is open, at least one of them waits for nobody in these sets.
+ *
+ * Granted commits are counted, from 1 after the last granted start or load. A committed node bears the count of the commit that inserted
+ * it or last updated its content, with the same bytes too; the document and loaded nodes bear 0. noodlefen_count_of tells it.
  */
 #ifndef NOODLEFEN_H
 #define NOODLEFEN_H
@@ -29,17 +32,17 @@ extern "C" {
 /* The version of this interface. MAJOR grows when a program that was right has to be changed or compiled again, MINOR when calls
  * or causes are added, or when a file is read or written otherwise. NOODLEFEN_VERSION is a number that #if can compare: 1000 for
  * each MAJOR. */
-#define NOODLEFEN_VERSION_MAJOR 3
+#define NOODLEFEN_VERSION_MAJOR 4
 #define NOODLEFEN_VERSION_MINOR 0
 #define NOODLEFEN_VERSION (1000 * NOODLEFEN_VERSION_MAJOR + NOODLEFEN_VERSION_MINOR)
 
 /* The format mark: the first bytes of every started state. It changes whenever the form of the state bytes does, and a state with
  * another mark is refused for 13 by every call but start. To change the library, write the settings out with the old one and load
  * them with the new one; do not hand over state bytes. */
-#define NOODLEFEN_FORMAT "NFSTATE3"
+#define NOODLEFEN_FORMAT "NFSTATE4"
 
 /* The state's exact need in bytes; 1,048,576 are never too short. */
-#define NOODLEFEN_STATE_BYTES 112688
+#define NOODLEFEN_STATE_BYTES 116784
 
 /* A node number, 0 to 4,294,967,295. In a lent list of numbers it takes as many bytes as this type, four. Keep numbers in variables of
  * this type: C cuts a wider number without a word when it is handed over, and an int has no room for the upper half of them. */
@@ -47,6 +50,7 @@ typedef uint32_t noodlefen_node;
 
 #define NOODLEFEN_TRANSACTIONS 16  /* transaction numbers are 1 to 16 */
 #define NOODLEFEN_NODES 1024       /* nodes held at most, the document included */
+#define NOODLEFEN_COMMITS 1000000  /* commits granted at most since the last granted start or load */
 #define NOODLEFEN_CONTENT_BYTES 32 /* bytes of a name or text at most, in UTF-8; a character takes one to four */
 #define NOODLEFEN_NUMBER_BYTES (sizeof(noodlefen_node)) /* bytes of a node number in a lent list, low byte first */
 #define NOODLEFEN_CELL_BYTES 33    /* bytes of a cell of noodlefen_read_tree: length, content, zeros */
@@ -76,7 +80,7 @@ enum noodlefen_causes {
     NOODLEFEN_GRAMMAR = 4,            /* load: not of the grammar; the value is the byte offset */
     NOODLEFEN_LOADED_CONTENT = 5,     /* load: a 33rd content byte; the value is the byte offset */
     NOODLEFEN_LOADED_NODES = 6,       /* load: a 1,025th node; the value is the byte offset */
-    NOODLEFEN_NO_NODE = 7,            /* no node so numbered, or the caller deleted it or an ancestor */
+    NOODLEFEN_NO_NODE = 7,            /* no node so numbered, or the caller deleted it or an ancestor; count_of: no committed node */
     NOODLEFEN_KIND = 8,               /* read, update or delete on the document; insert of a kind that never stands there */
     NOODLEFEN_CONTENT = 9,            /* content or name not allowed: its characters, broken UTF-8, no byte or more than 32 */
     NOODLEFEN_NUMBER_HELD = 10,       /* insert: number held by any node */
@@ -85,7 +89,8 @@ enum noodlefen_causes {
     NOODLEFEN_TOO_SHORT = 13,         /* lent buffer too short for the answer, or state bytes too short or not of the form */
     NOODLEFEN_NOT_EXPRESSIBLE = 14,   /* write: not expressible */
     NOODLEFEN_TRANSACTION_OPEN = 15,  /* load while a transaction is open */
-    NOODLEFEN_DEADLOCK = 17           /* a step that would wait in a ring of transactions, each waiting for the next */
+    NOODLEFEN_DEADLOCK = 17,          /* a step that would wait in a ring of transactions, each waiting for the next */
+    NOODLEFEN_NO_MORE_COMMITS = 18    /* commit: 1,000,000 were granted since the last granted start or load */
 };
 
 /* What a call answers: outcome (bits 0 to 7), cause (8 to 15) and value (16 to 63). Use the functions below. */
@@ -125,6 +130,7 @@ static inline const char *noodlefen_cause_text(unsigned cause)
     case NOODLEFEN_NOT_EXPRESSIBLE: return "the settings cannot be written as XML";
     case NOODLEFEN_TRANSACTION_OPEN: return "a transaction is open";
     case NOODLEFEN_DEADLOCK: return "transactions would wait for each other in a ring";
+    case NOODLEFEN_NO_MORE_COMMITS: return "1,000,000 transactions were committed since the last start or load";
     default: return "unknown cause";
     }
 }
@@ -142,6 +148,9 @@ static inline noodlefen_node noodlefen_number(noodlefen_answer answer)
 {
     return (noodlefen_node)(noodlefen_value(answer) & 0xFFFFFFFFu);
 }
+
+/* The count in a granted answer of noodlefen_count_of. */
+static inline uint32_t noodlefen_count(noodlefen_answer answer) { return (uint32_t)(noodlefen_value(answer) & 0xFFFFFFFFu); }
 
 /* Whether the call waits for transaction t, perhaps among others. */
 static inline int noodlefen_blocked_by(noodlefen_answer answer, uint32_t t)
@@ -178,14 +187,14 @@ static inline noodlefen_position noodlefen_position_of(const uint8_t *xml, size_
     return position;
 }
 
-/* Sets the state to the beginning: the document node 0 alone, nothing open, nobody waiting. Ends all open transactions without
- * committing them.
+/* Sets the state to the beginning: the document node 0 alone, nothing open, nobody waiting, no commit counted. Ends all open transactions
+ * without committing them.
  * Refused only if the state is too short (13). */
 noodlefen_answer noodlefen_start(uint8_t *state, size_t state_len);
 
 /* Replaces the settings by those of an XML document in UTF-8; nodes are numbered in document order from 0. A tab or line feed that stands in
- * an attribute's value is read as a space; the references &#9; and &#10; give these bytes. The value is the node count, the document
- * included. Refused for 15, then 4, 5 or 6 at the earliest byte offset. */
+ * an attribute's value is read as a space; the references &#9; and &#10; give these bytes. Commits count from 1 again. The value is the
+ * node count, the document included. Refused for 15, then 4, 5 or 6 at the earliest byte offset. */
 noodlefen_answer noodlefen_load(uint8_t *state, size_t state_len, const uint8_t *xml, size_t xml_len);
 
 /* Writes the committed settings as XML, with &#9; and &#10; for tabs and line feeds in attributes' values, so that they are read as the
@@ -193,12 +202,17 @@ noodlefen_answer noodlefen_load(uint8_t *state, size_t state_len, const uint8_t 
  * Refused for 14 or 13. */
 noodlefen_answer noodlefen_write(const uint8_t *state, size_t state_len, uint8_t *out, size_t out_len);
 
+/* The count of node n of the committed settings: noodlefen_count. What open transactions have done does not show: nodes that they inserted
+ * are refused, and those that they deleted or updated have the count that they had. It takes no lock, never waits and changes nothing.
+ * Refused for 7. */
+noodlefen_answer noodlefen_count_of(const uint8_t *state, size_t state_len, noodlefen_node n);
+
 /* Opens transaction t, 1 to 16.
  * Refused for 1 or 2. */
 noodlefen_answer noodlefen_begin(uint8_t *state, size_t state_len, uint32_t t);
 
-/* Ends transaction t and makes its changes lasting.
- * Refused for 1 or 3. */
+/* Ends transaction t and makes its changes lasting. The nodes that it inserted or updated, and that are still there, bear the count of this
+ * commit from now on. Refused for 1, 3 or 18; after 18 t is open as before, and noodlefen_abort is granted. */
 noodlefen_answer noodlefen_commit(uint8_t *state, size_t state_len, uint32_t t);
 
 /* Ends transaction t and removes its changes.

@@ -72,6 +72,8 @@ noodlefen_answer make_call(const struct engine *engine, void *e, const struct ca
     case CALL_START: return engine->start(e);
     case CALL_LOAD: return engine->load(e, c->xml, c->xml_length);
     case CALL_WRITE: return engine->write(e, lent->bytes, c->room);
+    case CALL_COUNT: return engine->count_of(e, c->n);
+    case CALL_COMMITS: engine->put_commits(e, c->commits); return 0; /* granted */
     case CALL_FINISH: return engine->finish(e, c->order, c->count, lent->bytes, c->room);
     case CALL_BEGIN: return engine->begin(e, c->t);
     case CALL_COMMIT: return engine->commit(e, c->t);
@@ -92,8 +94,8 @@ noodlefen_answer make_call(const struct engine *engine, void *e, const struct ca
 
 const char *call_word(enum call_name what)
 {
-    static const char *const words[CALLS] = {"start", "load", "write", "finish", "begin", "commit", "abort", "T", "C", "R", "U", "D", "I",
-                                             "TT", "RR", "UU"};
+    static const char *const words[CALLS] = {"start", "load", "write", "count", "commits", "finish", "begin", "commit", "abort",
+                                             "T", "C", "R", "U", "D", "I", "TT", "RR", "UU"};
     return words[what];
 }
 
@@ -116,10 +118,12 @@ void print_call(FILE *file, const struct call *c)
     switch (c->what) {
     case CALL_LOAD: fprintf(file, " %lu bytes", (unsigned long)c->xml_length); print_bytes(file, c->xml, c->xml_length); break;
     case CALL_WRITE: fprintf(file, " room %lu", (unsigned long)c->room); break;
+    case CALL_COMMITS: fprintf(file, " %u", (unsigned)c->commits); break;
     case CALL_FINISH:
         for (unsigned i = 0; i < c->count; i++)
             fprintf(file, " t%u", (unsigned)c->order[i]);
         break;
+    case CALL_COUNT:
     case CALL_T:
     case CALL_D: fprintf(file, " %u", (unsigned)c->n); break;
     case CALL_C: fprintf(file, " %u %u", (unsigned)c->n, (unsigned)c->k); break;

@@ -6,10 +6,10 @@
 
 #include "../engine.h"
 
-/* The calls of noodlefen.h, and what is open finishing in some order (engine.h). */
+/* The calls of noodlefen.h; a number of commits put, and what is open finishing in some order (engine.h). */
 enum call_name {
-    CALL_START, CALL_LOAD, CALL_WRITE, CALL_FINISH, CALL_BEGIN, CALL_COMMIT, CALL_ABORT, CALL_T, CALL_C, CALL_R, CALL_U, CALL_D, CALL_I,
-    CALL_TT, CALL_RR, CALL_UU, CALLS
+    CALL_START, CALL_LOAD, CALL_WRITE, CALL_COUNT, CALL_COMMITS, CALL_FINISH, CALL_BEGIN, CALL_COMMIT, CALL_ABORT, CALL_T, CALL_C, CALL_R,
+    CALL_U, CALL_D, CALL_I, CALL_TT, CALL_RR, CALL_UU, CALLS
 };
 
 enum { MOST_ARGUMENT = 64, GUARD_BYTES = 48 };
@@ -17,6 +17,7 @@ enum { MOST_ARGUMENT = 64, GUARD_BYTES = 48 };
 struct call {
     enum call_name what;
     uint32_t t, k, kind;
+    uint32_t commits;                           /* commits: how many */
     noodlefen_node n, m;
     uint8_t a[MOST_ARGUMENT], b[MOST_ARGUMENT]; /* U, I: content a; UU: names a and b */
     size_t a_length, b_length;

@@ -1,5 +1,5 @@
-/* compare.c: makes the same random calls on two engines and compares every answer and every lent byte; now and then also what is left when
- * all that is open commits, in a random order. */
+/* compare.c: makes the same random calls on two engines and compares every answer and every lent byte; at each end of a transaction also
+ * the counts of all nodes, and now and then what is left when all that is open commits, in a random order. */
 #include <stdio.h>
 #include <stdlib.h>
 #include <string.h>
@@ -10,7 +10,7 @@
 #include "generate.h"
 #include "reached.h"
 
-enum { MOST_FAILURES = 10, MOST_HISTORY = 512 };
+enum { MOST_FAILURES = 10, MOST_HISTORY = 512, MANY_NODES = 128 };
 
 struct side {
     const struct engine *engine;
@@ -98,6 +98,8 @@ static int agree(const struct call *call, noodlefen_answer *answer)
         wrong = "bytes behind the answer changed";
     else if (!same_sets())
         wrong = "another set remembered";
+    else if (left.engine->commits(left.e) != right.engine->commits(right.e))
+        wrong = "another number of commits";
     else if (left.engine->faults(left.e) != 0)
         wrong = "the first engine's own check";
     else if (right.engine->faults(right.e) != 0)
@@ -108,14 +110,39 @@ static int agree(const struct call *call, noodlefen_answer *answer)
     return wrong == NULL;
 }
 
+static void note(const struct call *call, noodlefen_answer answer)
+{
+    reached_count(call, answer, &left.lent);
+    reached_rings(call, answer, reference_ring(left.e));
+    reached_counts(call, answer, left.e);
+}
+
 /* Makes a call that the generator need not learn of. */
 static int agree_besides(const struct call *call)
 {
     noodlefen_answer answer;
     int well = agree(call, &answer);
     if (well)
-        reached_count(call, answer, &left.lent);
+        note(call, answer);
     return well;
+}
+
+/* The counts of all nodes held, those that open transactions inserted or deleted too; of many nodes only now and then, since most of the
+ * time would go into it otherwise. */
+static int agree_on_counts(void)
+{
+    static noodlefen_node numbers[NOODLEFEN_NODES];
+    static unsigned turn;
+    size_t count = reference_numbers(left.e, numbers);
+    struct call call = {.what = CALL_COUNT};
+    if (count > MANY_NODES && turn++ % 4 != 0)
+        return 1;
+    for (size_t i = 0; i < count; i++) {
+        call.n = numbers[i];
+        if (!agree_besides(&call))
+            return 0;
+    }
+    return 1;
 }
 
 /* Now and then, at call i: the whole committed document, and what is open finishing in some order, the oftener the more of it has changed
@@ -145,10 +172,10 @@ static void run(unsigned long calls, uint64_t seed)
         int well = agree(&call, &answer);
         remember(&call);
         if (well) {
+            int ended = (call.what == CALL_COMMIT || call.what == CALL_ABORT) && noodlefen_granted(answer);
             generator_learn(&g, &call, answer);
-            reached_count(&call, answer, &left.lent);
-            reached_rings(&call, answer, reference_ring(left.e));
-            well = agree_on_documents(&g, i);
+            note(&call, answer);
+            well = (!ended || agree_on_counts()) && agree_on_documents(&g, i);
         }
         if (well)
             passed++;

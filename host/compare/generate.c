@@ -32,7 +32,9 @@ static void forget(struct generator *g)
 {
     g->open = 0;
     g->changing = 0;
+    g->no_commits = 0;
     contention_forget(&g->contention);
+    g->changes = 0;
     g->known = 1;
     g->seen[0] = (struct seen){.number = 0, .kind = NOODLEFEN_DOCUMENT, .count = 1};
 }
@@ -245,6 +247,29 @@ static void pick_same_renaming(struct generator *g, struct call *call)
     memcpy(call->a, on ? last->b : last->a, sizeof call->a);
 }
 
+/* One of the last changes; there has to be one. */
+static const struct changed *pick_changed(struct generator *g)
+{
+    return &g->changed[below(&g->random, g->changes < MOST_CHANGED ? g->changes : MOST_CHANGED)];
+}
+
+/* An update of a node that was changed before: mostly it has these bytes already. */
+static void pick_same_update(struct generator *g, struct call *call)
+{
+    const struct changed *changed = pick_changed(g);
+    call->n = changed->number;
+    call->a_length = changed->length;
+    memcpy(call->a, changed->content, changed->length);
+}
+
+/* Mostly close to the limit, so that a few more commits reach it; else where a count begins to take another byte, or past the limit. */
+static uint32_t pick_commits(struct generator *g)
+{
+    static const uint32_t others[] = {250, 65530, 1000001, 16777216, 65536u * 15 + 1, 0x80000000u, 0xFFFFFFFFu};
+    struct random *r = &g->random;
+    return once_in(r, 4) ? others[below(r, sizeof others / sizeof *others)] : NOODLEFEN_COMMITS - below(r, 6);
+}
+
 static enum call_name pick_call(struct generator *g);
 
 /* A node that transactions contend for: mostly one that another one has locks on, with a step that waits for them, or one of those that
@@ -276,6 +301,13 @@ static void pick_arguments(struct generator *g, struct call *call)
     case CALL_WRITE:
         call->room = pick_room(g, g->written, 65536);
         break;
+    case CALL_COUNT:
+        if (g->changes > 0 && once_in(r, 2))
+            call->n = pick_changed(g)->number;
+        break;
+    case CALL_COMMITS:
+        call->commits = pick_commits(g);
+        break;
     case CALL_R:
         call->room = pick_room(g, n.length, 40);
         break;
@@ -287,7 +319,10 @@ static void pick_arguments(struct generator *g, struct call *call)
         call->cells_room = pick_room(g, NOODLEFEN_CELL_BYTES * (size_t)n.count, 34000);
         break;
     case CALL_U:
-        pick_content(g, call, n.kind == 4 || (n.kind == 0 && once_in(r, 2)));
+        if (!g->contended && g->changes > 0 && once_in(r, 4))
+            pick_same_update(g, call);
+        else
+            pick_content(g, call, n.kind == 4 || (n.kind == 0 && once_in(r, 2)));
         break;
     case CALL_D:
         /* The root goes seldom, or most of the calls would meet an empty tree. */
@@ -302,6 +337,10 @@ static void pick_arguments(struct generator *g, struct call *call)
         call->b_length = random_name(r, call->b);
         if (once_in(r, 3))
             pick_same_renaming(g, call);
+        if (once_in(r, 6)) {
+            call->b_length = call->a_length;
+            memcpy(call->b, call->a, sizeof call->b);
+        }
         g->renaming = *call;
         break;
     default:
@@ -312,12 +351,12 @@ static void pick_arguments(struct generator *g, struct call *call)
 
 static enum call_name pick_call(struct generator *g)
 {
-    static const unsigned mostly[CALLS] = {[CALL_START] = 2, [CALL_LOAD] = 20, [CALL_WRITE] = 40, [CALL_BEGIN] = 100,
-        [CALL_COMMIT] = 45, [CALL_ABORT] = 30, [CALL_T] = 60, [CALL_C] = 70, [CALL_R] = 80, [CALL_U] = 90, [CALL_D] = 60,
-        [CALL_I] = 170, [CALL_TT] = 60, [CALL_RR] = 60, [CALL_UU] = 60};
-    static const unsigned contended[CALLS] = {[CALL_START] = 3, [CALL_LOAD] = 3, [CALL_WRITE] = 10, [CALL_BEGIN] = 60,
-        [CALL_COMMIT] = 15, [CALL_ABORT] = 15, [CALL_T] = 80, [CALL_C] = 80, [CALL_R] = 100, [CALL_U] = 120, [CALL_D] = 60,
-        [CALL_I] = 120, [CALL_TT] = 50, [CALL_RR] = 40, [CALL_UU] = 40};
+    static const unsigned mostly[CALLS] = {[CALL_START] = 2, [CALL_LOAD] = 20, [CALL_WRITE] = 40, [CALL_COUNT] = 60, [CALL_COMMITS] = 3,
+        [CALL_BEGIN] = 100, [CALL_COMMIT] = 45, [CALL_ABORT] = 30, [CALL_T] = 60, [CALL_C] = 70, [CALL_R] = 80, [CALL_U] = 90,
+        [CALL_D] = 60, [CALL_I] = 170, [CALL_TT] = 60, [CALL_RR] = 60, [CALL_UU] = 60};
+    static const unsigned contended[CALLS] = {[CALL_START] = 3, [CALL_LOAD] = 3, [CALL_WRITE] = 10, [CALL_COUNT] = 20, [CALL_COMMITS] = 2,
+        [CALL_BEGIN] = 60, [CALL_COMMIT] = 15, [CALL_ABORT] = 15, [CALL_T] = 80, [CALL_C] = 80, [CALL_R] = 100, [CALL_U] = 120,
+        [CALL_D] = 60, [CALL_I] = 120, [CALL_TT] = 50, [CALL_RR] = 40, [CALL_UU] = 40};
     const unsigned *weights = g->contended ? contended : mostly;
     unsigned total = 0, at;
     for (int i = 0; i < CALLS; i++)
@@ -364,12 +403,14 @@ void generate(struct generator *g, struct call *call)
         call->what = CALL_LOAD;
     else if (g->only_xml)
         call->what = CALL_WRITE;
-    else if (g->open == 0 && (g->known < 3 || once_in(&g->random, 6)))
+    else if (g->open == 0 && (g->known < 3 || once_in(&g->random, g->no_commits ? 2 : 6)))
         call->what = CALL_LOAD;
     else if (g->open == 0 && !once_in(&g->random, 4))
         call->what = CALL_BEGIN;
     else
         call->what = pick_call(g);
+    if (g->no_commits && call->what == CALL_COMMIT && once_in(&g->random, 2))
+        call->what = CALL_ABORT;
     call->t = pick_transaction(g, call->what != CALL_BEGIN);
     if (call->what == CALL_LOAD)
         pick_load(g, call);
@@ -402,18 +443,29 @@ static void learn_load(struct generator *g, uint64_t count)
     g->seen[1].count = (uint16_t)(count - 1);
 }
 
+static void learn_change(struct generator *g, noodlefen_node number, const struct call *call)
+{
+    struct changed *changed = &g->changed[g->changes++ % MOST_CHANGED];
+    changed->number = number;
+    changed->length = call->a_length;
+    memcpy(changed->content, call->a, call->a_length);
+}
+
 static void learn_insertion(struct generator *g, const struct call *call)
 {
     *learn_number(g, call->m) = (struct seen){call->m, (uint8_t)call->kind, (uint8_t)call->a_length, 1};
     learn_number(g, call->n)->count++;
+    learn_change(g, call->m, call);
 }
 
 void generator_learn(struct generator *g, const struct call *call, noodlefen_answer answer)
 {
     uint64_t value = noodlefen_value(answer);
     contention_learn(&g->contention, &g->random, call, answer);
-    if (noodlefen_cause(answer) == NOODLEFEN_NO_NODE && once_in(&g->random, 2))
+    if (noodlefen_cause(answer) == NOODLEFEN_NO_NODE && call->what >= CALL_T && once_in(&g->random, 2))
         unlearn_number(g, call->n);
+    if (noodlefen_cause(answer) == NOODLEFEN_NO_MORE_COMMITS)
+        g->no_commits = 1;
     if (!noodlefen_granted(answer))
         return;
     if (call->what == CALL_U || call->what == CALL_D || call->what == CALL_I || (call->what == CALL_UU && value > 0))
@@ -436,10 +488,15 @@ void generator_learn(struct generator *g, const struct call *call, noodlefen_ans
             learn_number(g, noodlefen_number(answer))->kind = (uint8_t)noodlefen_kind(answer);
         break;
     case CALL_R: learn_number(g, call->n)->length = (uint8_t)value; break;
-    case CALL_U: learn_number(g, call->n)->length = (uint8_t)call->a_length; break;
+    case CALL_U:
+        learn_number(g, call->n)->length = (uint8_t)call->a_length;
+        learn_change(g, call->n, call);
+        break;
     case CALL_I: learn_insertion(g, call); break;
     case CALL_TT:
     case CALL_RR: learn_number(g, call->n)->count = (uint16_t)value; break;
+    case CALL_COUNT:
+    case CALL_COMMITS:
     case CALL_FINISH:
     case CALL_D:
     case CALL_UU:

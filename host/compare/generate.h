@@ -6,7 +6,7 @@
 #include "contention.h"
 #include "random.h"
 
-enum { MOST_SEEN = 2048 };
+enum { MOST_SEEN = 2048, MOST_CHANGED = 8 };
 
 struct generator {
     struct random random;
@@ -23,6 +23,7 @@ struct generator {
     /* What the answers so far have shown; only a guess at what comes next. */
     uint32_t open;             /* bit t for an open transaction t */
     uint32_t changing;         /* bit t if it has changed something */
+    int no_commits;            /* they are refused for 18 */
     unsigned known;            /* nodes that may be there; the first is the document */
     struct seen {
         noodlefen_node number;
@@ -33,6 +34,12 @@ struct generator {
     noodlefen_node asked;      /* the node of the last step */
     struct contention contention;
     struct call renaming;      /* the last UU */
+    struct changed {
+        noodlefen_node number;
+        uint8_t content[MOST_ARGUMENT];
+        size_t length;
+    } changed[MOST_CHANGED];   /* the last granted U and I, in turn */
+    unsigned changes;          /* how many there were */
     size_t written;            /* bytes of the document when last written */
     uint8_t *xml;
 };

@@ -2,6 +2,7 @@
 #ifndef REACHED_H
 #define REACHED_H
 
+#include "../reference/reference.h"
 #include "call.h"
 
 /* Something that is counted besides the outcomes. */
@@ -20,6 +21,11 @@ void reached_characters(const struct call *call, noodlefen_answer answer, const 
 extern struct counted counted_rings[];
 extern const int rings_counted;
 void reached_rings(const struct call *call, noodlefen_answer answer, unsigned ring);
+
+/* What has to do with the counts of commits, and a call counted there: the reference is as the call left it. */
+extern struct counted counted_counts[];
+extern const int counts_counted;
+void reached_counts(const struct call *call, noodlefen_answer answer, const struct reference *reference);
 
 /* Counts a call on which the engines agreed; lent is what it wrote. */
 void reached_count(const struct call *call, noodlefen_answer answer, const struct lent *lent);

@@ -28,7 +28,21 @@ static int allowed(struct node *document, const struct step *step, const struct 
     return 1;
 }
 
-int plain_step(struct node *document, const struct step *step, struct result *result)
+/* Gives the node a content, for the commit of this count; that the bytes may be the same ones does not matter. */
+static void update(struct node *node, const uint8_t *content, size_t length, uint32_t count)
+{
+    node_set_content(node, content, length);
+    node->count = count;
+}
+
+static struct node *inserted(const struct step *step, uint32_t count)
+{
+    struct node *node = node_new(step->m, (int)step->kind, step->a, step->a_length);
+    node->count = count;
+    return node;
+}
+
+int plain_step(struct node *document, const struct step *step, uint32_t count, struct result *result)
 {
     struct node *n = node_find(document, step->n);
     if (!allowed(document, step, n))
@@ -36,18 +50,18 @@ int plain_step(struct node *document, const struct step *step, struct result *re
     step_result(result, step, n, EVERYTHING);
     switch (step->what) {
     case STEP_U:
-        node_set_content(n, step->a, step->a_length);
+        update(n, step->a, step->a_length, count);
         break;
     case STEP_D:
         node_free(n);
         break;
     case STEP_I:
-        node_attach(n, node_new(step->m, (int)step->kind, step->a, step->a_length), node_child(n, step->k, EVERYTHING));
+        node_attach(n, inserted(step, count), node_child(n, step->k, EVERYTHING));
         break;
     case STEP_UU:
         for (struct node *node = n; node != NULL; node = node_after(n, node, EVERYTHING))
             if (node->kind == ELEMENT && same_bytes(node->content, node->length, step->a, step->a_length))
-                node_set_content(node, step->b, step->b_length);
+                update(node, step->b, step->b_length, count);
         break;
     case STEP_T:
     case STEP_C:
@@ -59,14 +73,14 @@ int plain_step(struct node *document, const struct step *step, struct result *re
     return 1;
 }
 
-unsigned long plain_commit(struct node *document, const struct kept_step *steps)
+unsigned long plain_commit(struct node *document, const struct kept_step *steps, uint32_t count)
 {
     unsigned long disagreements = 0;
     struct result *result = malloc(sizeof *result);
     if (result == NULL)
         abort();
     for (const struct kept_step *kept = steps; kept != NULL; kept = kept->next)
-        if (!plain_step(document, &kept->step, result) || result->value != kept->value
+        if (!plain_step(document, &kept->step, count, result) || result->value != kept->value
             || !same_bytes(result->bytes, result->length, kept->bytes, kept->length)
             || !same_bytes(result->cells, result->cells_length, kept->cells, kept->cells_length))
             disagreements++;

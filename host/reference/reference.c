@@ -30,6 +30,8 @@ struct reference {
     struct transaction transactions[MOST_TRANSACTIONS + 1];
     struct wait_sets remembered;
     unsigned ring;       /* how many transactions the ring has for which a step was refused last */
+    uint32_t commits;    /* since the last granted start or load */
+    unsigned long same_updates;
     unsigned long disagreements;
 };
 
@@ -72,6 +74,15 @@ static void take_back(struct transaction *transaction)
         }
 }
 
+/* What the transaction inserted or updated in the held tree bears the count of its commit. Its nodes are all there still, also those that
+ * it deleted. */
+static void give_count(const struct transaction *transaction, uint32_t count)
+{
+    for (const struct change *change = transaction->last_change; change != NULL; change = change->before)
+        if (change->what != DELETED)
+            change->node->count = count;
+}
+
 /* Takes the nodes that t deleted out of the held tree. */
 static void remove_deleted(struct node *top, uint32_t t)
 {
@@ -106,7 +117,7 @@ static void close_transaction(struct reference *r, uint32_t t)
     r->open[t] = 0;
 }
 
-/* Both documents become this one. Nothing may be open. */
+/* Both documents become this one, and commits count from 1 again. Nothing may be open. */
 static void replace_documents(struct reference *r, struct node *document)
 {
     if (r->started) {
@@ -115,6 +126,7 @@ static void replace_documents(struct reference *r, struct node *document)
     }
     r->held = document;
     r->plain = node_copy(document);
+    r->commits = 0;
     r->started = 1;
 }
 
@@ -170,6 +182,40 @@ unsigned reference_ring(const struct reference *r)
     return r->ring;
 }
 
+uint32_t reference_commits(const struct reference *r)
+{
+    return r->commits;
+}
+
+void reference_put_commits(struct reference *r, uint32_t commits)
+{
+    r->commits = commits;
+}
+
+size_t reference_numbers(const struct reference *r, noodlefen_node numbers[NOODLEFEN_NODES])
+{
+    size_t count = 0;
+    for (struct node *node = r->held; node != NULL; node = node_after(r->held, node, EVERYTHING))
+        numbers[count++] = node->number;
+    return count;
+}
+
+unsigned reference_changes_of(const struct reference *r, noodlefen_node n)
+{
+    const struct node *node = node_find(r->held, n);
+    unsigned changes = node != NULL && node_hidden(node, HELD) ? REFERENCE_DELETED : 0;
+    for (uint32_t t = 1; t <= MOST_TRANSACTIONS; t++)
+        for (const struct change *change = r->transactions[t].last_change; change != NULL; change = change->before)
+            if (change->node == node && change->what != DELETED)
+                changes |= change->what == INSERTED ? REFERENCE_INSERTED : REFERENCE_UPDATED;
+    return changes;
+}
+
+unsigned long reference_same_updates(const struct reference *r)
+{
+    return r->same_updates;
+}
+
 noodlefen_answer reference_start(struct reference *r)
 {
     close_all(r);
@@ -212,6 +258,15 @@ noodlefen_answer reference_write(const struct reference *r, uint8_t *out, size_t
     return r->started ? write_document(r->plain, out, out_len) : refused(13, 0);
 }
 
+/* The committed document is that of the plain run, and so are its counts. */
+noodlefen_answer reference_count_of(const struct reference *r, noodlefen_node n)
+{
+    if (!r->started)
+        return refused(13, 0);
+    const struct node *node = node_find(r->plain, n);
+    return node != NULL ? granted(node->count) : refused(7, 0);
+}
+
 noodlefen_answer reference_begin(struct reference *r, uint32_t t)
 {
     if (!r->started)
@@ -239,9 +294,15 @@ noodlefen_answer reference_commit(struct reference *r, uint32_t t)
     int cause = transaction_cause(r, t);
     if (cause != 0)
         return refused(cause, 0);
-    r->disagreements += plain_commit(r->plain, r->transactions[t].first_step);
+    if (r->commits >= MOST_COMMITS)
+        return refused(18, 0);
+    r->commits++;
+    r->disagreements += plain_commit(r->plain, r->transactions[t].first_step, r->commits);
+    give_count(&r->transactions[t], r->commits);
     remove_deleted(r->held, t);
     close_transaction(r, t);
+    if (!same_counts(r->plain, r->held))
+        r->disagreements++;
     return granted(0);
 }
 
@@ -250,11 +311,13 @@ noodlefen_answer reference_finish(struct reference *r, const uint32_t *order, un
     int cause = r->started ? 0 : 13;
     for (unsigned i = 0; i < count && cause == 0; i++)
         cause = transaction_cause(r, order[i]);
+    if (cause == 0 && count > 0 && (uint64_t)r->commits + count > MOST_COMMITS)
+        cause = 18;
     if (cause != 0)
         return refused(cause, 0);
     struct node *document = node_copy(r->plain);
     for (unsigned i = 0; i < count; i++)
-        r->disagreements += plain_commit(document, r->transactions[order[i]].first_step);
+        r->disagreements += plain_commit(document, r->transactions[order[i]].first_step, r->commits + i + 1);
     if (!same_documents(document, r->held, HELD))
         r->disagreements++;
     noodlefen_answer answer = write_document(document, out, out_len);
@@ -307,6 +370,7 @@ static void change_held(struct reference *r, uint32_t t, const struct step *step
 {
     struct transaction *transaction = &r->transactions[t];
     if (step->what == STEP_U) {
+        r->same_updates += same_bytes(n->content, n->length, step->a, step->a_length) ? 1u : 0u;
         remember(transaction, CHANGED, n);
         node_set_content(n, step->a, step->a_length);
     } else if (step->what == STEP_D) {

@@ -40,10 +40,11 @@ struct kept_step {
 struct kept_step *keep_step(const struct step *step, const struct result *result);
 void kept_step_free(struct kept_step *kept);
 
-/* The plain run's step on a plain document. 0 if the document does not allow it: then nothing has changed. */
-int plain_step(struct node *document, const struct step *step, struct result *result);
+/* The plain run's step on a plain document, for the commit of this count: what the step inserts or updates bears it. 0 if the document does
+ * not allow the step: then nothing has changed. */
+int plain_step(struct node *document, const struct step *step, uint32_t count, struct result *result);
 
-/* Takes a committed transaction's steps in order; answers how many were not allowed or answered otherwise. */
-unsigned long plain_commit(struct node *document, const struct kept_step *steps);
+/* Takes a committed transaction's steps in order, for the commit of this count; answers how many were not allowed or answered otherwise. */
+unsigned long plain_commit(struct node *document, const struct kept_step *steps, uint32_t count);
 
 #endif

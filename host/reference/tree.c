@@ -55,6 +55,7 @@ void node_free(struct node *node)
 struct node *node_copy(const struct node *node)
 {
     struct node *copy = node_new(node->number, node->kind, node->content, node->length);
+    copy->count = node->count;
     struct node **link = &copy->first;
     for (const struct node *child = node->first; child != NULL; child = child->next) {
         *link = node_copy(child);
@@ -141,6 +142,18 @@ int same_documents(struct node *document, struct node *other, uint32_t viewer)
         b = node_after(other, b, viewer);
     }
     return a == NULL && b == NULL;
+}
+
+int same_counts(struct node *document, struct node *other)
+{
+    struct node *b = other;
+    for (struct node *a = document; a != NULL; a = node_after(document, a, EVERYTHING)) {
+        while (b != NULL && b->number != a->number)
+            b = node_after(other, b, EVERYTHING);
+        if (b == NULL || b->count != a->count)
+            return 0;
+    }
+    return 1;
 }
 
 int same_bytes(const uint8_t *a, size_t a_length, const uint8_t *b, size_t b_length)

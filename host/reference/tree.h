@@ -5,7 +5,7 @@
 #include "noodlefen.h"
 
 enum { DOCUMENT = 1, ELEMENT = 2, ATTRIBUTE = 3, TEXT = 4 };
-enum { MOST_NODES = 1024, MOST_CONTENT = 32, MOST_TRANSACTIONS = 16, NUMBER_BYTES = 4 };
+enum { MOST_NODES = 1024, MOST_CONTENT = 32, MOST_TRANSACTIONS = 16, MOST_COMMITS = 1000000, NUMBER_BYTES = 4 };
 
 struct node {
     noodlefen_node number;
@@ -13,6 +13,7 @@ struct node {
     size_t length;
     uint8_t content[MOST_CONTENT];
     struct node *parent, *first, *next; /* parent, first child, next sibling */
+    uint32_t count;                     /* which commit inserted it or last updated its content; 0 if none did */
 
     /* The rest is used in the held tree only. */
     uint32_t deleted_by;                     /* the open transaction that deleted this very node, or 0 */
@@ -37,8 +38,11 @@ size_t node_count(struct node *top, uint32_t viewer);
 size_t node_children(const struct node *node, uint32_t viewer);
 struct node *node_child(const struct node *node, uint32_t k, uint32_t viewer);       /* k from 1; NULL if there is none */
 
-/* Whether the document is what the viewer sees of the other one: numbers, kinds, contents, parents and order. */
+/* Whether the document is what the viewer sees of the other one: numbers, kinds, contents, parents and order; the counts aside. */
 int same_documents(struct node *document, struct node *other, uint32_t viewer);
+
+/* Whether each node of the document is in the other one too, in the same order and with the same count. The other one may have more. */
+int same_counts(struct node *document, struct node *other);
 
 int same_bytes(const uint8_t *a, size_t a_length, const uint8_t *b, size_t b_length);
 int name_allowed(const uint8_t *bytes, size_t length);

@@ -2,19 +2,21 @@
  * run.c: makes the calls of a script on one state and prints a line for each. calls.txt is the script; expected.txt has the lines that
  * documents 01 and 02 ask for, worked out from these papers.
  *
- * The script has a word for each call, s (start), b (begin), c (commit), a (abort) or a step's name, then the transaction and the
- * step's arguments in the paper's order; R, TT and RR then have the lengths of their lent buffers. Texts stand between quotes. Other
- * words: = begins a section, and # a remark, both to the end of the line; E builds tree E unseen; L sets how many bytes of state are
- * lent; Z changes the first of them; B prints those behind the state; F inserts the elements 1 to 1,023 and prints how many were
- * granted; S is TT of 1,024 numbers with their checksum.
+ * The script has a word for each call, s (start), l (load), N (the count of a node), b (begin), c (commit), a (abort) or a step's name,
+ * then the transaction, but for the first three, and the arguments in the paper's order; R, TT and RR then have the lengths of their lent
+ * buffers. Texts stand between quotes. Other words: = begins a section, and # a remark, both to the end of the line; E builds tree E
+ * unseen; L sets how many bytes of state are lent; Z changes the first of them; B prints those behind the state; F inserts the elements 1
+ * to 1,023 and prints how many were granted; M begins and commits a transaction so many times and prints how many were granted; S is TT of
+ * 1,024 numbers with their checksum.
  *
- * A line has the call's place in its section, the transaction (0 for start), G, W or R, and a number: the parent of T, the child of C,
- * the length of R, the count of TT, RR and UU, the set of a wait, the cause of a refusal, else 0. T and C add the kind. The lent buffers
- * follow, as they are after the call, in hexadecimal, 33 bytes to a line; they held 0xff before. An empty line ends a section.
+ * A line has the call's place in its section, the transaction (0 where none is named), G, W or R, and a number: the node count of load,
+ * the count of N, the parent of T, the child of C, the length of R, the count of TT, RR and UU, the set of a wait, the cause of a refusal,
+ * else 0. T and C add the kind, a load that is refused its offset. The lent buffers follow, as they are after the call, in hexadecimal, 33
+ * bytes to a line; they held 0xff before. An empty line ends a section.
  *
- * State and buffers have exact lengths at guard pages. What should not be is printed too: a state that a refused call changed, or one that
- * waits in other bytes than those of its transaction's remembered set, which have to be the set of the wait; and bits of an answer that
- * should be 0.
+ * State and buffers have exact lengths at guard pages. What should not be is printed too: a state that N or a refused call changed, or one
+ * that waits in other bytes than those of its transaction's remembered set, which have to be the set of the wait; and bits of an answer
+ * that should be 0.
  */
 #include <inttypes.h>
 #include <stdio.h>
@@ -25,15 +27,15 @@
 #include "noodlefen.h"
 
 enum { BEHIND = 8, MOST_BUFFERS = 2, MOST_BUFFER = 4096, BYTES_TO_A_LINE = 33 };
-enum { SETS = 112656, SET_BYTES = 2 }; /* where the remembered sets are in the state, by transaction; docs/STATE.md */
+enum { SETS = 116752, SET_BYTES = 2 }; /* where the remembered sets are in the state, by transaction; docs/STATE.md */
 
-enum name { START, BEGIN, COMMIT, ABORT, T, C, R, U, D, I, TT, RR, UU, NAMES };
+enum name { START, LOAD, COUNT, BEGIN, COMMIT, ABORT, T, C, R, U, D, I, TT, RR, UU, NAMES };
 
 /* The calls' words, and their arguments in order: t, m, n and k as in noodlefen.h, K the kind, " a text, = the length of a lent buffer. */
 static const struct form {
     const char *word, *arguments;
 } forms[NAMES] = {
-    [START] = {"s", ""}, [BEGIN] = {"b", "t"}, [COMMIT] = {"c", "t"}, [ABORT] = {"a", "t"},
+    [START] = {"s", ""}, [LOAD] = {"l", "\""}, [COUNT] = {"N", "n"}, [BEGIN] = {"b", "t"}, [COMMIT] = {"c", "t"}, [ABORT] = {"a", "t"},
     [T] = {"T", "tn"}, [C] = {"C", "tnk"}, [R] = {"R", "tn="}, [U] = {"U", "tn\""}, [D] = {"D", "tn"},
     [I] = {"I", "tmK\"nk"}, [TT] = {"TT", "tn="}, [RR] = {"RR", "tn=="}, [UU] = {"UU", "tn\"\""},
 };
@@ -68,6 +70,8 @@ static noodlefen_answer made_on(uint8_t *state, size_t length, const struct call
     const struct slice a = c->buffers[0], b = c->buffers[1];
     switch (c->what) {
     case START: return noodlefen_start(state, length);
+    case LOAD: return noodlefen_load(state, length, a.bytes, a.length);
+    case COUNT: return noodlefen_count_of(state, length, c->n);
     case BEGIN: return noodlefen_begin(state, length, c->t);
     case COMMIT: return noodlefen_commit(state, length, c->t);
     case ABORT: return noodlefen_abort(state, length, c->t);
@@ -101,7 +105,7 @@ static noodlefen_answer make(const struct call *c)
     noodlefen_answer answer = made_on(state, lent_state, c);
     if (noodlefen_waits(answer) && c->t >= 1 && c->t <= NOODLEFEN_TRANSACTIONS)
         remember(c->t, noodlefen_value(answer));
-    if (!noodlefen_granted(answer) && memcmp(state, memory, lent_state) != 0)
+    if ((!noodlefen_granted(answer) || c->what == COUNT) && memcmp(state, memory, lent_state) != 0)
         puts("the state has changed");
     memcpy(memory, state, lent_state);
     return answer;
@@ -251,6 +255,19 @@ static void fill(void)
     printf("%u %" PRIu32 " G %u\n", ++place, t, granted);
 }
 
+/* The state stays at its guard page meanwhile: to copy it for each call would take most of the time. */
+static void commit_often(void)
+{
+    uint32_t t = number(), times = number(), granted = 0;
+    uint8_t *state = fence_end(&state_fence, lent_state);
+    memcpy(state, memory, lent_state);
+    for (uint32_t i = 0; i < times; i++)
+        if (noodlefen_granted(noodlefen_begin(state, lent_state, t)) && noodlefen_granted(noodlefen_commit(state, lent_state, t)))
+            granted++;
+    memcpy(memory, state, lent_state);
+    printf("%u %" PRIu32 " G %" PRIu32 "\n", ++place, t, granted);
+}
+
 /* The checksum depends on every byte and its place. */
 static void test_all(void)
 {
@@ -279,6 +296,7 @@ static void run_other(char word)
     case '#': skip_line(); break;
     case 'E': build_tree_e(); break;
     case 'F': fill(); break;
+    case 'M': commit_often(); break;
     case 'S': test_all(); break;
     case 'L': lent_state = number_up_to(sizeof memory); break;
     case 'Z': memory[0] = 0; break;

@@ -66,6 +66,22 @@ static void list_nodes(char *got, size_t count, int with_cells)
     }
 }
 
+/* The counts of the nodes that the words name; granted, unless one is refused otherwise than for 7. */
+static noodlefen_answer counts(const struct engine *engine, void *e, const struct words *w, char *value)
+{
+    for (int i = 1; i < w->count; i++) {
+        noodlefen_answer answer = engine->count_of(e, number(w, i));
+        const char *comma = i > 1 ? "," : "";
+        if (noodlefen_granted(answer))
+            value += sprintf(value, "%s%lu", comma, (unsigned long)noodlefen_value(answer));
+        else if (answer == (NOODLEFEN_REFUSED | NOODLEFEN_NO_NODE << 8))
+            value += sprintf(value, "%s-", comma);
+        else
+            return answer;
+    }
+    return 0;
+}
+
 static noodlefen_answer call(const struct engine *engine, void *e, uint32_t t, const struct words *w, char *value)
 {
     const char *what = w->list[0];
@@ -79,7 +95,19 @@ static noodlefen_answer call(const struct engine *engine, void *e, uint32_t t, c
         return engine->commit(e, t);
     if (strcmp(what, "abort") == 0)
         return engine->abort(e, t);
-    if (strcmp(what, "write") == 0) {
+    if (strcmp(what, "commits") == 0) {
+        engine->put_commits(e, n);
+    } else if (strcmp(what, "count") == 0) {
+        answer = engine->count_of(e, n);
+        sprintf(value, "%lu", (unsigned long)noodlefen_value(answer));
+    } else if (strcmp(what, "counts") == 0) {
+        answer = counts(engine, e, w, value);
+    } else if (strcmp(what, "load") == 0) {
+        struct bytes xml = bytes_of(w, 1);
+        answer = engine->load(e, xml.bytes, xml.length);
+        sprintf(value, "%lu", (unsigned long)noodlefen_value(answer));
+        free(xml.bytes);
+    } else if (strcmp(what, "write") == 0) {
         static uint8_t out[NOODLEFEN_XML_BYTES];
         answer = engine->write(e, out, sizeof out);
         if (noodlefen_granted(answer))

@@ -1,4 +1,4 @@
--- The contract of a call on lent bytes: begin, the nine steps, commit and abort, and load for what its input says.
+-- The contract of a call on lent bytes: begin, the nine steps, commit, abort and count-of, and load for what its input says.
 use mathlib.Core.Path.{_≡_}
 use Prim.Native.Nat.{ℕ, _+_}
 use mathlib.Core.Bool.{false, cond}
@@ -8,7 +8,7 @@ use Rattle.tree.specs.Document.{Document}
 use Rattle.tree.specs.Steps.{Value}
 use Rattle.protocol.specs.State.{State}
 use Rattle.protocol.specs.Lent.{Room}
-use Rattle.protocol.specs.Calls.{Call, start, load, begin, commit, abort, step, write, Outcome, next}
+use Rattle.protocol.specs.Calls.{Call, start, load, begin, commit, abort, step, write, count-of, Outcome, next}
 use Rattle.protocol.specs.Answers.{answer-of, lent-after, as-it-was}
 use Rattle.protocol.specs.History.{is-granted, is-wait}
 use Rattle.protocol.specs.declared.Answer.{Answer}
@@ -25,6 +25,7 @@ set-place (begin t) = []
 set-place (commit t) = []
 set-place (abort t) = []
 set-place write = []
+set-place (count-of n) = []
 
 -- the places that a call which is not granted may change: "a wait changes only this memory, a refusal nothing"
 abbrev pub changed-by : Call → Outcome → List (ℕ × ℕ)

@@ -1,7 +1,9 @@
 // The examples of document 01 beside its lines P1 to P9, through the exported calls. A line for each call: what it is, G (granted), W
-// (waits) or R (refused), and a number: the length of write and of a read, the count of load, the set of a wait, the cause of a refusal,
-// else 0. A refusal of load has the byte offset behind it. What was written follows the line of a write. In the end two requests of
-// document 02: A.14, three commit in every order, and A.6, three that would wait for each other.
+// (waits) or R (refused), and a number: the length of write and of a read, the count of load, the count of a commit, the set of a wait, the
+// cause of a refusal, else 0. A refusal of load has the byte offset behind it. What was written follows the line of a write. In the end
+// three requests of document 02: A.14, three commit in every order, A.6, three that would wait for each other, and A.7, which commit last
+// touched a node.
+mod counts;
 mod deadlock;
 mod inputs;
 mod lines;
@@ -87,7 +89,7 @@ fn full(state: &mut [u8]) {
 }
 
 fn main() {
-    let mut state = [0u8; 112688];
+    let mut state = [0u8; 116784];
     lines::line(b"start", panel::noodlefen_start(&mut state));
     load_e(&mut state);
     write(&state);
@@ -106,4 +108,11 @@ fn main() {
     deadlock::hold(&mut state);
     deadlock::ring(&mut state);
     deadlock::give_way(&mut state);
+    lines::line(b"start", panel::noodlefen_start(&mut state));
+    load_e(&mut state);
+    counts::enter(&mut state);
+    counts::first_commit(&mut state);
+    counts::second_commit(&mut state);
+    counts::aborted(&mut state);
+    counts::inserted(&mut state);
 }

@@ -27,6 +27,14 @@ pub extern "C" fn noodlefen_write(state: &[u8], out: &mut [u8]) -> u64
     document_calls::write(state, out)
 }
 
+// The count of the commit that inserted node n of the committed document or last updated its content.
+#[no_mangle]
+pub extern "C" fn noodlefen_count_of(state: &[u8], n: u32) -> u64
+    ensures { λ r. ⌜ Contract (with-none (Request.count-of n) (now (state .entry)) (now (state .entry)) r) ⌝ }
+{
+    document_calls::count_of(state, n)
+}
+
 // Transaction t begins.
 #[no_mangle]
 pub extern "C" fn noodlefen_begin(state: &mut [u8], t: u32) -> u64

@@ -1,27 +1,33 @@
--- The calls, as functions of the state to an outcome and a next state: document 01, "Steps" and "Refused calls", and document 02, A.6.
+-- The calls, as functions of the state to an outcome and a next state: document 01, "Steps" and "Refused calls", and document 02, A.6
+-- and A.7.
 use Prim.Native.Nat.{ℕ, _+_, _-_, _^_}
 use mathlib.Core.Path.{_≡_}
 use mathlib.Core.Bool.{Bool, true, cond, not, _&&_}
 use mathlib.Core.List.{List, [], _∷_}
 use lib.ListN.{length}
 use lib.Dec.{eqb, leb}
-use Rattle.tree.specs.Lists.{any}
-use Rattle.tree.specs.Document.{Document, lines, numbers, legal}
+use Rattle.tree.specs.Lists.{any, keep}
+use Rattle.tree.specs.Document.{Document, lines, numbers, here, legal}
 use Rattle.tree.specs.Steps.{Step, Value, done, how-many, unknown, wrong-kind, wrong-content, misplaced, inserts, answer}
 use Rattle.locks.specs.Modes.{against}
 use Rattle.locks.specs.Needs.{Lock, needs}
 use Rattle.protocol.specs.State.{is-transaction, transactions, Marked, Tree, State, nodes, has-number, number-held, callers-document}
-use Rattle.protocol.specs.State.{committed-document, act, grant, commit-tree, abort-tree, tree-of}
-use Rattle.protocol.specs.State.{in-set, with-set, start-state, with-tree, opened, closed, remembering, forgetting}
+use Rattle.protocol.specs.State.{committed-document, act, grant, in-set, with-set, start-state, with-tree, opened, remembering}
+use Rattle.protocol.specs.State.{forgetting, committed, aborted, with-document}
 use Rattle.protocol.specs.Rings.{in-ring}
 use Rattle.protocol.specs.Lent.{Room, has-room}
 use Rattle.protocol.specs.Causes.{not-a-transaction, already-open, not-open, no-such-node}
 use Rattle.protocol.specs.Causes.{kind-not-allowed, content-not-allowed, held-number}
 use Rattle.protocol.specs.Causes.{place-not-allowed, no-more-nodes, short-buffer, open-at-load, deadlock}
+use Rattle.protocol.specs.Causes.{no-more-commits}
 
 -- "at most 1,024 nodes are held"
 abbrev pub node-limit : ℕ
 node-limit = 1024
+
+-- "a commit after the 1,000,000th is refused"
+abbrev pub commit-limit : ℕ
+commit-limit = 1000000
 
 abbrev pub ascending-from : ℕ → List ℕ → Bool
 ascending-from i [] = true
@@ -44,6 +50,8 @@ pub data Call : Type 0 where
   abort : (t : ℕ) → Call
   step : (t : ℕ) (s : Step) (room : Room) → Call
   write : Call
+  -- A.7: "tells the count for a node of the committed document"
+  count-of : (n : ℕ) → Call
 
 -- what a call returns: granted with the answer, for write the document written; a wait with the set; a refusal with its number
 pub data Outcome : Type 0 where
@@ -155,7 +163,20 @@ if-open t M n = refusing ((refused not-a-transaction, not (is-transaction t)) �
 -- load with nothing open: what the input says
 abbrev pub loaded : Input → State → Next
 loaded (unreadable cause offset) M = unchanged (refused-at cause offset) M
-loaded (stands-for d h) M = becomes (how-many (length (lines d))) (with-tree M (tree-of d))
+loaded (stands-for d h) M = becomes (how-many (length (lines d))) (with-document d M)
+
+-- cause 18: as many commits as the limit were granted
+abbrev pub commits-reached : ℕ → State → Bool
+commits-reached limit M = leb limit (M .header .commits)
+
+-- the count of the first, 0 where there is none
+abbrev pub first-count : List Marked → ℕ
+first-count [] = 0
+first-count (a ∷ rest) = a .count
+
+-- the count that the node numbered n bears; the numbers held are distinct, and where there is no such node it is never asked for
+abbrev pub commit-count : ℕ → Tree → ℕ
+commit-count n f = first-count (keep (has-number n) (nodes f))
 
 unfoldable pub next : Call → State → Next
 next start M = becomes done start-state
@@ -164,7 +185,12 @@ next (load input) M = refusing ((refused open-at-load, any (M .header .is-open) 
 next (begin t) M =
     refusing ((refused not-a-transaction, not (is-transaction t)) ∷ (refused already-open, M .header .is-open t) ∷ []) M
     (becomes done (opened t M))
-next (commit t) M = if-open t M (becomes done (closed t (commit-tree t (M .tree)) M))
-next (abort t) M = if-open t M (becomes done (closed t (abort-tree t (M .tree)) M))
+-- 18 "after 3"
+next (commit t) M =
+    if-open t M (refusing ((refused no-more-commits, commits-reached commit-limit M) ∷ []) M (becomes done (committed t M)))
+next (abort t) M = if-open t M (becomes done (aborted t M))
 next (step t s room) M = if-open t M (judged t s room M (callers-document t (M .tree)))
 next write M = unchanged (written (committed-document M)) M
+-- 7 for a node that the committed document lacks
+next (count-of n) M =
+    refusing ((refused no-such-node, not (here n (committed-document M))) ∷ []) M (becomes (how-many (commit-count n (M .tree))) M)

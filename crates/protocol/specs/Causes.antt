@@ -66,9 +66,14 @@ open-at-load = 15
 abbrev pub deadlock : ℕ
 deadlock = 17
 
+-- a commit after the 1,000,000th since the last granted start or load: document 02, A.7
+abbrev pub no-more-commits : ℕ
+no-more-commits = 18
+
 -- all that a call can be refused by
 abbrev pub causes : List ℕ
 causes =
     not-a-transaction ∷ already-open ∷ not-open ∷ not-of-grammar ∷ content-over-limit ∷ nodes-over-limit ∷ no-such-node ∷ kind-not-allowed
     ∷ content-not-allowed
-    ∷ held-number ∷ place-not-allowed ∷ no-more-nodes ∷ short-buffer ∷ not-expressible ∷ open-at-load ∷ deadlock ∷ []
+    ∷ held-number ∷ place-not-allowed ∷ no-more-nodes ∷ short-buffer ∷ not-expressible ∷ open-at-load ∷ deadlock
+    ∷ no-more-commits ∷ []

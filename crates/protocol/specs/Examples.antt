@@ -21,7 +21,7 @@ use Rattle.protocol.specs.Lent.{first-lent, second-lent}
 use Rattle.protocol.specs.Calls.{node-limit, loadable, stands-for, Call, start, load, begin, abort, step, Outcome, granted, waits}
 use Rattle.protocol.specs.Calls.{refused, wait-set, judged, next}
 use Rattle.protocol.specs.Answers.{lent-after, as-it-was}
-use Rattle.protocol.specs.History.{Event, event, history, state-after, log-after, plain, pending}
+use Rattle.protocol.specs.History.{Event, event, history, state-after, log-after, plain, plain-counts, pending}
 
 pub E-loadable : loadable node-limit tree-E ≡ true
 unfolding tree-E loadable legal ruled lines rows within utf8 characters spells-name spells-text is-name is-text allowed takes
@@ -29,12 +29,13 @@ unfolding tree-E loadable legal ruled lines rows within utf8 characters spells-n
 E-loadable = refl
 
 -- a line of an example: a call and what it gives, and what a first lent buffer holds before and after it; whether something is pending;
--- the plain run's document
+-- the plain run's document, and its count of a node
 pub data Item : Type 0 where
   gives : (call : Call) (outcome : Outcome) → Item
   fills : (call : Call) (outcome : Outcome) (before after : List ℕ) → Item
   is-pending : (answer : Bool) → Item
   plain-is : (document : Document) → Item
+  plain-count-is : (n count : ℕ) → Item
 
 -- t does s, with room for every answer
 abbrev pub does : ℕ → Step → Outcome → Item
@@ -44,8 +45,8 @@ does t s o = gives (step t s (record { first = 64; second = 1024 })) o
 abbrev pub opening : List Call
 opening = start ∷ load (stands-for tree-E E-loadable) ∷ begin 1 ∷ begin 2 ∷ []
 
--- the example with the outcomes, buffers, answers about what is pending and plain documents that the definitions give; h is what was
--- called before
+-- the example with the outcomes, buffers, answers about what is pending, plain documents and counts that the definitions give; h is what
+-- was called before
 unfoldable pub played : State → List Event → List Item → List Item
 played M h [] = []
 played M h (gives c o ∷ l) =
@@ -55,6 +56,7 @@ played M h (fills c o b b′ ∷ l) =
     ∷ played (next c M .state) (h ++ (event c M ∷ [])) l
 played M h (is-pending b ∷ l) = is-pending (pending h) ∷ played M h l
 played M h (plain-is d ∷ l) = plain-is (plain h) ∷ played M h l
+played M h (plain-count-is n k ∷ l) = plain-count-is n (plain-counts h n) ∷ played M h l
 
 -- an example after the opening calls
 unfoldable pub from-E : List Item → List Item

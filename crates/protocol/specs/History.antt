@@ -1,5 +1,5 @@
 -- Lists of calls, the plain run that they are compared with, and what is pending: document 01, "The plain run" and "Steps"; whom each
--- transaction waits for by the answers that it had: document 02, A.6.
+-- transaction waits for by the answers that it had: document 02, A.6; and the plain run's counts: document 02, A.7.
 use Prim.Native.Nat.{ℕ}
 use mathlib.Core.Bool.{Bool, true, false, cond, not, _&&_, _||_}
 use mathlib.Core.List.{List, [], _∷_, _++_, map}
@@ -7,8 +7,10 @@ use lib.Dec.{eqb}
 use Rattle.tree.specs.Lists.{any, same, joined}
 use Rattle.tree.specs.Document.{Document, lines, here, at, node-0-alone}
 use Rattle.tree.specs.Steps.{Step, Value, PlainAnswer, inserts, plain-document, plain-answers}
+use Rattle.tree.specs.Counts.{Counts, counts-after, CountedDocument, with-counts}
 use Rattle.protocol.specs.State.{State, transactions, in-set, WaitSets, with-set, struck}
-use Rattle.protocol.specs.Calls.{Call, start, load, begin, commit, abort, step, write, unreadable, stands-for}
+use Rattle.protocol.specs.Calls.{Call, start, load, begin, commit, abort, step, write, count-of}
+use Rattle.protocol.specs.Calls.{unreadable, stands-for}
 use Rattle.protocol.specs.Calls.{Outcome, granted, written, waits, refused, refused-at, StepAnswer, next}
 
 -- a call with its outcome and the steps that were granted in it
@@ -73,6 +75,7 @@ logged (commit t) g es L = cond g (with-commit t L) L
 logged (abort t) g es L = cond g (with-entries t [] L) L
 logged (step t s room) g es L = with-entries t (L .open-log t ++ es) L
 logged write g es L = L
+logged (count-of n) g es L = L
 
 unfoldable pub log-after : {E : Type 0} → (StepAnswer → E) → Log E → List Event → Log E
 log-after entry L [] = L
@@ -93,6 +96,14 @@ plain h = plain-document (fed h .initial) (joined (fed h .committed))
 
 unfoldable pub plain-run-answers : List Event → List PlainAnswer
 plain-run-answers h = plain-answers (fed h .initial) (joined (fed h .committed))
+
+-- the plain run's counts: the first committed transaction is commit 1, the next commit 2, and so on
+unfoldable pub plain-counts : List Event → Counts
+plain-counts h = counts-after (fed h .initial) (fed h .committed)
+
+-- the plain run's document with its counts
+abbrev pub plain-with-counts : List Event → CountedDocument
+plain-with-counts h = with-counts (plain-counts h) (plain h)
 
 -- pending --------------------------------------------------------------------------------
 
@@ -142,6 +153,7 @@ sets-left (commit t) g w r = cond g (struck t r) r
 sets-left (abort t) g w r = cond g (struck t r) r
 sets-left (step t s room) g w r = cond g (with-set t (λ u. false) r) (cond (eqb w 0) r (with-set t (in-set w) r))
 sets-left write g w r = r
+sets-left (count-of n) g w r = r
 
 -- the sets that the answers tell, from the sets r on
 unfoldable pub sets-after : WaitSets → List Event → WaitSets

@@ -1,3 +1,4 @@
 pub mod Ascending
+pub mod Shown
 pub mod Transactions
 pub mod WaitSets

@@ -10,4 +10,5 @@ pub mod Mistakes
 pub mod Refusals
 pub mod PlainRun
 pub mod Deadlock
+pub mod Counting
 pub mod Laws

@@ -1,5 +1,5 @@
 -- The engine's state: the open transactions, and the tree of all nodes held, each with its marks; documents are views of it.
-use Prim.Native.Nat.{ℕ, _-_}
+use Prim.Native.Nat.{ℕ, suc, _-_}
 use mathlib.Core.Bool.{Bool, true, false, cond, not, _&&_, _||_}
 use mathlib.Core.List.{List, [], _∷_, map}
 use lib.Dec.{eqb}
@@ -8,6 +8,7 @@ use Rattle.tree.specs.Forest.{Forest, Row, rows, amend, view, put}
 use Rattle.tree.specs.Content.{between}
 use Rattle.tree.specs.Document.{Node, Document, node-0-alone}
 use Rattle.tree.specs.Steps.{Step, T, C, R, U, D, I, TT, RR, UU, is-named, with-content}
+use Rattle.tree.specs.Counts.{CountedDocument}
 use Rattle.locks.specs.Modes.{ModeSet, no-mode, union, among, bit}
 use Rattle.locks.specs.Needs.{Lock}
 
@@ -36,30 +37,35 @@ abbrev pub saved-of : Update → List ℕ
 saved-of unwritten = []
 saved-of (wrote t saved) = saved
 
--- a node held: as it is now, what was done to its content, which open transaction inserted it and deleted it (0: none), and for each
--- transaction the set of modes it was granted there
+-- a node held: as it is now, what was done to its content, which open transaction inserted it and deleted it (0: none), for each
+-- transaction the set of modes it was granted there, and the count that it bears in the committed document (A.7), 0 where an open
+-- transaction inserted it
 pub record Marked : Type 0 where
   pub now : Node
   pub update : Update
   pub inserter : ℕ
   pub deleter : ℕ
   pub held : ℕ → ModeSet
+  pub count : ℕ
 
 -- a node held with one field changed: all other changes are made of these, so that a further field passes through them
 abbrev pub with-now : Node → Marked → Marked
-with-now x a = record { now = x; update = a .update; inserter = a .inserter; deleter = a .deleter; held = a .held }
+with-now x a = record { now = x; update = a .update; inserter = a .inserter; deleter = a .deleter; held = a .held; count = a .count }
 
 abbrev pub with-update : Update → Marked → Marked
-with-update x a = record { now = a .now; update = x; inserter = a .inserter; deleter = a .deleter; held = a .held }
+with-update x a = record { now = a .now; update = x; inserter = a .inserter; deleter = a .deleter; held = a .held; count = a .count }
 
 abbrev pub with-inserter : ℕ → Marked → Marked
-with-inserter x a = record { now = a .now; update = a .update; inserter = x; deleter = a .deleter; held = a .held }
+with-inserter x a = record { now = a .now; update = a .update; inserter = x; deleter = a .deleter; held = a .held; count = a .count }
 
 abbrev pub with-deleter : ℕ → Marked → Marked
-with-deleter x a = record { now = a .now; update = a .update; inserter = a .inserter; deleter = x; held = a .held }
+with-deleter x a = record { now = a .now; update = a .update; inserter = a .inserter; deleter = x; held = a .held; count = a .count }
 
 abbrev pub with-held : (ℕ → ModeSet) → Marked → Marked
-with-held x a = record { now = a .now; update = a .update; inserter = a .inserter; deleter = a .deleter; held = x }
+with-held x a = record { now = a .now; update = a .update; inserter = a .inserter; deleter = a .deleter; held = x; count = a .count }
+
+abbrev pub with-count : ℕ → Marked → Marked
+with-count x a = record { now = a .now; update = a .update; inserter = a .inserter; deleter = a .deleter; held = a .held; count = x }
 
 abbrev pub Tree : Type 0
 Tree = Forest Marked
@@ -72,10 +78,12 @@ in-set w t = cond (is-transaction t) (bit w (t - 1)) false
 abbrev pub WaitSets : Type 0
 WaitSets = ℕ → ℕ → Bool
 
--- what is not per node: which transactions are open, and the wait set that is remembered of each (A.6), which is empty where none is
+-- what is not per node: which transactions are open, the wait set that is remembered of each (A.6), which is empty where none is, and how
+-- many were committed since the last granted start or load (A.7)
 pub record Header : Type 0 where
   pub is-open : ℕ → Bool
   pub remembered : WaitSets
+  pub commits : ℕ
 
 pub record State : Type 0 where
   pub header : Header
@@ -126,6 +134,10 @@ document-of S f = view (shown S) (as-shown S) f
 abbrev pub committed-document : State → Document
 committed-document M = document-of (λ u. false) (M .tree)
 
+-- the same with the counts (A.7)
+unfoldable pub committed-with-counts : State → CountedDocument
+committed-with-counts M = view (shown (λ u. false)) (λ a. record { node = as-shown (λ u. false) a; count = a .count }) (M .tree)
+
 -- marks ------------------------------------------------------------------------------
 
 -- the committed content: the one now, or the one saved where somebody wrote
@@ -140,7 +152,7 @@ abbrev pub deleted-by : ℕ → Marked → Marked
 deleted-by t a = with-deleter t a
 
 abbrev pub unmarked : Node → Marked
-unmarked a = record { now = a; update = unwritten; inserter = nobody; deleter = nobody; held = λ u. no-mode }
+unmarked a = record { now = a; update = unwritten; inserter = nobody; deleter = nobody; held = λ u. no-mode; count = 0 }
 
 abbrev pub inserted-by : ℕ → Node → Marked
 inserted-by t a = with-inserter t (unmarked a)
@@ -168,9 +180,17 @@ update-without t u = cond (eqb (writer-of u) t) unwritten u
 abbrev pub released : ℕ → Marked → Marked
 released t a = with-held (none-of t (a .held)) a
 
--- "commit makes changes lasting"
-abbrev pub lasting : ℕ → Marked → Marked
-lasting t a = released t (with-update (update-without t (a .update)) (with-inserter (without t (a .inserter)) a))
+-- t inserted the node or updated its content
+abbrev pub touched-by : ℕ → Marked → Bool
+touched-by t a = eqb (a .inserter) t || eqb (writer-of (a .update)) t
+
+-- the count after the k-th commit (A.7), that of t: k where t inserted the node or updated its content
+abbrev pub count-touched : ℕ → ℕ → Marked → Marked
+count-touched k t a = with-count (cond (touched-by t a) k (a .count)) a
+
+-- "commit makes changes lasting"; it is the k-th
+abbrev pub lasting : ℕ → ℕ → Marked → Marked
+lasting k t a = released t (with-update (update-without t (a .update)) (with-inserter (without t (a .inserter)) (count-touched k t a)))
 
 -- the content without what t wrote
 abbrev pub content-without : ℕ → Marked → List ℕ
@@ -212,9 +232,9 @@ act t (UU n a b) f = mark (λ r. cond (renamed t n a r) (written-by t b (r .it))
 unfoldable pub grant : ℕ → List Lock → Tree → Tree
 grant t ls f = mark (λ r. granted-to t ls (r .it)) f
 
--- what t deleted goes with all below it; the rest of what it did is everybody's; its locks go
-unfoldable pub commit-tree : ℕ → Tree → Tree
-commit-tree t f = view (seen-by t) (lasting t) f
+-- the k-th commit: what t deleted goes with all below it; the rest of what it did is everybody's; its locks go
+unfoldable pub commit-tree : ℕ → ℕ → Tree → Tree
+commit-tree k t f = view (seen-by t) (lasting k t) f
 
 -- what t inserted goes with all below it; what it deleted and wrote is as before; its locks go
 unfoldable pub abort-tree : ℕ → Tree → Tree
@@ -232,16 +252,19 @@ with-header h M = record { header = h; tree = M .tree }
 abbrev pub with-tree : State → Tree → State
 with-tree M f = record { header = M .header; tree = f }
 
--- a header with other open transactions, or with other remembered sets
+-- a header with other open transactions, with other remembered sets, or with another number of commits
 abbrev pub with-open : (ℕ → Bool) → Header → Header
-with-open f h = record { is-open = f; remembered = h .remembered }
+with-open f h = record { is-open = f; remembered = h .remembered; commits = h .commits }
 
 abbrev pub with-remembered : WaitSets → Header → Header
-with-remembered r h = record { is-open = h .is-open; remembered = r }
+with-remembered r h = record { is-open = h .is-open; remembered = r; commits = h .commits }
+
+abbrev pub with-commits : ℕ → Header → Header
+with-commits k h = record { is-open = h .is-open; remembered = h .remembered; commits = k }
 
 -- "node 0 alone and nothing is open"
 abbrev pub start-header : Header
-start-header = record { is-open = λ u. false; remembered = λ u v. false }
+start-header = record { is-open = λ u. false; remembered = λ u v. false; commits = 0 }
 
 abbrev pub start-state : State
 start-state = record { header = start-header; tree = tree-of node-0-alone }
@@ -279,3 +302,19 @@ ended t h = struck-header t (with-open (λ u. not (eqb u t) && h .is-open u) h)
 
 abbrev pub closed : ℕ → Tree → State → State
 closed t f M = with-tree (with-header (ended t (M .header)) M) f
+
+-- "commits since the last granted start or load count from 1": the count of the next
+abbrev pub next-count : State → ℕ
+next-count M = suc (M .header .commits)
+
+-- t commits
+abbrev pub committed : ℕ → State → State
+committed t M = closed t (commit-tree (next-count M) t (M .tree)) (with-header (with-commits (next-count M) (M .header)) M)
+
+-- t aborts
+abbrev pub aborted : ℕ → State → State
+aborted t M = closed t (abort-tree t (M .tree)) M
+
+-- the document d was loaded: its nodes bear 0, and commits count from 1 again
+abbrev pub with-document : Document → State → State
+with-document d M = with-tree (with-header (with-commits 0 (M .header)) M) (tree-of d)

@@ -31,3 +31,5 @@ pub const NOT_EXPRESSIBLE: u8 = 14;
 pub const OPEN_AT_LOAD: u8 = 15;
 
 pub const DEADLOCK: u8 = 17;
+
+pub const NO_MORE_COMMITS: u8 = 18;

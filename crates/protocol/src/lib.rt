@@ -15,7 +15,8 @@ pub enum Answer {
     Child { kind: u8, number: u32 },
     // C granted, and there is none
     NoChild,
-    // granted: R with the length, TT and RR with the count of nodes, UU with how many, load with the node count, write with the length
+    // granted: R with the length, TT and RR with the count of nodes, UU with how many, load with the node count, write with the length,
+    // count_of with the count of a commit
     Count(u32),
     // a wait, with the set
     Waits(u16),

@@ -5,7 +5,7 @@ use mathlib.Core.List.{List, [], _∷_, map}
 use lib.ListN.{getD, drop}
 use lib.Dec.{eqb, ltb}
 use Rattle.tree.specs.Lists.{every, keep}
-use Rattle.protocol.specs.State.{Marked, has-number, seen-by}
+use Rattle.protocol.specs.State.{nobody, Marked, has-number, seen-by}
 use Rattle.table.specs.Lists.{first}
 use Rattle.table.specs.Flat.{prune}
 use Rattle.table.specs.Layout.{Entry, no-entry}
@@ -46,9 +46,17 @@ ups l p = map (item l) (above-places l p)
 abbrev pub numbers-above : List Entry → ℕ → List ℕ
 numbers-above l p = map number-of (ups l p)
 
+-- the node at p and all above it pass
+abbrev pub all-at : (Marked → Bool) → List Entry → ℕ → Bool
+all-at q l p = every q (item l p ∷ ups l p)
+
 -- t deleted neither the node at p nor one above it
 abbrev pub seen-at : ℕ → List Entry → ℕ → Bool
-seen-at t l p = every (seen-by t) (item l p ∷ ups l p)
+seen-at t l p = all-at (seen-by t) l p
+
+-- no open transaction inserted it, whatever is above it
+abbrev pub is-committed : Marked → Bool
+is-committed a = eqb (a .inserter) nobody
 
 -- the way forward ------------------------------------------------------------------
 

@@ -1,25 +1,28 @@
--- What is claimed of every list of calls that begins with a start: document 01, "The plain run" (demand 3), and document 02, A.14 and A.6.
+-- What is claimed of every list of calls that begins with a start: document 01, "The plain run" (demand 3), and document 02, A.14, A.6 and
+-- A.7.
 -- Only definitions of tree, locks and protocol are used; the proofs are in Laws.
 use Prim.Native.Nat.{ℕ, _-_, _<_, _^_}
 use mathlib.Core.Path.{_≡_}
 use mathlib.Core.Logic.{_↔_}
 use mathlib.Core.Bool.{Bool, true, false, cond}
 use mathlib.Core.List.{List, [], _∷_, _++_, map, List·Memᴰ}
-use lib.Dec.{eqb}
+use lib.ListN.{length}
+use lib.Dec.{eqb, leb}
 use Rattle.tree.specs.Lists.{has, distinct, joined}
 use Rattle.tree.specs.Document.{Document, here, legal}
-use Rattle.tree.specs.Steps.{Step, Value, done, plain-value, unfit, target, plain-document, plain-answers}
+use Rattle.tree.specs.Steps.{Step, Value, done, how-many, plain-value, unfit, target, plain-document, plain-answers}
+use Rattle.tree.specs.Counts.{without-counts}
 use Rattle.locks.specs.Modes.{Mode, bit}
 use Rattle.locks.specs.Needs.{Lock, needs}
 use Rattle.protocol.specs.State.{State, start-state, Marked, is-transaction, transactions, nodes, in-set, WaitSets, with-set, remembering}
-use Rattle.protocol.specs.State.{callers-document, held-document, document-of, committed-document}
+use Rattle.protocol.specs.State.{callers-document, held-document, document-of, committed-document, committed-with-counts}
 use Rattle.protocol.specs.Lent.{Room}
-use Rattle.protocol.specs.Causes.{no-such-node, deadlock}
+use Rattle.protocol.specs.Causes.{no-such-node, deadlock, no-more-commits}
 use Rattle.protocol.specs.Rings.{AmongOpen, in-ring}
-use Rattle.protocol.specs.Calls.{Call, start, load, begin, commit, abort, step, write, Outcome, granted, written, waits, refused}
-use Rattle.protocol.specs.Calls.{blocks, wait-set, next}
+use Rattle.protocol.specs.Calls.{Call, start, load, begin, commit, abort, step, write, count-of, Outcome, granted, written, waits}
+use Rattle.protocol.specs.Calls.{refused, commit-limit, blocks, wait-set, commits-reached, next}
 use Rattle.protocol.specs.History.{Event, history, state-after, is-granted, committed-then, fed, answered, plain}
-use Rattle.protocol.specs.History.{plain-run-answers, pending, waited-for, sets-after}
+use Rattle.protocol.specs.History.{plain-run-answers, plain-counts, plain-with-counts, pending, waited-for, sets-after}
 
 -- a list that begins with a start, which is always granted, and the state that it reaches. They begin in one fixed state: start forgets the
 -- state before it (`start-forgets`)
@@ -124,6 +127,30 @@ pub record NoDeadlock (M : State) : Type 0 where
   pub one-free : (t : ℕ) → M .header .is-open t ≡ true
       → (u : ℕ) × (M .header .is-open u ≡ true) × ((v : ℕ) → M .header .remembered u v ≡ false)
 
+-- A.7 ----------------------------------------------------------------------------------
+
+-- how many transactions were committed since the last granted start or load
+abbrev pub commits-in : List Event → ℕ
+commits-in h = length (fed h .committed)
+
+-- the committed document with its counts is, without them, the committed document of demand 3, in every state
+abbrev pub WithoutCounts : Type 0
+WithoutCounts = (M : State) → without-counts (committed-with-counts M) ≡ committed-document M
+
+-- of the list of calls: "the counts must be those of the plain run"
+pub record CountsPlain (cs : List Call) : Type 0 where
+  pub equal : committed-with-counts (reached cs) ≡ plain-with-counts (since-start cs)
+  -- what count-of tells: the plain run's count for a node of its document, and 7 for all other numbers
+  pub told : (n : ℕ) → next (count-of n) (reached cs) .outcome
+      ≡ cond (here n (plain (since-start cs))) (granted (how-many (plain-counts (since-start cs) n))) (refused no-such-node)
+  -- "a loaded node and the document bear 0": the document in every state, a loaded node by `zero-counts`
+  pub document : plain-counts (since-start cs) 0 ≡ 0
+  -- the number of commits in the state is that of the transactions committed since the last granted start or load
+  pub commits : reached cs .header .commits ≡ commits-in (since-start cs)
+  -- "a commit after the 1,000,000th is refused", and no other commit of an open transaction is
+  pub limit : (t : ℕ) → reached cs .header .is-open t ≡ true → next (commit t) (reached cs) .outcome
+      ≡ cond (leb commit-limit (commits-in (since-start cs))) (refused no-more-commits) (granted done)
+
 -- the states that are reached ----------------------------------------------------------
 
 pub record Reached (M : State) : Type 0 where
@@ -146,6 +173,7 @@ left-by (begin t) o M = M
 left-by (commit t) o M = M
 left-by (abort t) o M = M
 left-by write o M = M
+left-by (count-of n) o M = M
 
 -- demand 1: no step was granted in a call that waits or is refused; a refusal leaves the state as it was, and a wait all but the set that
 -- is remembered of its transaction
@@ -158,9 +186,10 @@ abbrev pub StepGranted : Type 0
 StepGranted = (t : ℕ) (s : Step) (room : Room) (M : State) (v : Value) → next (step t s room) M .outcome ≡ granted v
     → next (step t s room) M .steps ≡ record { step = s; value = v } ∷ []
 
--- every open transaction may commit: nothing but 1 and 3 refuses it
-abbrev pub CommitGranted : Type 0
-CommitGranted = (t : ℕ) (M : State) → is-transaction t ≡ true → M .header .is-open t ≡ true → next (commit t) M .outcome ≡ granted done
+-- a commit of an open transaction is done, or refused by 18 where the limit is reached, and by nothing else
+abbrev pub CommitOutcome : Type 0
+CommitOutcome = (t : ℕ) (M : State) → is-transaction t ≡ true → M .header .is-open t ≡ true
+    → next (commit t) M .outcome ≡ cond (commits-reached commit-limit M) (refused no-more-commits) (granted done)
 
 -- demand 2: "a 16-bit set with bit t-1 for each such transaction t, and no other", never empty
 pub record WaitSet (w t : ℕ) (ls : List Lock) (M : State) : Type 0 where

@@ -14,11 +14,11 @@ use Rattle.protocol.specs.State.{nobody, is-transaction, in-set, WaitSets, Upda
 
 -- the bytes that a state takes; those behind are never touched
 abbrev pub state-size : ℕ
-state-size = 112688
+state-size = 116784
 
 -- the first eight bytes
 abbrev pub format-mark : List ℕ
-format-mark = bytes "NFSTATE3"
+format-mark = bytes "NFSTATE4"
 
 abbrev pub open-at : ℕ
 open-at = 8
@@ -26,21 +26,27 @@ open-at = 8
 abbrev pub count-at : ℕ
 count-at = 10
 
+abbrev pub commits-at : ℕ
+commits-at = 12
+
 -- the outline's entry for a place in document order: slot, depth, number
 abbrev pub entry-at : ℕ → ℕ
 entry-at i = 16 + 8 * i
 
--- the cell of a slot: kind, writer, inserter, deleter, two sizes, 32 bytes of content, 32 of saved content
+-- the cell of a slot: kind, writer, inserter, deleter, two sizes, 32 bytes of content, 32 of saved content, four of count (A.7)
+abbrev pub cell-size : ℕ
+cell-size = 74
+
 abbrev pub cell-at : ℕ → ℕ
-cell-at k = 8208 + 70 * k
+cell-at k = 8208 + cell-size * k
 
 -- the lock word of a transaction (from 1) and a slot
 abbrev pub lock-at : ℕ → ℕ → ℕ
-lock-at t k = 79888 + 2048 * (t - 1) + 2 * k
+lock-at t k = 83984 + 2048 * (t - 1) + 2 * k
 
 -- the word of a transaction's remembered wait set
 abbrev pub set-at : ℕ → ℕ
-set-at t = 112656 + 2 * (t - 1)
+set-at t = 116752 + 2 * (t - 1)
 
 -- what they hold -----------------------------------------------------------------------
 
@@ -69,7 +75,7 @@ unfoldable pub number : List ℕ → ℕ → ℕ
 number s i = double-word s (entry-at i + 4)
 
 unfoldable pub cell : List ℕ → ℕ → List ℕ
-cell s k = part s (cell-at k) 70
+cell s k = part s (cell-at k) cell-size
 
 -- bit t-1 for each open transaction t
 unfoldable pub is-open : List ℕ → ℕ → Bool
@@ -79,9 +85,13 @@ is-open s t = in-set (word s open-at) t
 unfoldable pub remembered : List ℕ → WaitSets
 remembered s t u = cond (is-transaction t) (in-set (word s (set-at t)) u) false
 
+-- how many transactions were committed since the last granted start or load
+unfoldable pub commits : List ℕ → ℕ
+commits s = double-word s commits-at
+
 -- what is not per node
 abbrev pub header : List ℕ → Header
-header s = record { is-open = is-open s; remembered = remembered s }
+header s = record { is-open = is-open s; remembered = remembered s; commits = commits s }
 
 -- the modes that a transaction was granted on the node of a slot
 unfoldable pub held : List ℕ → ℕ → ℕ → ModeSet
@@ -103,6 +113,7 @@ decode n c h = record {
   inserter = getD c 2 0;
   deleter = getD c 3 0;
   held = h;
+  count = double-word c 70;
 }
 
 -- a node with its depth

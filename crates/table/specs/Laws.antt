@@ -3,6 +3,7 @@ pub mod Bytes
 pub mod Kept
 pub mod Nodes
 pub mod Fields
+pub mod Counts
 pub mod Texts
 pub mod Locks
 pub mod Bits

@@ -4,8 +4,9 @@ use mathlib.Core.Path.{_≡_}
 use mathlib.Core.List.{List, []}
 use lib.ListN.{length, drop}
 use Rattle.protocol.specs.State.{unmarked, Header}
-unfoldable pub use Rattle.table.specs.Encoding.{state-size, format-mark, open-at, count-at, entry-at, cell-at, lock-at, set-at, word}
-unfoldable pub use Rattle.table.specs.Encoding.{double-word, part, count, slot, depth, number, cell, is-open, remembered, header}
+unfoldable pub use Rattle.table.specs.Encoding.{state-size, format-mark, open-at, count-at, commits-at, entry-at, cell-size, cell-at}
+unfoldable pub use Rattle.table.specs.Encoding.{lock-at, set-at, word, double-word, part, count, slot, depth, number, cell, is-open}
+unfoldable pub use Rattle.table.specs.Encoding.{remembered, commits, header}
 unfoldable pub use Rattle.table.specs.Encoding.{held, stored, update-of, decode, Entry, entry, tabulate, nodes, unique}
 pub use Rattle.table.specs.Encoding.{Sized, Layout}
 

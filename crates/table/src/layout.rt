@@ -7,17 +7,19 @@ ghost use Rattle.table.specs.Layout.{word, double-word};
 ghost use Rattle.table.specs.Laws.Bytes.{put-word, put-double-word, Filled};
 
 // The first bytes of a state, and the bytes that it takes; those behind are never touched.
-pub const MARK: [u8; 8] = *b"NFSTATE3";
+pub const MARK: [u8; 8] = *b"NFSTATE4";
 
-pub const SIZE: usize = 112688;
+pub const SIZE: usize = 116784;
 
 // The most nodes.
 pub const NODES: usize = 1024;
 
-// Where the bytes hold the open transactions and how many nodes are held.
+// Where the bytes hold the open transactions, how many nodes are held, and how many transactions were committed.
 pub const OPEN: usize = 8;
 
 pub const COUNT: usize = 10;
+
+pub const COMMITS: usize = 12;
 
 // The outline, and the bytes of an entry; the cells, and those of one.
 pub const OUTLINE: usize = 16;
@@ -26,15 +28,15 @@ pub const ENTRY: usize = 8;
 
 pub const CELLS: usize = 8208;
 
-pub const CELL: usize = 70;
+pub const CELL: usize = 74;
 
 // The lock words, and the bytes of those of one transaction.
-pub const LOCKS: usize = 79888;
+pub const LOCKS: usize = 83984;
 
 pub const WORDS: usize = 2048;
 
 // The remembered wait sets, a word for each transaction.
-pub const SETS: usize = 112656;
+pub const SETS: usize = 116752;
 
 pub fn join(low: u8, high: u8) -> u16
     ensures { λ r. ⌜ r ≡ low + 256 * high ⌝ }

@@ -1,5 +1,6 @@
-// The lent bytes: where they hold the nodes, the locks, the open transactions and the wait sets (docs/STATE.md). The contracts of
-// public functions speak of `header` and `nodes`, but for `sets::remember`, which names the bytes that a wait changes.
+// The lent bytes: where they hold the nodes, the locks, the open transactions, the wait sets and the counts of commits (docs/STATE.md). The
+// contracts of public functions speak of `header` and `nodes`, but for `sets::remember`, which names the bytes that a wait changes.
+pub mod counts;
 pub mod layout;
 pub mod outline;
 pub mod sets;

@@ -1,4 +1,5 @@
 // The outline of the lent bytes: a node put in at a place, and nodes taken out. Slots stay where they are; only the outline's entries move.
+use crate::counts;
 use crate::layout;
 use crate::transactions;
 ghost use mathlib.Core.Path.{_≡_};
@@ -70,6 +71,7 @@ pub fn insert(s: &mut [u8], p: usize, d: u16, n: u32, kind: u8, t: u8, content: 
     crate::set_inserter(s, p, t);
     crate::set_deleter(s, p, 0);
     crate::set_content(s, p, content);
+    counts::set_count(s, p, 0);
     transactions::unlock(s, p);
 }
 

@@ -6,7 +6,7 @@ use lib.ListN.{length}
 use Rattle.tree.specs.Steps.{Step}
 use Rattle.protocol.specs.State.{State}
 use Rattle.protocol.specs.Lent.{Room, first-lent, second-lent}
-use Rattle.protocol.specs.Calls.{Input, Call, start, load, begin, commit, abort, step, write}
+use Rattle.protocol.specs.Calls.{Input, Call, start, load, begin, commit, abort, step, write, count-of}
 use Rattle.protocol.specs.Answers.{code-of}
 use Rattle.protocol.specs.declared.Answer.{Answer}
 use Rattle.table.specs.Layout.{state-size}
@@ -26,12 +26,13 @@ pub data Makes (room : Room) : Request → Call → Type 0 where
   makes-commit : {t : ℕ} → Makes room (Request.commit t) (commit t)
   makes-abort : {t : ℕ} → Makes room (Request.abort t) (abort t)
   makes-step : {t : ℕ} {s : Step} → Makes room (Request.step t s) (step t s room)
+  makes-count : {n : ℕ} → Makes room (Request.count-of n) (count-of n)
 
 -- the call that was made
 abbrev pub MakesCall : Exchange → Call → Type 0
 MakesCall x c = Makes (rooms-of (x .first .before) (x .second .before)) (x .request) c
 
--- begin, the steps, commit, abort and load: the answer, the state and the buffers
+-- begin, the steps, commit, abort, load and count-of: the answer, the state and the buffers
 pub record OnState (x : Exchange) (r : Answer) (c : Call) : Type 0 where
   pub performed : Performed (x .state .before) (x .state .after) r c
   pub first : Lent first-lent (x .state .before) (x .first .before) (x .first .after) c
@@ -49,6 +50,11 @@ pub record Write (x : Exchange) (r : Answer) : Type 0 where
   pub state : x .state .after ≡ x .state .before
   pub second : x .second .after ≡ x .second .before
 
+-- count-of leaves the state as it was, granted or refused
+pub record CountOf (x : Exchange) (r : Answer) (n : ℕ) : Type 0 where
+  pub on-state : OnState x r (count-of n)
+  pub state : x .state .after ≡ x .state .before
+
 -- what a call ensures that answers r
 unfoldable pub Ensured : Exchange → Answer → Call → Type 0
 Ensured x r start = Start x r
@@ -58,6 +64,7 @@ Ensured x r (begin t) = OnState x r (begin t)
 Ensured x r (commit t) = OnState x r (commit t)
 Ensured x r (abort t) = OnState x r (abort t)
 Ensured x r (step t s room) = OnState x r (step t s room)
+Ensured x r (count-of n) = CountOf x r n
 
 -- the contract of every exported function: the number is that of an answer, which is what the definitions have for the call
 pub record Contract (x : Exchange) : Type 0 where

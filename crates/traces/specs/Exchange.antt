@@ -13,6 +13,7 @@ pub data Request : Type 0 where
   begin commit abort : (t : ℕ) → Request
   -- the nine steps, each by its numbers and bytes
   step : (t : ℕ) (s : Step) → Request
+  count-of : (n : ℕ) → Request
 
 -- lent bytes, before the call and after it
 pub record Memory : Type 0 where

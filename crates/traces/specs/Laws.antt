@@ -6,5 +6,6 @@ pub mod StateBytes
 pub mod OneAnswer
 pub mod Logs
 pub mod Waiting
+pub mod Counts
 pub mod Main
 pub mod Exports

@@ -1,24 +1,27 @@
--- What is claimed of every list of calls on one lent state: demands 1, 2 and 3, A.14 and A.6. `delivered` (Laws/Main.antt) proves it from
--- the contracts of the exported functions alone.
+-- What is claimed of every list of calls on one lent state: demands 1, 2 and 3, A.14, A.6 and A.7. `delivered` (Laws/Main.antt) proves it
+-- from the contracts of the exported functions alone.
 use mathlib.Core.Path.{_≡_}
 use Prim.Native.Nat.{ℕ, _≤_, _<_}
 use mathlib.Core.Logic.{_↔_}
-use mathlib.Core.Bool.{true, false, cond}
+use mathlib.Core.Bool.{Bool, true, false, cond}
 use mathlib.Core.List.{List, [], _∷_, _++_, map, List·Memᴰ}
 use lib.ListN.{length, take, drop}
-use Rattle.tree.specs.Document.{Document, node-0-alone}
+use lib.Dec.{leb}
+use Rattle.tree.specs.Document.{Document, node-0-alone, here}
 use Rattle.tree.specs.Lists.{has, joined}
 use Rattle.tree.specs.Steps.{Step, Value, PlainAnswer, plain-value, unfit, plain-document, plain-answers}
+use Rattle.tree.specs.Counts.{Counts, counts-after, with-counts}
 use Rattle.locks.specs.Needs.{needs}
 use Rattle.protocol.specs.State.{State, WaitSets, start-state, callers-document, held-document, committed-document}
+use Rattle.protocol.specs.State.{committed-with-counts}
 use Rattle.protocol.specs.Lent.{Room, filled, first-lent, second-lent}
-use Rattle.protocol.specs.Causes.{causes, deadlock}
-use Rattle.protocol.specs.Calls.{Call, start, load, begin, commit, abort, step, write, next}
+use Rattle.protocol.specs.Causes.{causes, no-such-node, deadlock, no-more-commits}
+use Rattle.protocol.specs.Calls.{Call, start, load, begin, commit, abort, step, write, count-of, commit-limit, next}
 use Rattle.protocol.specs.History.{Event, is-granted, Log, new-log, committed-then, logged, fed, plain}
 use Rattle.protocol.specs.History.{waited-for, sets-left}
 use Rattle.protocol.specs.Answers.{granted-answer, code-of, answer-of, lent-after, as-it-was}
 use Rattle.protocol.specs.declared.Answer.{Answer}
-use Rattle.protocol.specs.declared.Answer.the-variants.{Count, Refused}
+use Rattle.protocol.specs.declared.Answer.the-variants.{Done, Count, Refused}
 use Rattle.table.specs.Layout.{state-size, set-at}
 use Rattle.form.specs.Form.{form, Holds}
 use Rattle.engine.specs.Contract.{outside}
@@ -77,10 +80,22 @@ remembered-at Request.write = []
 remembered-at (Request.begin t) = []
 remembered-at (Request.commit t) = []
 remembered-at (Request.abort t) = []
+remembered-at (Request.count-of n) = []
 
 -- the places of the state that a call which is not granted may change: "a wait changes only this memory, a refusal nothing"
 abbrev pub changed-in : Exchange → List (ℕ × ℕ)
 changed-in x = cond (told-waiting (x .code)) (remembered-at (x .request)) []
+
+-- the calls that only read the state
+abbrev pub only-reads : Request → Bool
+only-reads Request.write = true
+only-reads (Request.count-of n) = true
+only-reads Request.start = false
+only-reads (Request.load xml) = false
+only-reads (Request.begin t) = false
+only-reads (Request.commit t) = false
+only-reads (Request.abort t) = false
+only-reads (Request.step t s) = false
 
 -- the outcome of a call, and what it leaves, on any bytes
 pub record Outcomes (x : Exchange) : Type 0 where
@@ -90,6 +105,8 @@ pub record Outcomes (x : Exchange) : Type 0 where
   pub no-cause : (outcome (x .code) ≡ 2 → ⊥) → cause (x .code) ≡ 0
   -- a wait or a refusal: "left as it was: everything", but for the set that a wait leaves to be remembered
   pub still : (outcome (x .code) ≡ 0 → ⊥) → SameOutside (changed-in x) (x .state) × Same (x .first) × Same (x .second)
+  -- one that only reads leaves every byte of the state, granted or not
+  pub read-only : only-reads (x .request) ≡ true → Same (x .state)
   -- bytes behind the state are never touched
   pub long : length (x .state .after) ≡ length (x .state .before)
   pub behind : drop state-size (x .state .after) ≡ drop state-size (x .state .before)
@@ -162,6 +179,7 @@ asked (commit t) = []
 asked (abort t) = []
 asked (step t s room) = s ∷ []
 asked write = []
+asked (count-of n) = []
 
 -- those that were granted, by the code: "of their answers only which calls and steps were granted"
 abbrev pub granted-in : Exchange → Call → List GrantedStep
@@ -231,8 +249,8 @@ pub record FinishInAnyOrder (L : Log GrantedStep) (s : List ℕ) (M : State) : T
   pub some-order : (b : List ℕ) × OpenOrder (M .header .is-open) b
   -- "those still open .. in an arbitrary order .. and the document left must equal the held one"
   pub runs : (b : List ℕ) → OpenOrder (M .header .is-open) b → RunsInOrder L b (held-document M)
-  -- whoever is open may commit first: the next call is granted if it commits an open transaction
-  pub commit-granted : (t : ℕ) → M .header .is-open t ≡ true
+  -- whoever is open may commit first: the next call is granted if it commits an open transaction, short of the limit of A.7
+  pub commit-granted : (t : ℕ) → M .header .is-open t ≡ true → length (L .committed) < commit-limit
       → (y : Exchange) → Linked s (y ∷ []) → y .request ≡ Request.commit t → outcome (y .code) ≡ 0
   -- where the next calls commit what is open, in any order, and each is granted, the committed document is then the one held before
   pub commits : (b : List ℕ) → OpenOrder (M .header .is-open) b → (ys : List Exchange) → Linked s ys → Made ys (map commit b)
@@ -253,6 +271,26 @@ pub record Remembered (r : WaitSets) (M : State) : Type 0 where
   pub told : M .header .remembered ≡ r
   -- no ring, and "while any transaction is open, at least one of them waits for nobody in these sets"
   pub no-deadlock : NoDeadlock M
+
+-- A.7 ----------------------------------------------------------------------------------
+
+-- the plain run's counts: "commits since the last granted start or load count from 1"
+abbrev pub counts-of : Log GrantedStep → Counts
+counts-of L = counts-after (L .initial) (map steps (L .committed))
+
+-- of the log L of granted steps, the state bytes s behind them, and the state M that these hold
+pub record Counted (L : Log GrantedStep) (s : List ℕ) (M : State) : Type 0 where
+  -- "the counts must be those of the plain run": the committed document with its counts is the plain run's with its
+  pub plain : committed-with-counts M ≡ with-counts (counts-of L) (plain-left (L .initial) (L .committed))
+  -- the next call "tells the count for a node of the committed document"; 7 for every other number
+  pub told : (n : ℕ) (y : Exchange) → Linked s (y ∷ []) → y .request ≡ Request.count-of n
+      → y .code ≡ code-of (cond (here n (plain-left (L .initial) (L .committed))) (Count (counts-of L n)) (Refused no-such-node))
+  -- "the document bear[s] 0": the next call is granted with 0 if it asks for node 0
+  pub document : (y : Exchange) → Linked s (y ∷ []) → y .request ≡ Request.count-of 0 → y .code ≡ code-of (Count 0)
+  -- "a commit after the 1,000,000th is refused and its transaction stays open", since a refusal changes nothing; every commit up to the
+  -- 1,000,000th is done
+  pub limit : (t : ℕ) → M .header .is-open t ≡ true → (y : Exchange) → Linked s (y ∷ []) → y .request ≡ Request.commit t
+      → y .code ≡ code-of (cond (leb commit-limit (length (L .committed))) (Refused no-more-commits) Done)
 
 -- all of them --------------------------------------------------------------------------
 
@@ -288,3 +326,5 @@ pub record Delivered (x : Exchange) (xs : List Exchange) : Type 0 where
   -- A.6, at every moment too
   pub waiting : (M : State) → Holds (last-state (x .state .after) xs) M
       → Remembered (sets-by-codes (λ t u. false) (x ∷ xs) (start ∷ calls)) M
+  -- A.7, at every moment too
+  pub counts : let s = last-state (x .state .after) xs in (M : State) → Holds s M → Counted (granted-steps (x ∷ xs) (start ∷ calls)) s M

@@ -14,6 +14,7 @@ use Rattle.tree.specs.Characters.{characters, utf8, within, name-start-c
 use Rattle.tree.specs.Document.{Document, lines, select}
 use Rattle.tree.specs.Steps.{Step, T, C, R, U, D, I, TT, RR, UU, placed, Value, done, kind-parent, child-is, none, content-is}
 use Rattle.tree.specs.Steps.{numbers-are, cells-are, how-many, PlainAnswer, plain-value, unfit, plain-answers}
+use Rattle.tree.specs.Counts.{plain-touched}
 
 -- a node, what is below it, and what follows it
 abbrev pub a-node : ℕ → ℕ → String → Document → Document → Document
@@ -52,6 +53,12 @@ pub plain-examples-hold : plain-answers tree-E (map (λ x. x .0) plain-examples)
 unfolding tree-E plain-answers lines select rows keep amend view place put within utf8 characters spells-name spells-text is-name is-text
     allowed takes attributes-first children-rule insert-at placed
 plain-examples-hold = refl
+
+-- the nodes that these steps touch, in order: none where the plain rules do not allow the step
+pub touched-examples-hold : plain-touched tree-E (map (λ x. x .0) plain-examples) ≡ 6 ∷ 4 ∷ 6 ∷ 9 ∷ 7 ∷ 9 ∷ []
+unfolding tree-E plain-touched lines select rows keep amend view place put within utf8 characters spells-name spells-text is-name is-text
+    allowed takes attributes-first children-rule insert-at placed
+touched-examples-hold = refl
 
 -- productions 4, 4a and 2: whether a code point begins a name, stands in one, stands in a text
 abbrev pub classes : ℕ → Bool × Bool × Bool

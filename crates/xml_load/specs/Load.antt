@@ -6,7 +6,7 @@ use mathlib.Core.List.{List}
 use lib.ListN.{length, drop}
 use Rattle.tree.specs.Content.{content-limit}
 use Rattle.tree.specs.Document.{lines}
-use Rattle.protocol.specs.State.{tree-of}
+use Rattle.protocol.specs.State.{tree-of, with-commits}
 use Rattle.protocol.specs.Calls.{loadable, Input, unreadable, stands-for, node-limit}
 use Rattle.table.specs.Flat.{flat}
 use Rattle.table.specs.Layout.{state-size, header, nodes, Layout}
@@ -29,10 +29,10 @@ pub record Fails (limit : ℕ) (x : List ℕ) (cause offset : ℕ) : Type 0 wher
   pub most : offset ≤ input-limit
   pub only : (i : Input) → ReadsWithin limit x i → i ≡ unreadable cause offset
 
--- the header is as it was, and the nodes are those of the input's document
+-- the header is as it was, with 0 commits, and the nodes are those of the input's document
 pub record Replaced (x s s′ : List ℕ) : Type 0 where
   pub layout : Layout s′
   pub long : length s′ ≡ length s
   pub behind : drop state-size s′ ≡ drop state-size s
-  pub header : header s′ ≡ header s
+  pub header : header s′ ≡ with-commits 0 (header s)
   pub nodes : (f : Shape) → Spells x f → nodes s′ ≡ flat 0 (tree-of (document f))

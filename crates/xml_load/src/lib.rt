@@ -1,5 +1,6 @@
 // Load: the input is judged, and where it is accepted the state is replaced by its document.
 use protocol::Answer;
+use table::counts;
 use table::outline;
 use table::transactions;
 use xml_judging::Judged;
@@ -8,7 +9,7 @@ ghost use mathlib.Core.Bool.{true};
 ghost use Prim.Native.Nat.{ℕ};
 ghost use Rattle.tree.specs.Lists.{any};
 ghost use Rattle.tree.specs.Document.{node-0-alone};
-ghost use Rattle.protocol.specs.State.{transactions, tree-of};
+ghost use Rattle.protocol.specs.State.{transactions, tree-of, with-commits};
 ghost use Rattle.protocol.specs.Calls.{Input, load};
 ghost use Rattle.table.specs.Flat.{flat};
 ghost use Rattle.table.specs.Layout.{is-open, Layout, Left, header};
@@ -32,15 +33,17 @@ fn any_open(s: &[u8]) -> bool
     false
 }
 
-// The document node is held alone: empty, and without marks and locks.
+// The document node is held alone: empty, without marks and locks, with count 0. Commits count from 1 again.
 fn empty(s: &mut [u8])
     requires { ⌜ form (now s) ≡ true ⌝ }
-    ensures { λ r. ⌜ Left (now (s .entry)) (now (s .exit)) (header (now (s .entry))) (flat 0 (tree-of node-0-alone)) ⌝ }
+    ensures { λ r. ⌜ Left (now (s .entry)) (now (s .exit)) (with-commits 0 (header (now (s .entry)))) (flat 0 (tree-of node-0-alone)) ⌝ }
 {
     outline::cut(s, 1);
     table::clear_writer(s, 0);
     table::set_content(s, 0, b"");
+    counts::set_count(s, 0, 0);
     transactions::unlock(s, 0);
+    counts::set_commits(s, 0);
 }
 
 // The nodes replaced by those of the input.

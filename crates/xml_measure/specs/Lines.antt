@@ -1,21 +1,16 @@
 -- The rows of the committed document: document 01, "the one held if they all aborted".
 use mathlib.Core.Path.{_≡_}
 use Prim.Native.Nat.{ℕ, suc, _≤_, _<_}
-use mathlib.Core.Bool.{Bool, false}
+use mathlib.Core.Bool.{false}
 use mathlib.Core.List.{List, map}
 use lib.ListN.{length, getD, take}
-use lib.Dec.{eqb}
-use Rattle.protocol.specs.State.{Marked, nobody, as-shown}
+use Rattle.protocol.specs.State.{Marked, as-shown}
 use Rattle.table.specs.Flat.{second, prune}
 use Rattle.table.specs.Layout.{Entry}
-use Rattle.rows.specs.Places.{depth, item}
+use Rattle.rows.specs.Places.{depth, item, is-committed}
 use Rattle.xml.specs.Shape.{Label, unnumbered}
 use Rattle.xml_text.specs.Rows.{Line}
 use Rattle.xml_measure.specs.declared.committed.Rows.{Rows}
-
--- no open transaction inserted it
-abbrev pub is-committed : Marked → Bool
-is-committed a = eqb (a .inserter) nobody
 
 -- a node as it is if all abort
 unfoldable pub committed-label : Marked → Label

@@ -1,20 +1,25 @@
 -- From what the calls leave to the definitions of protocol.
 use mathlib.Core.Path.{_≡_, refl, sym, ap, _∙_, subst}
-use Prim.Native.Nat.{ℕ, _≤_, _<_}
+use Prim.Native.Nat.{ℕ, _+_, _≤_, _<_}
 use mathlib.Core.Bool.{Bool, true, false, cond, not, _&&_, _||_}
-use mathlib.Core.List.{List}
+use mathlib.Core.List.{List, [], _∷_}
 use native.Mathlib.Omega.{arith}
-use lib.ListN.{length, getD}
+use lib.ListN.{length, getD, drop}
 use lib.Dec.{eqb, leb}
 use borrow.Author.Tests.{le-leb, lt-leb, leb-true, leb-false, ne-eqb}
 use Rattle.tree.specs.Steps.{done}
-use Rattle.protocol.specs.State.{nobody, Header, State, Tree, opened, closed, with-open, ended}
+use Rattle.protocol.specs.State.{nobody, Header, State, Tree, commit-tree, with-header, opened, closed, with-open, with-commits, ended}
+use Rattle.protocol.specs.State.{next-count, committed, aborted}
+use Rattle.protocol.specs.Rings.{AmongOpen}
+use Rattle.protocol.specs.Causes.{no-more-commits}
 use Rattle.protocol.specs.Laws.WaitSets.{among-begun, among-ended}
-use Rattle.protocol.specs.Calls.{Call, begin, refused, Next, unchanged, becomes, if-open, next}
+use Rattle.protocol.specs.Calls.{Call, begin, commit, abort, refused, commit-limit, Next, unchanged, becomes, refusing, if-open}
+use Rattle.protocol.specs.Calls.{commits-reached, next}
 use Rattle.protocol.specs.Answers.{answer-of, granted-answer}
 use Rattle.protocol.specs.declared.Answer.the-variants.{Done, Refused}
 use Rattle.table.specs.Flat.{flat}
-use Rattle.table.specs.Layout.{state-size, is-open, Entry, nodes, no-entry, Left, header}
+use Rattle.table.specs.Layout.{state-size, is-open, commits, Entry, nodes, no-entry, Left, header}
+use Rattle.table.specs.Laws.Kept.{left-on}
 use Rattle.rows.specs.Places.{unique}
 use Rattle.form.specs.Form.{form, valid-tree, Holds}
 use Rattle.form.specs.Start.{Started}
@@ -26,7 +31,7 @@ use Rattle.rows.specs.Laws.Kept.{unique-commit, unique-abort}
 use Rattle.engine.specs.Contract.{Performed}
 use Rattle.engine.specs.Admission.{Opened, Barred}
 use Rattle.ends.specs.Ends.{Restarted}
-use Rattle.ends.specs.Marks.{end-call, stays, end-tree}
+use Rattle.ends.specs.Marks.{stays, end-tree}
 use Rattle.ends.specs.Pass.{two-passes, Ended}
 use Rattle.engine.specs.Laws.Outcomes.{performed-stays, performed-grants, stopped-stays}
 use Rattle.engine.specs.Laws.Admission.{open-next}
@@ -137,54 +142,99 @@ module _ {s : List ℕ} {t : ℕ} (f : form s ≡ true) where
 
 -- commit and abort ------------------------------------------------------------------------------------
 
-next-end : (commits : Bool) (t : ℕ) (M : State)
-    → next (end-call commits t) M ≡ if-open t M (becomes done (closed t (end-tree commits t (M .tree)) M))
-unfolding next
-next-end true t M = refl
-next-end false t M = refl
+end-rows : (commits : Bool) (n t : ℕ) (f : Tree)
+    → flat 0 (end-tree commits n t f) ≡ two-passes commits n t (flat 0 f)
+end-rows true n t f = commit-rows n t f
+end-rows false n t f = abort-rows t f
 
-end-rows : (commits : Bool) (t : ℕ) (f : Tree)
-    → flat 0 (end-tree commits t f) ≡ two-passes commits t (flat 0 f)
-end-rows true t f = commit-rows t f
-end-rows false t f = abort-rows t f
+end-unique : (commits : Bool) (n t : ℕ) (f : Tree) → unique (flat 0 f) ≡ true → unique (flat 0 (end-tree commits n t f)) ≡ true
+end-unique true n t f = unique-commit n t f
+end-unique false n t f = unique-abort t f
 
-end-unique : (commits : Bool) (t : ℕ) (f : Tree) → unique (flat 0 f) ≡ true → unique (flat 0 (end-tree commits t f)) ≡ true
-end-unique true t f = unique-commit t f
-end-unique false t f = unique-abort t f
+end-valid : (commits : Bool) (n t : ℕ) (f : Tree) → 1 ≤ t → valid-tree f ≡ true → valid-tree (end-tree commits n t f) ≡ true
+end-valid true n t f = valid-commit n t f
+end-valid false n t f = valid-abort t f
 
-end-valid : (commits : Bool) (t : ℕ) (f : Tree) → 1 ≤ t → valid-tree f ≡ true → valid-tree (end-tree commits t f) ≡ true
-end-valid true t f = valid-commit t f
-end-valid false t f = valid-abort t f
-
--- 13, 1 or 3
-pub end-barred : {s : List ℕ} {t : ℕ} (commits : Bool) (cause : ℕ) → Barred s t cause → Performed s s (Refused cause) (end-call commits t)
+-- 13, 1 or 3; `behind` is what the definition has behind these
+barred : {s : List ℕ} {t : ℕ} (call : Call) (behind : State → Next) → ((M : State) → next call M ≡ if-open t M (behind M)) → (cause : ℕ)
+    → Barred s t cause → Performed s s (Refused cause) call
 unfolding answer-of
-end-barred {s} {t} commits cause b =
-    stopped-stays {o = refused cause} (λ u. ap Refused (b .unformed u)) (λ M h. next-end commits t M
-    ∙ b .formed M h _) refl (λ writing. refl)
+barred call behind n cause b =
+    stopped-stays {o = refused cause} (λ u. ap Refused (b .unformed u)) (λ M h. n M ∙ b .formed M h (behind M)) refl (λ writing. refl)
     .performed
 
-pub end-done : {s s′ : List ℕ} {t : ℕ} (commits : Bool) → Opened s t → Ended commits t s s′ → Performed s s′ Done (end-call commits t)
-unfolding granted-answer
-end-done {s} {s′} {t} commits o k =
-    let n : (M : State) → Holds s M → next (end-call commits t) M ≡ becomes done (closed t (end-tree commits t (M .tree)) M) =
-    λ M h. next-end commits t M ∙ open-next o M h _ in
-    performed-grants
-    (record {
-      formed = o .formed;
-      outcome = λ M h. ap (λ (n : Next). n .outcome) (n M h);
-      state = λ M h. subst (λ (n : Next). Holds s′ (n .state)) (sym (n M h)) (holds-left {s = s} (closed t (end-tree commits t (M .tree)) M)
-          (record {
-            layout = k .layout;
-            long = k .long;
-            behind = k .behind;
-            header = k .header ∙ ap (ended t) (h .header);
-            nodes = k .nodes ∙ ap (two-passes commits t) (h .rows)
-                ∙ sym (end-rows commits t (M .tree));
-          })
-          (end-unique commits t (M .tree) (holds-unique h)) (end-valid commits t (M .tree) (o .low) (h .valid))
-          (among-ended (M .header) (h .sets) t));
-      long = k .long;
-      behind = k .behind;
-    })
-    Done refl
+commit-next : (t : ℕ) (M : State) → next (commit t) M
+    ≡ if-open t M (refusing ((refused no-more-commits, commits-reached commit-limit M) ∷ []) M (becomes done (committed t M)))
+unfolding next
+commit-next t M = refl
+
+abort-next : (t : ℕ) (M : State) → next (abort t) M ≡ if-open t M (becomes done (aborted t M))
+unfolding next
+abort-next t M = refl
+
+module _ {s : List ℕ} {t : ℕ} where
+  pub commit-barred : (cause : ℕ) → Barred s t cause → Performed s s (Refused cause) (commit t)
+  commit-barred = barred (commit t) _ (commit-next t)
+
+  pub abort-barred : (cause : ℕ) → Barred s t cause → Performed s s (Refused cause) (abort t)
+  abort-barred = barred (abort t) _ (abort-next t)
+
+  module _ (o : Opened s t) where
+    -- what is left of the state M by an end; g is what else becomes of the header
+    end-holds : (commits : Bool) (n : ℕ) (g : Header → Header) (s′ : List ℕ) (M : State)
+        → Left s s′ (g (ended t (header s))) (two-passes commits n t (nodes s)) → Holds s M → AmongOpen (g (ended t (M .header)))
+        → Holds s′ (record { header = g (ended t (M .header)); tree = end-tree commits n t (M .tree) })
+    end-holds commits n g s′ M k h a =
+        holds-left {s = s} (record { header = g (ended t (M .header)); tree = end-tree commits n t (M .tree) })
+        (record {
+          layout = k .layout;
+          long = k .long;
+          behind = k .behind;
+          header = k .header ∙ ap (λ (q : Header). g (ended t q)) (h .header);
+          nodes = k .nodes ∙ ap (two-passes commits n t) (h .rows) ∙ sym (end-rows commits n t (M .tree));
+        })
+        (end-unique commits n t (M .tree) (holds-unique h)) (end-valid commits n t (M .tree) (o .low) (h .valid)) a
+
+    -- granted: the definition's next state is N
+    ended-done : (call : Call) (N : State → State) (s′ : List ℕ) → ((M : State) → Holds s M → next call M ≡ becomes done (N M))
+        → ((M : State) → Holds s M → Holds s′ (N M)) → length s′ ≡ length s → drop state-size s′ ≡ drop state-size s
+        → Performed s s′ Done call
+    unfolding granted-answer
+    ended-done call N s′ n k l b = performed-grants
+        (record {
+          formed = o .formed;
+          outcome = λ M h. ap (λ (x : Next). x .outcome) (n M h);
+          state = λ M h. subst (λ (x : Next). Holds s′ (x .state)) (sym (n M h)) (k M h);
+          long = l;
+          behind = b;
+        })
+        Done refl
+
+    pub abort-done : {s′ : List ℕ} → Ended false 0 t s s′ → Performed s s′ Done (abort t)
+    abort-done {s′} k = ended-done (abort t) (aborted t) s′ (λ M h. abort-next t M ∙ open-next o M h _)
+        (λ M h. end-holds false 0 (λ q. q) s′ M k h (among-ended (M .header) (h .sets) t)) (k .long) (k .behind)
+
+    -- the number of commits that the bytes hold
+    module _ (k : ℕ) (e : k ≡ commits s) where
+      commits-are : (M : State) → Holds s M → k ≡ M .header .commits
+      commits-are M h = e ∙ ap (λ (q : Header). q .commits) (h .header)
+
+      pub commit-full : commit-limit ≤ k → Performed s s (Refused no-more-commits) (commit t)
+      commit-full l = refusal no-more-commits (o .formed) (λ M h.
+          let f : leb commit-limit (M .header .commits) ≡ true = rw (← commits-are M h) (le-leb commit-limit k l) in
+          commit-next t M ∙ open-next o M h _ ∙ rw f)
+
+      pub commit-done : {s₁ s₂ : List ℕ} → k < commit-limit → Ended true (k + 1) t s s₁
+          → Left s₁ s₂ (with-commits (k + 1) (header s₁)) (nodes s₁) → Performed s s₂ Done (commit t)
+      commit-done {s₁} {s₂} l a b =
+          let left : Left s s₂ (with-commits (k + 1) (ended t (header s))) (two-passes true (k + 1) t (nodes s)) =
+          left-on (two-passes true (k + 1) t (nodes s)) (with-commits (k + 1)) (λ ns. ns) a b in
+          ended-done (commit t) (committed t) s₂
+          (λ M h.
+          let f : leb commit-limit (M .header .commits) ≡ false = rw (← commits-are M h) (lt-leb commit-limit k l) in
+          commit-next t M ∙ open-next o M h _ ∙ rw f)
+          (λ M h.
+          let c : k + 1 ≡ next-count M = omega (arith, commits-are M h) in
+          subst (λ (j : ℕ). Holds s₂ (closed t (commit-tree j t (M .tree)) (with-header (with-commits j (M .header)) M))) c
+          (end-holds true (k + 1) (with-commits (k + 1)) s₂ M left h (among-ended (M .header) (h .sets) t)))
+          (left .long) (left .behind)

@@ -1,13 +1,13 @@
 -- The marks of a node cleared one by one, and what an end leaves in all.
 use mathlib.Core.Path.{_≡_, refl, sym, ap, _∙_}
 use Prim.Native.Nat.{ℕ, zero, suc, _≤_}
-use mathlib.Core.Bool.{Bool, true, false}
+use mathlib.Core.Bool.{Bool, true, false, _||_}
 use mathlib.Core.List.{List}
 use native.Mathlib.Omega.{arith}
 use lib.ListN.{getD}
 use lib.Dec.{eqb}
 use borrow.Author.Tests.{eq-eqb, ne-eqb}
-use Rattle.protocol.specs.State.{nobody, writer-of, Marked, Header, released, ended}
+use Rattle.protocol.specs.State.{nobody, writer-of, Marked, Header, with-count, released, count-touched, ended}
 use Rattle.table.specs.Lists.{modify}
 use Rattle.table.specs.Flat.{second}
 use Rattle.table.specs.Layout.{is-open, Entry, nodes, no-entry, Layout, Left, Kept, header}
@@ -67,6 +67,18 @@ not-rewritten s i t r e p h =
     let a : Marked = getD (nodes s) i no-entry .1 in
     none-kept s i (rewritten t) (rw (ne-eqb (writer-of (a .update)) t (λ x. p (e ∙ x)))) h
 
+-- t touched the node, or did not
+pub counted-own : {s s′ : List ℕ} (i n t r w : ℕ) → r ≡ getD (nodes s) i no-entry .1 .inserter
+    → w ≡ writer-of (getD (nodes s) i no-entry .1 .update)
+    → (eqb r t || eqb w t) ≡ true → Kept s s′ (modify i (second (with-count n)) (nodes s))
+    → Kept s s′ (modify i (second (count-touched n t)) (nodes s))
+counted-own i n t r w e f p k = let q = rw (e, f) at p in same-kept i (with-count n) (count-touched n t) (rw q) k
+
+pub not-counted : (s : List ℕ) (i n t r w : ℕ) → r ≡ getD (nodes s) i no-entry .1 .inserter
+    → w ≡ writer-of (getD (nodes s) i no-entry .1 .update)
+    → (eqb r t || eqb w t) ≡ false → Layout s → Kept s s (modify i (second (count-touched n t)) (nodes s))
+not-counted s i n t r w e f p h = let q = rw (e, f) at p in none-kept s i (count-touched n t) (rw q) h
+
 -- two changes of one node
 pub both-marks : {s s′ s″ : List ℕ} (i : ℕ) (g h : Marked → Marked) → Kept s s′ (modify i (second g) (nodes s))
     → Kept s′ s″ (modify i (second h) (nodes s′))
@@ -80,11 +92,11 @@ both-marks {s} i g h a b = kept-as _ _ (modify-modify i (second h) (second g) (n
 pub left-open : {s s′ : List ℕ} {l : List Entry} (t : ℕ) → Left s s′ (header s) l → is-open s t ≡ true → is-open s′ t ≡ true
 left-open t a e = ap (λ (q : Header). q .is-open t) (a .header) ∙ e
 
-pub marks-whole : (commits : Bool) (t : ℕ) (a : Marked) → released t (ended-marks commits t a) ≡ at-end commits t a
-marks-whole commits t a = go commits (eqb (writer-of (a .update)) t) refl (eqb (a .inserter) t) refl (eqb (a .deleter) t) refl
+pub marks-whole : (commits : Bool) (n t : ℕ) (a : Marked) → released t (ended-marks commits n t a) ≡ at-end commits n t a
+marks-whole commits n t a = go commits (eqb (writer-of (a .update)) t) refl (eqb (a .inserter) t) refl (eqb (a .deleter) t) refl
   where
     go : (b x : Bool) → eqb (writer-of (a .update)) t ≡ x → (y : Bool) → eqb (a .inserter) t ≡ y → (z : Bool) → eqb (a .deleter) t ≡ z
-        → released t (ended-marks b t a) ≡ at-end b t a
+        → released t (ended-marks b n t a) ≡ at-end b n t a
     go true true p true q z r = rw (p, q)
     go true true p false q z r = rw (p, q)
     go true false p true q z r = rw (p, q)
@@ -95,7 +107,7 @@ marks-whole commits t a = go commits (eqb (writer-of (a .update)) t) refl (eqb (
     go false false p y q false r = rw (p, r)
 
 -- an end: the one pass, and t closed
-pub end-left : {s s₁ s₂ : List ℕ} {visits : ℕ} (commits : Bool) (t : ℕ) → OnePass commits t s s₁ visits
+pub end-left : {s s₁ s₂ : List ℕ} {visits : ℕ} (commits : Bool) (n t : ℕ) → OnePass commits n t s s₁ visits
     → Closed t s₁ s₂ (nodes s₁)
-    → Ended commits t s s₂
-end-left {s} commits t a c = left-on (two-passes commits t (nodes s)) (ended t) (λ ns. ns) (a .left) c
+    → Ended commits n t s s₂
+end-left {s} commits n t a c = left-on (two-passes commits n t (nodes s)) (ended t) (λ ns. ns) (a .left) c

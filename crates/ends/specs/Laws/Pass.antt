@@ -87,44 +87,44 @@ module _ (shown : Marked → Bool) (g : Entry → Entry) (l : List Entry) (below
 -- the loop -----------------------------------------------------------------------------------------
 
 -- the first k are what was passed; those from place j on are to come
-abbrev pub Passed : Bool → ℕ → List Entry → ℕ → ℕ → ℕ → List Entry → Type 0
-Passed commits t l₀ k below j l =
-    take k l ++ map (second (at-end commits t)) (prune (stays commits t) below (drop j l)) ≡ two-passes commits t l₀
+abbrev pub Passed : Bool → ℕ → ℕ → List Entry → ℕ → ℕ → ℕ → List Entry → Type 0
+Passed commits n t l₀ k below j l =
+    take k l ++ map (second (at-end commits n t)) (prune (stays commits t) below (drop j l)) ≡ two-passes commits n t l₀
 
 -- a visit: the marks, the lock, the place
-pub passed-next : {s s₁ s₂ s₃ : List ℕ} (commits : Bool) (t : ℕ) (l₀ : List Entry) (below k j b k′ : ℕ) → j < length (nodes s) → k ≤ j
-    → Passed commits t l₀ k below j (nodes s)
-    → IfKept commits t below j s s₁ b → Kept s₁ s₂ (modify j (second (released t)) (nodes s₁)) → Moved k j b s₂ s₃ k′
-    → Passed commits t l₀ k′ b (j + 1) (nodes s₃)
-passed-next {s} {s₁} {s₂} {s₃} commits t l₀ below k j b k′ h q v ends lock moved = go (eqb b 0) refl
+pub passed-next : {s s₁ s₂ s₃ : List ℕ} (commits : Bool) (n t : ℕ) (l₀ : List Entry) (below k j b k′ : ℕ) → j < length (nodes s) → k ≤ j
+    → Passed commits n t l₀ k below j (nodes s)
+    → IfKept commits n t below j s s₁ b → Kept s₁ s₂ (modify j (second (released t)) (nodes s₁)) → Moved k j b s₂ s₃ k′
+    → Passed commits n t l₀ k′ b (j + 1) (nodes s₃)
+passed-next {s} {s₁} {s₂} {s₃} commits n t l₀ below k j b k′ h q v ends lock moved = go (eqb b 0) refl
   where
     of : Bool → Marked → Marked
-    of x a = released t (cond x (ended-marks commits t a) a)
+    of x a = released t (cond x (ended-marks commits n t a) a)
 
     rows : nodes s₂ ≡ modify j (second (of (eqb b 0))) (nodes s)
-    rows = both-marks j (λ a. cond (eqb b 0) (ended-marks commits t a) a) (released t) (ends .kept) lock .nodes
+    rows = both-marks j (λ a. cond (eqb b 0) (ended-marks commits n t a) a) (released t) (ends .kept) lock .nodes
 
-    whole : modify j (second (of true)) (nodes s) ≡ modify j (second (at-end commits t)) (nodes s)
-    whole = modify-same j (second (of true)) (second (at-end commits t)) (nodes s) no-entry
-        (ap (λ (a : Marked). (getD (nodes s) j no-entry .0, a)) (marks-whole commits t (getD (nodes s) j no-entry .1)))
+    whole : modify j (second (of true)) (nodes s) ≡ modify j (second (at-end commits n t)) (nodes s)
+    whole = modify-same j (second (of true)) (second (at-end commits n t)) (nodes s) no-entry
+        (ap (λ (a : Marked). (getD (nodes s) j no-entry .0, a)) (marks-whole commits n t (getD (nodes s) j no-entry .1)))
 
-    go : (x : Bool) → eqb b 0 ≡ x → Passed commits t l₀ k′ b (j + 1) (nodes s₃)
+    go : (x : Bool) → eqb b 0 ≡ x → Passed commits n t l₀ k′ b (j + 1) (nodes s₃)
     go true p =
         rw (moved .count, moved .kept .nodes, p, rows, p, whole)
-        (keep (stays commits t) (second (at-end commits t)) (nodes s) below j h (two-passes commits t l₀) k b v (ends .next) q
+        (keep (stays commits t) (second (at-end commits n t)) (nodes s) below j h (two-passes commits n t l₀) k b v (ends .next) q
         (eqb-true b 0 p))
     go false p =
         rw (moved .count, moved .kept .nodes, p, rows, p)
-        (skip (stays commits t) (second (at-end commits t)) (nodes s) below j h (two-passes commits t l₀) k b v (ends .next) q
+        (skip (stays commits t) (second (at-end commits n t)) (nodes s) below j h (two-passes commits n t l₀) k b v (ends .next) q
         (second (of false)) (eqb-false b 0 p))
 
-pub passed-start : (commits : Bool) (t : ℕ) (l : List Entry) → Passed commits t l 0 0 0 l
-passed-start commits t l = refl
+pub passed-start : (commits : Bool) (n t : ℕ) (l : List Entry) → Passed commits n t l 0 0 0 l
+passed-start commits n t l = refl
 
-module _ (commits : Bool) (t : ℕ) (l₀ : List Entry) (k below j : ℕ) (l : List Entry) (v : Passed commits t l₀ k below j l)
+module _ (commits : Bool) (n t : ℕ) (l₀ : List Entry) (k below j : ℕ) (l : List Entry) (v : Passed commits n t l₀ k below j l)
     (past : length l ≤ j) where
   -- nothing is to come
-  passed-all : take k l ≡ two-passes commits t l₀
+  passed-all : take k l ≡ two-passes commits n t l₀
   unfolding prune
   passed-all = sym (append-nil (take k l)) ∙ (rw (drop-of-length-le l past) at v)
 
@@ -133,34 +133,35 @@ module _ (commits : Bool) (t : ℕ) (l₀ : List Entry) (k below j : ℕ) (l : L
   unfolding prune
   passed-some some first = go k passed-all
     where
-      none : (l₀ : List Entry) → 1 ≤ length l₀ → stays commits t (getD l₀ 0 no-entry .1) ≡ true → [] ≡ two-passes commits t l₀ → ⊥
+      none : (l₀ : List Entry) → 1 ≤ length l₀ → stays commits t (getD l₀ 0 no-entry .1) ≡ true → [] ≡ two-passes commits n t l₀ → ⊥
       none [] h e w = omega arith
       none (x ∷ xs) h e w = omega (arith, ap length (rw e at w))
 
-      go : (k : ℕ) → take k l ≡ two-passes commits t l₀ → 1 ≤ k
+      go : (k : ℕ) → take k l ≡ two-passes commits n t l₀ → 1 ≤ k
       go zero w = absurd (none l₀ some first w)
       go (suc k) w = omega arith
 
 -- and the count cut down
-pub passed-left : {s s′ s″ : List ℕ} (commits : Bool) (t k below j : ℕ) → Kept s s′ (nodes s′)
-    → Passed commits t (nodes s) k below j (nodes s′) → length (nodes s′) ≤ j → Left s′ s″ (header s′) (take k (nodes s′))
-    → Left s s″ (header s) (two-passes commits t (nodes s))
-passed-left {s} {s′} commits t k below j a v past b =
-    left-as _ _ (passed-all commits t (nodes s) k below j (nodes s′) v past) (then-left (nodes s′) (take k) (left-kept a) b)
+pub passed-left : {s s′ s″ : List ℕ} (commits : Bool) (n t k below j : ℕ) → Kept s s′ (nodes s′)
+    → Passed commits n t (nodes s) k below j (nodes s′) → length (nodes s′) ≤ j → Left s′ s″ (header s′) (take k (nodes s′))
+    → Left s s″ (header s) (two-passes commits n t (nodes s))
+passed-left {s} {s′} commits n t k below j a v past b =
+    left-as _ _ (passed-all commits n t (nodes s) k below j (nodes s′) v past) (then-left (nodes s′) (take k) (left-kept a) b)
 
 -- the parts of a visit -----------------------------------------------------------------------------
 
-module _ {s : List ℕ} (commits : Bool) (t below j b : ℕ) where
-  pub left-out-then : Layout s → b ≡ next-below (stays commits t) below (getD (nodes s) j no-entry) → 0 < b → IfKept commits t below j s s b
+module _ {s : List ℕ} (commits : Bool) (n t below j b : ℕ) where
+  pub left-out-then : Layout s → b ≡ next-below (stays commits t) below (getD (nodes s) j no-entry) → 0 < b
+      → IfKept commits n t below j s s b
   left-out-then h e z = record { next = e; kept = rw (ne-eqb b 0 (λ q. omega arith)) (none-kept s j (λ a. a) refl h) }
 
   pub kept-then-ends : {s′ : List ℕ} → b ≡ next-below (stays commits t) below (getD (nodes s) j no-entry) → b ≤ 0
-      → Kept s s′ (modify j (second (ended-marks commits t)) (nodes s))
-      → IfKept commits t below j s s′ 0
+      → Kept s s′ (modify j (second (ended-marks commits n t)) (nodes s))
+      → IfKept commits n t below j s s′ 0
   kept-then-ends e z k = record { next = omega arith; kept = k }
 
 -- no mark
-module _ (t : ℕ) (low : 1 ≤ t) (a : Marked) (h : marks-sum a ≡ 0) where
+module _ (n t : ℕ) (low : 1 ≤ t) (a : Marked) (h : marks-sum a ≡ 0) where
   writer : eqb (writer-of (a .update)) t ≡ false
   writer = ne-eqb (writer-of (a .update)) t (λ e. omega arith)
 
@@ -174,20 +175,21 @@ module _ (t : ℕ) (low : 1 ≤ t) (a : Marked) (h : marks-sum a ≡ 0) where
   stays-so true = rw deleter
   stays-so false = rw inserter
 
-  nothing-ends : (commits : Bool) → ended-marks commits t a ≡ a
+  nothing-ends : (commits : Bool) → ended-marks commits n t a ≡ a
   nothing-ends true = rw (writer, inserter)
   nothing-ends false = rw (writer, deleter)
 
-pub unmarked-stays : {s : List ℕ} (commits : Bool) (t below j : ℕ) → Layout s → 1 ≤ t → below + marks-sum (getD (nodes s) j no-entry .1) ≡ 0
-    → IfKept commits t below j s s 0
+pub unmarked-stays : {s : List ℕ} (commits : Bool) (n t below j : ℕ) → Layout s → 1 ≤ t
+    → below + marks-sum (getD (nodes s) j no-entry .1) ≡ 0
+    → IfKept commits n t below j s s 0
 unfolding next-below
-unmarked-stays {s} commits t below j h low m =
+unmarked-stays {s} commits n t below j h low m =
     let a : Marked = getD (nodes s) j no-entry .1 in
     let none : marks-sum a ≡ 0 = omega arith in
     let e : below ≡ 0 = omega arith in
     record {
-      next = rw (e, stays-so t low a none commits);
-      kept = none-kept s j (ended-marks commits t) (nothing-ends t low a none commits) h;
+      next = rw (e, stays-so n t low a none commits);
+      kept = none-kept s j (ended-marks commits n t) (nothing-ends n t low a none commits) h;
     }
 
 module _ {s : List ℕ} (k j next : ℕ) where

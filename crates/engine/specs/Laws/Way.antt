@@ -16,7 +16,7 @@ use Rattle.table.specs.Layout.{Entry}
 use Rattle.rows.specs.Places.{depth, item, number-of, climb, above-places, ups, numbers-above, seen-at}
 use Rattle.rows.specs.Rows.{granted-along, granted-up}
 use Rattle.rows.specs.Laws.Up.{climb-found, climb-passed, climb-start}
-use Rattle.rows.specs.Laws.Up.{seen-up, seen-up-deleted, seen-up-found, seen-up-passed, seen-up-start, seen-at-up}
+use Rattle.rows.specs.Laws.Up.{all-up, all-up-fails, all-up-found, all-up-passed, all-up-start, all-at-up}
 use Rattle.engine.specs.Way.{Places, way-up, places-of, nodes-of, Climbed, Climb}
 use Rattle.engine.specs.Grants.{granted-on}
 
@@ -44,7 +44,7 @@ pub record Climbing (l : List Entry) (t p e k count : ℕ) (places : List ℕ) :
   pub low : k ≤ p
   pub inside : (j : ℕ) → j < count → getD places j 0 < length l
   pub found : way-up l p ≡ take count places ++ climb l e k
-  pub seen : seen-at t l p ≡ seen-up t l e k
+  pub seen : seen-at t l p ≡ all-up (seen-by t) l e k
 
 -- t deleted the node at p or one above it
 hidden-way : {l : List Entry} {t p : ℕ} (places : List ℕ) → seen-at t l p ≡ false → Climb l t p (record { places = places; count = 0 })
@@ -65,7 +65,7 @@ module _ {l : List Entry} {t p : ℕ} (h : p < length l) where
       low = omega arith;
       inside = inside-set (length l) 0 p places (omega arith) h (λ j z. absurd (omega arith));
       found = rw (v, take-suc-set places 0 p (omega arith));
-      seen = seen-at-up t l p ∙ rw (left-it t x (item l p) d f, v);
+      seen = all-at-up (seen-by t) l p ∙ rw (left-it t x (item l p) d f, v);
     }
 
   module _ {e k count d : ℕ} {places : List ℕ} (c : Climbing l t p e k count places) (some : 0 < k) (v : d ≡ depth l (k - 1)) where
@@ -77,13 +77,13 @@ module _ {l : List Entry} {t p : ℕ} (h : p < length l) where
       low = omega (arith, c .low);
       inside = c .inside;
       found = c .found ∙ ap (λ z. take count places ++ z) (climb-passed l e k some (omega (arith, v)));
-      seen = c .seen ∙ seen-up-passed t l e k some (omega (arith, v));
+      seen = c .seen ∙ all-up-passed (seen-by t) l e k some (omega (arith, v));
     }
 
     module _ (q : d < e) (x : ℕ) (y : x ≡ item l (k - 1) .deleter) where
       pub climbing-deleted : x ≡ t → Climb l t p (record { places = places; count = 0 })
       climbing-deleted f =
-          hidden-way places (c .seen ∙ seen-up-deleted t l e k some (omega (arith, v)) (deleted-it t x (item l (k - 1)) y f))
+          hidden-way places (c .seen ∙ all-up-fails (seen-by t) l e k some (omega (arith, v)) (deleted-it t x (item l (k - 1)) y f))
 
       pub climbing-found : length l ≤ 1024 → (x ≡ t → ⊥) → Climbing l t p d (k - 1) (count + 1) (set places count (k - 1))
       climbing-found m f =
@@ -97,7 +97,7 @@ module _ {l : List Entry} {t p : ℕ} (h : p < length l) where
             low = omega (arith, c .low);
             inside = inside-set (length l) count (k - 1) places n (omega (arith, c .low)) (c .inside);
             found = c .found ∙ rw (add-one, take-suc-set places count (k - 1) n, v) (here ∙ sym joined);
-            seen = c .seen ∙ seen-up-found t l e k some (omega (arith, v)) (left-it t x (item l (k - 1)) y f) ∙ rw v;
+            seen = c .seen ∙ all-up-found (seen-by t) l e k some (omega (arith, v)) (left-it t x (item l (k - 1)) y f) ∙ rw v;
           }
 
   pub climbing-done : {e k count : ℕ} {places : List ℕ} → Climbing l t p e k count places → length l ≤ 1024 → k ≡ 0
@@ -105,7 +105,7 @@ module _ {l : List Entry} {t p : ℕ} (h : p < length l) where
   unfolding places-of
   climbing-done {e} {k} {count} {places} c m z = record {
     hidden = λ n. absurd (omega (arith, c .some));
-    seen = λ n. c .seen ∙ rw z (seen-up-start t l e);
+    seen = λ n. c .seen ∙ rw z (all-up-start (seen-by t) l e);
     climbed = λ n. record {
       inside = record { long = c .long; room = omega (arith, c .room); inside = c .inside };
       places = sym (c .found ∙ rw (z, climb-start l e) (append-nil (take count places)));

@@ -6,9 +6,9 @@ use native.Mathlib.Omega.{arith}
 use lib.ListN.{length, getD, take, drop}
 use Rattle.protocol.specs.State.{nobody, State}
 use Rattle.table.specs.Flat.{second}
-use Rattle.table.specs.Layout.{cell-at, part, slot, cell, header, decode, nodes, no-entry, Layout, Left, Kept}
+use Rattle.table.specs.Layout.{cell-size, cell-at, double-word, part, slot, cell, header, decode, nodes, no-entry, Layout, Left, Kept}
 use Rattle.table.specs.Laws.Lists.{modify-none}
-use Rattle.table.specs.Laws.Bytes.{Only, part-same}
+use Rattle.table.specs.Laws.Bytes.{Only, part-same, double-word-same}
 use Rattle.table.specs.Laws.Nodes.{length-nodes, length-cell, cell-kept}
 use Rattle.table.specs.Laws.Fields.{cell-byte}
 use Rattle.table.specs.Laws.Kept.{left-kept, kept-as}
@@ -39,19 +39,25 @@ module _ {s s′ : List ℕ} (h : Layout s) (i : ℕ) (l : i < length (nodes s))
   unfolding k
   in-range = h .slots i (omega (arith, length-nodes s, h .room))
 
-  one-cell : Only (cell-at k) 70 s s′
+  one-cell : Only (cell-at k) cell-size s s′
   unfolding k
   one-cell = record {
     long = d .long;
     low = λ j x. d .same j (λ e. omega arith) (λ y. omega arith);
-    high = λ j x. d .same j (λ e. omega arith) (λ y. x);
+    high = λ j x. d .same j (λ e. omega arith) (λ y. omega arith);
   }
 
-  byte : (j : ℕ) → j < 38 → (j ≡ 5 → ⊥) → getD (cell s′ k) j 0 ≡ getD (cell s k) j 0
+  other : (j : ℕ) → j < cell-size → (j ≡ 5 → ⊥) → (38 ≤ j → 70 ≤ j) → getD (cell s′ k) j 0 ≡ getD (cell s k) j 0
   unfolding k
-  byte j x ne =
-      sym (cell-byte s′ k j (omega arith)) ∙ d .same (cell-at k + j) (λ e. ne (omega arith)) (λ y. omega arith)
-      ∙ cell-byte s k j (omega arith)
+  other j x ne far =
+      sym (cell-byte s′ k j x) ∙ d .same (cell-at k + j) (λ e. ne (omega arith)) (λ y. let z = far (omega arith) in omega arith)
+      ∙ cell-byte s k j x
+
+  byte : (j : ℕ) → j < 38 → (j ≡ 5 → ⊥) → getD (cell s′ k) j 0 ≡ getD (cell s k) j 0
+  byte j x ne = other j (omega arith) ne (λ y. omega arith)
+
+  counts : double-word (cell s′ k) 70 ≡ double-word (cell s k) 70
+  counts = double-word-same (cell s k) (cell s′ k) 70 (λ j x y. other j (omega arith) (λ e. omega arith) (λ z. x))
 
   content : take 32 (drop 6 (cell s′ k)) ≡ take 32 (drop 6 (cell s k))
   unfolding part
@@ -70,6 +76,7 @@ module _ {s s′ : List ℕ} (h : Layout s) (i : ℕ) (l : i < length (nodes s))
         byte 3 (omega arith) (λ e. omega arith),
         byte 4 (omega arith) (λ e. omega arith),
         content,
+        counts,
         u,
       ))
       (λ z. record {

@@ -14,8 +14,8 @@ use Rattle.tree.specs.Document.{Node, node-0-alone}
 use Rattle.locks.specs.Modes.{no-mode, in-word}
 use Rattle.protocol.specs.State.{is-transaction, in-set, unmarked, tree-of, start-state}
 use Rattle.protocol.specs.Laws.WaitSets.{among-start}
-use Rattle.table.specs.Layout.{tabulate, state-size, format-mark, entry-at, lock-at, set-at, word, double-word, part, count, slot, depth}
-use Rattle.table.specs.Layout.{number, cell, is-open, remembered, held, decode, entry, nodes, Layout}
+use Rattle.table.specs.Layout.{tabulate, state-size, format-mark, commits-at, entry-at, cell-size, lock-at, set-at, word, double-word, part}
+use Rattle.table.specs.Layout.{count, slot, depth, number, cell, is-open, remembered, commits, held, decode, entry, nodes, Layout}
 use Rattle.table.specs.Flat.{flat}
 use Rattle.table.specs.Laws.Bytes.{Filled, filled-more, length-part, part-at, drop-high}
 use Rattle.table.specs.Laws.Nodes.{length-nodes, header-is}
@@ -106,6 +106,10 @@ module _ (s : List ℕ) (l : state-size ≤ length s) (b : (j : ℕ) → j < sta
           (ap (λ (S : ℕ → Bool). S u) empty-set)
       go t u false e = refl
 
+  commits-are : commits s ≡ 0
+  unfolding commits double-word start-byte
+  commits-are = rw (word-is commits-at (omega arith), word-is 14 (omega arith))
+
   slot-is : (i : ℕ) → i < 1024 → slot s i ≡ i
   unfolding slot
   slot-is i h =
@@ -121,8 +125,12 @@ module _ (s : List ℕ) (l : state-size ≤ length s) (b : (j : ℕ) → j < sta
   unfolding number double-word start-byte outline-byte
   number-is = rw (word-is 20 (omega arith), word-is 22 (omega arith))
 
-  cell-is : (o : ℕ) → o < 70 → getD (cell s 0) o 0 ≡ cond (eqb (8208 + o) 8208) 1 0
+  cell-is : (o : ℕ) → o < cell-size → getD (cell s 0) o 0 ≡ cond (eqb (8208 + o) 8208) 1 0
   cell-is o h = sym (cell-byte s 0 o h) ∙ b (8208 + o) (omega arith) ∙ byte-cell (8208 + o) (omega arith)
+
+  count-0 : double-word (cell s 0) 70 ≡ 0
+  unfolding double-word word
+  count-0 = rw (cell-is 70 (omega arith), cell-is 71 (omega arith), cell-is 72 (omega arith), cell-is 73 (omega arith))
 
   held-is : held s 0 ≡ (λ t. no-mode)
   unfolding held
@@ -152,6 +160,7 @@ module _ (s : List ℕ) (l : state-size ≤ length s) (b : (j : ℕ) → j < sta
         cell-is 2 (omega arith),
         cell-is 3 (omega arith),
         cell-is 4 (omega arith),
+        count-0,
       )
 
   nodes-is : nodes s ≡ (0, unmarked document) ∷ []
@@ -179,7 +188,7 @@ module _ (s : List ℕ) (l : state-size ≤ length s) (b : (j : ℕ) → j < sta
   unfolding tree-of node-0-alone view flat
   start-holds = record {
     layout = start-layout;
-    header = header-is s open-is sets-are;
+    header = header-is s open-is sets-are commits-are;
     rows = nodes-is;
     unique =
         rw nodes-is;
@@ -205,7 +214,7 @@ started-short s h = record {
   behind = refl;
 }
 
-pub started : (s s′ s″ : List ℕ) → state-size ≤ length s → Filled 0 8209 start-byte s s′ → Filled 8209 104479 (λ j. 0) s′ s″
+pub started : (s s′ s″ : List ℕ) → state-size ≤ length s → Filled 0 8209 start-byte s s′ → Filled 8209 108575 (λ j. 0) s′ s″
     → Started s s″ true
 started s s′ s″ h f g = record {
   answer = sym (le-leb state-size (length s) h);

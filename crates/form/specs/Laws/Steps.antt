@@ -111,9 +111,10 @@ valid-act t (UU n a b) f p l h u k e m =
 
 -- ends ------------------------------------------------------------------------------------------------
 
-pub valid-commit : (t : ℕ) (f : Tree) → 1 ≤ t → valid-tree f ≡ true → valid-tree (commit-tree t f) ≡ true
+pub valid-commit : (k t : ℕ) (f : Tree) → 1 ≤ t → valid-tree f ≡ true → valid-tree (commit-tree k t f) ≡ true
 unfolding commit-tree
-valid-commit t f l h = valid-view (seen-by t) (lasting t) (keeps-lasting t) (λ a d. rw (d .deleter, ne-eqb nobody t (λ e. omega arith))) f h
+valid-commit k t f l h =
+    valid-view (seen-by t) (lasting k t) (keeps-lasting k t) (λ a d. rw (d .deleter, ne-eqb nobody t (λ e. omega arith))) f h
 
 pub valid-abort : (t : ℕ) (f : Tree) → 1 ≤ t → valid-tree f ≡ true → valid-tree (abort-tree t f) ≡ true
 unfolding abort-tree

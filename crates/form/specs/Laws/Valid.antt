@@ -101,8 +101,8 @@ keeps-written t b l = record { range = λ low high most a h. (h .0, h .1, l, h .
 pub keeps-granted : (t : ℕ) (ls : List Lock) → Keeps (granted-to t ls)
 keeps-granted t ls = record { range = λ low high most a h. h; number = λ a. refl }
 
-pub keeps-lasting : (t : ℕ) → Keeps (lasting t)
-keeps-lasting t = record {
+pub keeps-lasting : (k t : ℕ) → Keeps (lasting k t)
+keeps-lasting k t = record {
   range = λ low high most a h. (h .0, h .1, update-small t (a .update) (h .2), without-small t (a .inserter) most (h .3), h .4);
   number = λ a. refl;
 }

@@ -17,9 +17,9 @@ flat-view shown g d f = passes.flat-view shown g d f
 
 -- the ends of a transaction, and what a document is loaded as
 
-pub commit-rows : (t : ℕ) (f : Tree) → flat 0 (commit-tree t f) ≡ map (second (lasting t)) (prune (seen-by t) 0 (flat 0 f))
+pub commit-rows : (k t : ℕ) (f : Tree) → flat 0 (commit-tree k t f) ≡ map (second (lasting k t)) (prune (seen-by t) 0 (flat 0 f))
 unfolding commit-tree
-commit-rows t f = flat-view (seen-by t) (lasting t) 0 f
+commit-rows k t f = flat-view (seen-by t) (lasting k t) 0 f
 
 pub abort-rows : (t : ℕ) (f : Tree) → flat 0 (abort-tree t f) ≡ map (second (undone t)) (prune (not-inserted-by t) 0 (flat 0 f))
 unfolding abort-tree

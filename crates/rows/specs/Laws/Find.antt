@@ -8,21 +8,21 @@ use lib.ListN.{length, length-map}
 use lib.Dec.{eqb, ltb, leb·suc-suc}
 use borrow.Author.Tests.{eqb-true, eqb-false, eq-eqb, lt-ltb}
 use Rattle.tree.specs.Lists.{any, every, has, keep}
-use Rattle.tree.specs.Forest.{Forest, nil, node, Row, row, rows}
+use Rattle.tree.specs.Forest.{Forest, nil, node, Row, row, rows, view}
 use Rattle.tree.specs.Document as document
-use Rattle.tree.specs.Document.{here, at, is, select, some?}
+use Rattle.tree.specs.Document.{Node, here, at, is, select, some?}
 use Rattle.tree.specs.Laws.Tests.{or-left, or-right}
-use Rattle.tree.specs.Laws.Lists.{any-map, map-append, eqb-flip}
+use Rattle.tree.specs.Laws.Lists.{any-map, map-append, keep-map, eqb-flip}
 use Rattle.tree.specs.Laws.Distinct.{head-new}
 use Rattle.protocol.specs.State.{Marked, Tree, nodes, has-number, number-held, seen-by, callers-document}
 use Rattle.table.specs.Lists.{first}
 use Rattle.table.specs.Flat.{flat}
 use Rattle.table.specs.Laws.First.{first-passes}
 use Rattle.table.specs.Layout.{Entry, no-entry}
-use Rattle.rows.specs.Places.{item, items, number-of, unique, place-of, numbers-above, seen-at}
+use Rattle.rows.specs.Places.{item, items, number-of, unique, place-of, numbers-above, all-at, seen-at}
 use Rattle.rows.specs.Laws.NodeAt.{nodes-of, lines-of, NodeAt, node-at, none-first, none-second}
 use Rattle.rows.specs.Laws.Up.{item-at, ups-at}
-use Rattle.rows.specs.Laws.Seen.{plain, seen-line, select-seen}
+use Rattle.rows.specs.Laws.Seen.{as-line, shown-line, select-number}
 
 -- all nodes held are those of the rows ---------------------------------------------------
 
@@ -127,12 +127,6 @@ none-numbered n d up f h =
     (sym (any-map (has-number n) (λ (r : Row Marked Marked). r .it) (lines-of up f)) ∙ ap (any (has-number n)) (rows-nodes (λ a. a) d up f)
     ∙ h)
 
-pub here-nowhere : (t n : ℕ) (f : Tree) → number-held n f ≡ false → here n (callers-document t f) ≡ false
-unfolding keep
-here-nowhere t n f h =
-    ap some? (select-seen (is n) t f ∙ ap (λ l. map plain (keep (seen-line t) l))
-    (none-numbered n 0 [] f (ap (any (has-number n)) (sym (nodes-held f)) ∙ h)))
-
 module _ {f : Tree} {n p : ℕ} (o : Holder f n p) where
   rows-numbered : keep (λ r. has-number n (r .it)) (lines-of [] f) ≡ row (o .place .it) (o .place .above) ∷ []
   unfolding keep
@@ -141,27 +135,58 @@ module _ {f : Tree} {n p : ℕ} (o : Holder f n p) where
       c .keeps (has-number n) (λ r. has-number n (r .it)) (λ r e. rw e) [] refl (o .before) (o .behind)
       ∙ rw (o .number, none-numbered n (suc (c .depth)) (c .it ∷ (c .above ++ [])) (c .children) (o .children), append-nil (c .above))
 
-  module _ (t : ℕ) where
-    lines-numbered : select (is n) (callers-document t f) ≡ cond (seen-at t (flat 0 f) p)
-        (row (item (flat 0 f) p .now) (numbers-above (flat 0 f) p) ∷ []) []
+  -- it is the only one held with that number
+  pub nodes-numbered : keep (has-number n) (nodes f) ≡ item (flat 0 f) p ∷ []
+  unfolding nodes
+  nodes-numbered =
+      keep-map (has-number n) (λ r. has-number n (r .it)) (λ (r : Row Marked Marked). r .it) (lines-of [] f) (λ r m. refl)
+      ∙ ap (map (λ r. r .it)) rows-numbered ∙ rw (item-at (o .place))
+
+-- the node numbered n in a view that leaves the nodes their numbers
+module _ (shown : Marked → Bool) (g : Marked → Node) (same : (a : Marked) → g a .number ≡ number-of a) where
+  pub view-nowhere : (n : ℕ) (f : Tree) → number-held n f ≡ false → here n (view shown g f) ≡ false
+  unfolding keep
+  view-nowhere n f h =
+      ap some? (select-number shown g same f n ∙ ap (λ l. map (as-line g) (keep (shown-line shown) l))
+      (none-numbered n 0 [] f (ap (any (has-number n)) (sym (nodes-held f)) ∙ h)))
+
+  module _ {f : Tree} {n p : ℕ} (o : Holder f n p) where
+    lines-numbered : select (is n) (view shown g f) ≡ cond (all-at shown (flat 0 f) p)
+        (row (g (item (flat 0 f) p)) (numbers-above (flat 0 f) p) ∷ []) []
     unfolding keep
     lines-numbered =
         rw (item-at (o .place), ups-at (o .place))
-        (select-seen (is n) t f ∙ ap (λ l. map plain (keep (seen-line t) l)) rows-numbered ∙ go
-        (every (seen-by t) (o .place .it ∷ o .place .above)))
+        (select-number shown g same f n ∙ ap (λ l. map (as-line g) (keep (shown-line shown) l)) (rows-numbered o) ∙ go
+        (every shown (o .place .it ∷ o .place .above)))
       where
-        go : (b : Bool) → map plain (cond b (row (o .place .it) (o .place .above) ∷ []) [])
-            ≡ cond b (plain (row (o .place .it) (o .place .above)) ∷ []) []
+        go : (b : Bool) → map (as-line g) (cond b (row (o .place .it) (o .place .above) ∷ []) [])
+            ≡ cond b (as-line g (row (o .place .it) (o .place .above)) ∷ []) []
         go true = refl
         go false = refl
 
-    -- seen exactly if the caller deleted neither it nor one above it
-    pub here-at : here n (callers-document t f) ≡ seen-at t (flat 0 f) p
-    here-at = ap some? lines-numbered ∙ go (seen-at t (flat 0 f) p)
+    -- there exactly if it and all above it are shown
+    pub view-here : here n (view shown g f) ≡ all-at shown (flat 0 f) p
+    view-here = ap some? lines-numbered ∙ go (all-at shown (flat 0 f) p)
       where
-        go : (b : Bool) → some? (cond b (row (item (flat 0 f) p .now) (numbers-above (flat 0 f) p) ∷ []) []) ≡ b
+        go : (b : Bool) → some? (cond b (row (g (item (flat 0 f) p)) (numbers-above (flat 0 f) p) ∷ []) []) ≡ b
         go true = refl
         go false = refl
 
-    pub line-at : seen-at t (flat 0 f) p ≡ true → at n (callers-document t f) ≡ row (item (flat 0 f) p .now) (numbers-above (flat 0 f) p)
-    line-at s = ap document.first-line lines-numbered ∙ rw s
+    pub view-line : all-at shown (flat 0 f) p ≡ true
+        → at n (view shown g f) ≡ row (g (item (flat 0 f) p)) (numbers-above (flat 0 f) p)
+    view-line s = ap document.first-line lines-numbered ∙ rw s
+
+-- the same in the caller's document
+pub here-nowhere : (t n : ℕ) (f : Tree) → number-held n f ≡ false → here n (callers-document t f) ≡ false
+unfolding callers-document
+here-nowhere t n f h = view-nowhere (seen-by t) (λ a. a .now) (λ a. refl) n f h
+
+module _ {f : Tree} {n p : ℕ} (o : Holder f n p) (t : ℕ) where
+  -- seen exactly if the caller deleted neither it nor one above it
+  pub here-at : here n (callers-document t f) ≡ seen-at t (flat 0 f) p
+  unfolding callers-document
+  here-at = view-here (seen-by t) (λ a. a .now) (λ a. refl) o
+
+  pub line-at : seen-at t (flat 0 f) p ≡ true → at n (callers-document t f) ≡ row (item (flat 0 f) p .now) (numbers-above (flat 0 f) p)
+  unfolding callers-document
+  line-at s = view-line (seen-by t) (λ a. a .now) (λ a. refl) o s

@@ -10,7 +10,7 @@ use Rattle.tree.specs.Forest.{nil, node, Row, row, rows, amend, view}
 use Rattle.tree.specs.Document.{Node, Document, lines, rooted, ruled, legal}
 use Rattle.tree.specs.Steps.{Step, T, C, R, U, D, I, TT, RR, UU, target, inserts}
 use Rattle.tree.specs.Laws.Tests.{or-left, or-right, and-right}
-use Rattle.tree.specs.Laws.Lists.{map-append, map-map, eqb-flip}
+use Rattle.tree.specs.Laws.Lists.{any-append, map-append, map-map, eqb-flip}
 use Rattle.protocol.specs.State.{Marked, Tree, has-number, number-held, seen-by, lasting, undone, unmarked, inserted-by, renamed}
 use Rattle.protocol.specs.State.{written-by, grant, act, commit-tree, abort-tree, tree-of}
 use Rattle.locks.specs.Needs.{Lock}
@@ -18,7 +18,7 @@ use Rattle.table.specs.Lists.{insert}
 use Rattle.table.specs.Flat.{flat, second, prune}
 use Rattle.table.specs.Layout.{Entry}
 use Rattle.rows.specs.Places.{items, number-of, unique}
-use Rattle.rows.specs.Laws.NodeAt.{lines-of, any-append, none-first, none-second}
+use Rattle.rows.specs.Laws.NodeAt.{lines-of, none-first, none-second}
 use Rattle.rows.specs.Laws.Find.{unique-head, nodes-held, has-items, rows-nodes}
 use Rattle.rows.specs.Laws.Subtree.{shown-forest}
 use Rattle.tree.specs.Laws.Distinct.{distinct-keep}
@@ -114,9 +114,9 @@ unique-view shown g same f u =
         sym (map-map number-of (λ (r : Row Marked Marked). r .it) (λ r. number-of (r .it)) l (λ r m. refl)) ∙ ap (map number-of) e
         ∙ map-map number-of (λ (x : Entry). x .1) row-number k (λ x m. refl)
 
-pub unique-commit : (t : ℕ) (f : Tree) → unique (flat 0 f) ≡ true → unique (flat 0 (commit-tree t f)) ≡ true
+pub unique-commit : (k t : ℕ) (f : Tree) → unique (flat 0 f) ≡ true → unique (flat 0 (commit-tree k t f)) ≡ true
 unfolding commit-tree
-unique-commit t f u = unique-view (seen-by t) (lasting t) (λ a. refl) f u
+unique-commit k t f u = unique-view (seen-by t) (lasting k t) (λ a. refl) f u
 
 pub unique-abort : (t : ℕ) (f : Tree) → unique (flat 0 f) ≡ true → unique (flat 0 (abort-tree t f)) ≡ true
 unfolding abort-tree

@@ -1,7 +1,7 @@
 -- The node at a place of a forest: the rows before and behind it, its proper ancestors, and the rows of its subtree.
 use mathlib.Core.Path.{_≡_, refl, sym, ap, _∙_, subst}
 use Prim.Native.Nat.{ℕ, zero, suc, _+_, _-_, _≤_, _<_}
-use mathlib.Core.Bool.{Bool, true, false, cond, _||_, false≢true, or-assoc}
+use mathlib.Core.Bool.{Bool, true, false, cond, false≢true}
 use mathlib.Core.List.{List, [], _∷_, _++_, map, reverseAux, append-assoc, append-nil}
 use native.Mathlib.Omega.{arith}
 use lib.ListN.{length, length-append}
@@ -10,13 +10,9 @@ use borrow.Author.Tests.{ltb-true, ltb-false, lt-ltb, le-ltb}
 use Rattle.tree.specs.Lists.{any, keep}
 use Rattle.tree.specs.Forest.{Forest, nil, node, Row, row, rows, amend, place, put}
 use Rattle.tree.specs.Laws.Tests.{or-left, or-right, refuted}
-use Rattle.tree.specs.Laws.Lists.{map-append, keep-append}
+use Rattle.tree.specs.Laws.Lists.{any-append, map-append, keep-append}
 use Rattle.table.specs.Flat.{flat}
 use Rattle.rows.specs.Places.{below}
-
-pub any-append : {A : Type 0} (q : A → Bool) (l k : List A) → any q (l ++ k) ≡ (any q l || any q k)
-any-append q [] k = refl
-any-append q (x ∷ l) k = rw (any-append q l k) (sym (or-assoc (q x) (any q l) (any q k)))
 
 module _ {A : Type 0} where
   -- the nodes of rows

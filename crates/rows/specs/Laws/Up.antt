@@ -9,10 +9,10 @@ use lib.Seq.{take-at, getD-at, drop-append-add}
 use lib.Dec.{ltb}
 use borrow.Author.Tests.{lt-ltb, le-ltb}
 use Rattle.tree.specs.Lists.{every}
-use Rattle.protocol.specs.State.{Tree, seen-by}
+use Rattle.protocol.specs.State.{Marked, Tree}
 use Rattle.table.specs.Flat.{flat}
 use Rattle.table.specs.Layout.{Entry, no-entry}
-use Rattle.rows.specs.Places.{depth, item, climb, above-places, ups, seen-at}
+use Rattle.rows.specs.Places.{depth, item, climb, above-places, ups, all-at}
 use Rattle.rows.specs.Laws.NodeAt.{NodeAt, back}
 
 -- the turns --------------------------------------------------------------------------
@@ -39,28 +39,28 @@ module _ (l : List Entry) (e i : ℕ) (h : 0 < i) where
   pub ups-passed : e ≤ depth l (i - 1) → map (item l) (climb l e i) ≡ map (item l) (climb l e (i - 1))
   ups-passed k = ap (map (item l)) (climb-passed l e i h k)
 
--- none of the nodes on the way up was deleted by t
-abbrev pub seen-up : ℕ → List Entry → ℕ → ℕ → Bool
-seen-up t l e i = every (seen-by t) (map (item l) (climb l e i))
+-- all nodes on the way up pass
+abbrev pub all-up : (Marked → Bool) → List Entry → ℕ → ℕ → Bool
+all-up q l e i = every q (map (item l) (climb l e i))
 
-module _ (t : ℕ) (l : List Entry) (e i : ℕ) (h : 0 < i) where
-  pub seen-up-deleted : depth l (i - 1) < e → seen-by t (item l (i - 1)) ≡ false → seen-up t l e i ≡ false
-  seen-up-deleted k s = ap (every (seen-by t)) (ups-found l e i h k) ∙ rw s
+module _ (q : Marked → Bool) (l : List Entry) (e i : ℕ) (h : 0 < i) where
+  pub all-up-fails : depth l (i - 1) < e → q (item l (i - 1)) ≡ false → all-up q l e i ≡ false
+  all-up-fails k s = ap (every q) (ups-found l e i h k) ∙ rw s
 
-  pub seen-up-found : depth l (i - 1) < e → seen-by t (item l (i - 1)) ≡ true → seen-up t l e i ≡ seen-up t l (depth l (i - 1)) (i - 1)
-  seen-up-found k s = ap (every (seen-by t)) (ups-found l e i h k) ∙ rw s
+  pub all-up-found : depth l (i - 1) < e → q (item l (i - 1)) ≡ true → all-up q l e i ≡ all-up q l (depth l (i - 1)) (i - 1)
+  all-up-found k s = ap (every q) (ups-found l e i h k) ∙ rw s
 
-  pub seen-up-passed : e ≤ depth l (i - 1) → seen-up t l e i ≡ seen-up t l e (i - 1)
-  seen-up-passed k = ap (every (seen-by t)) (ups-passed l e i h k)
+  pub all-up-passed : e ≤ depth l (i - 1) → all-up q l e i ≡ all-up q l e (i - 1)
+  all-up-passed k = ap (every q) (ups-passed l e i h k)
 
-pub seen-up-start : (t : ℕ) (l : List Entry) (e : ℕ) → seen-up t l e 0 ≡ true
+pub all-up-start : (q : Marked → Bool) (l : List Entry) (e : ℕ) → all-up q l e 0 ≡ true
 unfolding climb
-seen-up-start t l e = refl
+all-up-start q l e = refl
 
 -- the node at p and the way up from it
-pub seen-at-up : (t : ℕ) (l : List Entry) (p : ℕ) → seen-at t l p ≡ (seen-by t (item l p) && seen-up t l (depth l p) p)
+pub all-at-up : (q : Marked → Bool) (l : List Entry) (p : ℕ) → all-at q l p ≡ (q (item l p) && all-up q l (depth l p) p)
 unfolding ups above-places
-seen-at-up t l p = refl
+all-at-up q l p = refl
 
 -- the loop's places are earlier ones
 pub climb-before : (l : List Entry) (e i : ℕ) {q : ℕ} → List·Memᴰ q (climb l e i) → q < i

@@ -11,7 +11,7 @@ use borrow.Author.Tests.{eq-eqb, ne-eqb}
 use Rattle.tree.specs.Lists.{any}
 use Rattle.tree.specs.Steps.{Step, target, inserts}
 use Rattle.tree.specs.Laws.Tests.{or-left, or-right}
-use Rattle.tree.specs.Laws.Lists.{any-map, any-same}
+use Rattle.tree.specs.Laws.Lists.{any-append, any-map, any-same}
 use Rattle.locks.specs.Modes.{Mode, against}
 use Rattle.locks.specs.Needs.{Need, need, Lock, each, every-one, locks}
 use Rattle.locks.specs.Words.{word}
@@ -21,7 +21,6 @@ use Rattle.table.specs.Flat.{flat}
 use Rattle.table.specs.Layout.{Entry}
 use Rattle.rows.specs.Places.{item, items, number-of, unique, above-places, ups, numbers-above}
 use Rattle.rows.specs.Found.{blocks-node, blocks-way, wait-word}
-use Rattle.rows.specs.Laws.NodeAt.{any-append}
 use Rattle.rows.specs.Laws.Up.{above-inside}
 use Rattle.rows.specs.Laws.Along.{locks-along, locks-way}
 use Rattle.rows.specs.Laws.Find.{nodes-held, unique-head, lacks-at}

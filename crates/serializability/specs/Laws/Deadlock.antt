@@ -10,7 +10,7 @@ use Rattle.tree.specs.Laws.Tests.{and-left, and-right, refuted}
 use Rattle.tree.specs.Document.{node-0-alone}
 use Rattle.locks.specs.Needs.{Lock}
 use Rattle.protocol.specs.State.{WaitSets, Header, State, is-transaction, transactions, start-header, start-state, in-set, with-set}
-use Rattle.protocol.specs.State.{remembering, ended}
+use Rattle.protocol.specs.State.{with-commits, remembering, ended, next-count}
 use Rattle.protocol.specs.Rings.{AmongOpen, waits-within}
 use Rattle.protocol.specs.Calls.{Call, next, blocks, wait-set, closes-ring}
 use Rattle.protocol.specs.History.{Log, new-log, state-after}
@@ -56,6 +56,10 @@ record Ringless (h : Header) : Type 0 where
 start-ringless : Ringless start-header
 start-ringless = record { among = among-start; no-ring = λ t p. false≢true (first-wait p .1) }
 
+-- how many commits there were plays no part
+recounted : {h : Header} (n : ℕ) → Ringless h → Ringless (with-commits n h)
+recounted n k = record { among = k .among; no-ring = k .no-ring }
+
 -- where only transactions are open
 numbered-waits : (h : Header) → ((u : ℕ) → h .is-open u ≡ true → is-transaction u ≡ true) → AmongOpen h → AmongTransactions (h .remembered)
 numbered-waits h n a t u e = let x = a t u e in (n t (x .0), n u (x .1))
@@ -89,20 +93,21 @@ module _ (M : State) (numbered : (u : ℕ) → M .header .is-open u ≡ true →
       others v u i e = rw i at e
 
       none : WaitPath r t t → ⊥
-      none p = true≢false (sym (ring-test r (numbered-waits _ numbered a) t .1 p) ∙ rw z at c)
+      none p = true≢false (sym (ring-test r (numbered-waits (remembering t (in-set w) M .header) numbered a) t .1 p) ∙ rw z at c)
 
   call-ringless : (c : Call) → Ringless (next c M .state .header)
   call-ringless = every-call (λ c n. Ringless (n .state .header)) M (record {
     refusal = λ c n i. k;
     at-start = start-ringless;
     at-unread = λ c i. k;
-    at-load = λ d h. k;
+    at-load = λ d h. recounted 0 k;
     at-begin = λ t h o. record { among = among-begun (M .header) (k .among) t; no-ring = k .no-ring };
-    at-commit = λ t h o. ended-ringless t;
+    at-commit = λ t h o l. recounted (next-count M) (ended-ringless t);
     at-abort = λ t h o. ended-ringless t;
     at-wait = λ t s room h o. wait-ringless t _ o;
     at-step = λ t s room h o p. record { among = among-forgetting (M .header) (k .among) t; no-ring = fewer _ (forgets t) };
     at-write = k;
+    at-count = λ n h. k;
   })
     where
       ended-ringless : (t : ℕ) → Ringless (ended t (M .header))

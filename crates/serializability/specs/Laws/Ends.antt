@@ -10,19 +10,18 @@ use Rattle.tree.specs.Lists.{every, has}
 use Rattle.tree.specs.Forest.{view}
 use Rattle.tree.specs.Document.{Document}
 use Rattle.tree.specs.Steps.{D}
-use Rattle.tree.specs.Laws.Tests.{and-left, and-right, or-cases}
-use Rattle.tree.specs.Laws.Lists.{eqb-flip}
+use Rattle.tree.specs.Laws.Tests.{and-left, and-right, or-cases, refuted, both-ways}
 use Rattle.tree.specs.Laws.Rows.{Each, each-above}
 use Rattle.locks.specs.Modes.{Mode, LW}
 use Rattle.locks.specs.Laws.Compatible.{Locked, Compatible, node-locked}
 use Rattle.locks.specs.Laws.Excludes.{LW-clashes}
-use Rattle.serializability.specs.Laws.Tests.{by-test, affirmed}
-use Rattle.serializability.specs.Laws.Runs.{Entry, Run, run-one-end}
+use Rattle.serializability.specs.Laws.Tests.{by-test, affirmed, eqb-sym}
+use Rattle.serializability.specs.Laws.Runs.{Entry, Run, run-one-end, touched-in}
 use Rattle.serializability.specs.Laws.Orders.{Distinct, permuted-has, permuted-distinct, permutation-back, to-front, distinct-head}
 use Rattle.serializability.specs.Laws.Orders.{distinct-tail, distinct-cons}
 use Rattle.serializability.specs.Laws.Serial.{Serial, reorder, commit, emptied, in-emptied, forget, idle}
 use Rattle.protocol.specs.State.{nobody, State, Marked, Tree, seen-by, document-of, without, none-of, lasting, undone, commit-tree}
-use Rattle.protocol.specs.State.{abort-tree, closed, writer-of}
+use Rattle.protocol.specs.State.{abort-tree, closed, writer-of, touched-by}
 use Rattle.serializability.specs.Laws.Shown.{Place, Inside, path, numbers-of, plus, minus, writer-without, commit-shown, abort-shown}
 use Rattle.serializability.specs.Laws.Numbers.{number-of, seen-as, in-part, part-in, part-distinct}
 use Rattle.serializability.specs.Laws.Marks.{marked-by, Guarded, Authored, author-more, Covered}
@@ -43,6 +42,7 @@ pub record Ending (t : ℕ) (stays : Marked → Bool) (g : Marked → Marked) : 
       → (eqb (writer-of (a .update)) u ≡ true) × (u ≡ t → ⊥)
   -- the others' stay
   pub inserter-stays : (a : Marked) (u : ℕ) → (u ≡ t → ⊥) → eqb (a .inserter) u ≡ true → eqb (g a .inserter) u ≡ true
+  pub writer-stays : (a : Marked) (u : ℕ) → (u ≡ t → ⊥) → eqb (writer-of (a .update)) u ≡ true → eqb (writer-of (g a .update)) u ≡ true
   pub held-stays : (a : Marked) (u : ℕ) (m : Mode) → (u ≡ t → ⊥) → a .held u m ≡ true → g a .held u m ≡ true
 
 emptied-other : (t : ℕ) (log : ℕ → List Entry) (u : ℕ) → (u ≡ t → ⊥) → emptied t log u ≡ log u
@@ -147,6 +147,22 @@ module _ (c : Document) (log : ℕ → List Entry) (M : State) (g : Good c log M
       brought-as log' (ap number-of (a .3) ∙ end .number (a .0 .it)) e
       (y .0, rw (emptied-other t log (a .0 .it .inserter) (λ z. w .1 (e ∙ z))) (y .1), y .2)
 
+  -- t has touched nothing, and the others what they had touched
+  end-touched : (r : Place) → Inside r rest → (u : ℕ) → (u ≡ nobody → ⊥) → touched-by u (r .it) ≡ touched-in (log' u) (number-of r)
+  end-touched r i u nu =
+      let a = in-part stays h f i in
+      let s = a .0 .it in
+      let still : touched-by u (h s) ≡ true → (touched-by u s ≡ true) × (u ≡ t → ⊥) = λ e. ⊎-elim
+      (λ x. let w = end .inserter s u nu (and-left _ _ (a .2)) x in (rw (w .0), w .1))
+      (λ x. let w = end .writer s u nu x in (rw (w .0, or-true (eqb (s .inserter) u)), w .1))
+      (or-cases (eqb (h s .inserter) u) (eqb (writer-of (h s .update)) u) e) in
+      rw (a .3, end .number s) (by-test (eqb u t)
+      (λ e. rw e (refuted _ (λ x. still x .1 (eqb-true u t e))))
+      (λ e. let ne = eqb-false u t e in
+      rw (e, ← g .touched (a .0) (a .1) u nu) (both-ways _ _ (λ x. still x .0) (λ x. ⊎-elim
+      (λ y. rw (end .inserter-stays s u ne y)) (λ y. rw (end .writer-stays s u ne y, or-true (eqb (h s .inserter) u)))
+      (or-cases (eqb (s .inserter) u) (eqb (writer-of (s .update)) u) x)))))
+
   -- the rest of what is claimed of the state, from the documents
   end-good : (c' : Document) → ((b : List ℕ) → Distinct b → Serial c' b log' (document-of (λ u. has u b) rest))
       → Good c' log' (closed t rest M)
@@ -156,6 +172,7 @@ module _ (c : Document) (log : ℕ → List Entry) (M : State) (g : Good c log M
     covered = end-covered;
     standing = end-standing;
     brought = end-brought;
+    touched = end-touched;
     serial = serial;
   }
 
@@ -163,9 +180,6 @@ module _ (c : Document) (log : ℕ → List Entry) (M : State) (g : Good c log M
 
 pub document-same : (S S' : ℕ → Bool) (f : Tree) → ((u : ℕ) → S u ≡ S' u) → document-of S f ≡ document-of S' f
 document-same S S' f h = ap (λ (X : ℕ → Bool). document-of X f) (fun-ext h)
-
-eqb-sym : (t u : ℕ) → eqb t u ≡ eqb u t
-eqb-sym t u = by-test (eqb u t) (λ e. rw (e, eq-eqb t u (sym (eqb-true u t e)))) (λ e. rw (e, eqb-flip u t e))
 
 -- of a transaction with an empty log, from the lists without it to all
 all-orders : (c : Document) (t : ℕ) (log : ℕ → List Entry) (f : Tree) → log t ≡ []
@@ -185,26 +199,26 @@ module _ (c : Document) (log : ℕ → List Entry) (M : State) (g : Good c log M
   abbrev tree : Tree
   tree = M .tree
 
-  commit-serial : (e : Document) → Run c (log t) e → (b : List ℕ) → Distinct b
-      → Serial e b (emptied t log) (document-of (λ u. has u b) (commit-tree t tree))
-  commit-serial e r = all-orders e t (emptied t log) (commit-tree t tree) (emptied-own t log) others own
+  commit-serial : (k : ℕ) (e : Document) → Run c (log t) e → (b : List ℕ) → Distinct b
+      → Serial e b (emptied t log) (document-of (λ u. has u b) (commit-tree k t tree))
+  commit-serial k e r = all-orders e t (emptied t log) (commit-tree k t tree) (emptied-own t log) others own
     where
-      others : (b : List ℕ) → Distinct b → has t b ≡ false → Serial e b (emptied t log) (document-of (λ u. has u b) (commit-tree t tree))
+      others : (b : List ℕ) → Distinct b → has t b ≡ false → Serial e b (emptied t log) (document-of (λ u. has u b) (commit-tree k t tree))
       others b n w =
           let x = commit c t b log (document-of (λ u. has u (t ∷ b)) tree) (g .serial (t ∷ b) (distinct-cons t b w n)) in
           rw (
-            commit-shown t nz (λ u. has u b) tree,
+            commit-shown t nz (λ u. has u b) k tree,
             document-same (plus t (λ u. has u b)) (λ u. has u (t ∷ b)) tree
                 (λ u. ap (λ z. z || has u b) (eqb-sym u t)),
             run-one-end c (log t) e (x .0) r (x .1),
           )
           (forget (x .0) t b log (document-of (λ u. has u (t ∷ b)) tree) w (x .2))
 
-      own : (b : List ℕ) → document-of (λ u. has u (t ∷ b)) (commit-tree t tree) ≡ document-of (λ u. has u b) (commit-tree t tree)
-      own b = commit-shown t nz (λ u. has u (t ∷ b)) tree
+      own : (b : List ℕ) → document-of (λ u. has u (t ∷ b)) (commit-tree k t tree) ≡ document-of (λ u. has u b) (commit-tree k t tree)
+      own b = commit-shown t nz (λ u. has u (t ∷ b)) k tree
           ∙ document-same (plus t (λ u. has u (t ∷ b))) (plus t (λ u. has u b)) tree
           (λ u. rw (eqb-sym t u) (or-self-left (eqb u t) (has u b)))
-          ∙ sym (commit-shown t nz (λ u. has u b) tree)
+          ∙ sym (commit-shown t nz (λ u. has u b) k tree)
 
   abort-serial : (b : List ℕ) → Distinct b → Serial c b (emptied t log) (document-of (λ u. has u b) (abort-tree t tree))
   abort-serial = all-orders c t (emptied t log) (abort-tree t tree) (emptied-own t log) others own
@@ -238,14 +252,15 @@ none-keeps t a u m ne h = rw (ne-eqb u t ne) h
 other-mark : (x t u : ℕ) → not (eqb x t) ≡ true → eqb x u ≡ true → (eqb x u ≡ true) × (u ≡ t → ⊥)
 other-mark x t u s h = (h, λ e. eqb-false x t (not-true (eqb x t) s) (eqb-true x u h ∙ e))
 
-commit-ends : (t : ℕ) → Ending t (seen-by t) (lasting t)
-commit-ends t = record {
+commit-ends : (k t : ℕ) → Ending t (seen-by t) (lasting k t)
+commit-ends k t = record {
   number = λ a. refl;
   cut = λ a e. rw (not-false (eqb (a .deleter) t) e) (or-true (eqb (a .inserter) t));
   inserter = λ a u nu s e. without-is t (a .inserter) u nu e;
   deleter = λ a u nu s e. other-mark (a .deleter) t u s e;
   writer = λ a u nu e. without-is t (writer-of (a .update)) u nu (rw (writer-without t (a .update)) at e);
   inserter-stays = λ a u ne e. without-keeps t (a .inserter) u ne e;
+  writer-stays = λ a u ne e. rw (writer-without t (a .update)) (without-keeps t (writer-of (a .update)) u ne e);
   held-stays = λ a u m ne e. none-keeps t a u m ne e;
 }
 
@@ -257,16 +272,17 @@ abort-ends t = record {
   deleter = λ a u nu s e. without-is t (a .deleter) u nu e;
   writer = λ a u nu e. without-is t (writer-of (a .update)) u nu (rw (writer-without t (a .update)) at e);
   inserter-stays = λ a u ne e. e;
+  writer-stays = λ a u ne e. rw (writer-without t (a .update)) (without-keeps t (writer-of (a .update)) u ne e);
   held-stays = λ a u m ne e. none-keeps t a u m ne e;
 }
 
 -- commit: the committed document goes on by the log of t
-pub commit-good : (c : Document) (log : ℕ → List Entry) (M : State) → Good c log M → (t : ℕ) → (t ≡ nobody → ⊥)
-    → (e : Document) × Run c (log t) e × Good e (emptied t log) (closed t (commit-tree t (M .tree)) M)
+pub commit-good : (c : Document) (log : ℕ → List Entry) (M : State) → Good c log M → (t : ℕ) → (t ≡ nobody → ⊥) → (k : ℕ)
+    → (e : Document) × Run c (log t) e × Good e (emptied t log) (closed t (commit-tree k t (M .tree)) M)
 unfolding commit-tree
-commit-good c log M g t nz =
+commit-good c log M g t nz k =
     let x = commit c t [] log (document-of (λ u. has u (t ∷ [])) (M .tree)) (g .serial (t ∷ []) refl) in
-    (x .0, x .1, end-good c log M g t nz (seen-by t) (lasting t) (commit-ends t) (x .0) (commit-serial c log M g t nz (x .0) (x .1)))
+    (x .0, x .1, end-good c log M g t nz (seen-by t) (lasting k t) (commit-ends k t) (x .0) (commit-serial c log M g t nz k (x .0) (x .1)))
 
 -- abort: the committed document stays
 pub abort-good : (c : Document) (log : ℕ → List Entry) (M : State) → Good c log M → (t : ℕ) → (t ≡ nobody → ⊥)

@@ -8,7 +8,7 @@ use borrow.Author.Tests.{eqb-true}
 use Rattle.tree.specs.Lists.{joined}
 use Rattle.tree.specs.Laws.Lists.{map-append, map-map}
 use Rattle.serializability.specs.Laws.Tests.{by-test}
-use Rattle.protocol.specs.Calls.{Call, start, load, begin, commit, abort, step, write, unreadable, stands-for}
+use Rattle.protocol.specs.Calls.{Call, start, load, begin, commit, abort, step, write, count-of, unreadable, stands-for}
 use Rattle.protocol.specs.History.{Log, with-log, committed-then, logged}
 
 module _ {X E : Type 0} (g : X → E) where
@@ -33,6 +33,7 @@ module _ {X E : Type 0} (g : X → E) where
   logged-read (abort t) b l L = if-read b _ L _ (rw (map-log t [] (L .open-log)))
   logged-read (step t s room) b l L = rw (map-log t (L .open-log t ++ l) (L .open-log), map-append g (L .open-log t) l)
   logged-read write b l L = refl
+  logged-read (count-of n) b l L = refl
 
   pub map-joined : (ls : List (List X)) → joined (map (map g) ls) ≡ map g (joined ls)
   map-joined [] = refl
@@ -59,3 +60,4 @@ logged-none (commit t) L = refl
 logged-none (abort t) L = refl
 logged-none (step t s room) L = rw (with-log-same t (L .open-log t ++ []) (L .open-log) (append-nil (L .open-log t)))
 logged-none write L = refl
+logged-none (count-of n) L = refl

@@ -10,7 +10,7 @@ use Rattle.tree.specs.Laws.Tests.{refuted}
 use Rattle.tree.specs.Laws.Lists.{any-at, at-any, every-at, any-same, in-map}
 use Rattle.serializability.specs.Laws.Runs.{run-document}
 use Rattle.protocol.specs.State.{State, start-state, is-transaction, transactions, held-document, document-of, committed-document}
-use Rattle.protocol.specs.Calls.{Call, start, load, begin, commit, abort, step, write, written, next}
+use Rattle.protocol.specs.Calls.{Call, start, load, begin, commit, abort, step, write, count-of, written, next}
 use Rattle.protocol.specs.History.{Event, history, state-after, event, fed, answered, plain, plain-run-answers, pending-in, pending}
 use Rattle.serializability.specs.Theorem.{since-start, reached, writes-plain, Demand3}
 use Rattle.serializability.specs.Laws.Reached.{always-reached}
@@ -122,6 +122,7 @@ is-write (commit t) = false
 is-write (abort t) = false
 is-write (step t s room) = false
 is-write write = true
+is-write (count-of n) = false
 
 all-writes : (cs : List Call) → writes-plain [] (since-start cs)
 unfolding history is-write state-after

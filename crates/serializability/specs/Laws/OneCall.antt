@@ -14,11 +14,13 @@ use Rattle.protocol.specs.State.{State, is-transaction, transactions, callers-d
 use Rattle.protocol.specs.Lent.{Room}
 use Rattle.protocol.specs.Causes.{not-a-transaction, not-open, no-such-node, deadlock}
 use Rattle.protocol.specs.Rings.{in-ring}
-use Rattle.protocol.specs.Calls.{Call, start, load, begin, commit, abort, step, write, Outcome, granted, written, waits, refused}
-use Rattle.protocol.specs.Calls.{refused-at, held-back, Check, blocks, wait-set, closes-ring, step-checks, judged, next}
+use Rattle.protocol.specs.Calls.{Call, start, load, begin, commit, abort, step, write, count-of, Outcome, granted, written, waits}
+use Rattle.protocol.specs.Calls.{refused, refused-at, held-back, Check, blocks, wait-set, closes-ring, step-checks, commit-limit}
+use Rattle.protocol.specs.Calls.{commits-reached, judged, next}
 use Rattle.protocol.specs.History.{is-granted}
-use Rattle.serializability.specs.Theorem.{left-by, NotGranted, StepGranted, CommitGranted, Waiting, NoClashNoWait, FoundNotSeven}
+use Rattle.serializability.specs.Theorem.{left-by, NotGranted, StepGranted, CommitOutcome, Waiting, NoClashNoWait, FoundNotSeven}
 use Rattle.serializability.specs.Theorem.{DeadlockOnly}
+use Rattle.serializability.specs.Laws.Tests.{by-test}
 use Rattle.serializability.specs.Laws.Outcomes.{checked-cases, checked-by, held-back-outcome, every-call}
 use Rattle.serializability.specs.Laws.WaitSet.{sum-bit, sum-bound, sum-none}
 use Rattle.serializability.specs.Laws.Rings.{found-path}
@@ -34,6 +36,7 @@ refusal-leaves (commit t) n M = refl
 refusal-leaves (abort t) n M = refl
 refusal-leaves (step t s room) n M = refl
 refusal-leaves write n M = refl
+refusal-leaves (count-of m) n M = refl
 
 pub not-granted : NotGranted
 not-granted c M = every-call (λ x n. is-granted (n .outcome) ≡ false → (n .steps ≡ []) × (n .state ≡ left-by x (n .outcome) M)) M (record {
@@ -42,11 +45,12 @@ not-granted c M = every-call (λ x n. is-granted (n .outcome) ≡ false → (n .
   at-unread = λ x i h. (refl, refl);
   at-load = λ d l h. absurd (true≢false h);
   at-begin = λ t i o h. absurd (true≢false h);
-  at-commit = λ t i o h. absurd (true≢false h);
+  at-commit = λ t i o l h. absurd (true≢false h);
   at-abort = λ t i o h. absurd (true≢false h);
   at-wait = λ t s room i o e z h. (refl, rw z);
   at-step = λ t s room i o p h. absurd (true≢false h);
   at-write = λ h. (refl, refl);
+  at-count = λ n i h. absurd (true≢false h);
 }) c
 
 -- demand 2 -------------------------------------------------------------------------------
@@ -82,9 +86,9 @@ module _ (t : ℕ) (s : Step) (room : Room) (M : State) where
       let i : w ≡ set = ap (λ o. by-numbers o .1) (sym e ∙ x .3 ∙ ap (λ (z : Check). z .0) c) in
       (i, ap (λ z. eqb z 0) i ∙ not-true _ (sym (ap (λ (z : Check). z .1) c) ∙ x .2))
 
-pub commit-granted : CommitGranted
+pub commit-outcome : CommitOutcome
 unfolding next
-commit-granted t M h o = rw (h, o)
+commit-outcome t M h o = rw (h, o) (by-test (commits-reached commit-limit M) (λ e. rw e) (λ e. rw e))
 
 -- the answer of a granted call
 value-of : Outcome → Value

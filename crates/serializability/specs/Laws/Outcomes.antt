@@ -8,17 +8,18 @@ use lib.Dec.{eqb}
 use borrow.Author.Tests.{not-false}
 use Rattle.tree.specs.Lists.{any, every, has, keep}
 use Rattle.tree.specs.Laws.Lists.{every-at, keep-in}
-use Rattle.tree.specs.Document.{Document, lines}
+use Rattle.tree.specs.Document.{Document, lines, here}
 use Rattle.tree.specs.Steps.{Step, done, how-many, unknown, wrong-kind, wrong-content, misplaced, answer}
 use Rattle.locks.specs.Needs.{needs}
 use Rattle.serializability.specs.Laws.Tests.{by-test}
-use Rattle.protocol.specs.State.{State, is-transaction, transactions, callers-document, committed-document, act, grant, commit-tree}
-use Rattle.protocol.specs.State.{abort-tree, tree-of, start-state, with-tree, opened, closed, forgetting}
+use Rattle.protocol.specs.State.{State, is-transaction, transactions, callers-document, committed-document, act, grant, start-state}
+use Rattle.protocol.specs.State.{with-tree, opened, forgetting, committed, aborted, with-document}
 use Rattle.protocol.specs.Lent.{Room}
-use Rattle.protocol.specs.Causes.{causes, not-a-transaction, already-open, not-open, open-at-load}
-use Rattle.protocol.specs.Calls.{Call, start, load, begin, commit, abort, step, write, Input, unreadable, stands-for, node-limit, loadable}
-use Rattle.protocol.specs.Calls.{Outcome, granted, written, waits, refused, refused-at, Next, unchanged, becomes, grants-step, held-back}
-use Rattle.protocol.specs.Calls.{Check, checked, refusing, wait-set, number-in-use, closes-ring, step-checks, judged, if-open, loaded, next}
+use Rattle.protocol.specs.Causes.{causes, not-a-transaction, already-open, not-open, no-such-node, open-at-load, no-more-commits}
+use Rattle.protocol.specs.Calls.{Call, start, load, begin, commit, abort, step, write, count-of, Input, unreadable, stands-for, node-limit}
+use Rattle.protocol.specs.Calls.{loadable, Outcome, granted, written, waits, refused, refused-at, Next, unchanged, becomes, grants-step}
+use Rattle.protocol.specs.Calls.{held-back, Check, checked, refusing, wait-set, number-in-use, closes-ring, step-checks, judged, if-open}
+use Rattle.protocol.specs.Calls.{loaded, commit-limit, commits-reached, commit-count, next}
 
 -- none of the checks applies
 abbrev pub AllPassed : List Check → Type 0
@@ -72,12 +73,11 @@ pub record Cases (P : Call → Next → Type 0) (M : State) : Type 0 where
   pub at-start : P start (becomes done start-state)
   pub at-unread : (c i : ℕ) → P (load (unreadable c i)) (unchanged (refused-at c i) M)
   pub at-load : (d : Document) (h : loadable node-limit d ≡ true)
-      → P (load (stands-for d h)) (becomes (how-many (length (lines d))) (with-tree M (tree-of d)))
+      → P (load (stands-for d h)) (becomes (how-many (length (lines d))) (with-document d M))
   pub at-begin : (t : ℕ) → is-transaction t ≡ true → M .header .is-open t ≡ false → P (begin t) (becomes done (opened t M))
-  pub at-commit : (t : ℕ) → is-transaction t ≡ true → M .header .is-open t ≡ true
-      → P (commit t) (becomes done (closed t (commit-tree t (M .tree)) M))
-  pub at-abort : (t : ℕ) → is-transaction t ≡ true → M .header .is-open t ≡ true
-      → P (abort t) (becomes done (closed t (abort-tree t (M .tree)) M))
+  pub at-commit : (t : ℕ) → is-transaction t ≡ true → M .header .is-open t ≡ true → commits-reached commit-limit M ≡ false
+      → P (commit t) (becomes done (committed t M))
+  pub at-abort : (t : ℕ) → is-transaction t ≡ true → M .header .is-open t ≡ true → P (abort t) (becomes done (aborted t M))
   pub at-wait : (t : ℕ) (s : Step) (room : Room) → is-transaction t ≡ true → M .header .is-open t ≡ true
       → let w = wait-set t (needs s (callers-document t (M .tree))) M in closes-ring t w M ≡ false → eqb w 0 ≡ false
       → P (step t s room) (held-back t M (waits w))
@@ -85,6 +85,7 @@ pub record Cases (P : Call → Next → Type 0) (M : State) : Type 0 where
       → let d = callers-document t (M .tree) in Passed t s M d
       → P (step t s room) (grants-step s (answer s d) (forgetting t (with-tree M (grant t (needs s d) (act t s (M .tree))))))
   pub at-write : P write (unchanged (written (committed-document M)) M)
+  pub at-count : (n : ℕ) → here n (committed-document M) ≡ true → P (count-of n) (becomes (how-many (commit-count n (M .tree))) M)
 
 module _ (P : Call → Next → Type 0) (M : State) (k : Cases P M) where
   -- behind checks that refuse, where `stop` changes nothing at a refusal
@@ -138,7 +139,11 @@ module _ (P : Call → Next → Type 0) (M : State) (k : Cases P M) where
   every-call (begin t) =
       refusing-case (begin t) ((refused not-a-transaction, not (is-transaction t)) ∷ (refused already-open, M .header .is-open t) ∷ [])
       _ refl (λ p. k .at-begin t (not-false _ (p .0)) (p .1 .0))
-  every-call (commit t) = if-open-case (commit t) t _ (k .at-commit t)
+  every-call (commit t) = if-open-case (commit t) t _ (λ h o.
+      refusing-case (commit t) ((refused no-more-commits, commits-reached commit-limit M) ∷ []) _ refl (λ p. k .at-commit t h o (p .0)))
   every-call (abort t) = if-open-case (abort t) t _ (k .at-abort t)
   every-call (step t s room) = if-open-case (step t s room) t _ (step-case t s room)
   every-call write = k .at-write
+  every-call (count-of n) =
+      refusing-case (count-of n) ((refused no-such-node, not (here n (committed-document M))) ∷ []) _ refl
+      (λ p. k .at-count n (not-false _ (p .0)))

@@ -1,7 +1,7 @@
 -- The held document is the committed one exactly if nothing is pending.
 use Prim.Native.Nat.{ℕ}
 use mathlib.Core.Path.{_≡_, refl, sym, ap, _∙_}
-use mathlib.Core.Bool.{Bool, true, false, not, _&&_, _||_, false≢true, true≢false, or-true, or-false, and-true, and-false}
+use mathlib.Core.Bool.{Bool, true, false, not, _&&_, _||_, false≢true, true≢false, or-true, or-false}
 use mathlib.Core.List.{List, [], _∷_, map, append-nil, List·Memᴰ, List·Memᴰ·head, List·Memᴰ·tail, List·Memᴰ·not-nil, Memᴰ·append-left}
 use mathlib.Core.List.{Memᴰ·append-right, List·Memᴰ·append-cases}
 use mathlib.Core.Logic.{⊎-elim}
@@ -24,6 +24,7 @@ use Rattle.serializability.specs.Laws.Runs.{Entry, Run, run-append, run-
 use Rattle.serializability.specs.Laws.Orders as orders
 use Rattle.protocol.specs.State.{nobody, State, Marked, Tree, transactions, done-by, shown, as-shown, document-of, held-document, writer-of}
 use Rattle.protocol.specs.History.{inserted, pending-in}
+use Rattle.protocol.specs.Laws.Shown.{shown-committed}
 use Rattle.serializability.specs.Laws.WaitSet.{has-kept, kept-distinct}
 use Rattle.serializability.specs.Laws.Shown.{Place, Inside, path}
 use Rattle.serializability.specs.Laws.Numbers.{number-of}
@@ -55,15 +56,11 @@ none-at t l h {a} m = refuted (t a) (λ e. true≢false (sym (at-any t l m e) �
 
 -- nobody, and one transaction -------------------------------------------------------------------
 
-abbrev none : ℕ → Bool
+abbrev pub none : ℕ → Bool
 none u = false
 
 abbrev only : ℕ → ℕ → Bool
 only t u = has u (t ∷ [])
-
--- what nobody shows was inserted by nobody
-none-shown : (a : Marked) → shown none a ≡ eqb (a .inserter) nobody
-none-shown a = rw (and-false (not (eqb (a .deleter) nobody)), or-false (eqb (a .inserter) nobody)) (and-true (eqb (a .inserter) nobody))
 
 -- what t alone shows was inserted by nobody or t
 only-inserter : (t : ℕ) (a : Marked) → shown (only t) a ≡ true → (a .inserter ≡ nobody → ⊥) → a .inserter ≡ t
@@ -106,8 +103,8 @@ module _ (c : Document) (log : ℕ → List Entry) (M : State) (g : Good c log M
         → document-of S f ≡ committed
     unfolding document-of
     same-shown no-other = view-agree (λ a. a) (shown none) (shown none) (λ a. refl) (shown S) (as-shown none) (as-shown S) [] f refl
-        (λ r i v. rw (none-shown (r .it)) (by-test (eqb (r .it .inserter) nobody)
-        (λ e. and-left _ _ (keeps r i (rw (none-shown (r .it), e, v)) .0) ∙ sym e)
+        (λ r i v. rw (shown-committed (r .it)) (by-test (eqb (r .it .inserter) nobody)
+        (λ e. and-left _ _ (keeps r i (rw (shown-committed (r .it), e, v)) .0) ∙ sym e)
         (λ e. refuted _ (λ s. no-other r i v (rw (s, above-shown r i v)) (eqb-false _ nobody e)) ∙ sym e)))
         (λ r i v. ap (with-content (r .it .now)) (keeps r i v .1))
 
@@ -207,7 +204,7 @@ module _ (c : Document) (log : ℕ → List Entry) (M : State) (g : Good c log M
     module _ (t : ℕ) (nt : t ≡ nobody → ⊥) where
       -- what nobody and all show, t shows, and with the same content
       only-shown : (r : Place) → Inside r f → shown none (r .it) ≡ true → shown all (r .it) ≡ true → shown (only t) (r .it) ≡ true
-      only-shown r i a b = let u = r .it .deleter in rw (sym (none-shown (r .it)) ∙ a)
+      only-shown r i a b = let u = r .it .deleter in rw (sym (shown-committed (r .it)) ∙ a)
           (by-test (eqb u nobody) (λ p. rw p) (λ p. by-test (eqb t u)
           (λ q. let o = marker-open c log M g r i u (eqb-false u nobody p) (deleter-marks (r .it)) in
           absurd (false≢true (rw (p, o) at (and-right (done-by all (r .it .inserter)) _ b)))) (λ q. rw (p, q))))
@@ -241,4 +238,4 @@ module _ (c : Document) (log : ℕ → List Entry) (M : State) (g : Good c log M
           let own = only-inserter t (r .it) (and-left _ _ v) ne in
           let w : visible all r ≡ true = rw (all-shown r i own (and-left _ _ v), above-shown all both-visible r i a) in
           let z = here-visible none f (g .covered .distinct) i (rw shown-equal at (place-here all f i w)) in
-          ne (eqb-true _ nobody (sym (none-shown (r .it)) ∙ and-left _ _ (z .0))))) (committed-quiet t)
+          ne (eqb-true _ nobody (sym (shown-committed (r .it)) ∙ and-left _ _ (z .0))))) (committed-quiet t)

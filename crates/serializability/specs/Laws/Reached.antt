@@ -21,7 +21,7 @@ use Rattle.serializability.specs.Laws.Orders as orders
 use Rattle.serializability.specs.Laws.Legal.{legal-run}
 use Rattle.protocol.specs.State.{State, Marked, Tree, nodes, seen-by, granted-to, none-of, lasting, undone, act, grant, commit-tree}
 use Rattle.protocol.specs.State.{abort-tree, tree-of, start-state, nobody, is-transaction, transactions, done-by, shown, as-shown}
-use Rattle.protocol.specs.State.{document-of, held-document, committed-document, writer-of, saved-of}
+use Rattle.protocol.specs.State.{document-of, held-document, committed-document, writer-of, saved-of, next-count}
 use Rattle.protocol.specs.Calls.{Call, next, abort}
 use Rattle.protocol.specs.History.{state-after, Log}
 use Rattle.serializability.specs.Theorem.{reached, all-aborted, Reached}
@@ -53,7 +53,7 @@ grant-released o t ls f e k r i u m h =
 step-released : (o : ℕ → Bool) (t : ℕ) (s : Step) (ls : List Lock) (f : Tree) → o t ≡ true → Released o f → Released o (after-step t s ls f)
 unfolding Released
 step-released o t s ls f e k = grant-released o t ls (act t s f) e (λ r i u m h.
-    ⊎-elim (λ x. k (x .0) (x .1) u m (rw (x .4) at h)) (λ x. absurd (false≢true (rw (x .2) at h))) (act-places t s f r i))
+    ⊎-elim (λ x. k (x .place) (x .inside) u m (rw (x .held) at h)) (λ x. absurd (false≢true (rw (x .held) at h))) (act-places t s f r i))
 
 -- the ends of a transaction ------------------------------------------------------------------------
 
@@ -61,10 +61,10 @@ step-released o t s ls f e k = grant-released o t ls (act t s f) e (λ r i u m h
 none-other : (t : ℕ) (a : Marked) (u : ℕ) (m : Mode) → none-of t (a .held) u m ≡ true → (eqb u t ≡ false) × (a .held u m ≡ true)
 none-other t a u m h = by-test (eqb u t) (λ e. absurd (false≢true (rw e at h))) (λ e. (e, rw e at h))
 
-commit-released : (o : ℕ → Bool) (t : ℕ) (f : Tree) → Released o f → Released (λ u. not (eqb u t) && o u) (commit-tree t f)
+commit-released : (o : ℕ → Bool) (n t : ℕ) (f : Tree) → Released o f → Released (λ u. not (eqb u t) && o u) (commit-tree n t f)
 unfolding Released commit-tree
-commit-released o t f k r i u m h =
-    let a = in-part (seen-by t) (lasting t) f i in
+commit-released o n t f k r i u m h =
+    let a = in-part (seen-by t) (lasting n t) f i in
     let x = none-other t (a .0 .it) u m (rw (a .3) at h) in
     rw (x .0) (k (a .0) (a .1) u m (x .1))
 
@@ -92,11 +92,12 @@ call-kept M k = every-call (λ c n. Kept (n .state)) M (record {
   at-unread = λ c i. k;
   at-load = λ d h. load-released (M .header .is-open) d;
   at-begin = λ t h o r i u m e. rw (k r i u m e) (or-true (eqb u t));
-  at-commit = λ t h o. commit-released (M .header .is-open) t (M .tree) k;
+  at-commit = λ t h o l. commit-released (M .header .is-open) (next-count M) t (M .tree) k;
   at-abort = λ t h o. abort-released (M .header .is-open) t (M .tree) k;
   at-wait = λ t s room h o e z. k;
   at-step = λ t s room h o p. step-released (M .header .is-open) t s _ (M .tree) o k;
   at-write = k;
+  at-count = λ n h. k;
 })
 
 calls-kept : (M : State) → Kept M → (cs : List Call) → Kept (state-after M cs)

@@ -3,7 +3,7 @@ use mathlib.Core.Path.{_≡_, refl, ap, _∙_}
 use mathlib.Core.Bool.{false}
 use mathlib.Core.List.{List, [], _∷_}
 use Rattle.protocol.specs.State.{State, WaitSets, start-state}
-use Rattle.protocol.specs.Calls.{Call, start, load, begin, commit, abort, step, write, Next, next}
+use Rattle.protocol.specs.Calls.{Call, start, load, begin, commit, abort, step, write, count-of, Next, next}
 use Rattle.protocol.specs.History.{history, state-after, is-granted, waited-for, sets-left, sets-after}
 use Rattle.serializability.specs.Theorem.{AsTold}
 use Rattle.serializability.specs.Laws.Outcomes.{every-call}
@@ -17,6 +17,7 @@ refused-left (commit t) r = refl
 refused-left (abort t) r = refl
 refused-left (step t s room) r = refl
 refused-left write r = refl
+refused-left (count-of n) r = refl
 
 -- one call
 abbrev SetsLeft : WaitSets → Call → Next → Type 0
@@ -29,11 +30,12 @@ sets-next c M = every-call (SetsLeft (M .header .remembered)) M (record {
   at-unread = λ c i. refl;
   at-load = λ d h. refl;
   at-begin = λ t i o. refl;
-  at-commit = λ t i o. refl;
+  at-commit = λ t i o l. refl;
   at-abort = λ t i o. refl;
   at-wait = λ t s room i o r z. rw z;
   at-step = λ t s room i o p. refl;
   at-write = refl;
+  at-count = λ n h. refl;
 }) c
 
 -- lists of calls

@@ -1,36 +1,57 @@
 -- Logs of granted steps, and runs of them by the plain rules. Logs whose locks do not clash may be run in either order.
 use Prim.Native.Nat.{ℕ}
 use mathlib.Core.Path.{_≡_, refl, sym, ap, _∙_}
-use mathlib.Core.Bool.{true, false}
+use mathlib.Core.Bool.{Bool, true, false, false≢true, true≢false}
 use mathlib.Core.List.{List, [], _∷_, _++_, map, List·Memᴰ, List·Memᴰ·head, List·Memᴰ·tail, List·Memᴰ·not-nil}
-use Rattle.tree.specs.Lists.{has}
-use Rattle.tree.specs.Document.{Document, at}
-use Rattle.tree.specs.Steps.{Step, target, inserts, Value, answer, fits, after, plain-value, plain-document, plain-answers}
+use mathlib.Core.List.{List·Memᴰ·eq-of-singleton}
+use mathlib.Core.Logic.{_⊎_, inl, inr, ⊎-elim}
+use lib.Dec.{eqb}
+use Rattle.tree.specs.Lists.{any, has, keep}
+use Rattle.tree.specs.Document.{Document, lines, in-subtree, select, here, at, numbers}
+use Rattle.tree.specs.Steps.{Step, T, C, R, U, D, I, TT, RR, UU, target, inserts, Value, answer, fits, after, named, plain-value}
+use Rattle.tree.specs.Steps.{plain-document, plain-answers}
+use Rattle.tree.specs.Laws.Tests.{or-cases}
+use Rattle.tree.specs.Laws.Lists.{any-append, in-map, in-keep, has-in}
+use Rattle.tree.specs.Counts.{touches, plain-touched}
 use Rattle.locks.specs.Needs.{Lock, needs}
 use Rattle.locks.specs.Laws.Compatible.{Compatible}
-use Rattle.serializability.specs.Laws.Lines.{Unique}
+use Rattle.serializability.specs.Laws.Tests.{by-test}
+use Rattle.serializability.specs.Laws.Lines.{line-number, of-lines, line-here, Unique}
 use Rattle.serializability.specs.Laws.Views.{Same}
 use Rattle.serializability.specs.Laws.Classes.{Absent}
+use Rattle.serializability.specs.Laws.Kept.{fits-here}
 use Rattle.serializability.specs.Laws.Diamond.{swap}
 use Rattle.serializability.specs.Laws.Uniqueness.{unique-after, absent-after, inserts-apart}
 
--- a granted step, with its answer and its locks
+-- a granted step, with its answer, its locks and the nodes that it touched
 pub record Entry : Type 0 where
   pub step : Step
   pub value : Value
   pub held : List Lock
+  pub touched : List ℕ
 
--- the plain rules allow the step on d, and give it this answer and these locks
+-- the plain rules allow the step on d, give it this answer and these locks, and let it touch these nodes
 pub record Valid (x : Entry) (d : Document) : Type 0 where
   pub fit : fits (x .step) d ≡ true
   pub says : answer (x .step) d ≡ x .value
   pub need : needs (x .step) d ≡ x .held
+  pub touch : touches (x .step) d ≡ x .touched
 
 pub valid-there : (x : Entry) (d e : Document) → Same (x .step) d e → Valid x d → Valid x e
-valid-there x d e s v = record { fit = s .fit ∙ v .fit; says = s .says ∙ v .says; need = s .need ∙ v .need }
+valid-there x d e s v = record {
+  fit = s .fit ∙ v .fit;
+  says = s .says ∙ v .says;
+  need = s .need ∙ v .need;
+  touch = s .touched ∙ v .touch;
+}
 
 pub valid-back : (x : Entry) (d e : Document) → Same (x .step) d e → Valid x e → Valid x d
-valid-back x d e s v = record { fit = sym (s .fit) ∙ v .fit; says = sym (s .says) ∙ v .says; need = sym (s .need) ∙ v .need }
+valid-back x d e s v = record {
+  fit = sym (s .fit) ∙ v .fit;
+  says = sym (s .says) ∙ v .says;
+  need = sym (s .need) ∙ v .need;
+  touch = sym (s .touched) ∙ v .touch;
+}
 
 -- the entries, run in order on d, are all valid and leave e
 abbrev pub Run : Document → List Entry → Document → Type 0
@@ -70,6 +91,47 @@ pub run-answers : (d : Document) (l : List Entry) (e : Document) → Run d l e
 unfolding plain-answers
 run-answers d [] e r = refl
 run-answers d (x ∷ l) e r = rw (r .0 .fit, r .0 .says, run-answers (after (x .step) d) l e (r .1))
+
+-- and touches the nodes that the plain run touches
+abbrev pub touched-in : List Entry → ℕ → Bool
+touched-in l m = any (λ x. has m (x .touched)) l
+
+pub run-touched : (d : Document) (l : List Entry) (e : Document) → Run d l e → (m : ℕ)
+    → has m (plain-touched d (map (λ x. x .step) l)) ≡ touched-in l m
+unfolding plain-touched
+run-touched d [] e r m = refl
+run-touched d (x ∷ l) e r m =
+    rw (r .0 .fit, r .0 .touch, any-append (λ q. eqb q m) (x .touched), run-touched (after (x .step) d) l e (r .1) m)
+
+-- what a step touches is there, or is what it inserts
+touches-there : (s : Step) (d : Document) → here (target s) d ≡ true → (m : ℕ) → has m (touches s d) ≡ true
+    → (here m d ≡ true) ⊎ (has m (inserts s) ≡ true)
+unfolding select
+touches-there (T n) d h m e = absurd (false≢true e)
+touches-there (C n k) d h m e = absurd (false≢true e)
+touches-there (R n) d h m e = absurd (false≢true e)
+touches-there (U n b) d h m e = inl (rw (List·Memᴰ·eq-of-singleton (has-in m (n ∷ []) e)) h)
+touches-there (D n) d h m e = absurd (false≢true e)
+touches-there (I m' kind b n k) d h m e = inr e
+touches-there (TT n) d h m e = absurd (false≢true e)
+touches-there (RR n) d h m e = absurd (false≢true e)
+touches-there (UU n a b) d h m e =
+    let found = keep (named a) (select (in-subtree n) d) in
+    let l = in-map line-number found (has-in m (numbers found) e) in
+    let i = in-keep (in-subtree n) (lines d) (in-keep (named a) (select (in-subtree n) d) (l .1) .0) in
+    inl (line-here m d (l .0) (of-lines d (l .0) (i .0)) (sym (l .2)))
+
+-- what a run touches was there, or the run brings it in
+pub run-there : (d : Document) (l : List Entry) (e : Document) → Run d l e → (m : ℕ) → touched-in l m ≡ true
+    → (here m d ≡ true) ⊎ ((y : Entry) × List·Memᴰ y l × (has m (inserts (y .step)) ≡ true))
+run-there d [] e r m h = absurd (false≢true h)
+run-there d (x ∷ l) e r m h = by-test (has m (inserts (x .step))) (λ i. inr (x, List·Memᴰ·head refl, i)) (λ i. by-test (here m d) inl
+    (λ j. ⊎-elim
+    (λ k. absurd (⊎-elim (λ p. true≢false (sym p ∙ j)) (λ p. true≢false (sym p ∙ i))
+    (touches-there (x .step) d (fits-here (x .step) d (r .0 .fit)) m (rw (r .0 .touch) k))))
+    (λ k. ⊎-elim (λ p. absurd (true≢false (sym p ∙ absent-after m (x .step) d i j)))
+    (λ p. inr (p .0, List·Memᴰ·tail (p .1), p .2)) (run-there (after (x .step) d) l e (r .1) m k))
+    (or-cases (has m (x .touched)) (touched-in l m) h)))
 
 -- locks between entries --------------------------------------------------------------------
 

@@ -187,15 +187,15 @@ module _ (t : ℕ) (nz : t ≡ nobody → ⊥) (S : ℕ → Bool) where
   lasting-done u = by-test (eqb u t) (λ e. rw e (sym (or-true (eqb u 0)))) (λ e. rw e)
 
   -- after a commit a set shows what it showed with t
-  pub commit-shown : (f : Tree) → document-of S (commit-tree t f) ≡ document-of (plus t S) f
+  pub commit-shown : (k : ℕ) (f : Tree) → document-of S (commit-tree k t f) ≡ document-of (plus t S) f
   unfolding document-of commit-tree
-  commit-shown f = view-view (seen-by t) (lasting t) (shown S) (as-shown S) f ∙ view-same (shown (plus t S)) _
+  commit-shown k f = view-view (seen-by t) (lasting k t) (shown S) (as-shown S) f ∙ view-same (shown (plus t S)) _
       (as-shown (plus t S)) _ f sight (λ a e. ap (with-content (a .now)) (words a))
     where
-      words : (a : Marked) → as-shown S (lasting t a) .content ≡ as-shown (plus t S) a .content
+      words : (a : Marked) → as-shown S (lasting k t a) .content ≡ as-shown (plus t S) a .content
       words a = let u = writer-of (a .update) in by-test (eqb u t) (λ e. rw (e, or-true (eqb u 0))) (λ e. rw e)
 
-      sight : (a : Marked) → (seen-by t a && shown S (lasting t a)) ≡ shown (plus t S) a
+      sight : (a : Marked) → (seen-by t a && shown S (lasting k t a)) ≡ shown (plus t S) a
       sight a = rw (lasting-done (a .inserter)) (by-test (eqb (a .deleter) t)
           (λ e. rw (e, eqb-true (a .deleter) t e, ne-eqb t 0 nz) (sym (and-false (done-by (plus t S) (a .inserter))))) (λ e. rw e))
 

@@ -10,6 +10,7 @@ use Rattle.tree.specs.Forest.{row}
 use Rattle.tree.specs.Document.{Node, Document, Line, lines, is, child, in-subtree, select, first-line, some?, here, at}
 use Rattle.tree.specs.Steps.{Step, T, C, R, U, D, I, TT, RR, UU, target, inserts, fits, answer, kth, numbers-are, with-content, rewrite}
 use Rattle.tree.specs.Steps.{remove}
+use Rattle.tree.specs.Counts.{touches}
 use Rattle.tree.specs.Laws.Lists.{keep-keep, keep-all, keep-map, in-keep, map-map, map-self}
 use Rattle.tree.specs.Laws.Put.{put-kept}
 use Rattle.locks.specs.Needs.{needs, locks}
@@ -71,11 +72,12 @@ pub record Views (s : Step) (d e : Document) : Type 0 where
   pub contents : reads s ≡ true → Whole (within (reach s) (target s)) d e
   pub absent : (m : ℕ) → has m (inserts s) ≡ true → here m e ≡ here m d
 
--- the step fits, is answered and needs locks in e as in d
+-- the step fits, is answered, needs locks and touches nodes in e as in d
 pub record Same (s : Step) (d e : Document) : Type 0 where
   pub fit : fits s e ≡ fits s d
   pub says : answer s e ≡ answer s d
   pub need : needs s e ≡ needs s d
+  pub touched : touches s e ≡ touches s d
 
 some-shape : (l : List Line) → some? (map shape l) ≡ some? l
 some-shape [] = refl
@@ -112,7 +114,12 @@ module _ (t : Line → Bool) (d e : Document) (h : Shapes t d e) where
   shapes-map f q = sym (map-map f shape f (select t e) (λ r m. q r)) ∙ ap (map f) h ∙ map-map f shape f (select t d) (λ r m. q r)
 
 pub views-same : (s : Step) (d e : Document) → Views s d e → Same s d e
-views-same s d e v = record { fit = go s v .0; says = go s v .1; need = ap (locks s) (shapes-above (is (target s)) d e (v .node)) }
+views-same s d e v = record {
+  fit = go s v .0;
+  says = go s v .1;
+  need = ap (locks s) (shapes-above (is (target s)) d e (v .node));
+  touched = go s v .2;
+}
   where
     there : {s : Step} → Views s d e → here (target s) e ≡ here (target s) d
     there {s} w = shapes-some (is (target s)) d e (w .node)
@@ -120,19 +127,20 @@ views-same s d e v = record { fit = go s v .0; says = go s v .1; need = ap (lock
     kind : {s : Step} → Views s d e → at (target s) e .it .kind ≡ at (target s) d .it .kind
     kind {s} w = shapes-kind (is (target s)) d e (w .node)
 
-    go : (s : Step) → Views s d e → (fits s e ≡ fits s d) × (answer s e ≡ answer s d)
-    go (T n) w = (rw (there w), rw (kind w, shapes-above (is n) d e (w .node)))
-    go (C n k) w = (rw (there w), shapes-kth (child n) d e (w .lines) k)
-    go (R n) w = (rw (there w, kind w), rw (w .contents refl))
-    go (U n b) w = (rw (there w, kind w), refl)
-    go (D n) w = (rw (there w, kind w), refl)
+    go : (s : Step) → Views s d e → (fits s e ≡ fits s d) × (answer s e ≡ answer s d) × (touches s e ≡ touches s d)
+    go (T n) w = (rw (there w), rw (kind w, shapes-above (is n) d e (w .node)), refl)
+    go (C n k) w = (rw (there w), shapes-kth (child n) d e (w .lines) k, refl)
+    go (R n) w = (rw (there w, kind w), rw (w .contents refl), refl)
+    go (U n b) w = (rw (there w, kind w), refl, refl)
+    go (D n) w = (rw (there w, kind w), refl, refl)
     go (I m k b n i) w = (
       rw (there w, kind w, w .absent m (rw (eq-eqb m m refl)), shapes-map (child n) d e (w .lines) (λ r. r .it .kind) (λ r. refl)),
       refl,
+      refl,
     )
-    go (TT n) w = (rw (there w), ap numbers-are (shapes-map (in-subtree n) d e (w .lines) (λ r. r .it .number) (λ r. refl)))
-    go (RR n) w = (rw (there w), rw (w .contents refl))
-    go (UU n a b) w = (rw (there w), rw (w .contents refl))
+    go (TT n) w = (rw (there w), ap numbers-are (shapes-map (in-subtree n) d e (w .lines) (λ r. r .it .number) (λ r. refl)), refl)
+    go (RR n) w = (rw (there w), rw (w .contents refl), refl)
+    go (UU n a b) w = (rw (there w), rw (w .contents refl), rw (w .contents refl))
 
 -- new contents: nothing but contents changes; nothing at all where no line is rewritten -------
 

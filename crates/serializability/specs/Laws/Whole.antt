@@ -2,8 +2,8 @@
 -- to the one that the tree shows of them. A granted step keeps this.
 use Prim.Native.Nat.{ℕ}
 use mathlib.Core.Path.{_≡_, refl, sym, ap, _∙_}
-use mathlib.Core.Bool.{Bool, true, false, false≢true, true≢false}
-use mathlib.Core.List.{List, [], _∷_, _++_, List·Memᴰ, List·Memᴰ·head, List·Memᴰ·tail, List·Memᴰ·not-nil, Memᴰ·append-left}
+use mathlib.Core.Bool.{Bool, true, false, _&&_, _||_, false≢true, true≢false, or-false, and-true}
+use mathlib.Core.List.{List, [], _∷_, _++_, append-nil, List·Memᴰ, List·Memᴰ·head, List·Memᴰ·tail, List·Memᴰ·not-nil, Memᴰ·append-left}
 use mathlib.Core.List.{Memᴰ·append-right, List·Memᴰ·append-cases}
 use mathlib.Core.Logic.{_⊎_, inl, inr, ⊎-elim}
 use lib.Dec.{eqb}
@@ -12,22 +12,24 @@ use Rattle.tree.specs.Lists.{any, every, has}
 use Rattle.tree.specs.Document.{Document, here, at}
 use Rattle.tree.specs.Steps.{Step, target, inserts, fits, answer, after}
 use Rattle.tree.specs.Laws.Tests.{refuted}
-use Rattle.tree.specs.Laws.Lists.{at-any, any-at, has-in, in-has}
+use Rattle.tree.specs.Laws.Lists.{at-any, any-at, any-append, has-in, in-has}
+use Rattle.tree.specs.Counts.{touches}
 use Rattle.locks.specs.Needs.{Lock, needs}
 use Rattle.locks.specs.Laws.Compatible.{Compatible}
-use Rattle.serializability.specs.Laws.Tests.{by-test, affirmed}
+use Rattle.serializability.specs.Laws.Tests.{by-test, affirmed, eqb-sym}
 use Rattle.serializability.specs.Laws.Views.{views-same}
 use Rattle.serializability.specs.Laws.Classes.{Absent}
-use Rattle.serializability.specs.Laws.Runs.{Entry, Valid, Clear}
+use Rattle.serializability.specs.Laws.Runs.{Entry, Valid, touched-in, run-there, Clear}
 use Rattle.serializability.specs.Laws.Orders.{Distinct, permutation-back, to-front}
 use Rattle.serializability.specs.Laws.Serial.{Serial, reorder, noted, in-noted, Grantable, grant, grant-other}
-use Rattle.protocol.specs.State.{nobody, State, Tree, is-transaction, number-held, seen-by, shown, as-shown, callers-document, document-of}
-use Rattle.protocol.specs.State.{act, with-tree, remembering}
+use Rattle.protocol.specs.State.{nobody, Header, State, Marked, Tree, is-transaction, number-held, seen-by, shown, as-shown}
+use Rattle.protocol.specs.State.{callers-document, document-of, touched-by, act, with-header, with-tree}
 use Rattle.serializability.specs.Laws.Outcomes.{Passed}
 use Rattle.serializability.specs.Laws.Shown.{Place, Inside, path, numbers-of, grant-shown}
 use Rattle.serializability.specs.Laws.Numbers.{number-of, place-held}
 use Rattle.serializability.specs.Laws.Marks.{Within, Covered, target-place}
 use Rattle.serializability.specs.Laws.Seen.{seen, unheld-absent, act-shown, act-hidden}
+use Rattle.serializability.specs.Laws.Touched.{writes, own-written, inserted-touched, touches-written, writer-touched}
 use Rattle.serializability.specs.Laws.Keeping.{act-covered, grant-covered}
 use Rattle.serializability.specs.Laws.Standing.{Standing, standing-carried, no-wait-compatible}
 use Rattle.serializability.specs.Laws.Granting.{after-step, step-carries, step-standing, Old-place, New-place, act-places, step-place}
@@ -66,6 +68,8 @@ pub record Good (c : Document) (log : ℕ → List Entry) (M : State) : Type 0 w
   pub standing : (u : ℕ) (y : Entry) → List·Memᴰ y (log u) → Standing (M .tree) u (y .step) (y .held)
   -- a node that a transaction inserted is one that its log brought in
   pub brought : (r : Place) → Inside r (M .tree) → (r .it .inserter ≡ nobody → ⊥) → Brought log (number-of r) (r .it .inserter)
+  -- the nodes that bear the marks of a transaction that inserted or updated them are those that its log touched
+  pub touched : (r : Place) → Inside r (M .tree) → (u : ℕ) → (u ≡ nobody → ⊥) → touched-by u (r .it) ≡ touched-in (log u) (number-of r)
   pub serial : (b : List ℕ) → Distinct b → Serial c b log (document-of (λ u. has u b) (M .tree))
 
 -- whoever has a log is open
@@ -73,22 +77,25 @@ pub log-open : {c : Document} {log : ℕ → List Entry} {M : State} → Good c 
     → M .header .is-open u ≡ true
 log-open g u i = affirmed _ (λ e. List·Memᴰ·not-nil (rw (g .closed u e) at i))
 
--- neither logs nor documents look at the remembered wait sets
-pub good-remembering : {c : Document} {log : ℕ → List Entry} {M : State} → Good c log M → (t : ℕ) (S : ℕ → Bool)
-    → Good c log (remembering t S M)
-good-remembering g t S = record {
-  closed = g .closed;
-  numbered = g .numbered;
+-- of the header, logs and documents look at nothing but who is open
+pub good-header : {c : Document} {log : ℕ → List Entry} {M : State} → Good c log M → (h : Header)
+    → ((u : ℕ) → h .is-open u ≡ M .header .is-open u) → Good c log (with-header h M)
+good-header g h e = record {
+  closed = λ u i. g .closed u (sym (e u) ∙ i);
+  numbered = λ u i. g .numbered u (sym (e u) ∙ i);
   covered = g .covered;
   standing = g .standing;
   brought = g .brought;
+  touched = g .touched;
   serial = g .serial;
 }
 
 -- a granted step -------------------------------------------------------------------------------
 
 abbrev pub entry : ℕ → State → Step → Entry
-entry t M s = record { step = s; value = answer s (callers-document t (M .tree)); held = needs s (callers-document t (M .tree)) }
+entry t M s =
+    let d = callers-document t (M .tree) in
+    record { step = s; value = answer s d; held = needs s d; touched = touches s d }
 
 abbrev pub stepped : ℕ → Step → State → State
 stepped t s M = with-tree M (after-step t s (needs s (callers-document t (M .tree))) (M .tree))
@@ -161,7 +168,7 @@ module _ (c : Document) (log : ℕ → List Entry) (M : State) (g : Good c log M
           let p = to-front t b e in
           let v : Valid x (document-of S f) =
           let w = views-same s d (document-of S f) (seen (holds log) f (g .covered) t nz S e s hs compat unheld) in
-          record { fit = w .fit ∙ fit; says = w .says; need = w .need } in
+          record { fit = w .fit ∙ fit; says = w .says; need = w .need; touch = w .touched } in
           rw (act-shown (holds log) f (g .covered) t nz S e s hs compat)
           (reorder c (t ∷ p .0) b (noted t x log) (after s (document-of S f)) (permutation-back (p .1))
           (grant c t (p .0) log (document-of S f) x (reorder c b (t ∷ p .0) log (document-of S f) (p .1) before) v grantable absent))
@@ -192,14 +199,53 @@ module _ (c : Document) (log : ℕ → List Entry) (M : State) (g : Good c log M
       → Brought (noted t x log) (number-of r) (r .it .inserter)
   step-brought r i ne =
       let a = step-place t s (needs s d) f r i in
-      brought-as (noted t x log) (a .2) (a .3) (go (a .0) (λ e. ne (a .3 ∙ e)) (act-places t s f (a .0) (a .1)))
+      rw (a .2) (go (a .0 .it) (λ e. ne (rw (a .2) e)) (act-places t s f (a .0) (a .1)))
     where
-      go : (z : Place) → (z .it .inserter ≡ nobody → ⊥) → Old-place f z ⊎ New-place t s z
-          → Brought (noted t x log) (number-of z) (z .it .inserter)
-      go z nz (inl w) =
-          let y = g .brought (w .0) (w .1) (λ e. nz (w .3 ∙ e)) in
-          brought-as (noted t x log) (w .2) (w .3) (y .0, kept-noted (w .0 .it .inserter) (y .1), y .2)
-      go z nz (inr w) = brought-as (noted t x log) refl (w .1) (x, last-noted, w .0)
+      go : (a : Marked) → (a .inserter ≡ nobody → ⊥) → Old-place t s f a ⊎ New-place t s a
+          → Brought (noted t x log) (a .now .number) (a .inserter)
+      go a nz (inl w) =
+          let y = g .brought (w .place) (w .inside) (λ e. nz (w .inserter ∙ e)) in
+          brought-as (noted t x log) (w .number) (w .inserter) (y .0, kept-noted (w .place .it .inserter) (y .1), y .2)
+      go a nz (inr w) = brought-as (noted t x log) refl (w .inserter) (x, last-noted, w .number)
+
+  -- the number of a node that the step inserts no log touched: it is in no document, and no log brought it in
+  not-yet : (u m : ℕ) → has m (inserts s) ≡ true → touched-in (log u) m ≡ false
+  not-yet u m h = refuted _ (λ e. ⊎-elim (λ i. true≢false (sym i ∙ absent m h))
+      (λ y. let r = g .standing u (y .0) (y .1) .new m (y .2) in true≢false (sym (place-held m f (r .1) (r .2)) ∙ unheld m h))
+      (run-there c (log u) _ (rw (append-nil (log u)) at (g .serial (u ∷ []) refl .run)) m e))
+
+  -- what the log of u touched after the step
+  touched-noted : (u m : ℕ) → touched-in (noted t x log u) m ≡ (touched-in (log u) m || (eqb u t && has m (touches s d)))
+  touched-noted u m = by-test (eqb u t)
+      (λ e. rw (e, eqb-true u t e, any-append (λ y. has m (y .touched)) (log t) (x ∷ []), or-false (has m (touches s d))))
+      (λ e. rw (e, or-false (touched-in (log u) m)))
+
+  step-touched : (r : Place) → Inside r (after-step t s (needs s d) f) → (u : ℕ) → (u ≡ nobody → ⊥)
+      → touched-by u (r .it) ≡ touched-in (noted t x log u) (number-of r)
+  step-touched r i u nu =
+      let a = step-place t s (needs s d) f r i in
+      rw (a .2, touched-noted u (a .0 .it .now .number)) (go (a .0 .it) (act-places t s f (a .0) (a .1)))
+    where
+      go : (a : Marked) → Old-place t s f a ⊎ New-place t s a
+          → touched-by u a ≡ (touched-in (log u) (a .now .number) || (eqb u t && has (a .now .number) (touches s d)))
+      go a (inl w) = rw (
+        w .number,
+        w .inserter,
+        w .writer,
+        ← g .touched (w .place) (w .inside) u nu,
+        touches-written t f (g .covered .distinct) (w .place) (w .inside) s unheld,
+      )
+          (writer-touched t u nu (writes t s (w .place)) (w .place .it)
+          (own-written (holds log) f (g .covered) t nz s hs compat (w .place) (w .inside)))
+      go a (inr w) = rw (
+        w .inserter,
+        w .writer,
+        ne-eqb nobody u (λ e. nu (sym e)),
+        or-false (eqb t u),
+        eqb-sym t u,
+        not-yet u (a .now .number) (w .number),
+        inserted-touched s d (a .now .number) (w .number),
+      ) (sym (and-true (eqb u t)))
 
   -- a granted step keeps all this
   pub step-good : Good c (noted t x log) (stepped t s M)
@@ -211,6 +257,7 @@ module _ (c : Document) (log : ℕ → List Entry) (M : State) (g : Good c log M
         (λ l i. in-locks-of (noted t x log t) x last-noted l i));
     standing = step-stands;
     brought = step-brought;
+    touched = step-touched;
     serial = step-serial;
   }
     where

@@ -77,6 +77,16 @@ part-same s s′ k n l h =
     getD-take n (drop k s′) i 0 b ∙ getD-drop k s′ i 0 ∙ h (k + i) (omega arith) (omega arith) ∙ sym (getD-drop k s i 0)
     ∙ sym (getD-take n (drop k s) i 0 b))
 
+pub double-word-same : (s s′ : List ℕ) (k : ℕ) → ((j : ℕ) → k ≤ j → j < k + 4 → getD s′ j 0 ≡ getD s j 0)
+    → double-word s′ k ≡ double-word s k
+unfolding double-word word
+double-word-same s s′ k h = rw (
+  h k (omega arith) (omega arith),
+  h (k + 1) (omega arith) (omega arith),
+  h (k + 2) (omega arith) (omega arith),
+  h (k + 2 + 1) (omega arith) (omega arith),
+)
+
 -- words, parts and the rest outside of what may differ: if the change begins before their end, it ends before them
 module _ {k n : ℕ} {s s′ : List ℕ} (o : Only k n s s′) where
   pub word-off : (i : ℕ) → (k < i + 2 → k + n ≤ i) → word s′ i ≡ word s i

@@ -8,7 +8,7 @@ use Rattle.table.specs.Layout.{tabulate, entry-at, word, double-word, co
 use Rattle.table.specs.Layout.{Sized, Layout, Left, header}
 use Rattle.table.specs.Laws.Bytes.{Only, only-both, only-word, put-word, word-put, word-off}
 use Rattle.table.specs.Laws.Bytes.{only-double-word, put-double-word, double-word-put}
-use Rattle.table.specs.Laws.Nodes.{Placed, Copy, placed-as, same-place, same-cell, same-held, same-header, left-of}
+use Rattle.table.specs.Laws.Nodes.{Placed, Copy, placed-as, same-place, same-cell, same-held, left-of}
 use Rattle.table.specs.Outline.{Entered}
 
 -- another place
@@ -52,10 +52,10 @@ module _ {s s′ : List ℕ} (o : Only 10 8198 s s′) where
 
   -- each place has the slot of one in s, and no two the same: `back` says where the slot of a place of s went
   pub outline-left :
-      Layout s → (n : ℕ) → count s′ ≡ n → 1 ≤ n → n ≤ 1024 → (back : ℕ → ℕ) →
+      Layout s → header s′ ≡ header s → (n : ℕ) → count s′ ≡ n → 1 ≤ n → n ≤ 1024 → (back : ℕ → ℕ) →
       ((i : ℕ) → i < 1024 → (j : ℕ) × (j < 1024) × (slot s′ i ≡ slot s j) × (back j ≡ i) × (i < n → Sized (cell s (slot s j)))) →
       (ns : List Entry) → tabulate n (entry s′) ≡ ns → Left s s′ (header s) ns
-  outline-left h n c a b back from ns e =
+  outline-left h same n c a b back from ns e =
       left-of o (omega arith) (omega arith) h n c a b back (λ i l. let f = from i l in (f .0, f .1, f .2, f .3))
       (λ i l. let f = from i (omega arith) in rw (f .2, same-cell o (slot s (f .0)) (λ z. omega arith)) (f .4 l))
-      (same-header o (omega arith) (omega arith)) e
+      same e

@@ -12,17 +12,17 @@ use Rattle.locks.specs.Modes.{ModeSet}
 use Rattle.protocol.specs.State.{nobody, unwritten, wrote, writer-of, Marked, with-update}
 use Rattle.table.specs.Lists.{modify}
 use Rattle.table.specs.Flat.{second}
-use Rattle.table.specs.Layout.{entry-at, cell-at, word, double-word, slot, depth, number, cell, decode, entry, nodes}
+use Rattle.table.specs.Layout.{entry-at, cell-size, cell-at, word, double-word, slot, depth, number, cell, decode, entry, nodes}
 use Rattle.table.specs.Layout.{stored, update-of, no-entry, Sized, Layout, Kept}
 use Rattle.table.specs.Fields.{field, storable, with-field, saved-bytes, saved-size}
 use Rattle.table.specs.Laws.Lists.{getD-set-eqb}
-use Rattle.table.specs.Laws.Bytes.{only-set, only-wider, part-at, part-set}
+use Rattle.table.specs.Laws.Bytes.{only-set, only-wider, double-word-off, part-at, part-set}
 use Rattle.table.specs.Laws.Nodes.{node-at, length-nodes, length-cell, cell-kept}
 
 -- a byte of the cell of the node at place i
-pub cell-byte : (s : List ℕ) (k o : ℕ) → o < 70 → getD s (cell-at k + o) 0 ≡ getD (cell s k) o 0
+pub cell-byte : (s : List ℕ) (k o : ℕ) → o < cell-size → getD s (cell-at k + o) 0 ≡ getD (cell s k) o 0
 unfolding cell
-cell-byte s k o h = sym (part-at s (cell-at k) 70 o h)
+cell-byte s k o h = sym (part-at s (cell-at k) cell-size o h)
 
 -- depth and number in an entry of the outline
 pub depth-at : (s : List ℕ) (i : ℕ) → i < length (nodes s) → word s (entry-at i + 2) ≡ getD (nodes s) i no-entry .0
@@ -55,7 +55,7 @@ field-at s i o k e h l = rw (e, node-at s i (omega (arith, length-nodes s)), cel
     go (suc (suc (suc (suc o)))) l = absurd (omega arith)
 
 -- one of these bytes stored
-module _ (o v : ℕ) (c : List ℕ) (l : o < 4) (e : length c ≡ 70) where
+module _ (o v : ℕ) (c : List ℕ) (l : o < 4) (e : length c ≡ cell-size) where
   size-byte : (j : ℕ) → 4 ≤ j → getD (set c o v) j 0 ≡ getD c j 0
   size-byte j h = getD-set-other c o j v 0 (λ q. omega arith)
 
@@ -64,7 +64,13 @@ module _ (o v : ℕ) (c : List ℕ) (l : o < 4) (e : length c ≡ 70) where
   unfolding decode
   decode-byte m h =
       let k : o < length c = omega arith in
-      rw (drop-set-lt 6 c o v (omega arith), drop-set-lt 38 c o v (omega arith), size-byte 4 (omega arith), size-byte 5 (omega arith))
+      rw (
+        drop-set-lt 6 c o v (omega arith),
+        drop-set-lt 38 c o v (omega arith),
+        size-byte 4 (omega arith),
+        size-byte 5 (omega arith),
+        double-word-off (only-set c o v) 70 (λ z. omega arith),
+      )
       (simp getD-set-eqb)
 
   sized-byte : ((cond (eqb o 1) v (getD c 1 0) ≡ nobody → ⊥) → getD c 5 0 ≤ 32) → Sized c → Sized (set c o v)
@@ -87,7 +93,7 @@ saved-field (suc (suc o)) v c p z n = z .saved (λ q. n (rw (ne-eqb (suc (suc o)
 
 -- byte o of the cell of the node at i stored, whose slot is k
 module _ (s : List ℕ) (i o v k : ℕ) (e : k ≡ slot s i) (h : Layout s) (l : i < length (nodes s)) (b : o < 4) where
-  in-cell : length (cell s k) ≡ 70
+  in-cell : length (cell s k) ≡ cell-size
   in-cell = length-cell s k (h .size) (rw e (h .slots i (omega (arith, length-nodes s, h .room))))
 
   byte-kept : (g : Marked → Marked) → ((m : ℕ) (q : ℕ → ModeSet) → decode m (set (cell s k) o v) q ≡ g (decode m (cell s k) q))
@@ -95,8 +101,8 @@ module _ (s : List ℕ) (i o v k : ℕ) (e : k ≡ slot s i) (h : Layout s) (l :
       → Kept s (set s (cell-at k + o) v) (modify i (second g) (nodes s))
   unfolding cell
   byte-kept g d f =
-      let p : cell (set s (cell-at k + o) v) k ≡ set (cell s k) o v = part-set s (cell-at k) 70 o v (omega arith) in
-      cell-kept {k = k} (only-wider (cell-at k) 70 (only-set s (cell-at k + o) v) (omega arith) (omega arith)) h i (sym e)
+      let p : cell (set s (cell-at k + o) v) k ≡ set (cell s k) o v = part-set s (cell-at k) cell-size o v (omega arith) in
+      cell-kept {k = k} (only-wider (cell-at k) cell-size (only-set s (cell-at k + o) v) (omega arith) (omega arith)) h i (sym e)
       (omega (arith, length-nodes s)) g (λ m q y z. rw p (d m q)) (λ z. rw p (sized-byte o v (cell s k) b in-cell (f z) z))
 
   -- the one law of the four

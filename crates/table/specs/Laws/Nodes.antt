@@ -1,5 +1,5 @@
 -- What a change of the bytes leaves: one law for all changes, and its cases for the outline, the cells and the lock words.
-use mathlib.Core.Path.{_≡_, refl, sym, ap, ap₂, _∙_, fun-ext}
+use mathlib.Core.Path.{_≡_, refl, sym, ap, _∙_, fun-ext}
 use Prim.Native.Nat.{ℕ, _+_, _-_, _≤_, _<_}
 use mathlib.Core.Bool.{Bool, true, false}
 use mathlib.Core.List.{List}
@@ -10,9 +10,9 @@ use borrow.Author.Tests.{eqb-true, eqb-false}
 use Rattle.locks.specs.Modes.{ModeSet}
 use Rattle.protocol.specs.State.{in-set, WaitSets, Marked, Header}
 use Rattle.table.specs.Lists.{modify}
-use Rattle.table.specs.Layout.{tabulate, state-size, open-at, count-at, entry-at, cell-at, lock-at, count, slot, depth, number, cell}
-use Rattle.table.specs.Layout.{set-at, is-open, remembered, header, held, decode, Entry, entry, nodes, no-entry, Sized, Layout}
-use Rattle.table.specs.Layout.{Left, Kept}
+use Rattle.table.specs.Layout.{tabulate, state-size, open-at, count-at, commits-at, entry-at, cell-size, cell-at, lock-at, count}
+use Rattle.table.specs.Layout.{slot, depth, number, cell, set-at, is-open, remembered, commits, header, held, decode, Entry, entry}
+use Rattle.table.specs.Layout.{nodes, no-entry, Sized, Layout, Left, Kept}
 use Rattle.table.specs.Flat.{second}
 use Rattle.table.specs.Laws.Lists.{length-tabulate, getD-tabulate, tabulate-same, modify-tabulate}
 use Rattle.table.specs.Laws.Bytes.{Only, word-off, double-word-off, part-off, drop-high, length-part}
@@ -27,9 +27,9 @@ pub node-at : (s : List ℕ) (i : ℕ) → i < count s → getD (nodes s) i no-e
 unfolding nodes
 node-at s i h = getD-tabulate (count s) (entry s) i no-entry h
 
-pub length-cell : (s : List ℕ) (k : ℕ) → state-size ≤ length s → k < 1024 → length (cell s k) ≡ 70
+pub length-cell : (s : List ℕ) (k : ℕ) → state-size ≤ length s → k < 1024 → length (cell s k) ≡ cell-size
 unfolding cell
-length-cell s k h l = length-part s (cell-at k) 70 (omega arith)
+length-cell s k h l = length-part s (cell-at k) cell-size (omega arith)
 
 -- the entry of the outline at place i
 pub record Placed (s : List ℕ) (i k d n : ℕ) : Type 0 where
@@ -49,9 +49,9 @@ pub placed-then : {s s′ : List ℕ} {i j k d n : ℕ} → Placed s j k d n →
 placed-then a b = placed-as b (a .slot) (a .depth) (a .number)
 
 -- the header by its fields
-pub header-is : (s : List ℕ) {f : ℕ → Bool} {r : WaitSets} → is-open s ≡ f → remembered s ≡ r → header s
-    ≡ record { is-open = f; remembered = r }
-header-is s e d = ap₂ (λ (f : ℕ → Bool) (r : WaitSets). record { is-open = f; remembered = r }) e d
+pub header-is : (s : List ℕ) {f : ℕ → Bool} {r : WaitSets} {k : ℕ} → is-open s ≡ f → remembered s ≡ r → commits s ≡ k → header s
+    ≡ record { is-open = f; remembered = r; commits = k }
+header-is s e d c = rw (e, d, c)
 
 -- what a change outside of a region leaves there --------------------------------------------
 
@@ -65,10 +65,14 @@ module _ {k n : ℕ} {s s′ : List ℕ} (o : Only k n s s′) where
   unfolding remembered
   same-remembered h = fun-ext (λ t. fun-ext (λ u. rw (word-off o (set-at t) (λ z. omega arith))))
 
-  pub same-header : count-at ≤ k → k + n ≤ set-at 1 → header s′ ≡ header s
-  same-header low high = header-is s′ (same-open (λ z. omega arith)) (same-remembered high)
+  pub same-commits : (k < entry-at 0 → k + n ≤ commits-at) → commits s′ ≡ commits s
+  unfolding commits
+  same-commits h = double-word-off o commits-at h
 
-  pub same-count : (k < entry-at 0 → k + n ≤ count-at) → count s′ ≡ count s
+  pub same-header : count-at ≤ k → (k < entry-at 0 → k + n ≤ commits-at) → k + n ≤ set-at 1 → header s′ ≡ header s
+  same-header low beside high = header-is s′ (same-open (λ z. omega arith)) (same-remembered high) (same-commits beside)
+
+  pub same-count : (k < commits-at → k + n ≤ count-at) → count s′ ≡ count s
   unfolding count
   same-count h = word-off o count-at (λ z. h (omega arith))
 
@@ -80,9 +84,9 @@ module _ {k n : ℕ} {s s′ : List ℕ} (o : Only k n s s′) where
     number = double-word-off o (entry-at i + 4) (λ z. let w = h (omega arith) in omega arith);
   }
 
-  pub same-cell : (j : ℕ) → (k < cell-at j + 70 → k + n ≤ cell-at j) → cell s′ j ≡ cell s j
+  pub same-cell : (j : ℕ) → (k < cell-at j + cell-size → k + n ≤ cell-at j) → cell s′ j ≡ cell s j
   unfolding cell
-  same-cell j h = part-off o (cell-at j) 70 h
+  same-cell j h = part-off o (cell-at j) cell-size h
 
   pub same-held : k + n ≤ lock-at 1 0 → (j : ℕ) → held s′ j ≡ held s j
   unfolding held
@@ -118,9 +122,9 @@ left-of {k} {n} {s} {s′} o low high l m c a b back from z e q =
 -- the count and the outline stay ------------------------------------------------------------
 
 module _ {k n : ℕ} {s s′ : List ℕ} (o : Only k n s s′) (h : Layout s) (mark : 8 ≤ k) (b : k + n ≤ state-size)
-    (out : k < cell-at 0 → k + n ≤ count-at) where
+    (before : k < commits-at → k + n ≤ count-at) (out : k < cell-at 0 → k + n ≤ entry-at 0) where
   kept-count : count s′ ≡ count s
-  kept-count = same-count o (λ x. out (omega arith))
+  kept-count = same-count o before
 
   kept-place : (i : ℕ) → i < 1024 → Copy s i s′ i
   kept-place i l = same-place o i (λ x. let w = out (omega arith) in omega arith)
@@ -152,11 +156,14 @@ module _ {k n : ℕ} {s s′ : List ℕ} (o : Only k n s s′) (h : Layout s) (m
 module _ {k n : ℕ} {s s′ : List ℕ} (o : Only k n s s′) (low : cell-at 0 ≤ k) (h : Layout s) (b : k + n ≤ set-at 1) where
   kept-all : (ns : List Entry) → tabulate (count s) (entry s′) ≡ ns → ((j : ℕ) → j < count s → Sized (cell s′ (slot s j))) → Kept s s′ ns
   kept-all ns e z =
-      kept-left (left-all o h (omega arith) (omega arith) (λ x. omega arith) (same-header o (omega arith) b) ns e z)
+      kept-left (left-all o h (omega arith) (omega arith) (λ x. omega arith) (λ x. omega arith)
+      (same-header o (omega arith) (λ x. omega arith) b) ns e z)
       (length-nodes s′ ∙ same-count o (λ x. omega arith) ∙ sym (length-nodes s))
 
   nodes-as : (i : ℕ) → i < count s → entry s′ i ≡ (depth s i, decode (number s i) (cell s′ (slot s i)) (held s′ (slot s i)))
-  nodes-as i l = let m : count s ≤ 1024 = h .room in entry-as o h (omega arith) (omega arith) (λ x. omega arith) i (omega arith)
+  nodes-as i l =
+      let m : count s ≤ 1024 = h .room in
+      entry-as o h (omega arith) (omega arith) (λ x. omega arith) (λ x. omega arith) i (omega arith)
 
   -- one node changed
   pub kept-of :
@@ -177,13 +184,13 @@ module _ {k n : ℕ} {s s′ : List ℕ} (o : Only k n s s′) (low : cell-at 0 
 
 -- one cell changed -----------------------------------------------------------------------------
 
-module _ {k : ℕ} {s s′ : List ℕ} (o : Only (cell-at k) 70 s s′) where
+module _ {k : ℕ} {s s′ : List ℕ} (o : Only (cell-at k) cell-size s s′) where
   pub other-cell : (j : ℕ) → (j ≡ k → ⊥) → cell s′ j ≡ cell s j
   other-cell j ne = same-cell o j (λ z. omega (arith, ne))
 
   pub cell-kept :
       Layout s → (i : ℕ) → slot s i ≡ k → i < count s → (g : Marked → Marked) →
-      ((m : ℕ) (h : ℕ → ModeSet) → length (cell s k) ≡ 70 → Sized (cell s k) → decode m (cell s′ k) h ≡ g (decode m (cell s k) h)) →
+      ((m : ℕ) (h : ℕ → ModeSet) → length (cell s k) ≡ cell-size → Sized (cell s k) → decode m (cell s′ k) h ≡ g (decode m (cell s k) h)) →
       (Sized (cell s k) → Sized (cell s′ k)) → Kept s s′ (modify i (second g) (nodes s))
   cell-kept h i e l g d z =
       let a : k < 1024 = rw e at (h .slots i (omega (arith, h .room))) in

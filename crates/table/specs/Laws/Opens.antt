@@ -9,7 +9,7 @@ use lib.Dec.{eqb}
 use Rattle.protocol.specs.State.{with-open, struck-header, ended}
 use Rattle.table.specs.Layout.{open-at, word, slot, is-open, header, nodes, Layout, Left}
 use Rattle.table.specs.Laws.Bytes.{Only, only-word, put-word, word-put}
-use Rattle.table.specs.Laws.Nodes.{header-is, same-cell, same-held, same-remembered, left-none}
+use Rattle.table.specs.Laws.Nodes.{header-is, same-cell, same-held, same-remembered, same-commits, left-none}
 use Rattle.table.specs.Laws.Kept.{left-on}
 use Rattle.table.specs.Laws.Sets.{turned-set}
 use Rattle.table.specs.Sets.{Struck}
@@ -23,8 +23,9 @@ turned-left s s′ t w v e x y h a b =
     let z : s′ ≡ put-word s open-at (bitXor (word s open-at) (2 ^ (t - 1))) = e ∙ rw (y, x) in
     let o : Only open-at 2 s s′ = rw z (only-word s open-at _) in
     let is : word s′ open-at ≡ bitXor (word s open-at) (2 ^ (t - 1)) = rw z (word-put s open-at _ (omega (arith, h .size))) in
-    left-none o h (omega arith) (omega arith) (λ q. omega arith)
-    (header-is s′ (fun-ext (λ u. rw is (turned-set (word s open-at) t u a b))) (same-remembered o (omega arith)))
+    left-none o h (omega arith) (omega arith) (λ q. omega arith) (λ q. omega arith)
+    (header-is s′ (fun-ext (λ u. rw is (turned-set (word s open-at) t u a b))) (same-remembered o (omega arith))
+    (same-commits o (λ q. omega arith)))
     (λ j q. (same-cell o (slot s j) (λ r. omega arith), same-held o (omega arith) (slot s j)))
 
 -- the two cases

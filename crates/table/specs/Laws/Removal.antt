@@ -14,7 +14,7 @@ use Rattle.table.specs.Layout.{tabulate, count-at, count, slot, depth, n
 use Rattle.table.specs.Layout.{Left, Kept, header}
 use Rattle.table.specs.Laws.Lists.{modify-none, tabulate-same, modify-tabulate}
 use Rattle.table.specs.Laws.Bytes.{Only, only-wider, only-both, only-word, put-word, word-put}
-use Rattle.table.specs.Laws.Nodes.{Copy, placed-then, length-nodes, node-at, same-place, same-count}
+use Rattle.table.specs.Laws.Nodes.{Copy, placed-then, length-nodes, node-at, same-place, same-count, same-header}
 use Rattle.table.specs.Laws.Kept.{kept-same, kept-as, kept-left}
 use Rattle.table.specs.Outline.{Entered, exchange, next-below}
 use Rattle.table.specs.Laws.ListInsertion.{take-tabulate}
@@ -66,6 +66,11 @@ module _ (s s′ s″ : List ℕ) (i j : ℕ) (h : Layout s) (l : i < j) (m : j 
   kept-count : count s″ ≡ count s
   kept-count = same-count (b .only) (λ x. omega arith) ∙ same-count (a .only) (λ x. omega arith)
 
+  kept-header : header s″ ≡ header s
+  kept-header =
+      same-header (b .only) (omega arith) (λ x. omega arith) (omega (arith, below, h .room))
+      ∙ same-header (a .only) (omega arith) (λ x. omega arith) (omega (arith, below, h .room))
+
   entries : tabulate (count s) (entry s″) ≡ exchange i j (nodes s)
   unfolding exchange nodes
   entries =
@@ -77,7 +82,7 @@ module _ (s s′ s″ : List ℕ) (i j : ℕ) (h : Layout s) (l : i < j) (m : j 
 
   pub exchanged : Kept s s″ (exchange i j (nodes s))
   exchanged =
-      kept-left (outline-left only h (count s) kept-count (h .some) (h .room) (swap i j) from (exchange i j (nodes s)) entries)
+      kept-left (outline-left only h kept-header (count s) kept-count (h .some) (h .room) (swap i j) from (exchange i j (nodes s)) entries)
       (length-nodes s″ ∙ kept-count ∙ sym (length-nodes s))
 
 pub exchanged-none : (s : List ℕ) (i : ℕ) → Layout s → Kept s s (exchange i i (nodes s))
@@ -96,7 +101,8 @@ cut-left s s′ k e h a b =
     let n : k ≤ count s = omega (arith, length-nodes s) in
     let w : Only 10 8198 s s′ = only-wider 10 8198 o (omega arith) (omega arith) in
     let same : (i : ℕ) → Copy s i s′ i = λ i. same-place o i (λ z. omega arith) in
-    outline-left w h k (rw e (word-put s count-at k (omega (arith, h .size)))) a (omega (arith, h .room)) (λ i. i)
+    outline-left w h (same-header o (omega arith) (λ z. omega arith) (omega arith)) k
+    (rw e (word-put s count-at k (omega (arith, h .size)))) a (omega (arith, h .room)) (λ i. i)
     (λ i z. (i, z, same i .slot, refl, λ x. h .sizes i (omega arith))) (take k (nodes s))
     (tabulate-same k (entry s′) (entry s) (λ i z. copied-entry w i i (same i)) ∙ take-tabulate (count s) k (entry s) n)
 

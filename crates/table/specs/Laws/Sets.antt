@@ -15,7 +15,7 @@ use Rattle.table.specs.Layout.{lock-at, set-at, word, slot, remembered, 
 use Rattle.table.specs.Laws.Bits.{bit-xor}
 use Rattle.table.specs.Laws.Bytes.{Only, only-word, put-word, word-put, word-off}
 use Rattle.table.specs.Laws.Kept.{left-on}
-use Rattle.table.specs.Laws.Nodes.{header-is, same-cell, same-open, left-none}
+use Rattle.table.specs.Laws.Nodes.{header-is, same-cell, same-open, same-commits, left-none}
 use Rattle.protocol.specs.Laws.Transactions.{transaction-low, transaction-high, is-transaction-of, empty-set}
 use Rattle.table.specs.Sets.{WithSet, Struck, Gathered}
 
@@ -77,8 +77,8 @@ module _ (s s′ : List ℕ) (t w : ℕ) (e : s′ ≡ put-word s (set-at t) w) 
 
   pub remembered-left : WithSet s s′ t (in-set w)
   remembered-left =
-      left-none only-set h (omega arith) (omega arith) (λ x. omega arith)
-      (header-is s′ (same-open only-set (λ z. omega arith)) remembered-after)
+      left-none only-set h (omega arith) (omega arith) (λ x. omega arith) (λ x. omega arith)
+      (header-is s′ (same-open only-set (λ z. omega arith)) remembered-after (same-commits only-set (λ z. omega arith)))
       (λ j x. (
         same-cell only-set (slot s j) (λ z. let m = h .slots j (omega (arith, h .room)) in omega arith),
         held-as-before (slot s j) (h .slots j (omega (arith, h .room))),

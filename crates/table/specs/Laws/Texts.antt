@@ -13,11 +13,11 @@ use Rattle.locks.specs.Modes.{ModeSet}
 use Rattle.protocol.specs.State.{nobody, unwritten, wrote, writer-of, saved-of, Marked, with-update}
 use Rattle.table.specs.Lists.{modify}
 use Rattle.table.specs.Flat.{second}
-use Rattle.table.specs.Layout.{cell-at, part, count, slot, cell, stored, update-of, decode, entry, nodes, no-entry, Sized, Layout}
-use Rattle.table.specs.Layout.{Kept}
+use Rattle.table.specs.Layout.{cell-size, cell-at, double-word, part, count, slot, cell, stored, update-of, decode, entry, nodes}
+use Rattle.table.specs.Layout.{no-entry, Sized, Layout, Kept}
 use Rattle.table.specs.Fields.{has-text, text, with-text, restored, Stored, marked-written, saved-bytes, saved-size}
 use Rattle.table.specs.Laws.Lists.{modify-modify, modify-same}
-use Rattle.table.specs.Laws.Bytes.{Only, off, only-set, only-both, Filled, part-same}
+use Rattle.table.specs.Laws.Bytes.{Only, off, only-set, only-both, Filled, part-same, double-word-same}
 use Rattle.table.specs.Laws.Kept.{kept-then, kept-as}
 use Rattle.table.specs.Laws.Nodes.{node-at, length-nodes, length-cell, same-place, cell-kept}
 use Rattle.table.specs.Laws.Fields.{cell-byte, writer-update}
@@ -47,9 +47,9 @@ size-stored zero m c h l z = z .now
 size-stored (suc zero) m c h l z = z .saved (λ e. true≢false (sym l ∙ rw e))
 size-stored (suc (suc o)) m c h l z = absurd (true≢false (sym l))
 
-length-stored : (o : ℕ) (c : List ℕ) → o < 2 → length c ≡ 70 → getD c (4 + o) 0 ≤ 32 → length (stored o c) ≡ getD c (4 + o) 0
+length-stored : (o : ℕ) (c : List ℕ) → o < 2 → length c ≡ cell-size → getD c (4 + o) 0 ≤ 32 → length (stored o c) ≡ getD c (4 + o) 0
 length-stored o c l e z =
-    let d : length (drop (6 + 32 * o) c) ≡ 64 - 32 * o = simp length-drop (omega arith) in
+    let d : length (drop (6 + 32 * o) c) ≡ 68 - 32 * o = simp length-drop (omega arith) in
     let w : length (take 32 (drop (6 + 32 * o) c)) ≡ 32 = length-take-le 32 (drop (6 + 32 * o) c) (omega arith) in
     length-take-le (getD c (4 + o) 0) (take 32 (drop (6 + 32 * o) c)) (omega arith)
 
@@ -103,12 +103,13 @@ module _ (s : List ℕ) (i o k : ℕ) (e : k ≡ slot s i) (h : Layout s) (l : i
 
 decode-text : (o m : ℕ) (c c′ b : List ℕ) (h : ℕ → ModeSet) → o < 2 →
     ((j : ℕ) → j < 4 → getD c′ j 0 ≡ getD c j 0) → getD c′ (5 - o) 0 ≡ getD c (5 - o) 0 →
-    take 32 (drop (38 - 32 * o) c′) ≡ take 32 (drop (38 - 32 * o) c) → stored o c′ ≡ b → decode m c′ h ≡ with-text o b (decode m c h)
+    take 32 (drop (38 - 32 * o) c′) ≡ take 32 (drop (38 - 32 * o) c) → stored o c′ ≡ b → double-word c′ 70 ≡ double-word c 70
+    → decode m c′ h ≡ with-text o b (decode m c h)
 unfolding decode
-decode-text zero m c c′ b h l f y p e = rw (f 0 (omega arith), f 1 (omega arith), f 2 (omega arith), f 3 (omega arith), y, p, e)
-decode-text (suc zero) m c c′ b h l f y p e =
-    rw (f 0 (omega arith), f 1 (omega arith), f 2 (omega arith), f 3 (omega arith), y, p, e, writer-update (getD c 1 0) (stored 1 c))
-decode-text (suc (suc o)) m c c′ b h l f y p e = absurd (omega arith)
+decode-text zero m c c′ b h l f y p e n = rw (f 0 (omega arith), f 1 (omega arith), f 2 (omega arith), f 3 (omega arith), y, p, e, n)
+decode-text (suc zero) m c c′ b h l f y p e n =
+    rw (f 0 (omega arith), f 1 (omega arith), f 2 (omega arith), f 3 (omega arith), y, p, e, n, writer-update (getD c 1 0) (stored 1 c))
+decode-text (suc (suc o)) m c c′ b h l f y p e n = absurd (omega arith)
 
 sized-text : (o : ℕ) (c c′ : List ℕ) → o < 2 → getD c′ 1 0 ≡ getD c 1 0 → getD c′ (5 - o) 0 ≡ getD c (5 - o) 0 → getD c′ (4 + o) 0 ≤ 32
     → Sized c → Sized c′
@@ -124,14 +125,14 @@ pub stored-kept : (s s″ : List ℕ) (i o k x p q n : ℕ) (v : ℕ → ℕ) (b
 unfolding part
 stored-kept s s″ i o k x p q n v b e f y w h l two a m n32 g =
     let r : k < 1024 = in-range s i o k e h l in
-    let only : Only (cell-at k) 70 s s″ =
-    only-both (cell-at k) 70 (only-set s p x) (f .only) (omega arith) (omega arith) (omega arith) (omega arith) in
+    let only : Only (cell-at k) cell-size s s″ =
+    only-both (cell-at k) cell-size (only-set s p x) (f .only) (omega arith) (omega arith) (omega arith) (omega arith) in
     -- the other bytes of the cell
-    let same : (j : ℕ) → j < 70 → (j ≡ 4 + o → ⊥) → (6 + 32 * o ≤ j → 38 + 32 * o ≤ j) → getD (cell s″ k) j 0 ≡ getD (cell s k) j 0 =
+    let same : (j : ℕ) → j < cell-size → (j ≡ 4 + o → ⊥) → (6 + 32 * o ≤ j → 38 + 32 * o ≤ j) → getD (cell s″ k) j 0 ≡ getD (cell s k) j 0 =
     λ j c d z. sym (cell-byte s″ k j c) ∙ off (f .only) (cell-at k + j) (λ u. let t = z (omega arith) in omega arith)
     ∙ getD-set-other s p (cell-at k + j) x 0 (λ u. d (omega arith)) ∙ cell-byte s k j c in
-    let long : length (cell s k) ≡ 70 = length-cell s k (h .size) r in
-    let long″ : length (cell s″ k) ≡ 70 = length-cell s″ k (rw (only .long) (h .size)) r in
+    let long : length (cell s k) ≡ cell-size = length-cell s k (h .size) r in
+    let long″ : length (cell s″ k) ≡ cell-size = length-cell s″ k (rw (only .long) (h .size)) r in
     let at-size : cell-at k + (4 + o) ≡ p = omega arith in
     let size : getD (cell s″ k) (4 + o) 0 ≡ length b =
     sym (cell-byte s″ k (4 + o) (omega arith)) ∙ rw at-size (f .only .low p (omega arith) ∙ getD-set-same s p x 0
@@ -151,7 +152,8 @@ stored-kept s s″ i o k x p q n v b e f y w h l two a m n32 g =
       kept = cell-kept only h i (sym e) (here s i o k e h l) (with-text o b)
           (λ m held t z. decode-text o m (cell s k) (cell s″ k) b held two first other
           (part-same (cell s k) (cell s″ k) (38 - 32 * o) 32 (long″ ∙ sym long)
-          (λ j c d. same j (omega arith) (λ u. omega arith) (λ u. omega arith))) is)
+          (λ j c d. same j (omega arith) (λ u. omega arith) (λ u. omega arith))) is
+          (double-word-same (cell s k) (cell s″ k) 70 (λ j c d. same j (omega arith) (λ u. omega arith) (λ u. omega arith))))
           (λ z. sized-text o (cell s k) (cell s″ k) two (first 1 (omega arith)) other (omega arith) z);
       bytes = rw there is;
       size = rw there (omega arith);

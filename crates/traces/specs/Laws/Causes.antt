@@ -14,6 +14,7 @@ use Rattle.xml.specs.Reading as reading
 use Rattle.xml.specs.Laws.Readings as readings
 use Rattle.traces.specs.Exchange.{Request}
 use Rattle.traces.specs.Contract.{Makes, makes-start, makes-load, makes-write, makes-begin, makes-commit, makes-abort, makes-step}
+use Rattle.traces.specs.Contract.{makes-count}
 use Rattle.traces.specs.Laws.Codes.{listed}
 
 -- the one call of a request -------------------------------------------------------------
@@ -27,6 +28,7 @@ module _ (room : Room) where
   makes-one (Request.commit t) = (_, makes-commit)
   makes-one (Request.abort t) = (_, makes-abort)
   makes-one (Request.step t s) = (_, makes-step)
+  makes-one (Request.count-of n) = (_, makes-count)
 
   pub makes-only : {q : Request} {c d : Call} → Makes room q c → Makes room q d → c ≡ d
   makes-only makes-start makes-start = refl
@@ -36,6 +38,7 @@ module _ (room : Room) where
   makes-only makes-commit makes-commit = refl
   makes-only makes-abort makes-abort = refl
   makes-only makes-step makes-step = refl
+  makes-only makes-count makes-count = refl
 
 -- causes --------------------------------------------------------------------------------
 
@@ -56,9 +59,10 @@ all-listed {room} {q} {c} m M = every-call (λ c n. Makes room q c → listed (n
   at-unread = λ c i m. unread-listed m;
   at-load = λ d h m. refl;
   at-begin = λ t i o m. refl;
-  at-commit = λ t i o m. refl;
+  at-commit = λ t i o l m. refl;
   at-abort = λ t i o m. refl;
   at-wait = λ t s room i o r z m. refl;
   at-step = λ t s room i o p m. refl;
   at-write = λ m. refl;
+  at-count = λ n h m. refl;
 }) c m

@@ -16,8 +16,8 @@ use Rattle.locks.specs.Needs.{needs}
 use Rattle.protocol.specs.State.{State, is-transaction, callers-document, act, grant, with-tree, forgetting}
 use Rattle.protocol.specs.Lent.{Room, has-room, first-lent, second-lent}
 use Rattle.protocol.specs.Causes.{not-a-transaction, not-open}
-use Rattle.protocol.specs.Calls.{Input, Call, start, load, begin, commit, abort, step, write, Outcome, granted, written, waits, refused}
-use Rattle.protocol.specs.Calls.{refused-at, Next, unchanged, held-back, grants-step, Check, checked, step-checks, judged, next}
+use Rattle.protocol.specs.Calls.{Input, Call, start, load, begin, commit, abort, step, write, count-of, Outcome, granted, written, waits}
+use Rattle.protocol.specs.Calls.{refused, refused-at, Next, unchanged, held-back, grants-step, Check, checked, step-checks, judged, next}
 use Rattle.protocol.specs.History.{is-granted}
 use Rattle.protocol.specs.Answers.{code-of, lent-after, as-it-was}
 use Rattle.protocol.specs.declared.Answer.{Answer}
@@ -29,8 +29,8 @@ use Rattle.xml.specs.Laws.Readings.{reading}
 use Rattle.traces.specs.Exchange.{Request, Exchange, with-none, with-one, with-two}
 use Rattle.xml_write.specs.Contract.{Written}
 use Rattle.traces.specs.Contract as contract
-use Rattle.traces.specs.Contract.{Makes, makes-start, makes-load, makes-write, makes-begin, makes-commit, makes-abort, MakesCall}
-use Rattle.traces.specs.Contract.{Ensured, Contract}
+use Rattle.traces.specs.Contract.{Makes, makes-start, makes-load, makes-write, makes-begin, makes-commit, makes-abort, makes-count}
+use Rattle.traces.specs.Contract.{MakesCall, Ensured, Contract}
 use Rattle.traces.specs.Laws.Causes.{makes-only}
 
 is-step : Call → Bool
@@ -41,6 +41,7 @@ is-step (commit t) = false
 is-step (abort t) = false
 is-step (step t s room) = true
 is-step write = false
+is-step (count-of n) = false
 
 -- 1, then 3
 abbrev open-checks : ℕ → State → List Check
@@ -95,7 +96,7 @@ module _ (s : List ℕ) (t : ℕ) (st : Step) where
   no-second k = step-unlent second-lent (record { first = k; second = 0 })
       (λ v h. no-bytes (second-lent v) (leb-true (length (second-lent v)) 0 (and-right (leb (length (first-lent v)) k) _ h)))
 
--- begin, commit, abort and load put nothing into buffers
+-- begin, commit, abort, load and count-of put nothing into buffers
 module _ (lent : Value → List ℕ) (h : lent done ≡ []) (k : (n : ℕ) → lent (how-many n) ≡ []) where
   -- no claim about steps
   abbrev Quiet : Call → Next → Type 0
@@ -109,11 +110,12 @@ module _ (lent : Value → List ℕ) (h : lent done ≡ []) (k : (n : ℕ) → l
     at-unread = λ c o i. refl;
     at-load = λ d l i. rw (k (length (lines d)));
     at-begin = λ t a o i. rw h;
-    at-commit = λ t a o i. rw h;
+    at-commit = λ t a o l i. rw h;
     at-abort = λ t a o i. rw h;
     at-wait = λ t s room a o r z i. refl;
     at-step = λ t s room a o p i. absurd (true≢false i);
     at-write = λ i. refl;
+    at-count = λ n a i. rw (k _);
   }) c
 
 -- the exported functions ---------------------------------------------------------------------
@@ -153,6 +155,10 @@ module _ {s s′ : List ℕ} {a : Answer} {r : ℕ} (e : r ≡ code-of a) where
   load-contract {x} h =
       let i = reading x in
       contract-of a e (makes-load (i .1)) (quiet _ (load (i .0)) refl (h (i .0) (i .1)))
+
+  pub count-contract : {n : ℕ} → s′ ≡ s → Performed s s′ a (count-of n) → Contract (with-none (Request.count-of n) s s′ r)
+  unfolding Ensured is-step
+  count-contract {n} i h = contract-of a e makes-count (record { on-state = quiet _ (count-of n) refl h; state = i })
 
   -- steps with no buffer, with one, and with two
   pub none-contract : {q : Request} {t : ℕ} {st : Step} → Makes no-room q (step t st no-room) → Performed s s′ a (step t st no-room)

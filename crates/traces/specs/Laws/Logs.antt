@@ -14,7 +14,7 @@ use Rattle.tree.specs.Laws.Tests.{refuted}
 use Rattle.tree.specs.Laws.Lists.{map-map}
 use Rattle.protocol.specs.State.{State}
 use Rattle.protocol.specs.Lent.{first-lent, second-lent}
-use Rattle.protocol.specs.Calls.{Call, start, load, begin, commit, abort, step, write}
+use Rattle.protocol.specs.Calls.{Call, start, load, begin, commit, abort, step, write, count-of}
 use Rattle.protocol.specs.Calls.{unreadable, stands-for, Outcome, waits, refused, StepAnswer, Next, next}
 use Rattle.protocol.specs.History.{history, state-after, is-granted, Log, new-log, committed-then, logged, log-after, fed, answered}
 use Rattle.protocol.specs.Answers.{code-of, answer-of, lent-after, as-it-was}
@@ -73,6 +73,7 @@ module _ (x : Exchange) where
   none-taken (abort u) o g t = none-granted (told-granted (x .code))
   none-taken (step u s room) o g t = rw (t refl, g)
   none-taken write o g t = none-granted (told-granted (x .code))
+  none-taken (count-of n) o g t = none-granted (told-granted (x .code))
 
   gives : (c : Call) (M : State) → Gives c (next c M)
   unfolding answer-of lent-after is-write
@@ -82,7 +83,7 @@ module _ (x : Exchange) where
     at-unread = λ c i t m. ([], refl, none-granted (told-granted (x .code)));
     at-load = λ d h t m. ([], refl, none-granted (told-granted (x .code)));
     at-begin = λ u i o t m. ([], refl, none-granted (told-granted (x .code)));
-    at-commit = λ u i o t m. ([], refl, none-granted (told-granted (x .code)));
+    at-commit = λ u i o l t m. ([], refl, none-granted (told-granted (x .code)));
     at-abort = λ u i o t m. ([], refl, none-granted (told-granted (x .code)));
     at-wait = λ u s room i o r z t m. ([], refl, none-taken (step u s room) (waits 0) refl t);
     at-step = λ u s room i o p t m. (
@@ -92,6 +93,7 @@ module _ (x : Exchange) where
       rw (t refl),
     );
     at-write = λ t m. ([], refl, none-granted (told-granted (x .code)));
+    at-count = λ n h t m. ([], refl, none-granted (told-granted (x .code)));
   }) c
 
 -- the flag of a call that writes plays no part
@@ -106,6 +108,7 @@ same-flag (commit t) a b es L h = rw (h refl)
 same-flag (abort t) a b es L h = rw (h refl)
 same-flag (step t s room) a b es L h = refl
 same-flag write a b es L h = refl
+same-flag (count-of n) a b es L h = refl
 
 -- lists of calls ---------------------------------------------------------------------------
 

@@ -6,7 +6,7 @@ use mathlib.Core.List.{List, [], _∷_, _++_, map, append-nil, append-assoc, Lis
 use Rattle.tree.specs.Lists.{keep}
 use Rattle.tree.specs.Document.{Document}
 use Rattle.protocol.specs.State.{State, start-state, transactions, held-document}
-use Rattle.protocol.specs.Calls.{Call, commit, next}
+use Rattle.protocol.specs.Calls.{Call, commit, count-of, next}
 use Rattle.protocol.specs.History.{Event, history, state-after, is-granted, Log}
 use Rattle.protocol.specs.Answers.{code-of, answer-of, granted-answer}
 use Rattle.protocol.specs.declared.Answer.the-variants.{Done}
@@ -14,20 +14,21 @@ use Rattle.form.specs.Form.{Holds}
 use Rattle.form.specs.Laws.OneState.{holds-one}
 use Rattle.serializability.specs.Theorem.{since-start, reached, Runs}
 use Rattle.serializability.specs.Laws.Main.{is-write, plain-committed, further, demand-3}
-use Rattle.serializability.specs.Laws.OneCall.{commit-granted}
+use Rattle.serializability.specs.Laws.OneCall.{commit-outcome}
 use Rattle.serializability.specs.Laws.AnyOrder.{reached-tracks}
 use Rattle.serializability.specs.Laws.OpenOrders.{some-order, open-in-any-order, commit-in-any-order}
 use Rattle.serializability.specs.Laws.Reached.{always-reached}
 use Rattle.traces.specs.Exchange.{Request, Exchange, outcome}
-use Rattle.traces.specs.Contract.{makes-commit, MakesCall, Contract}
-use Rattle.traces.specs.Theorem.{Linked, Trace, Made, no-call, call-then, Demand1, Demand2, WritesPlain, GrantedStep, RunsInOrder}
-use Rattle.traces.specs.Theorem.{last-state, FinishInAnyOrder, Each, Delivered}
+use Rattle.traces.specs.Contract.{makes-commit, makes-count, MakesCall, Contract}
+use Rattle.traces.specs.Theorem.{Linked, Trace, Made, no-call, call-then, Demand1, Demand2, WritesPlain, GrantedStep, Feeds}
+use Rattle.traces.specs.Theorem.{RunsInOrder, last-state, FinishInAnyOrder, Counted, Each, Delivered}
 use Rattle.traces.specs.Laws.Causes.{makes-one, makes-only}
 use Rattle.traces.specs.Laws.OneCall.{outcomes-of, demand-2, granted-text}
 use Rattle.traces.specs.Laws.Answers.{start-of, answers-of}
 use Rattle.traces.specs.Laws.StateBytes.{granted-size, state-bytes}
 use Rattle.traces.specs.Laws.Logs.{InReached, feeds, runs-given, plain-answers-given}
 use Rattle.traces.specs.Laws.Waiting.{waiting-told}
+use Rattle.traces.specs.Laws.Counts.{commits-left, counts-plain-left, count-told, document-told, limit-told}
 
 -- the calls that were made ----------------------------------------------------------------
 
@@ -106,20 +107,31 @@ commits-granted before (y ∷ ys) (t ∷ b) h g e (List·Memᴰ·tail i) =
 
 -- of bytes that hold the state which the calls cs reach, and of a log whose runs are those of the history
 module _ (cs : List Call) (s : List ℕ) (h : Holds s (reached cs)) (L : Log GrantedStep)
-    (r : (b : List ℕ) (d : Document) → Runs (since-start cs) b d → RunsInOrder L b d) where
+    (f : Feeds L (since-start cs)) (r : (b : List ℕ) (d : Document) → Runs (since-start cs) b d → RunsInOrder L b d) where
+  -- the next call
+  next-meets : (c : Call) (y : Exchange) → Linked s (y ∷ []) → MakesCall y c → Demand2 (reached cs) y c
+  next-meets c y l m = both cs y c (l .0) m (holds-same (l .1) h) .0
+
   in-any-order : (M : State) → Holds s M → FinishInAnyOrder L s M
   unfolding is-write
   in-any-order M k = rw (holds-one M (reached cs) k h) (record {
     some-order = (keep (reached cs .header .is-open) transactions, some-order cs);
     runs = λ b o. r b (held-document (reached cs)) (open-in-any-order cs b o);
-    commit-granted = λ t o y l q.
-        let m : MakesCall y (commit t) = rw q makes-commit in
-        both cs y (commit t) (l .0) m (holds-same (l .1) h) .0 .as-granted (λ w. false≢true (ap is-write w)) .1
-        (ap is-granted (commit-granted t (reached cs) (reached-tracks cs .good .numbered t o) o));
+    commit-granted = λ t o k y l q.
+        next-meets (commit t) y l (rw q makes-commit) .as-granted (λ w. false≢true (ap is-write w)) .1
+        (rw (commit-outcome t (reached cs) (reached-tracks cs .good .numbered t o) o, commits-left cs L f k));
     commits = λ b o ys l m g N n.
         let e = holds-one N (reached (cs ++ map commit b)) n (holds-last cs s ys (map commit b) h l m) in
         let d = each-part Both InReached (λ before y c p. p .0) cs ys (map commit b) (each-both cs s ys (map commit b) h l m) in
         rw e (commit-in-any-order cs b o (commits-granted cs ys b d g));
+  })
+
+  counted : (M : State) → Holds s M → Counted L s M
+  counted M k = rw (holds-one M (reached cs) k h) (record {
+    plain = counts-plain-left cs L f;
+    told = λ n y l q. count-told cs L f n y (next-meets (count-of n) y l (rw q makes-count));
+    document = λ y l q. document-told cs L f y (next-meets (count-of 0) y l (rw q makes-count));
+    limit = λ t o y l q. limit-told cs L f t o y (next-meets (commit t) y l (rw q makes-commit));
   })
 
 -- the start --------------------------------------------------------------------------------
@@ -140,6 +152,8 @@ delivered x xs t =
     let e : Each InReached [] xs (m .0) = each-part Both InReached (λ before y c p. p .0) [] xs (m .0) b in
     let s = last-state (x .state .after) xs in
     let l : Holds s (reached (m .0)) = holds-last [] (x .state .after) xs (m .0) h (t .linked) (m .1) in
+    let f = feeds x xs (m .0) (t .start-granted) e in
+    let r = runs-given x xs (m .0) (t .start-granted) e in
     record {
       calls = m .0;
       made = m .1;
@@ -151,10 +165,11 @@ delivered x xs t =
       demand-2 = e;
       demand-3 = demand-3 (m .0);
       writes = each-part Both WritesPlain (λ before y c p. p .1) [] xs (m .0) b;
-      feeds = feeds x xs (m .0) (t .start-granted) e;
+      feeds = f;
       answers = plain-answers-given x xs (m .0) (t .start-granted) e;
-      open-in-any-order = in-any-order (m .0) s l _ (runs-given x xs (m .0) (t .start-granted) e);
+      open-in-any-order = in-any-order (m .0) s l _ f r;
       waiting = λ M k. rw (holds-one M (reached (m .0)) k l) (waiting-told x xs (m .0) (t .start-granted) e);
+      counts = counted (m .0) s l _ f r;
     }
   where
     all-calls : (y : Exchange) → List·Memᴰ y (x ∷ xs) → Demand1 y

@@ -13,7 +13,7 @@ use Rattle.tree.specs.Document.{Node, Document, ordered, legal, lines}
 use Rattle.tree.specs.Steps.{Value, done, how-many}
 use Rattle.protocol.specs.State.{State, start-state, shown, as-shown, document-of, committed-document}
 use Rattle.protocol.specs.Lent.{Room, filled, first-lent, second-lent}
-use Rattle.protocol.specs.Calls.{node-limit, Call, start, write, Outcome, granted, written, waits, refused, refused-at, next}
+use Rattle.protocol.specs.Calls.{node-limit, Call, start, write, count-of, Outcome, granted, written, waits, refused, refused-at, next}
 use Rattle.protocol.specs.History.{is-granted, is-wait}
 use Rattle.protocol.specs.Answers.{code-of, answer-of, granted-answer, lent-after, as-it-was}
 use Rattle.protocol.specs.declared.Answer.{Answer}
@@ -32,8 +32,8 @@ use Rattle.xml_write.specs.Contract.{writable, writing, text-after, write-answe
 use Rattle.xml_write.specs.Laws.Calls.{legal-writing}
 use Rattle.traces.specs.Contract as contract
 use Rattle.traces.specs.Contract.{Makes, makes-start, makes-load, makes-write, makes-begin, makes-commit, makes-abort, makes-step}
-use Rattle.traces.specs.Contract.{MakesCall, Ensured, Contract}
-use Rattle.traces.specs.Theorem.{Same, SameOutside, remembered-at, changed-in, ByDefinition, Outcomes, Demand2}
+use Rattle.traces.specs.Contract.{makes-count, MakesCall, Ensured, Contract}
+use Rattle.traces.specs.Theorem.{Same, SameOutside, remembered-at, changed-in, only-reads, ByDefinition, Outcomes, Demand2}
 use Rattle.traces.specs.Laws.Codes.{listed, Told, told, told-cause, not-written, count-value}
 use Rattle.traces.specs.Laws.Causes.{makes-one, all-listed}
 use Rattle.traces.specs.Laws.Answers.{ensured-cases, ensured-by}
@@ -43,13 +43,15 @@ use Rattle.traces.specs.Laws.Answers.{ensured-cases, ensured-by}
 -- by an outcome that the number tells
 told-demand : (x : Exchange) (o : Outcome) → Told (x .code) o
     → (is-granted o ≡ false → SameOutside (changed-in x) (x .state) × Same (x .first) × Same (x .second))
+    → (only-reads (x .request) ≡ true → Same (x .state))
     → length (x .state .after) ≡ length (x .state .before) → drop state-size (x .state .after) ≡ drop state-size (x .state .before)
     → Outcomes x
-told-demand x o t k l b = record {
+told-demand x o t k ro l b = record {
   outcomes = t .outcomes;
   causes = t .causes;
   no-cause = t .no-cause;
   still = λ n. k (t .not-granted n);
+  read-only = ro;
   long = l;
   behind = b;
 }
@@ -61,7 +63,7 @@ told-still x o t n e = rw (t .wait ∙ n) e
 told-quiet : (x : Exchange) (o : Outcome) → Told (x .code) o → is-wait o ≡ false → Same (x .state) → Same (x .first) → Same (x .second)
     → length (x .state .after) ≡ length (x .state .before) → drop state-size (x .state .after) ≡ drop state-size (x .state .before)
     → Outcomes x
-told-quiet x o t n e f k = told-demand x o t (λ _. (told-still x o t n e, f, k))
+told-quiet x o t n e f k = told-demand x o t (λ _. (told-still x o t n e, f, k)) (λ _. e)
 
 -- where the set stands that a call of protocol may change, by the request
 same-place : {room : Room} {q : Request} {c : Call} → Makes room q c → set-place c ≡ remembered-at q
@@ -72,6 +74,7 @@ same-place makes-begin = refl
 same-place makes-commit = refl
 same-place makes-abort = refl
 same-place makes-step = refl
+same-place makes-count = refl
 
 kept-buffer : (lent : Value → List ℕ) (o : Outcome) (b : List ℕ) → is-granted o ≡ false → lent-after lent as-it-was o b ≡ b
 unfolding lent-after
@@ -86,13 +89,29 @@ told-13 : Told (code-of (Refused 13)) (refused 13)
 unfolding answer-of
 told-13 = told (refused 13) refl
 
+-- write and count-of leave the state
+reads-only : (x : Exchange) → Contract x → only-reads (x .request) ≡ true → Same (x .state)
+unfolding Ensured
+reads-only x k = go (x .request) refl
+  where
+    go : (q : Request) → x .request ≡ q → only-reads q ≡ true → Same (x .state)
+    go Request.write e h = k .ensured write (rw e makes-write) .state
+    go (Request.count-of n) e h = k .ensured (count-of n) (rw e makes-count) .state
+    go Request.start e h = absurd (false≢true h)
+    go (Request.load xml) e h = absurd (false≢true h)
+    go (Request.begin t) e h = absurd (false≢true h)
+    go (Request.commit t) e h = absurd (false≢true h)
+    go (Request.abort t) e h = absurd (false≢true h)
+    go (Request.step t s) e h = absurd (false≢true h)
+
 module _ (x : Exchange) (r : Answer) (e : x .code ≡ code-of r) where
   -- the number is that of an outcome
   tells : (o : Outcome) → listed o ≡ true → r ≡ answer-of (λ d. Done) o → Told (x .code) o
   tells o l f = rw (e, f) (told o l)
 
-  step-demand : (c : Call) → MakesCall x c → contract.OnState x r c → ((M : State) → listed (next c M .outcome) ≡ true) → Outcomes x
-  step-demand c m h l = go (form (x .state .before)) refl
+  step-demand : (c : Call) → MakesCall x c → contract.OnState x r c → ((M : State) → listed (next c M .outcome) ≡ true)
+      → (only-reads (x .request) ≡ true → Same (x .state)) → Outcomes x
+  step-demand c m h l ro = go (form (x .state .before)) refl
     where
       go : (f : Bool) → form (x .state .before) ≡ f → Outcomes x
       go false f =
@@ -109,11 +128,11 @@ module _ (x : Exchange) (r : Answer) (e : x .code ≡ code-of r) where
             h .first .filled (M .0) (M .1) ∙ kept-buffer first-lent o (x .first .before) g,
             h .second .filled (M .0) (M .1) ∙ kept-buffer second-lent o (x .second .before) g,
           ))
-          (h .performed .long) (h .performed .behind)
+          ro (h .performed .long) (h .performed .behind)
 
-  start-demand : contract.Start x r → Outcomes x
+  start-demand : contract.Start x r → (only-reads (x .request) ≡ true → Same (x .state)) → Outcomes x
   unfolding next answer-of
-  start-demand h = go (leb state-size (length (x .state .before))) refl
+  start-demand h ro = go (leb state-size (length (x .state .before))) refl
     where
       go : (f : Bool) → leb state-size (length (x .state .before)) ≡ f → Outcomes x
       go false f =
@@ -122,7 +141,7 @@ module _ (x : Exchange) (r : Answer) (e : x .code ≡ code-of r) where
       go true f =
           told-demand x (granted done)
           (tells (granted done) refl (h .restarted .answer (leb-true state-size (length (x .state .before)) f) start-state (λ d. Done)))
-          (λ g. absurd (false≢true (sym g))) (h .restarted .long) (h .restarted .behind)
+          (λ g. absurd (false≢true (sym g))) ro (h .restarted .long) (h .restarted .behind)
 
   -- a write of d: its outcome as a number tells it, and what it leaves
   writing-demand : (d : Document) → r ≡ writing (length (x .first .before)) d → x .first .after ≡ text-after (x .first .before) d
@@ -134,7 +153,7 @@ module _ (x : Exchange) (r : Answer) (e : x .code ≡ code-of r) where
           → x .first .after ≡ cond (p && q) (filled (xml.write d) (x .first .before)) (x .first .before) → Outcomes x
       go true true a f =
           told-demand x (granted (how-many (length (xml.write d)))) (tells (granted (how-many (length (xml.write d)))) refl a)
-          (λ g. absurd (false≢true (sym g))) (ap length s) (ap (drop state-size) s)
+          (λ g. absurd (false≢true (sym g))) (λ _. s) (ap length s) (ap (drop state-size) s)
       go true false a f = told-quiet x (refused 13) (tells (refused 13) refl a) refl s f k (ap length s) (ap (drop state-size) s)
       go false q a f = told-quiet x (refused 14) (tells (refused 14) refl a) refl s f k (ap length s) (ap (drop state-size) s)
 
@@ -164,8 +183,8 @@ pub outcomes-of : (x : Exchange) → Contract x → Outcomes x
 outcomes-of x k =
     let m = makes-one _ (x .request) in
     ensured-cases x (k .answer) (λ c. MakesCall x c → ((M : State) → listed (next c M .outcome) ≡ true) → Outcomes x)
-    (λ h n l. start-demand x (k .answer) (k .code) h) (λ h n l. write-demand x (k .answer) (k .code) h)
-    (λ c h n l. step-demand x (k .answer) (k .code) c n h l) (m .0) (k .ensured (m .0) (m .1)) (m .1) (all-listed (m .1))
+    (λ h n l. start-demand x (k .answer) (k .code) h (reads-only x k)) (λ h n l. write-demand x (k .answer) (k .code) h)
+    (λ c h n l. step-demand x (k .answer) (k .code) c n h l (reads-only x k)) (m .0) (k .ensured (m .0) (m .1)) (m .1) (all-listed (m .1))
 
 -- demand 2 ------------------------------------------------------------------------------
 

@@ -1,7 +1,7 @@
 -- Laws of `keep`, `every`, `any`, `has` and `map`.
 use mathlib.Core.Path.{_≡_, refl, sym, ap, _∙_}
 use Prim.Native.Nat.{ℕ, _+_, _≤_}
-use mathlib.Core.Bool.{Bool, true, false, cond, not, _&&_, _||_, false≢true, or-true}
+use mathlib.Core.Bool.{Bool, true, false, cond, not, _&&_, _||_, false≢true, or-true, or-assoc}
 use mathlib.Core.List.{List, [], _∷_, _++_, map, List·Memᴰ, List·Memᴰ·head, List·Memᴰ·tail, List·Memᴰ·cases-cons, List·Memᴰ·not-nil}
 use mathlib.Core.Logic.{_⊎_, inl, inr}
 use lib.ListN.{length, length-append}
@@ -57,6 +57,10 @@ module _ {A : Type 0} where
   pub every-map : {B : Type 0} (t : B → Bool) (f : A → B) (l : List A) → every t (map f l) ≡ every (λ a. t (f a)) l
   every-map t f [] = refl
   every-map t f (x ∷ xs) = rw (every-map t f xs)
+
+  pub any-append : (t : A → Bool) (l k : List A) → any t (l ++ k) ≡ (any t l || any t k)
+  any-append t [] k = refl
+  any-append t (x ∷ xs) k = rw (any-append t xs k) (sym (or-assoc (t x) (any t xs) (any t k)))
 
   pub any-map : {B : Type 0} (t : B → Bool) (f : A → B) (l : List A) → any t (map f l) ≡ any (λ a. t (f a)) l
   any-map t f [] = refl

@@ -6,19 +6,20 @@ use mathlib.Core.List.{List, []}
 use lib.ListN.{take}
 use Rattle.tree.specs.Forest.{view}
 use Rattle.tree.specs.Document.{node-0-alone}
-use Rattle.protocol.specs.State.{unwritten, tree-of, with-update}
+use Rattle.protocol.specs.State.{unwritten, tree-of, with-update, with-count, with-commits}
 use Rattle.table.specs.Lists.{modify}
 use Rattle.table.specs.Flat.{flat, second}
 use Rattle.table.specs.Fields.{with-bytes, unlocked}
 use Rattle.table.specs.Layout.{nodes, Left, Kept, header}
-use Rattle.table.specs.Laws.Kept.{left-then, left-as}
+use Rattle.table.specs.Laws.Kept.{left-then, left-on, left-as}
 use Rattle.form.specs.Form.{form}
 use Rattle.form.specs.Laws.Holds.{form-holds}
 use Rattle.form.specs.Laws.Valid.{root-of}
 
 -- by the form, the first node is the document, which nobody inserted or deleted
 alone : (s : List ℕ) → form s ≡ true →
-    modify 0 (second unlocked) (modify 0 (second (with-bytes [])) (modify 0 (second (with-update unwritten)) (take 1 (nodes s))))
+    modify 0 (second unlocked) (modify 0 (second (with-count 0)) (modify 0 (second (with-bytes []))
+    (modify 0 (second (with-update unwritten)) (take 1 (nodes s)))))
     ≡ flat 0 (tree-of node-0-alone)
 unfolding flat modify tree-of node-0-alone view
 alone s h =
@@ -27,10 +28,11 @@ alone s h =
     let d = r .document in
     rw (p .1 .rows, r .whole, d .kind, d .number, d .inserter, d .deleter)
 
-pub emptied : {s s₁ s₂ s₃ s₄ : List ℕ} → form s ≡ true → Left s s₁ (header s) (take 1 (nodes s)) →
+pub emptied : {s s₁ s₂ s₃ s₄ s₅ s₆ : List ℕ} → form s ≡ true → Left s s₁ (header s) (take 1 (nodes s)) →
     Kept s₁ s₂ (modify 0 (second (with-update unwritten)) (nodes s₁)) → Kept s₂ s₃ (modify 0 (second (with-bytes [])) (nodes s₂)) →
-    Kept s₃ s₄ (modify 0 (second unlocked) (nodes s₃)) → Left s s₄ (header s) (flat 0 (tree-of node-0-alone))
-emptied {s} h a b c d =
+    Kept s₃ s₄ (modify 0 (second (with-count 0)) (nodes s₃)) → Kept s₄ s₅ (modify 0 (second unlocked) (nodes s₄)) →
+    Left s₅ s₆ (with-commits 0 (header s₅)) (nodes s₅) → Left s s₆ (with-commits 0 (header s)) (flat 0 (tree-of node-0-alone))
+emptied {s} h a b c d e f =
     left-as _ _ (alone s h)
-    (left-then _ (modify 0 (second unlocked))
-    (left-then _ (modify 0 (second (with-bytes []))) (left-then _ (modify 0 (second (with-update unwritten))) a b) c) d)
+    (left-on _ (with-commits 0) (λ ns. ns) (left-then _ (modify 0 (second unlocked)) (left-then _ (modify 0 (second (with-count 0)))
+    (left-then _ (modify 0 (second (with-bytes []))) (left-then _ (modify 0 (second (with-update unwritten))) a b) c) d) e) f)

@@ -10,7 +10,7 @@ use Rattle.tree.specs.Lists.{any}
 use Rattle.tree.specs.Document.{Document, node-0-alone, lines, legal}
 use Rattle.tree.specs.Steps.{how-many}
 use Rattle.tree.specs.Laws.Tests.{and-left}
-use Rattle.protocol.specs.State.{State, transactions, tree-of, with-tree, Header}
+use Rattle.protocol.specs.State.{State, transactions, tree-of, Header, with-commits, with-document}
 use Rattle.protocol.specs.Calls.{node-limit, loadable, Input, unreadable, stands-for, load, refused, refused-at, next}
 use Rattle.protocol.specs.Answers.{answer-of, granted-answer}
 use Rattle.protocol.specs.declared.Answer.the-variants.{Count, Refused, RefusedAt}
@@ -32,7 +32,8 @@ pub begun : {x s s′ : List ℕ} {left : ℕ} {q : Header} → Stands node-limi
     → Begun x s′
 begun d k = record { shape = d .shape; spelled = d .spelled; few = d .few; short = d .short; layout = k .layout; alone = k .nodes }
 
-pub replaced : {x s s′ s″ : List ℕ} → Left s s′ (header s) (flat 0 (tree-of node-0-alone)) → Filled x s′ s″ → Replaced x s s″
+pub replaced : {x s s′ s″ : List ℕ} → Left s s′ (with-commits 0 (header s)) (flat 0 (tree-of node-0-alone)) → Filled x s′ s″
+    → Replaced x s s″
 replaced k f = record {
   layout = f .layout;
   long = f .same .long ∙ k .long;
@@ -69,10 +70,10 @@ module _ {s : List ℕ} (f : form s ≡ true) where
       abbrev D : Document
       D = document (d .shape)
 
-      held : {M : State} → Holds s M → Holds s′ (with-tree M (tree-of D))
+      held : {M : State} → Holds s M → Holds s′ (with-document D M)
       held {M} h = record {
         layout = k .layout;
-        header = k .header ∙ h .header;
+        header = k .header ∙ ap (with-commits 0) (h .header);
         rows = k .nodes (d .shape) (d .spelled);
         unique = rw (k .nodes (d .shape) (d .spelled)) (unique-load D (legal-of D (d .fits)));
         valid = valid-load D (legal-of D (d .fits));

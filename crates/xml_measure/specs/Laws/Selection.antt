@@ -12,9 +12,9 @@ use borrow.Author.Tests.{eq-eqb, ne-eqb, eqb-true, eqb-false}
 use Rattle.tree.specs.Laws.Lists.{map-append}
 use Rattle.table.specs.Flat.{second, prune}
 use Rattle.table.specs.Layout.{Entry, no-entry}
-use Rattle.rows.specs.Places.{depth, item}
+use Rattle.rows.specs.Places.{depth, item, is-committed}
 use Rattle.rows.specs.Rows.{left-out}
-use Rattle.xml_measure.specs.Lines.{is-committed, committed-label, committed-lines, label-at, line-at, lines, Selected}
+use Rattle.xml_measure.specs.Lines.{committed-label, committed-lines, label-at, line-at, lines, Selected}
 
 -- count places were selected, the rows from i on are still to be looked at, and those from depth hidden on are left out now
 pub record Selecting (l : List Entry) (hidden i count : ℕ) (places : List ℕ) : Type 0 where

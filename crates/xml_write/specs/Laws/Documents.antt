@@ -1,11 +1,10 @@
 -- The rows of the committed document of the state that the bytes hold.
 use mathlib.Core.Path.{_≡_, refl, sym, ap, _∙_, fun-ext}
 use Prim.Native.Nat.{ℕ, zero, suc, _≤_, _<_}
-use mathlib.Core.Bool.{Bool, true, false, not, _&&_, _||_}
+use mathlib.Core.Bool.{Bool, true, false, _&&_, and-true}
 use mathlib.Core.List.{List, [], _∷_, _++_, append-assoc}
 use native.Mathlib.Omega.{arith}
 use lib.ListN.{length, getD}
-use lib.Dec.{eqb}
 use borrow.Author.Tests.{eq-eqb}
 use Rattle.tree.specs.Forest.{nil, node, view}
 use Rattle.tree.specs.Content.{document-kind, between}
@@ -14,7 +13,8 @@ use Rattle.tree.specs.Laws.Tests.{and-left, and-right}
 use Rattle.protocol.specs.State.{Marked, Tree, State, nobody, shown, as-shown, document-of, committed-document}
 use Rattle.table.specs.Flat.{flat}
 use Rattle.table.specs.Layout.{nodes}
-use Rattle.rows.specs.Places.{depth}
+use Rattle.rows.specs.Places.{depth, is-committed}
+use Rattle.protocol.specs.Laws.Shown.{shown-committed}
 use Rattle.rows.specs.Laws.Ends.{flat-view}
 use Rattle.form.specs.Form.{Holds}
 use Rattle.form.specs.Laws.Valid.{Root, root-of}
@@ -22,17 +22,11 @@ use Rattle.form.specs.Laws.Rows.{between-of, between-low, between-high}
 use Rattle.xml.specs.Shape.{Label, Shape, shape, unnumbered}
 use Rattle.xml_text.specs.Rows.{Line}
 use Rattle.xml_measure.specs.declared.committed.Rows.{Rows}
-use Rattle.xml_measure.specs.Lines.{is-committed, committed-label, committed-lines, line-at, lines, Selected, Listed}
+use Rattle.xml_measure.specs.Lines.{committed-label, committed-lines, line-at, lines, Selected, Listed}
 use Rattle.xml_measure.specs.Laws.Lines.{length-lines, line-of}
 
 none-shown : (λ (a : Marked). shown (λ u. false) a && true) ≡ is-committed
-none-shown = fun-ext (λ a. go (eqb (a .inserter) nobody) (not (eqb (a .deleter) nobody)))
-  where
-    go : (b x : Bool) → (((b || false) && not (x && false)) && true) ≡ b
-    go true true = refl
-    go true false = refl
-    go false true = refl
-    go false false = refl
+none-shown = fun-ext (λ a. and-true (shown (λ u. false) a) ∙ shown-committed a)
 
 shape-of : (f : Tree) → shape (document-of (λ u. false) f) ≡ view is-committed committed-label f
 unfolding shape document-of committed-label

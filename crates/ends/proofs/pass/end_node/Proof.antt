@@ -1,6 +1,6 @@
 use borrow.Author.Needs.{needs}
 use native.Mathlib.Omega.{arith}
-use Rattle.protocol.specs.State.{Marked}
+use Rattle.protocol.specs.State.{Marked, count-touched}
 use Rattle.ends.specs.Marks.{without-mark, rewritten}
 use Rattle.ends.specs.Laws.Marks.{both-marks}
 use Rattle.ends.proofs.pass.end_node.Statement.{statement}
@@ -10,11 +10,23 @@ returns : tie.Need-returns
 returns c =
     let at-clear-mark2 = c .before .before in
     let at-clear-mark = at-clear-mark2 .before .before .before .before in
-    let at-if1 = at-clear-mark .before .before in
-    let start = at-if1 .before .before in
-    let t = start .args .t in
-    rw (at-if1 .if1 .taken) (both-marks _ (without-mark 1 t) (without-mark 2 t) (at-clear-mark .clear-mark .ensures)
+    let at-count = at-clear-mark .before .before .before .before in
+    let at-if1 = at-count .before .before in
+    let args = at-if1 .before .before .args in
+    let n = args .n in
+    let t = args .t in
+    let first-two = both-marks _ (count-touched n t) (without-mark 1 t) (at-count .count-touched .ensures)
+    (at-clear-mark .clear-mark .ensures) in
+    rw (at-if1 .if1 .taken) (both-marks _ (λ (a : Marked). without-mark 1 t (count-touched n t a)) (without-mark 2 t) first-two
     (at-clear-mark2 .clear-mark2 .ensures))
+
+clear-mark-requires-2 : tie.Need-clear-mark-requires-2
+clear-mark-requires-2 c κs =
+    let at-clear-mark = c .before .before .before in
+    let at-count = at-clear-mark .before .before .before .before in
+    let pre = at-count .before .before .before .before .pre in
+    let first = at-clear-mark .clear-mark .ensures in
+    (first .layout, omega (arith, first .many, at-count .count-touched .ensures .many, pre .1), search needs)
 
 clear-mark-requires-4 : tie.Need-clear-mark-requires-4
 clear-mark-requires-4 c κs =
@@ -38,5 +50,6 @@ returns-2 c =
     (at-clear-mark4 .clear-mark4 .ensures))
 
 pub end-node-spec : {M : Type 1} → statement M
-end-node-spec = tie.close (tie.spec (λ c κs. search needs) (λ c κs. search needs) (λ c. search needs) returns (λ c κs. search needs)
+end-node-spec = tie.close (tie.spec (λ c κs. search needs) (λ c κs. search needs) clear-mark-requires-2 (λ c. search needs) returns
+    (λ c κs. search needs)
     (λ c κs. search needs) clear-mark-requires-4 (λ c. search needs) returns-2)

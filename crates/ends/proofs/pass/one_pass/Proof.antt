@@ -10,11 +10,12 @@ use Rattle.ends.proofs.pass.one_pass.Statement.{statement}
 use Rattle.ends.proofs.pass.one_pass.Tie as tie
 
 abbrev Inv-loop : tie.InvT-loop
-Inv-loop s₀ t commits m kept₀ below₀ visits₀ j₀ s kept below visits j =
-    (kept ≤ j) × (j ≤ m) × (visits ≡ j) × (length (nodes s) ≡ m) × Kept s₀ s (nodes s) × Passed commits t (nodes s₀) kept below j (nodes s)
+Inv-loop s₀ n t commits m kept₀ below₀ visits₀ j₀ s kept below visits j =
+    (kept ≤ j) × (j ≤ m) × (visits ≡ j) × (length (nodes s) ≡ m) × Kept s₀ s (nodes s)
+    × Passed commits n t (nodes s₀) kept below j (nodes s)
 
 abbrev μ-loop : tie.MeasureT-loop
-μ-loop s₀ t commits m kept₀ below₀ visits₀ j₀ s kept below visits j = m - j
+μ-loop s₀ n t commits m kept₀ below₀ visits₀ j₀ s kept below visits j = m - j
 
 loop-holds : tie.Need-loop-holds Inv-loop μ-loop
 loop-holds c =
@@ -25,7 +26,7 @@ loop-holds c =
       search needs,
       sym (c .count .ensures),
       kept-same _ (start .pre .0),
-      passed-start (start .args .commits) (start .args .t) rows,
+      passed-start (start .args .commits) (start .args .n) (start .args .t) rows,
     )
 
 release-requires : tie.Need-release-requires Inv-loop μ-loop
@@ -67,7 +68,7 @@ loop-again c =
       omega (arith, l .inv .2),
       moved .ensures .kept .many ∙ lock .ensures .many ∙ ends .ensures .kept .many ∙ l .inv .3,
       kept-on (kept-on (kept-on (l .inv .4) (ends .ensures .kept)) (lock .ensures)) (moved .ensures .kept),
-      passed-next (args .commits) (args .t) (nodes (args .s .now)) (l .below) (l .kept) (l .j) _ _ inside
+      passed-next (args .commits) (args .n) (args .t) (nodes (args .s .now)) (l .below) (l .kept) (l .j) _ _ inside
           (l .inv .0) (l .inv .5) (ends .ensures) (lock .ensures) (moved .ensures),
     )
 
@@ -80,7 +81,8 @@ cut-requires c κs =
     let past : length (nodes (l .s)) ≤ l .j = omega (arith, c .before .loop-test .left, l .inv .3) in
     let some : 1 ≤ length rows = omega (arith, pre .0 .some, pre .0 .many) in (
       l .inv .4 .layout,
-      passed-some (start .args .commits) (start .args .t) rows (l .kept) (l .below) (l .j) (nodes (l .s)) (l .inv .5) past some (pre .3),
+      passed-some (start .args .commits) (start .args .n) (start .args .t) rows (l .kept) (l .below) (l .j) (nodes (l .s))
+          (l .inv .5) past some (pre .3),
       omega (arith, l .inv .0, l .inv .1, l .inv .3),
     )
 
@@ -95,7 +97,7 @@ returns c =
     record {
       count = omega (arith, l .inv .1, l .inv .2, test .left, count .ensures);
       bound = omega (arith, l .inv .1, l .inv .2, count .ensures, pre .0 .room, pre .0 .many);
-      left = passed-left (start .args .commits) (start .args .t) (l .kept) (l .below) (l .j) (l .inv .4) (l .inv .5) past
+      left = passed-left (start .args .commits) (start .args .n) (start .args .t) (l .kept) (l .below) (l .j) (l .inv .4) (l .inv .5) past
           (c .before .before .cut .ensures);
     }
 
