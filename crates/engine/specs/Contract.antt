@@ -8,7 +8,8 @@ use Rattle.tree.specs.Document.{Document}
 use Rattle.tree.specs.Steps.{Value}
 use Rattle.protocol.specs.State.{State}
 use Rattle.protocol.specs.Lent.{Room}
-use Rattle.protocol.specs.Calls.{Call, start, load, begin, commit, abort, step, write, count-of, Outcome, next}
+use Rattle.protocol.specs.Calls.{Call, start, load, begin, commit, abort, step, write, count-of, open-part, close-part, undo-part}
+use Rattle.protocol.specs.Calls.{Outcome, next}
 use Rattle.protocol.specs.Answers.{answer-of, lent-after, as-it-was}
 use Rattle.protocol.specs.History.{is-granted, is-wait}
 use Rattle.protocol.specs.declared.Answer.{Answer}
@@ -26,6 +27,9 @@ set-place (commit t) = []
 set-place (abort t) = []
 set-place write = []
 set-place (count-of n) = []
+set-place (open-part t) = []
+set-place (close-part t) = []
+set-place (undo-part t) = []
 
 -- the places that a call which is not granted may change: "a wait changes only this memory, a refusal nothing"
 abbrev pub changed-by : Call → Outcome → List (ℕ × ℕ)

@@ -25,7 +25,7 @@ ghost use Rattle.node_writing.specs.Writing.{new-node, counted, Counted,
 // Transaction t writes b.
 pub fn write(s: &mut [u8], p: usize, t: u8, b: &[u8])
     requires { ⌜ (Layout (now s)) × (p < length (nodes (now s))) × (length (now b) ≤ 32) × (1 ≤ t) ⌝ }
-    ensures { λ r. ⌜ Kept (now (s .entry)) (now (s .exit)) (modify p (second (written-by t (now (b .entry)))) (nodes (now (s .entry)))) ⌝ }
+    ensures { λ r. ⌜ Kept (now (s .entry)) (now (s .exit)) (modify p (second (written-by t 0 (now (b .entry)))) (nodes (now (s .entry)))) ⌝ }
 {
     table::mark_written(s, p, t);
     table::set_content(s, p, b);

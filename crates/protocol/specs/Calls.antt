@@ -1,5 +1,5 @@
--- The calls, as functions of the state to an outcome and a next state: document 01, "Steps" and "Refused calls", and document 02, A.6
--- and A.7.
+-- The calls, as functions of the state to an outcome and a next state: document 01, "Steps" and "Refused calls", and document 02, A.6,
+-- A.7 and A.8.
 use Prim.Native.Nat.{ℕ, _+_, _-_, _^_}
 use mathlib.Core.Path.{_≡_}
 use mathlib.Core.Bool.{Bool, true, cond, not, _&&_}
@@ -13,13 +13,13 @@ use Rattle.locks.specs.Modes.{against}
 use Rattle.locks.specs.Needs.{Lock, needs}
 use Rattle.protocol.specs.State.{is-transaction, transactions, Marked, Tree, State, nodes, has-number, number-held, callers-document}
 use Rattle.protocol.specs.State.{committed-document, act, grant, in-set, with-set, start-state, with-tree, opened, remembering}
-use Rattle.protocol.specs.State.{forgetting, committed, aborted, with-document}
+use Rattle.protocol.specs.State.{forgetting, committed, aborted, with-document, part-opened, part-closed, part-taken-back}
 use Rattle.protocol.specs.Rings.{in-ring}
 use Rattle.protocol.specs.Lent.{Room, has-room}
 use Rattle.protocol.specs.Causes.{not-a-transaction, already-open, not-open, no-such-node}
 use Rattle.protocol.specs.Causes.{kind-not-allowed, content-not-allowed, held-number}
 use Rattle.protocol.specs.Causes.{place-not-allowed, no-more-nodes, short-buffer, open-at-load, deadlock}
-use Rattle.protocol.specs.Causes.{no-more-commits}
+use Rattle.protocol.specs.Causes.{no-more-commits, part-not-allowed}
 
 -- "at most 1,024 nodes are held"
 abbrev pub node-limit : ℕ
@@ -28,6 +28,10 @@ node-limit = 1024
 -- "a commit after the 1,000,000th is refused"
 abbrev pub commit-limit : ℕ
 commit-limit = 1000000
+
+-- "up to eight deep"
+abbrev pub part-limit : ℕ
+part-limit = 8
 
 abbrev pub ascending-from : ℕ → List ℕ → Bool
 ascending-from i [] = true
@@ -52,6 +56,10 @@ pub data Call : Type 0 where
   write : Call
   -- A.7: "tells the count for a node of the committed document"
   count-of : (n : ℕ) → Call
+  -- A.8: "a transaction may open a part within itself, .. and either close it .. or undo it"
+  open-part : (t : ℕ) → Call
+  close-part : (t : ℕ) → Call
+  undo-part : (t : ℕ) → Call
 
 -- what a call returns: granted with the answer, for write the document written; a wait with the set; a refusal with its number
 pub data Outcome : Type 0 where
@@ -152,7 +160,7 @@ step-checks t s room M d =
 unfoldable pub judged : ℕ → Step → Room → State → Document → Next
 judged t s room M d =
     checked (held-back t M) (step-checks t s room M d)
-    (grants-step s (answer s d) (forgetting t (with-tree M (grant t (needs s d) (act t s (M .tree))))))
+    (grants-step s (answer s d) (forgetting t (with-tree M (grant t (needs s d) (act t (M .header .depth t) s (M .tree))))))
 
 -- a call of a transaction: 1, then 3
 abbrev pub if-open : ℕ → State → Next → Next
@@ -194,3 +202,10 @@ next write M = unchanged (written (committed-document M)) M
 -- 7 for a node that the committed document lacks
 next (count-of n) M =
     refusing ((refused no-such-node, not (here n (committed-document M))) ∷ []) M (becomes (how-many (commit-count n (M .tree))) M)
+-- 19 "after 3": "for a ninth part, or a close or undo without a part"
+next (open-part t) M =
+    if-open t M (refusing ((refused part-not-allowed, leb part-limit (M .header .depth t)) ∷ []) M (becomes done (part-opened t M)))
+next (close-part t) M =
+    if-open t M (refusing ((refused part-not-allowed, eqb (M .header .depth t) 0) ∷ []) M (becomes done (part-closed t M)))
+next (undo-part t) M =
+    if-open t M (refusing ((refused part-not-allowed, eqb (M .header .depth t) 0) ∷ []) M (becomes done (part-taken-back t M)))

@@ -70,10 +70,14 @@ deadlock = 17
 abbrev pub no-more-commits : ℕ
 no-more-commits = 18
 
+-- a ninth part, or a close or undo without a part: document 02, A.8
+abbrev pub part-not-allowed : ℕ
+part-not-allowed = 19
+
 -- all that a call can be refused by
 abbrev pub causes : List ℕ
 causes =
     not-a-transaction ∷ already-open ∷ not-open ∷ not-of-grammar ∷ content-over-limit ∷ nodes-over-limit ∷ no-such-node ∷ kind-not-allowed
     ∷ content-not-allowed
     ∷ held-number ∷ place-not-allowed ∷ no-more-nodes ∷ short-buffer ∷ not-expressible ∷ open-at-load ∷ deadlock
-    ∷ no-more-commits ∷ []
+    ∷ no-more-commits ∷ part-not-allowed ∷ []

@@ -10,16 +10,17 @@ use Rattle.tree.specs.Characters.{within, utf8, characters}
 use Rattle.tree.specs.Content.{spells-name, spells-text, is-name, is-text, allowed, takes, attributes-first, children-rule}
 use Rattle.tree.specs.Content.{insert-at}
 use Rattle.tree.specs.Document.{node-0-alone, lines, select, ruled, legal}
-use Rattle.tree.specs.Steps.{R, U, D, I, UU, placed, done, content-is, how-many, plain-document}
-use Rattle.tree.specs.Counts.{plain-touched, counts-from}
+use Rattle.tree.specs.Steps.{R, U, D, I, UU, placed, done, content-is, how-many}
+use Rattle.tree.specs.Plain.{progress-after, plain-document}
+use Rattle.tree.specs.Counts.{counts-from}
 use Rattle.tree.specs.Examples.{tree-E}
 use Rattle.locks.specs.Modes.{clash}
 use Rattle.locks.specs.Needs.{locks}
-use Rattle.protocol.specs.State.{State, start-state, nodes, callers-document, document-of, grant, commit-tree, abort-tree, tree-of}
+use Rattle.protocol.specs.State.{State, start-state, nodes, callers-document, document-of, grant, commit-tree, abort-tree, undo-tree, tree-of}
 use Rattle.protocol.specs.State.{with-header, with-commits}
 use Rattle.protocol.specs.Rings.{in-ring}
 use Rattle.protocol.specs.Lent.{first-lent, second-lent}
-use Rattle.protocol.specs.Calls.{loadable, stands-for, start, load, begin, commit, abort, count-of, granted, refused}
+use Rattle.protocol.specs.Calls.{loadable, stands-for, start, load, begin, commit, abort, count-of, open-part, undo-part, granted, refused}
 use Rattle.protocol.specs.Calls.{wait-set, judged, next}
 use Rattle.protocol.specs.History.{history, state-after, log-after, plain, plain-counts, pending}
 use Rattle.protocol.specs.Examples.{Item, gives, is-pending, plain-count-is, does, played, opening, from-E, E-loadable}
@@ -78,28 +79,31 @@ countings =
     ∷ []
 
 pub countings-hold : map from-E countings ≡ countings
-unfolding tree-E played from-E state-after history log-after plain plain-counts counts-from plain-touched pending next judged wait-set
+unfolding tree-E played from-E state-after history log-after plain plain-counts counts-from pending next judged wait-set
     in-ring loadable first-lent second-lent
     nodes callers-document document-of grant commit-tree abort-tree tree-of node-0-alone clash locks
     legal ruled lines select rows keep amend view place put within utf8 characters spells-name spells-text is-name is-text allowed takes
-    attributes-first children-rule insert-at placed plain-document
+    attributes-first children-rule insert-at placed plain-document progress-after
 countings-hold = refl
 
 -- one commit short of the limit; the calls before are those of the opening
 abbrev nearly-full : State
 nearly-full = let M = state-after start-state opening in with-header (with-commits 999999 (M .header)) M
 
--- "a commit after the 1,000,000th is refused and its transaction stays open": 1 and 3 before 18, abort is granted, and after a load
+-- "a commit after the 1,000,000th is refused and its transaction stays open", its parts too: 1 and 3 before 18, abort is granted, and after a load
 -- commits are granted again
 abbrev last-commits : List Item
 last-commits =
     does 1 (U 5 (bytes "7")) (granted done)
     ∷ commits 1 (gives (count-of 5) (granted (how-many 1000000))
+    ∷ gives (open-part 2) (granted done)
     ∷ does 2 (U 3 (bytes "1")) (granted done)
     ∷ gives (commit 2) (refused 18)
     ∷ gives (commit 1) (refused 3)
     ∷ gives (commit 17) (refused 1)
     ∷ does 2 (R 3) (granted (content-is (bytes "1")))
+    ∷ gives (undo-part 2) (granted done)
+    ∷ does 2 (R 3) (granted (content-is (bytes "2")))
     ∷ gives (abort 2) (granted done)
     ∷ gives (count-of 3) (granted (how-many 0))
     ∷ gives (load (stands-for tree-E E-loadable)) (granted (how-many 7))
@@ -107,7 +111,7 @@ last-commits =
 
 pub last-commits-hold : played nearly-full [] last-commits ≡ last-commits
 unfolding tree-E played state-after next judged wait-set in-ring loadable first-lent second-lent
-    nodes callers-document document-of grant commit-tree abort-tree tree-of node-0-alone clash locks
+    nodes callers-document document-of grant commit-tree abort-tree undo-tree tree-of node-0-alone clash locks
     legal ruled lines select rows keep amend view place put within utf8 characters spells-name spells-text is-name is-text allowed takes
     attributes-first children-rule insert-at placed
 last-commits-hold = refl

@@ -11,7 +11,7 @@ use Rattle.tree.specs.Content.{spells-name, spells-text, is-name, is-text, allo
 use Rattle.tree.specs.Content.{insert-at}
 use Rattle.tree.specs.Document.{Document, node-0-alone, lines, select, ruled, legal}
 use Rattle.tree.specs.Steps.{Step, T, C, R, U, D, I, TT, RR, placed, done, kind-parent, child-is, content-is, numbers-are, cells-are}
-use Rattle.tree.specs.Steps.{plain-document}
+use Rattle.tree.specs.Plain.{progress-after, plain-document}
 use Rattle.tree.specs.Examples.{tree-E}
 use Rattle.locks.specs.Modes.{clash}
 use Rattle.locks.specs.Needs.{locks}
@@ -116,5 +116,5 @@ unfolding tree-E played from-E state-after history log-after plain pending next 
     legal ruled lines select rows keep amend view place put within utf8 characters spells-name spells-text is-name is-text allowed takes
     attributes-first
     children-rule
-    insert-at placed plain-document
+    insert-at placed plain-document progress-after
 P-holds = refl

@@ -1,15 +1,16 @@
 -- Lists of calls, the plain run that they are compared with, and what is pending: document 01, "The plain run" and "Steps"; whom each
--- transaction waits for by the answers that it had: document 02, A.6; and the plain run's counts: document 02, A.7.
+-- transaction waits for by the answers that it had: document 02, A.6; the plain run's counts: document 02, A.7; and parts: A.8.
 use Prim.Native.Nat.{ℕ}
 use mathlib.Core.Bool.{Bool, true, false, cond, not, _&&_, _||_}
 use mathlib.Core.List.{List, [], _∷_, _++_, map}
 use lib.Dec.{eqb}
-use Rattle.tree.specs.Lists.{any, same, joined}
+use Rattle.tree.specs.Lists.{any, same}
 use Rattle.tree.specs.Document.{Document, lines, here, at, node-0-alone}
-use Rattle.tree.specs.Steps.{Step, Value, PlainAnswer, inserts, plain-document, plain-answers}
+use Rattle.tree.specs.Steps.{Step, Value, PlainAnswer, inserts}
+use Rattle.tree.specs.Plain.{Operation, does, opens, closes, undoes, left-of, plain-document, plain-answers}
 use Rattle.tree.specs.Counts.{Counts, counts-after, CountedDocument, with-counts}
 use Rattle.protocol.specs.State.{State, transactions, in-set, WaitSets, with-set, struck}
-use Rattle.protocol.specs.Calls.{Call, start, load, begin, commit, abort, step, write, count-of}
+use Rattle.protocol.specs.Calls.{Call, start, load, begin, commit, abort, step, write, count-of, open-part, close-part, undo-part}
 use Rattle.protocol.specs.Calls.{unreadable, stands-for}
 use Rattle.protocol.specs.Calls.{Outcome, granted, written, waits, refused, refused-at, StepAnswer, next}
 
@@ -39,29 +40,33 @@ is-granted (waits w) = false
 is-granted (refused c) = false
 is-granted (refused-at c o) = false
 
--- a log of the calls since the last granted start or load: the document at first, the entries of each committed transaction, in commit
--- order and each one's in call order, and those of each open one so far. A granted step has one entry
+-- a log of the calls since the last granted start or load: the document at first, the operations of each committed transaction, in commit
+-- order and each one's in call order, and those of each open one so far. A granted step is one operation, with an entry
 pub record Log (E : Type 0) : Type 0 where
   pub initial : Document
-  pub committed : List (List E)
-  pub open-log : ℕ → List E
+  pub committed : List (List (Operation E))
+  pub open-log : ℕ → List (Operation E)
 
 abbrev pub new-log : {E : Type 0} → Document → Log E
 new-log d = record { initial = d; committed = []; open-log = λ u. [] }
 
--- the entries of transaction t are l
-abbrev pub with-log : {E : Type 0} → ℕ → List E → (ℕ → List E) → ℕ → List E
+-- the operations of transaction t are l
+abbrev pub with-log : {E : Type 0} → ℕ → List (Operation E) → (ℕ → List (Operation E)) → ℕ → List (Operation E)
 with-log t l log u = cond (eqb u t) l (log u)
 
-abbrev pub with-entries : {E : Type 0} → ℕ → List E → Log E → Log E
-with-entries t l L = record { initial = L .initial; committed = L .committed; open-log = with-log t l (L .open-log) }
+abbrev pub with-operations : {E : Type 0} → ℕ → List (Operation E) → Log E → Log E
+with-operations t l L = record { initial = L .initial; committed = L .committed; open-log = with-log t l (L .open-log) }
 
--- t committed: its entries behind those of the transactions committed before
+-- further operations of t
+abbrev pub with-more : {E : Type 0} → ℕ → List (Operation E) → Log E → Log E
+with-more t l L = with-operations t (L .open-log t ++ l) L
+
+-- t committed: its operations behind those of the transactions committed before
 abbrev pub with-commit : {E : Type 0} → ℕ → Log E → Log E
 with-commit t L = record { initial = L .initial; committed = L .committed ++ (L .open-log t ∷ []); open-log = with-log t [] (L .open-log) }
 
--- the committed transactions, in commit order, and then the transactions b, in this order: the entries of each
-abbrev pub committed-then : {E : Type 0} → Log E → List ℕ → List (List E)
+-- the committed transactions, in commit order, and then the transactions b, in this order: the operations of each
+abbrev pub committed-then : {E : Type 0} → Log E → List ℕ → List (List (Operation E))
 committed-then L b = L .committed ++ map (L .open-log) b
 
 -- the log after a call: whether it was granted, and the entries of the steps that were granted in it, which are logged whatever came of
@@ -70,12 +75,15 @@ abbrev pub logged : {E : Type 0} → Call → Bool → List E → Log E → Log 
 logged start g es L = cond g (new-log node-0-alone) L
 logged (load (unreadable cause offset)) g es L = L
 logged (load (stands-for d h)) g es L = cond g (new-log d) L
-logged (begin t) g es L = cond g (with-entries t [] L) L
+logged (begin t) g es L = cond g (with-operations t [] L) L
 logged (commit t) g es L = cond g (with-commit t L) L
-logged (abort t) g es L = cond g (with-entries t [] L) L
-logged (step t s room) g es L = with-entries t (L .open-log t ++ es) L
+logged (abort t) g es L = cond g (with-operations t [] L) L
+logged (step t s room) g es L = with-more t (map does es) L
 logged write g es L = L
 logged (count-of n) g es L = L
+logged (open-part t) g es L = cond g (with-more t (opens ∷ []) L) L
+logged (close-part t) g es L = cond g (with-more t (closes ∷ []) L) L
+logged (undo-part t) g es L = cond g (with-more t (undoes ∷ []) L) L
 
 unfoldable pub log-after : {E : Type 0} → (StepAnswer → E) → Log E → List Event → Log E
 log-after entry L [] = L
@@ -92,10 +100,10 @@ answered h = log-after (λ x. x .value) (new-log node-0-alone) h
 
 -- the plain run's document, and its answers to the granted steps of committed transactions
 unfoldable pub plain : List Event → Document
-plain h = plain-document (fed h .initial) (joined (fed h .committed))
+plain h = plain-document (fed h .initial) (fed h .committed)
 
 unfoldable pub plain-run-answers : List Event → List PlainAnswer
-plain-run-answers h = plain-answers (fed h .initial) (joined (fed h .committed))
+plain-run-answers h = plain-answers (fed h .initial) (fed h .committed)
 
 -- the plain run's counts: the first committed transaction is commit 1, the next commit 2, and so on
 unfoldable pub plain-counts : List Event → Counts
@@ -107,22 +115,26 @@ plain-with-counts h = with-counts (plain-counts h) (plain h)
 
 -- pending --------------------------------------------------------------------------------
 
-abbrev pub inserted : List Step → List ℕ
+-- the numbers of the nodes that were inserted; those of undone parts too, which no document has any more
+abbrev pub inserted : List (Operation Step) → List ℕ
 inserted [] = []
-inserted (s ∷ ss) = inserts s ++ inserted ss
+inserted (does s ∷ l) = inserts s ++ inserted l
+inserted (opens ∷ l) = inserted l
+inserted (closes ∷ l) = inserted l
+inserted (undoes ∷ l) = inserted l
 
--- d is the plain document, and e what an open transaction's granted steps leave of it by the plain rules:
--- "a node inserted by an open transaction and not deleted since; a committed node (one of the plain document) deleted by one;
--- a committed node that an open transaction's granted calls leave with other content bytes than the plain document has"
-abbrev pub pending-in : Document → List Step → Document → Bool
+-- d is the plain document, and e what an open transaction's operations leave of it by the plain rules, so that "a change that was undone
+-- counts as never made": "a node inserted by an open transaction and not deleted since; a committed node (one of the plain document)
+-- deleted by one; a committed node that an open transaction's granted calls leave with other content bytes than the plain document has"
+abbrev pub pending-in : Document → List (Operation Step) → Document → Bool
 pending-in d log e =
     any (λ m. here m e) (inserted log) ||
     any (λ r. not (here (r .it .number) e)) (lines d) ||
     any (λ r. here (r .it .number) e && not (same (at (r .it .number) e .it .content) (r .it .content))) (lines d)
 
--- something is pending; a transaction that is not open has no steps
+-- something is pending; a transaction that is not open has no operations
 unfoldable pub pending : List Event → Bool
-pending h = any (λ t. pending-in (plain h) (fed h .open-log t) (plain-document (plain h) (fed h .open-log t))) transactions
+pending h = any (λ t. pending-in (plain h) (fed h .open-log t) (left-of (plain h) (fed h .open-log t) .document)) transactions
 
 -- waiting ----------------------------------------------------------------------------------
 
@@ -154,6 +166,10 @@ sets-left (abort t) g w r = cond g (struck t r) r
 sets-left (step t s room) g w r = cond g (with-set t (λ u. false) r) (cond (eqb w 0) r (with-set t (in-set w) r))
 sets-left write g w r = r
 sets-left (count-of n) g w r = r
+-- "no steps"
+sets-left (open-part t) g w r = r
+sets-left (close-part t) g w r = r
+sets-left (undo-part t) g w r = r
 
 -- the sets that the answers tell, from the sets r on
 unfoldable pub sets-after : WaitSets → List Event → WaitSets

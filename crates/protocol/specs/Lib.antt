@@ -1,4 +1,5 @@
 pub mod Causes
+pub mod Marked
 pub mod State
 pub mod Rings
 pub mod Lent
@@ -11,4 +12,5 @@ pub mod Refusals
 pub mod PlainRun
 pub mod Deadlock
 pub mod Counting
+pub mod Parts
 pub mod Laws

@@ -9,7 +9,8 @@ use Rattle.tree.specs.Characters.{within, utf8, characters}
 use Rattle.tree.specs.Content.{spells-name, spells-text, is-name, is-text, allowed, takes, attributes-first, children-rule}
 use Rattle.tree.specs.Content.{insert-at}
 use Rattle.tree.specs.Document.{node-0-alone, lines, select, ruled, legal}
-use Rattle.tree.specs.Steps.{C, R, U, D, I, TT, UU, placed, done, child-is, none, content-is, numbers-are, how-many, plain-document}
+use Rattle.tree.specs.Steps.{C, R, U, D, I, TT, UU, placed, done, child-is, none, content-is, numbers-are, how-many}
+use Rattle.tree.specs.Plain.{progress-after, plain-document}
 use Rattle.tree.specs.Examples.{tree-E}
 use Rattle.locks.specs.Modes.{clash}
 use Rattle.locks.specs.Needs.{locks}
@@ -127,5 +128,5 @@ unfolding tree-E played from-E state-after history log-after plain pending next 
     legal ruled lines select rows keep amend view place put within utf8 characters spells-name spells-text is-name is-text allowed takes
     attributes-first
     children-rule
-    insert-at placed plain-document
+    insert-at placed plain-document progress-after
 mistakes-hold = refl

@@ -10,7 +10,8 @@ use Rattle.tree.specs.Characters.{within, utf8, characters}
 use Rattle.tree.specs.Content.{spells-name, spells-text, is-name, is-text, allowed, takes, attributes-first, children-rule}
 use Rattle.tree.specs.Content.{insert-at}
 use Rattle.tree.specs.Document.{Document, node-0-alone, lines, select, ruled, legal}
-use Rattle.tree.specs.Steps.{T, R, U, D, I, placed, done, kind-parent, content-is, plain-document}
+use Rattle.tree.specs.Steps.{T, R, U, D, I, placed, done, kind-parent, content-is}
+use Rattle.tree.specs.Plain.{progress-after, plain-document}
 use Rattle.tree.specs.Examples.{a-node, tree-E}
 use Rattle.locks.specs.Modes.{clash}
 use Rattle.locks.specs.Needs.{locks}
@@ -23,7 +24,7 @@ use Rattle.protocol.specs.History.{history, state-after, log-after, plai
 use Rattle.protocol.specs.Examples.{Item, gives, is-pending, plain-is, does, played, from-E}
 
 -- E with another text 5, with nodes behind it in the element speed, and with other nodes behind that element
-abbrev E-inside : String → Document → Document → Document
+abbrev pub E-inside : String → Document → Document → Document
 E-inside speed inside behind = a-node 0 1 ""
     (a-node 1 2 "lift"
     (a-node 2 3 "rope" (a-node 3 4 "2" nil nil)
@@ -31,10 +32,10 @@ E-inside speed inside behind = a-node 0 1 ""
     behind))
     nil) nil
 
-abbrev E-with : String → Document → Document
+abbrev pub E-with : String → Document → Document
 E-with speed behind = E-inside speed nil behind
 
-abbrev ramp : Document
+abbrev pub ramp : Document
 ramp = a-node 6 2 "ramp" nil nil
 
 abbrev lamp : Document
@@ -144,5 +145,5 @@ pub plain-runs-hold : map from-E plain-runs ≡ plain-runs
 unfolding tree-E played from-E state-after history log-after plain pending next judged wait-set in-ring loadable first-lent second-lent
     nodes callers-document document-of grant commit-tree abort-tree tree-of node-0-alone clash locks
     legal ruled lines select rows keep amend view place put within utf8 characters spells-name spells-text is-name is-text allowed takes
-    attributes-first children-rule insert-at placed plain-document
+    attributes-first children-rule insert-at placed plain-document progress-after
 plain-runs-hold = refl

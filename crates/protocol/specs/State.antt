@@ -2,7 +2,7 @@
 use Prim.Native.Nat.{ℕ, suc, _-_}
 use mathlib.Core.Bool.{Bool, true, false, cond, not, _&&_, _||_}
 use mathlib.Core.List.{List, [], _∷_, map}
-use lib.Dec.{eqb}
+use lib.Dec.{eqb, leb}
 use Rattle.tree.specs.Lists.{any, every}
 use Rattle.tree.specs.Forest.{Forest, Row, rows, amend, view, put}
 use Rattle.tree.specs.Content.{between}
@@ -11,61 +11,16 @@ use Rattle.tree.specs.Steps.{Step, T, C, R, U, D, I, TT, RR, UU, is-named, with
 use Rattle.tree.specs.Counts.{CountedDocument}
 use Rattle.locks.specs.Modes.{ModeSet, no-mode, union, among, bit}
 use Rattle.locks.specs.Needs.{Lock}
+pub use Rattle.protocol.specs.Marked.{nobody, Saved, Update, unwritten, wrote, writer-of, level-of, saved-of, Marked}
+pub use Rattle.protocol.specs.Marked.{with-now, with-update, with-inserter, with-insertion-level, with-deleter, with-deletion-level}
+pub use Rattle.protocol.specs.Marked.{with-held, with-count}
 
--- transaction numbers are 1 to 16; 0 stands for nobody
-abbrev pub nobody : ℕ
-nobody = 0
-
+-- transaction numbers are 1 to 16
 abbrev pub is-transaction : ℕ → Bool
 is-transaction t = between 1 16 t
 
 abbrev pub transactions : List ℕ
 transactions = 1 ∷ 2 ∷ 3 ∷ 4 ∷ 5 ∷ 6 ∷ 7 ∷ 8 ∷ 9 ∷ 10 ∷ 11 ∷ 12 ∷ 13 ∷ 14 ∷ 15 ∷ 16 ∷ []
-
--- what open transactions did to a node's content: nothing, or which one wrote it, and the content before its first write (the committed
--- one; no document shows it where the writer itself inserted the node)
-pub data Update : Type 0 where
-  unwritten : Update
-  wrote : (writer : ℕ) (saved : List ℕ) → Update
-
-abbrev pub writer-of : Update → ℕ
-writer-of unwritten = nobody
-writer-of (wrote t saved) = t
-
--- never asked for where nobody wrote
-abbrev pub saved-of : Update → List ℕ
-saved-of unwritten = []
-saved-of (wrote t saved) = saved
-
--- a node held: as it is now, what was done to its content, which open transaction inserted it and deleted it (0: none), for each
--- transaction the set of modes it was granted there, and the count that it bears in the committed document (A.7), 0 where an open
--- transaction inserted it
-pub record Marked : Type 0 where
-  pub now : Node
-  pub update : Update
-  pub inserter : ℕ
-  pub deleter : ℕ
-  pub held : ℕ → ModeSet
-  pub count : ℕ
-
--- a node held with one field changed: all other changes are made of these, so that a further field passes through them
-abbrev pub with-now : Node → Marked → Marked
-with-now x a = record { now = x; update = a .update; inserter = a .inserter; deleter = a .deleter; held = a .held; count = a .count }
-
-abbrev pub with-update : Update → Marked → Marked
-with-update x a = record { now = a .now; update = x; inserter = a .inserter; deleter = a .deleter; held = a .held; count = a .count }
-
-abbrev pub with-inserter : ℕ → Marked → Marked
-with-inserter x a = record { now = a .now; update = a .update; inserter = x; deleter = a .deleter; held = a .held; count = a .count }
-
-abbrev pub with-deleter : ℕ → Marked → Marked
-with-deleter x a = record { now = a .now; update = a .update; inserter = a .inserter; deleter = x; held = a .held; count = a .count }
-
-abbrev pub with-held : (ℕ → ModeSet) → Marked → Marked
-with-held x a = record { now = a .now; update = a .update; inserter = a .inserter; deleter = a .deleter; held = x; count = a .count }
-
-abbrev pub with-count : ℕ → Marked → Marked
-with-count x a = record { now = a .now; update = a .update; inserter = a .inserter; deleter = a .deleter; held = a .held; count = x }
 
 abbrev pub Tree : Type 0
 Tree = Forest Marked
@@ -78,12 +33,13 @@ in-set w t = cond (is-transaction t) (bit w (t - 1)) false
 abbrev pub WaitSets : Type 0
 WaitSets = ℕ → ℕ → Bool
 
--- what is not per node: which transactions are open, the wait set that is remembered of each (A.6), which is empty where none is, and how
--- many were committed since the last granted start or load (A.7)
+-- what is not per node: which transactions are open, the wait set that is remembered of each (A.6), which is empty where none is, how many
+-- were committed since the last granted start or load (A.7), and how many parts of each are open (A.8)
 pub record Header : Type 0 where
   pub is-open : ℕ → Bool
   pub remembered : WaitSets
   pub commits : ℕ
+  pub depth : ℕ → ℕ
 
 pub record State : Type 0 where
   pub header : Header
@@ -109,53 +65,90 @@ seen-by t a = not (eqb (a .deleter) t)
 unfoldable pub callers-document : ℕ → Tree → Document
 callers-document t f = view (seen-by t) (λ a. a .now) f
 
--- a transaction of the set deleted the node
-abbrev pub deleted-in : (ℕ → Bool) → Marked → Bool
-deleted-in S a = not (eqb (a .deleter) nobody) && S (a .deleter)
+-- a set of transactions and levels: for each transaction, the levels at which what it did is shown. The claims are of `all-of` and `nothing`,
+-- their proofs also of the levels below an open part
+abbrev pub Levels : Type 0
+Levels = ℕ → ℕ → Bool
+
+-- these transactions, at all levels
+abbrev pub all-of : (ℕ → Bool) → Levels
+all-of S u l = S u
+
+-- a transaction of the set deleted the node, at a level of the set
+abbrev pub deleted-in : Levels → Marked → Bool
+deleted-in S a = not (eqb (a .deleter) nobody) && S (a .deleter) (a .deletion-level)
 
 -- "the tree in the lent state without nodes that open transactions deleted"
 unfoldable pub held-document : State → Document
-held-document M = view (λ a. not (deleted-in (M .header .is-open) a)) (λ a. a .now) (M .tree)
+held-document M = view (λ a. not (deleted-in (all-of (M .header .is-open)) a)) (λ a. a .now) (M .tree)
 
--- a set of transactions shows what they did, and nothing of what the others did
-abbrev pub done-by : (ℕ → Bool) → ℕ → Bool
-done-by S u = eqb u nobody || S u
+-- a set shows what was done in it, and nothing else of what open transactions did
+abbrev pub done-by : Levels → ℕ → ℕ → Bool
+done-by S u l = eqb u nobody || S u l
 
-abbrev pub shown : (ℕ → Bool) → Marked → Bool
-shown S a = done-by S (a .inserter) && not (deleted-in S a)
+abbrev pub shown : Levels → Marked → Bool
+shown S a = done-by S (a .inserter) (a .insertion-level) && not (deleted-in S a)
 
-abbrev pub as-shown : (ℕ → Bool) → Marked → Node
-as-shown S a = with-content (a .now) (cond (done-by S (writer-of (a .update))) (a .now .content) (saved-of (a .update)))
+-- of a content b, those saved since, the last first, and the one saved first at level l: what the last write at one of these levels left, and
+-- `saved` where none is of them; asked only for levels that have with each all lower ones, so that no write which is left out comes before
+abbrev pub content-at : (ℕ → Bool) → List ℕ → List Saved → ℕ → List ℕ → List ℕ
+content-at S b [] l saved = cond (S l) b saved
+content-at S b (x ∷ xs) l saved = cond (S (x .0)) b (content-at S (x .1) xs l saved)
 
-unfoldable pub document-of : (ℕ → Bool) → Tree → Document
+abbrev pub content-shown : Levels → List ℕ → Update → List ℕ
+content-shown S b unwritten = b
+content-shown S b (wrote u l saved deeper) = content-at (S u) b deeper l saved
+
+abbrev pub as-shown : Levels → Marked → Node
+as-shown S a = with-content (a .now) (content-shown S (a .now .content) (a .update))
+
+unfoldable pub document-of : Levels → Tree → Document
 document-of S f = view (shown S) (as-shown S) f
 
--- "the one held if they all aborted": nothing that an open transaction did is shown
+-- nothing that an open transaction did
+abbrev pub nothing : Levels
+nothing u l = false
+
+-- "the one held if they all aborted"
 abbrev pub committed-document : State → Document
-committed-document M = document-of (λ u. false) (M .tree)
+committed-document M = document-of nothing (M .tree)
 
 -- the same with the counts (A.7)
 unfoldable pub committed-with-counts : State → CountedDocument
-committed-with-counts M = view (shown (λ u. false)) (λ a. record { node = as-shown (λ u. false) a; count = a .count }) (M .tree)
+committed-with-counts M = view (shown nothing) (λ a. record { node = as-shown nothing a; count = a .count }) (M .tree)
 
 -- marks ------------------------------------------------------------------------------
 
--- the committed content: the one now, or the one saved where somebody wrote
-abbrev pub committed-content : Marked → List ℕ
-committed-content a = cond (eqb (writer-of (a .update)) nobody) (a .now .content) (saved-of (a .update))
+-- a content was saved at level d or deeper
+abbrev pub saved-since : ℕ → ℕ → List Saved → Bool
+saved-since d l deeper = leb d l || any (λ x. leb d (x .0)) deeper
 
--- t wrote b; the committed content is saved
-abbrev pub written-by : ℕ → List ℕ → Marked → Marked
-written-by t b a = with-update (wrote t (committed-content a)) (with-now (with-content (a .now) b) a)
+-- t writes at level d over the content b, which is saved unless one was saved at this level or deeper
+abbrev pub saving : ℕ → ℕ → List ℕ → Update → Update
+saving t d b unwritten = wrote t d b []
+saving t d b (wrote u l saved deeper) = wrote t l saved (cond (saved-since d l deeper) deeper ((d, b) ∷ deeper))
 
-abbrev pub deleted-by : ℕ → Marked → Marked
-deleted-by t a = with-deleter t a
+-- t wrote b at level d
+abbrev pub written-by : ℕ → ℕ → List ℕ → Marked → Marked
+written-by t d b a = with-update (saving t d (a .now .content) (a .update)) (with-now (with-content (a .now) b) a)
+
+abbrev pub deleted-by : ℕ → ℕ → Marked → Marked
+deleted-by t d a = with-deletion-level d (with-deleter t a)
 
 abbrev pub unmarked : Node → Marked
-unmarked a = record { now = a; update = unwritten; inserter = nobody; deleter = nobody; held = λ u. no-mode; count = 0 }
+unmarked a = record {
+  now = a;
+  update = unwritten;
+  inserter = nobody;
+  insertion-level = 0;
+  deleter = nobody;
+  deletion-level = 0;
+  held = λ u. no-mode;
+  count = 0;
+}
 
-abbrev pub inserted-by : ℕ → Node → Marked
-inserted-by t a = with-inserter t (unmarked a)
+abbrev pub inserted-by : ℕ → ℕ → Node → Marked
+inserted-by t d a = with-insertion-level d (with-inserter t (unmarked a))
 
 -- t is granted the locks that are on this node
 abbrev pub modes-on : List Lock → ℕ → ModeSet
@@ -201,6 +194,66 @@ abbrev pub undone : ℕ → Marked → Marked
 undone t a = released t (with-now (with-content (a .now) (content-without t a))
     (with-update (update-without t (a .update)) (with-deleter (without t (a .deleter)) a)))
 
+-- parts ----------------------------------------------------------------------------------
+
+-- t inserted the node at level d; t deleted it there
+abbrev pub inserted-at : ℕ → ℕ → Marked → Bool
+inserted-at t d a = eqb (a .inserter) t && eqb (a .insertion-level) d
+
+abbrev pub deleted-at : ℕ → ℕ → Marked → Bool
+deleted-at t d a = eqb (a .deleter) t && eqb (a .deletion-level) d
+
+-- the content that was saved last, if it was at level d, otherwise the content b
+abbrev pub content-undone : ℕ → List ℕ → Update → List ℕ
+content-undone d b unwritten = b
+content-undone d b (wrote u l saved []) = cond (eqb l d) saved b
+content-undone d b (wrote u l saved (x ∷ xs)) = cond (eqb (x .0) d) (x .1) b
+
+-- what is left of the saved contents: where the first was saved at level d, and none deeper, nobody wrote
+abbrev pub update-undone : ℕ → Update → Update
+update-undone d unwritten = unwritten
+update-undone d (wrote u l saved []) = cond (eqb l d) unwritten (wrote u l saved [])
+update-undone d (wrote u l saved (x ∷ xs)) = wrote u l saved (cond (eqb (x .0) d) xs (x ∷ xs))
+
+-- the writes of t at level d are taken back
+abbrev pub writes-undone : ℕ → ℕ → Marked → Marked
+writes-undone t d a =
+    cond (eqb (writer-of (a .update)) t)
+    (with-update (update-undone d (a .update)) (with-now (with-content (a .now) (content-undone d (a .now .content) (a .update))) a))
+    a
+
+-- its deletions
+abbrev pub deletion-undone : ℕ → ℕ → Marked → Marked
+deletion-undone t d a = cond (deleted-at t d a) (with-deleter nobody a) a
+
+-- and its insertions: "numbers inserted in an undone part stay in use until the transaction ends", so the node stays, deleted by t at
+-- level 0, where no undo takes it back
+abbrev pub insertion-undone : ℕ → ℕ → Marked → Marked
+insertion-undone t d a = cond (inserted-at t d a) (deleted-by t 0 a) a
+
+-- "undoing takes back exactly its own insertions, deletions and updates"; "locks remain"
+abbrev pub part-undone : ℕ → ℕ → Marked → Marked
+part-undone t d a = insertion-undone t d (deletion-undone t d (writes-undone t d a))
+
+-- the level at which a content was saved last
+abbrev pub last-level : ℕ → List Saved → ℕ
+last-level l [] = l
+last-level l (x ∷ xs) = x .0
+
+-- contents saved at level d are saved at level d - 1, unless one was saved there before
+abbrev pub update-joined : ℕ → Update → Update
+update-joined d unwritten = unwritten
+update-joined d (wrote u l saved []) = wrote u (cond (eqb l d) (d - 1) l) saved []
+update-joined d (wrote u l saved (x ∷ xs)) =
+    wrote u l saved (cond (eqb (x .0) d) (cond (leb (d - 1) (last-level l xs)) xs ((d - 1, x .1) ∷ xs)) (x ∷ xs))
+
+-- what t did at level d it did at level d - 1: close "joins it to what surrounds it"
+abbrev pub part-joined : ℕ → ℕ → Marked → Marked
+part-joined t d a =
+    with-update (cond (eqb (writer-of (a .update)) t) (update-joined d (a .update)) (a .update))
+    (with-insertion-level (cond (inserted-at t d a) (d - 1) (a .insertion-level))
+    (with-deletion-level (cond (deleted-at t d a) (d - 1) (a .deletion-level)) a))
+
 -- edits of the tree ------------------------------------------------------------------
 
 -- each node anew, computed from the node and its proper ancestors
@@ -215,19 +268,19 @@ mark-node n g f = mark (λ r. cond (has-number n (r .it)) (g (r .it)) (r .it)) f
 abbrev pub renamed : ℕ → ℕ → List ℕ → Row Marked Marked → Bool
 renamed t n a r = every (seen-by t) (r .it ∷ r .above) && any (has-number n) (r .it ∷ r .above) && is-named a (r .it .now)
 
--- what a granted step of t does
-abbrev pub act : ℕ → Step → Tree → Tree
-act t (T n) f = f
-act t (C n k) f = f
-act t (R n) f = f
-act t (U n b) f = mark-node n (written-by t b) f
-act t (D n) f = mark-node n (deleted-by t) f
--- among siblings that t deleted itself the place is a free choice, which no document can show: right behind the one counted last,
--- for k = 1 before all
-act t (I m kind b n k) f = put (has-number n) (seen-by t) k (inserted-by t (record { number = m; kind = kind; content = b })) f
-act t (TT n) f = f
-act t (RR n) f = f
-act t (UU n a b) f = mark (λ r. cond (renamed t n a r) (written-by t b (r .it)) (r .it)) f
+-- what a granted step of t does at level d
+abbrev pub act : ℕ → ℕ → Step → Tree → Tree
+act t d (T n) f = f
+act t d (C n k) f = f
+act t d (R n) f = f
+act t d (U n b) f = mark-node n (written-by t d b) f
+act t d (D n) f = mark-node n (deleted-by t d) f
+-- among siblings that t deleted, or whose insertion it undid, the place is a free choice, which no document can show: an undo that brings
+-- such a sibling back takes this insertion back too. Right behind the one counted last, for k = 1 before all
+act t d (I m kind b n k) f = put (has-number n) (seen-by t) k (inserted-by t d (record { number = m; kind = kind; content = b })) f
+act t d (TT n) f = f
+act t d (RR n) f = f
+act t d (UU n a b) f = mark (λ r. cond (renamed t n a r) (written-by t d b (r .it)) (r .it)) f
 
 unfoldable pub grant : ℕ → List Lock → Tree → Tree
 grant t ls f = mark (λ r. granted-to t ls (r .it)) f
@@ -239,6 +292,13 @@ commit-tree k t f = view (seen-by t) (lasting k t) f
 -- what t inserted goes with all below it; what it deleted and wrote is as before; its locks go
 unfoldable pub abort-tree : ℕ → Tree → Tree
 abort-tree t f = view (λ a. not (eqb (a .inserter) t)) (undone t) f
+
+-- the part of t at level d is undone; it is closed
+unfoldable pub undo-tree : ℕ → ℕ → Tree → Tree
+undo-tree t d f = mark (λ r. part-undone t d (r .it)) f
+
+unfoldable pub join-tree : ℕ → ℕ → Tree → Tree
+join-tree t d f = mark (λ r. part-joined t d (r .it)) f
 
 unfoldable pub tree-of : Document → Tree
 tree-of d = view (λ a. true) unmarked d
@@ -252,19 +312,26 @@ with-header h M = record { header = h; tree = M .tree }
 abbrev pub with-tree : State → Tree → State
 with-tree M f = record { header = M .header; tree = f }
 
--- a header with other open transactions, with other remembered sets, or with another number of commits
+-- a header with other open transactions, with other remembered sets, with another number of commits, or with other depths
 abbrev pub with-open : (ℕ → Bool) → Header → Header
-with-open f h = record { is-open = f; remembered = h .remembered; commits = h .commits }
+with-open f h = record { is-open = f; remembered = h .remembered; commits = h .commits; depth = h .depth }
 
 abbrev pub with-remembered : WaitSets → Header → Header
-with-remembered r h = record { is-open = h .is-open; remembered = r; commits = h .commits }
+with-remembered r h = record { is-open = h .is-open; remembered = r; commits = h .commits; depth = h .depth }
 
 abbrev pub with-commits : ℕ → Header → Header
-with-commits k h = record { is-open = h .is-open; remembered = h .remembered; commits = k }
+with-commits k h = record { is-open = h .is-open; remembered = h .remembered; commits = k; depth = h .depth }
+
+abbrev pub with-depths : (ℕ → ℕ) → Header → Header
+with-depths f h = record { is-open = h .is-open; remembered = h .remembered; commits = h .commits; depth = f }
+
+-- d parts of t are open
+abbrev pub with-depth : ℕ → ℕ → Header → Header
+with-depth t d h = with-depths (λ u. cond (eqb u t) d (h .depth u)) h
 
 -- "node 0 alone and nothing is open"
 abbrev pub start-header : Header
-start-header = record { is-open = λ u. false; remembered = λ u v. false; commits = 0 }
+start-header = record { is-open = λ u. false; remembered = λ u v. false; commits = 0; depth = λ u. 0 }
 
 abbrev pub start-state : State
 start-state = record { header = start-header; tree = tree-of node-0-alone }
@@ -296,9 +363,9 @@ struck t r u v = not (eqb u t) && (not (eqb v t) && r u v)
 abbrev pub struck-header : ℕ → Header → Header
 struck-header t h = with-remembered (struck t (h .remembered)) h
 
--- the end of t: it is not open, it waits for nobody, and nobody waits for it
+-- the end of t: it is not open, none of its parts is, it waits for nobody, and nobody waits for it
 abbrev pub ended : ℕ → Header → Header
-ended t h = struck-header t (with-open (λ u. not (eqb u t) && h .is-open u) h)
+ended t h = struck-header t (with-depth t 0 (with-open (λ u. not (eqb u t) && h .is-open u) h))
 
 abbrev pub closed : ℕ → Tree → State → State
 closed t f M = with-tree (with-header (ended t (M .header)) M) f
@@ -318,3 +385,17 @@ aborted t M = closed t (abort-tree t (M .tree)) M
 -- the document d was loaded: its nodes bear 0, and commits count from 1 again
 abbrev pub with-document : Document → State → State
 with-document d M = with-tree (with-header (with-commits 0 (M .header)) M) (tree-of d)
+
+-- t opens a part, closes the last one open, or undoes it
+abbrev pub part-opened : ℕ → State → State
+part-opened t M = with-header (with-depth t (suc (M .header .depth t)) (M .header)) M
+
+abbrev pub part-left : ℕ → (ℕ → ℕ → Tree → Tree) → State → State
+part-left t edit M =
+    with-tree (with-header (with-depth t (M .header .depth t - 1) (M .header)) M) (edit t (M .header .depth t) (M .tree))
+
+abbrev pub part-closed : ℕ → State → State
+part-closed t M = part-left t join-tree M
+
+abbrev pub part-taken-back : ℕ → State → State
+part-taken-back t M = part-left t undo-tree M

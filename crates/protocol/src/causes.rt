@@ -33,3 +33,5 @@ pub const OPEN_AT_LOAD: u8 = 15;
 pub const DEADLOCK: u8 = 17;
 
 pub const NO_MORE_COMMITS: u8 = 18;
+
+pub const PART_NOT_ALLOWED: u8 = 19;

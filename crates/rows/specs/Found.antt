@@ -108,4 +108,5 @@ judged-at t s room M l p =
     ∷ (refused place-not-allowed, misplaced-on s (item l p .now .kind) (map kind-of (children t l p)))
     ∷ (refused no-more-nodes, limit-reached-in s l)
     ∷ (refused short-buffer, not (has-room (answer-at s t l p) room)) ∷ [])
-    (grants-step s (answer-at s t l p) (forgetting t (with-tree M (grant t (locks s (numbers-above l p)) (act t s (M .tree))))))
+    (grants-step s (answer-at s t l p)
+    (forgetting t (with-tree M (grant t (locks s (numbers-above l p)) (act t (M .header .depth t) s (M .tree))))))

@@ -76,14 +76,14 @@ changed-below shown g top hidden (x ∷ xs) =
     (cond (shown (x .1)) (second g x ∷ changed-below shown g top 0 xs) (x ∷ changed-below shown g top (suc (x .0)) xs)))
     (x ∷ xs)
 
--- an element named a is named b by t
-abbrev pub renamed-by : ℕ → List ℕ → List ℕ → Marked → Marked
-renamed-by t a b x = cond (is-named a (x .now)) (written-by t b x) x
+-- an element named a is named b by t at level d
+abbrev pub renamed-by : ℕ → ℕ → List ℕ → List ℕ → Marked → Marked
+renamed-by t d a b x = cond (is-named a (x .now)) (written-by t d b x) x
 
--- UU of t on the node at p
-unfoldable pub renamed-rows : ℕ → List ℕ → List ℕ → ℕ → List Entry → List Entry
-renamed-rows t a b p l =
-    take p l ++ (second (renamed-by t a b) (getD l p no-entry) ∷ changed-below (seen-by t) (renamed-by t a b) (depth l p) 0
+-- UU of t at level d on the node at p
+unfoldable pub renamed-rows : ℕ → ℕ → List ℕ → List ℕ → ℕ → List Entry → List Entry
+renamed-rows t d a b p l =
+    take p l ++ (second (renamed-by t d a b) (getD l p no-entry) ∷ changed-below (seen-by t) (renamed-by t d a b) (depth l p) 0
     (drop (suc p) l))
 
 -- a new child -------------------------------------------------------------------------------------
@@ -103,20 +103,20 @@ new-place t k p l = suc p + before-new (seen-by t) (depth l p) (k - 1) (drop (su
 
 -- a granted step ------------------------------------------------------------------------------------
 
--- what a step of t on the node at p leaves: l are the rows before, g those with the step's locks granted
-abbrev pub acted : ℕ → Step → ℕ → List Entry → List Entry → List Entry
-acted t (T n) p l g = g
-acted t (C n k) p l g = g
-acted t (R n) p l g = g
-acted t (U n b) p l g = modify p (second (written-by t b)) g
-acted t (D n) p l g = modify p (second (deleted-by t)) g
-acted t (I m kind b n k) p l g =
+-- what a step of t at level d on the node at p leaves: l are the rows before, g those with the step's locks granted
+abbrev pub acted : ℕ → ℕ → Step → ℕ → List Entry → List Entry → List Entry
+acted t d (T n) p l g = g
+acted t d (C n k) p l g = g
+acted t d (R n) p l g = g
+acted t d (U n b) p l g = modify p (second (written-by t d b)) g
+acted t d (D n) p l g = modify p (second (deleted-by t d)) g
+acted t d (I m kind b n k) p l g =
     insert (new-place t k p l)
-    (suc (depth l p), granted-modes t (need (I m kind b n k) .new) (inserted-by t (record { number = m; kind = kind; content = b }))) g
-acted t (TT n) p l g = g
-acted t (RR n) p l g = g
-acted t (UU n a b) p l g = renamed-rows t a b p g
+    (suc (depth l p), granted-modes t (need (I m kind b n k) .new) (inserted-by t d (record { number = m; kind = kind; content = b }))) g
+acted t d (TT n) p l g = g
+acted t d (RR n) p l g = g
+acted t d (UU n a b) p l g = renamed-rows t d a b p g
 
 -- the locks along the way up first, then the step
-unfoldable pub stepped : ℕ → Step → ℕ → List Entry → List Entry
-stepped t s p l = acted t s p l (granted-up t (need s) p l)
+unfoldable pub stepped : ℕ → ℕ → Step → ℕ → List Entry → List Entry
+stepped t d s p l = acted t d s p l (granted-up t (need s) p l)

@@ -1,5 +1,5 @@
--- What is claimed of every list of calls that begins with a start: document 01, "The plain run" (demand 3), and document 02, A.14, A.6 and
--- A.7.
+-- What is claimed of every list of calls that begins with a start: document 01, "The plain run" (demand 3), and document 02, A.14, A.6,
+-- A.7 and A.8.
 -- Only definitions of tree, locks and protocol are used; the proofs are in Laws.
 use Prim.Native.Nat.{ℕ, _-_, _<_, _^_}
 use mathlib.Core.Path.{_≡_}
@@ -10,19 +10,22 @@ use lib.ListN.{length}
 use lib.Dec.{eqb, leb}
 use Rattle.tree.specs.Lists.{has, distinct, joined}
 use Rattle.tree.specs.Document.{Document, here, legal}
-use Rattle.tree.specs.Steps.{Step, Value, done, how-many, plain-value, unfit, target, plain-document, plain-answers}
+use Rattle.tree.specs.Steps.{Step, Value, done, how-many, plain-value, unfit, target}
+use Rattle.tree.specs.Plain.{Operation, steps-in, before-all, progress-after, left-of, plain-document, plain-answers}
 use Rattle.tree.specs.Counts.{without-counts}
-use Rattle.locks.specs.Modes.{Mode, bit}
+use Rattle.locks.specs.Modes.{Mode, ModeSet, bit}
 use Rattle.locks.specs.Needs.{Lock, needs}
 use Rattle.protocol.specs.State.{State, start-state, Marked, is-transaction, transactions, nodes, in-set, WaitSets, with-set, remembering}
-use Rattle.protocol.specs.State.{callers-document, held-document, document-of, committed-document, committed-with-counts}
+use Rattle.protocol.specs.State.{number-held, callers-document, held-document, all-of, document-of, committed-document}
+use Rattle.protocol.specs.State.{committed-with-counts}
 use Rattle.protocol.specs.Lent.{Room}
-use Rattle.protocol.specs.Causes.{no-such-node, deadlock, no-more-commits}
+use Rattle.protocol.specs.Causes.{no-such-node, deadlock, no-more-commits, part-not-allowed}
 use Rattle.protocol.specs.Rings.{AmongOpen, in-ring}
-use Rattle.protocol.specs.Calls.{Call, start, load, begin, commit, abort, step, write, count-of, Outcome, granted, written, waits}
-use Rattle.protocol.specs.Calls.{refused, commit-limit, blocks, wait-set, commits-reached, next}
+use Rattle.protocol.specs.Calls.{Call, start, load, begin, commit, abort, step, write, count-of, open-part, close-part, undo-part}
+use Rattle.protocol.specs.Calls.{Outcome, granted, written, waits, refused, commit-limit, part-limit, blocks, wait-set, commits-reached}
+use Rattle.protocol.specs.Calls.{next}
 use Rattle.protocol.specs.History.{Event, history, state-after, is-granted, committed-then, fed, answered, plain}
-use Rattle.protocol.specs.History.{plain-run-answers, plain-counts, plain-with-counts, pending, waited-for, sets-after}
+use Rattle.protocol.specs.History.{plain-run-answers, plain-counts, plain-with-counts, inserted, pending, waited-for, sets-after}
 
 -- a list that begins with a start, which is always granted, and the state that it reaches. They begin in one fixed state: start forgets the
 -- state before it (`start-forgets`)
@@ -34,29 +37,35 @@ reached cs = state-after start-state (start ∷ cs)
 
 -- any order ----------------------------------------------------------------------------
 
--- the steps of the committed transactions and then of the transactions b, one transaction behind the other; one that is not open has none
-abbrev pub steps-of : List Event → List ℕ → List Step
-steps-of h b = joined (committed-then (fed h) b)
+-- the committed transactions and then the transactions b, each by its granted steps and calls on parts; one that is not open has none
+abbrev pub operations-of : List Event → List ℕ → List (List (Operation Step))
+operations-of h b = committed-then (fed h) b
+
+-- the values of the steps of these transactions, one transaction behind the other
+abbrev pub values-in : List (List (Operation Value)) → List Value
+values-in ls = joined (map steps-in ls)
 
 -- the answers that these steps had
 abbrev pub answers-of : List Event → List ℕ → List Value
-answers-of h b = joined (committed-then (answered h) b)
+answers-of h b = values-in (committed-then (answered h) b)
 
--- the plain rules run the committed transactions and then b: they leave the document d, and each step has the answer it had
+-- the plain rules run the committed transactions and then b: they leave the document d, and each step has the answer it had, in undone
+-- parts too
 pub record Runs (h : List Event) (b : List ℕ) (d : Document) : Type 0 where
-  pub document : plain-document (fed h .initial) (steps-of h b) ≡ d
-  pub answers : plain-answers (fed h .initial) (steps-of h b) ≡ map plain-value (answers-of h b)
+  pub document : plain-document (fed h .initial) (operations-of h b) ≡ d
+  pub answers : plain-answers (fed h .initial) (operations-of h b) ≡ map plain-value (answers-of h b)
 
 -- any of the open transactions, in any order, leave what the tree shows of them
 abbrev pub AnyOrder : List Call → Type 0
-AnyOrder cs = (b : List ℕ) → distinct b ≡ true → Runs (since-start cs) b (document-of (λ u. has u b) (reached cs .tree))
+AnyOrder cs = (b : List ℕ) → distinct b ≡ true → Runs (since-start cs) b (document-of (all-of (λ u. has u b)) (reached cs .tree))
 
 -- b is an order of the open transactions: it has each of them, once, and no other
 pub record OpenOrder (is-open : ℕ → Bool) (b : List ℕ) : Type 0 where
   pub once : distinct b ≡ true
   pub all : (u : ℕ) → has u b ≡ is-open u
 
--- A.14: "let the plain rules run the committed transactions in commit order and then those still open, .. in an arbitrary order.
+-- A.14: "let the plain rules run the committed transactions in commit order and then those still open, by their granted steps and calls on
+-- parts so far, in an arbitrary order.
 -- Each step must have the answer it had here, and the document left must equal the held one"
 abbrev pub OpenInAnyOrder : List Call → Type 0
 OpenInAnyOrder cs = (b : List ℕ) → OpenOrder (reached cs .header .is-open) b → Runs (since-start cs) b (held-document (reached cs))
@@ -81,7 +90,7 @@ all-aborted M = state-after M (map abort transactions)
 -- a single claim about the list
 pub record Demand3 (cs : List Call) : Type 0 where
   pub held-plain : (held-document (reached cs) ≡ plain (since-start cs)) ↔ (pending (since-start cs) ≡ false)
-  pub answers : plain-run-answers (since-start cs) ≡ map plain-value (joined (answered (since-start cs) .committed))
+  pub answers : plain-run-answers (since-start cs) ≡ map plain-value (values-in (answered (since-start cs) .committed))
   -- "answers unfit, as no granted step does": the plain run allows each of these steps
   pub none-unfit : List·Memᴰ unfit (plain-run-answers (since-start cs)) → ⊥
   pub committed : committed-document (reached cs) ≡ plain (since-start cs)
@@ -151,11 +160,42 @@ pub record CountsPlain (cs : List Call) : Type 0 where
   pub limit : (t : ℕ) → reached cs .header .is-open t ≡ true → next (commit t) (reached cs) .outcome
       ≡ cond (leb commit-limit (commits-in (since-start cs))) (refused no-more-commits) (granted done)
 
+-- A.8 ----------------------------------------------------------------------------------
+
+-- how many parts of t are open by its granted calls: as many openings as the plain run keeps
+abbrev pub parts-open : List Event → ℕ → ℕ
+parts-open h t = length (progress-after (before-all (plain h)) (fed h .open-log t) .openings)
+
+-- of the list of calls, for each transaction; the outcomes where it is open
+pub record PartsPlain (cs : List Call) (t : ℕ) : Type 0 where
+  pub depth : reached cs .header .depth t ≡ parts-open (since-start cs) t
+  -- "19 for a ninth part, or a close or undo without a part, after 3", and otherwise these calls are done
+  pub open-outcome : reached cs .header .is-open t ≡ true → next (open-part t) (reached cs) .outcome
+      ≡ cond (leb part-limit (parts-open (since-start cs) t)) (refused part-not-allowed) (granted done)
+  pub close-outcome : reached cs .header .is-open t ≡ true → next (close-part t) (reached cs) .outcome
+      ≡ cond (eqb (parts-open (since-start cs) t) 0) (refused part-not-allowed) (granted done)
+  pub undo-outcome : reached cs .header .is-open t ≡ true → next (undo-part t) (reached cs) .outcome
+      ≡ cond (eqb (parts-open (since-start cs) t) 0) (refused part-not-allowed) (granted done)
+  -- "numbers inserted in an undone part stay in use until the transaction ends", as all that it inserted
+  pub in-use : (m : ℕ) → has m (inserted (fed (since-start cs) .open-log t)) ≡ true → number-held m (reached cs .tree) ≡ true
+  -- "to the caller they are unknown": of what t inserted, it sees what the plain rules leave
+  pub known : (m : ℕ) → has m (inserted (fed (since-start cs) .open-log t)) ≡ true
+      → here m (callers-document t (reached cs .tree))
+      ≡ here m (left-of (plain (since-start cs)) (fed (since-start cs) .open-log t) .document)
+
+abbrev pub number-and-locks : Marked → ℕ × (ℕ → ModeSet)
+number-and-locks a = (a .now .number, a .held)
+
+-- the nodes that the calls on parts leave: the same, in the same places of document order, with the same locks: "locks remain"
+abbrev pub NodesStay : Type 0
+NodesStay = (c : Call) (t : ℕ) (M : State) → List·Memᴰ c (open-part t ∷ close-part t ∷ undo-part t ∷ [])
+    → map number-and-locks (nodes (next c M .state .tree)) ≡ map number-and-locks (nodes (M .tree))
+
 -- the states that are reached ----------------------------------------------------------
 
 pub record Reached (M : State) : Type 0 where
   pub numbers-distinct : distinct (map (λ a. a .now .number) (nodes (M .tree))) ≡ true
-  pub documents-legal : (S : ℕ → Bool) → legal (document-of S (M .tree)) ≡ true
+  pub documents-legal : (S : ℕ → Bool) → legal (document-of (all-of S) (M .tree)) ≡ true
   pub held-legal : legal (held-document M) ≡ true
   -- a transaction that is not open holds no lock: commit and abort empty its sets
   pub locks-open : (a : Marked) → List·Memᴰ a (nodes (M .tree)) → (u : ℕ) (m : Mode) → a .held u m ≡ true → M .header .is-open u ≡ true
@@ -174,6 +214,9 @@ left-by (commit t) o M = M
 left-by (abort t) o M = M
 left-by write o M = M
 left-by (count-of n) o M = M
+left-by (open-part t) o M = M
+left-by (close-part t) o M = M
+left-by (undo-part t) o M = M
 
 -- demand 1: no step was granted in a call that waits or is refused; a refusal leaves the state as it was, and a wait all but the set that
 -- is remembered of its transaction

@@ -89,9 +89,9 @@ remembered s t u = cond (is-transaction t) (in-set (word s (set-at t)) u) false
 unfoldable pub commits : List ℕ → ℕ
 commits s = double-word s commits-at
 
--- what is not per node
+-- what is not per node; no part is open
 abbrev pub header : List ℕ → Header
-header s = record { is-open = is-open s; remembered = remembered s; commits = commits s }
+header s = record { is-open = is-open s; remembered = remembered s; commits = commits s; depth = λ t. 0 }
 
 -- the modes that a transaction was granted on the node of a slot
 unfoldable pub held : List ℕ → ℕ → ℕ → ModeSet
@@ -101,9 +101,9 @@ held s k t = cond (is-transaction t) (in-word (word s (lock-at t k))) no-mode
 abbrev pub stored : ℕ → List ℕ → List ℕ
 stored o c = take (getD c (4 + o) 0) (take 32 (drop (6 + 32 * o) c))
 
--- nothing written where the writer u is 0, whatever the bytes b of the saved content are
+-- nothing written where the writer u is 0, whatever the bytes b of the saved content are; all is done at level 0
 abbrev pub update-of : ℕ → List ℕ → Update
-update-of u b = cond (eqb u nobody) unwritten (wrote u b)
+update-of u b = cond (eqb u nobody) unwritten (wrote u 0 b [])
 
 -- a node of its number, its cell's bytes and the modes held on it
 unfoldable pub decode : ℕ → List ℕ → (ℕ → ModeSet) → Marked
@@ -111,7 +111,9 @@ decode n c h = record {
   now = record { number = n; kind = getD c 0 0; content = stored 0 c };
   update = update-of (getD c 1 0) (stored 1 c);
   inserter = getD c 2 0;
+  insertion-level = 0;
   deleter = getD c 3 0;
+  deletion-level = 0;
   held = h;
   count = double-word c 70;
 }

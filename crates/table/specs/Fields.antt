@@ -8,7 +8,7 @@ use lib.Dec.{eqb}
 use Rattle.tree.specs.Steps.{with-content}
 use Rattle.locks.specs.Modes.{no-mode, in-word}
 use Rattle.tree.specs.Document.{Node}
-use Rattle.protocol.specs.State.{nobody, unwritten, wrote, writer-of, saved-of, Marked, committed-content}
+use Rattle.protocol.specs.State.{nobody, unwritten, writer-of, saved-of, Marked, saving}
 use Rattle.protocol.specs.State.{with-now, with-update, with-inserter, with-deleter, with-held}
 use Rattle.table.specs.Layout.{slot, cell, stored, update-of, nodes, Kept}
 use Rattle.table.specs.Lists.{modify}
@@ -76,9 +76,9 @@ pub record Stored (s s′ : List ℕ) (i o : ℕ) (b : List ℕ) : Type 0 where
   pub bytes : stored o (cell s′ (slot s′ i)) ≡ b
   pub size : getD (cell s′ (slot s′ i)) (4 + o) 0 ≤ 32
 
--- transaction t writes: the committed content is saved
+-- transaction t writes at level 0: the content now is saved, if nobody wrote before
 abbrev pub marked-written : ℕ → Marked → Marked
-marked-written t a = with-update (wrote t (committed-content a)) a
+marked-written t a = with-update (saving t 0 (a .now .content) (a .update)) a
 
 -- transaction t holds the modes of a word
 abbrev pub with-modes : ℕ → ℕ → Marked → Marked

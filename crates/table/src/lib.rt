@@ -8,6 +8,7 @@ pub mod transactions;
 
 ghost use mathlib.Core.Path.{_≡_};
 ghost use mathlib.Core.Bool.{true};
+ghost use mathlib.Core.List.{[]};
 ghost use Prim.Native.Nat.{_<_, _≤_};
 ghost use lib.ListN.{length, getD};
 ghost use lib.Dec.{eqb};
@@ -115,7 +116,7 @@ pub fn set_inserter(s: &mut [u8], i: usize, v: u8)
 
 pub fn set_deleter(s: &mut [u8], i: usize, v: u8)
     requires { ⌜ (Layout (now s)) × (i < length (nodes (now s))) ⌝ }
-    ensures { λ r. ⌜ Kept (now (s .entry)) (now (s .exit)) (modify i (second (deleted-by v)) (nodes (now (s .entry)))) ⌝ }
+    ensures { λ r. ⌜ Kept (now (s .entry)) (now (s .exit)) (modify i (second (deleted-by v 0)) (nodes (now (s .entry)))) ⌝ }
 {
     set_field(s, i, 3, v);
 }
@@ -185,7 +186,7 @@ fn copy_content(s: &mut [u8], i: usize, o: usize, p: usize)
 fn set_writer(s: &mut [u8], i: usize, t: u8)
     requires { ⌜ (Layout (now s)) × (i < length (nodes (now s))) × (1 ≤ t) × (saved-size (now s) i ≤ 32) ⌝ }
     ensures { λ r. ⌜ Kept (now (s .entry)) (now (s .exit))
-        (modify i (second (with-update (wrote t (saved-bytes (now (s .entry)) i)))) (nodes (now (s .entry)))) ⌝ }
+        (modify i (second (with-update (wrote t 0 (saved-bytes (now (s .entry)) i) []))) (nodes (now (s .entry)))) ⌝ }
 {
     let k = slot(s, i);
     s[layout::CELLS + layout::CELL * k + 1] = t;

@@ -63,7 +63,7 @@ fn open_place(s: &mut [u8], p: usize, d: u16, n: u32)
 pub fn insert(s: &mut [u8], p: usize, d: u16, n: u32, kind: u8, t: u8, content: &[u8])
     requires { ⌜ (Layout (now s)) × (length (nodes (now s)) < 1024) × (p ≤ length (nodes (now s))) × (length (now content) ≤ 32) ⌝ }
     ensures { λ r. ⌜ Left (now (s .entry)) (now (s .exit)) (header (now (s .entry)))
-        (insert p (d, inserted-by t (record { number = n; kind = kind; content = now (content .entry) })) (nodes (now (s .entry)))) ⌝ }
+        (insert p (d, inserted-by t 0 (record { number = n; kind = kind; content = now (content .entry) })) (nodes (now (s .entry)))) ⌝ }
 {
     open_place(s, p, d, n);
     crate::set_kind(s, p, kind);

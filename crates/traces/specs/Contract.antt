@@ -6,7 +6,7 @@ use lib.ListN.{length}
 use Rattle.tree.specs.Steps.{Step}
 use Rattle.protocol.specs.State.{State}
 use Rattle.protocol.specs.Lent.{Room, first-lent, second-lent}
-use Rattle.protocol.specs.Calls.{Input, Call, start, load, begin, commit, abort, step, write, count-of}
+use Rattle.protocol.specs.Calls.{Input, Call, start, load, begin, commit, abort, step, write, count-of, open-part, close-part, undo-part}
 use Rattle.protocol.specs.Answers.{code-of}
 use Rattle.protocol.specs.declared.Answer.{Answer}
 use Rattle.table.specs.Layout.{state-size}
@@ -65,6 +65,10 @@ Ensured x r (commit t) = OnState x r (commit t)
 Ensured x r (abort t) = OnState x r (abort t)
 Ensured x r (step t s room) = OnState x r (step t s room)
 Ensured x r (count-of n) = CountOf x r n
+-- no request makes these yet
+Ensured x r (open-part t) = OnState x r (open-part t)
+Ensured x r (close-part t) = OnState x r (close-part t)
+Ensured x r (undo-part t) = OnState x r (undo-part t)
 
 -- the contract of every exported function: the number is that of an answer, which is what the definitions have for the call
 pub record Contract (x : Exchange) : Type 0 where

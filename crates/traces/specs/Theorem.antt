@@ -9,14 +9,16 @@ use lib.ListN.{length, take, drop}
 use lib.Dec.{leb}
 use Rattle.tree.specs.Document.{Document, node-0-alone, here}
 use Rattle.tree.specs.Lists.{has, joined}
-use Rattle.tree.specs.Steps.{Step, Value, PlainAnswer, plain-value, unfit, plain-document, plain-answers}
+use Rattle.tree.specs.Steps.{Step, Value, PlainAnswer, plain-value, unfit}
+use Rattle.tree.specs.Plain.{Operation, steps-in, told, plain-document, plain-answers}
 use Rattle.tree.specs.Counts.{Counts, counts-after, with-counts}
 use Rattle.locks.specs.Needs.{needs}
 use Rattle.protocol.specs.State.{State, WaitSets, start-state, callers-document, held-document, committed-document}
 use Rattle.protocol.specs.State.{committed-with-counts}
 use Rattle.protocol.specs.Lent.{Room, filled, first-lent, second-lent}
 use Rattle.protocol.specs.Causes.{causes, no-such-node, deadlock, no-more-commits}
-use Rattle.protocol.specs.Calls.{Call, start, load, begin, commit, abort, step, write, count-of, commit-limit, next}
+use Rattle.protocol.specs.Calls.{Call, start, load, begin, commit, abort, step, write, count-of, open-part, close-part, undo-part}
+use Rattle.protocol.specs.Calls.{commit-limit, next}
 use Rattle.protocol.specs.History.{Event, is-granted, Log, new-log, committed-then, logged, fed, plain}
 use Rattle.protocol.specs.History.{waited-for, sets-left}
 use Rattle.protocol.specs.Answers.{granted-answer, code-of, answer-of, lent-after, as-it-was}
@@ -180,6 +182,9 @@ asked (abort t) = []
 asked (step t s room) = s ∷ []
 asked write = []
 asked (count-of n) = []
+asked (open-part t) = []
+asked (close-part t) = []
+asked (undo-part t) = []
 
 -- those that were granted, by the code: "of their answers only which calls and steps were granted"
 abbrev pub granted-in : Exchange → Call → List GrantedStep
@@ -195,14 +200,15 @@ log-by-codes L (x ∷ xs) (c ∷ cs) = log-by-codes (logged c (told-granted (x .
 abbrev pub granted-steps : List Exchange → List Call → Log GrantedStep
 granted-steps xs cs = log-by-codes (new-log node-0-alone) xs cs
 
-abbrev pub steps : List GrantedStep → List Step
-steps gs = map (λ g. g .step) gs
+-- the operations of a transaction, by their steps alone
+abbrev pub operations : List (Operation GrantedStep) → List (Operation Step)
+operations os = map (told (λ g. g .step)) os
 
--- the plain run of the events h is fed these steps
+-- the plain run of the events h is fed these operations
 pub record Feeds (L : Log GrantedStep) (h : List Event) : Type 0 where
   pub initial : L .initial ≡ fed h .initial
-  pub committed : map steps (L .committed) ≡ fed h .committed
-  pub open-log : (t : ℕ) → steps (L .open-log t) ≡ fed h .open-log t
+  pub committed : map operations (L .committed) ≡ fed h .committed
+  pub open-log : (t : ℕ) → operations (L .open-log t) ≡ fed h .open-log t
 
 -- x was answered with the value v: "what a step puts in a lent buffer belongs to its answer"
 pub record Answered (v : Value) (x : Exchange) : Type 0 where
@@ -223,12 +229,12 @@ AllAnswered (v ∷ vs) [] = ⊥
 AllAnswered (v ∷ vs) (g ∷ gs) = AnsweredWith v (g .exchange) × AllAnswered vs gs
 
 -- the transactions ts, one behind the other, from the document d by the plain rules: each step has there the answer it had here
-abbrev pub PlainAnswers : Document → List (List GrantedStep) → Type 0
-PlainAnswers d ts = AllAnswered (plain-answers d (steps (joined ts))) (joined ts)
+abbrev pub PlainAnswers : Document → List (List (Operation GrantedStep)) → Type 0
+PlainAnswers d ts = AllAnswered (plain-answers d (map operations ts)) (joined (map steps-in ts))
 
 -- and the document that they leave
-abbrev pub plain-left : Document → List (List GrantedStep) → Document
-plain-left d ts = plain-document d (steps (joined ts))
+abbrev pub plain-left : Document → List (List (Operation GrantedStep)) → Document
+plain-left d ts = plain-document d (map operations ts)
 
 -- A.14 ---------------------------------------------------------------------------------
 
@@ -243,7 +249,7 @@ pub record RunsInOrder (L : Log GrantedStep) (b : List ℕ) (d : Document) : Typ
   pub answers : PlainAnswers (L .initial) (committed-then L b)
   pub document : plain-left (L .initial) (committed-then L b) ≡ d
 
--- of the log L of granted steps, the state bytes s behind them, and the state M that these hold
+-- of the log L of granted operations, the state bytes s behind them, and the state M that these hold
 pub record FinishInAnyOrder (L : Log GrantedStep) (s : List ℕ) (M : State) : Type 0 where
   -- there is an order of what is open, so that the next claim is not empty
   pub some-order : (b : List ℕ) × OpenOrder (M .header .is-open) b
@@ -276,9 +282,9 @@ pub record Remembered (r : WaitSets) (M : State) : Type 0 where
 
 -- the plain run's counts: "commits since the last granted start or load count from 1"
 abbrev pub counts-of : Log GrantedStep → Counts
-counts-of L = counts-after (L .initial) (map steps (L .committed))
+counts-of L = counts-after (L .initial) (map operations (L .committed))
 
--- of the log L of granted steps, the state bytes s behind them, and the state M that these hold
+-- of the log L of granted operations, the state bytes s behind them, and the state M that these hold
 pub record Counted (L : Log GrantedStep) (s : List ℕ) (M : State) : Type 0 where
   -- "the counts must be those of the plain run": the committed document with its counts is the plain run's with its
   pub plain : committed-with-counts M ≡ with-counts (counts-of L) (plain-left (L .initial) (L .committed))

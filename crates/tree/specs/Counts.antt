@@ -1,32 +1,12 @@
 -- The counts of commits on a plain document: document 02, A.7. They stand beside the document: `with-counts` puts the two together.
 use Prim.Native.Nat.{ℕ, suc}
 use mathlib.Core.Bool.{true, cond}
-use mathlib.Core.List.{List, [], _∷_, _++_}
-use Rattle.tree.specs.Lists.{keep, has}
+use mathlib.Core.List.{List, [], _∷_}
+use Rattle.tree.specs.Lists.{has}
 use Rattle.tree.specs.Forest.{Forest, view}
-use Rattle.tree.specs.Document.{Node, Document, in-subtree, select, numbers}
-use Rattle.tree.specs.Steps.{Step, T, C, R, U, D, I, TT, RR, UU, named, fits, plain-after, plain-document}
-
--- the nodes that a step inserts or whose content it updates, "an update with the same bytes included"
-abbrev pub touches : Step → Document → List ℕ
-touches (T n) d = []
-touches (C n k) d = []
-touches (R n) d = []
-touches (U n b) d = n ∷ []
-touches (D n) d = []
-touches (I m kind b n k) d = m ∷ []
-touches (TT n) d = []
-touches (RR n) d = []
-touches (UU n a b) d = numbers (keep (named a) (select (in-subtree n) d))
-
--- a step that the plain rules do not allow touches nothing
-abbrev pub plain-touches : Step → Document → List ℕ
-plain-touches s d = cond (fits s d) (touches s d) []
-
--- steps in order, as those of one transaction: all nodes that they touch
-unfoldable pub plain-touched : Document → List Step → List ℕ
-plain-touched d [] = []
-plain-touched d (s ∷ ss) = plain-touches s d ++ plain-touched (plain-after s d) ss
+use Rattle.tree.specs.Document.{Node, Document}
+use Rattle.tree.specs.Steps.{Step}
+use Rattle.tree.specs.Plain.{Operation, left-of}
 
 -- counts by node number; that of a number which the document lacks is never asked for
 abbrev pub Counts : Type 0
@@ -41,13 +21,13 @@ abbrev pub counted : ℕ → List ℕ → Counts → Counts
 counted k touched c n = cond (has n touched) k (c n)
 
 -- "each committed node bears the count of the commit that inserted it or last updated its content": transactions one after another, each
--- by its steps, the first of them the k-th commit; d is the document before them, and c its counts
-unfoldable pub counts-from : ℕ → Document → Counts → List (List Step) → Counts
+-- by its operations, the first of them the k-th commit; d is the document before them, and c its counts
+unfoldable pub counts-from : ℕ → Document → Counts → List (List (Operation Step)) → Counts
 counts-from k d c [] = c
-counts-from k d c (l ∷ ls) = counts-from (suc k) (plain-document d l) (counted k (plain-touched d l) c) ls
+counts-from k d c (l ∷ ls) = counts-from (suc k) (left-of d l .document) (counted k (left-of d l .touched) c) ls
 
 -- "commits .. count from 1"
-abbrev pub counts-after : Document → List (List Step) → Counts
+abbrev pub counts-after : Document → List (List (Operation Step)) → Counts
 counts-after d ls = counts-from 1 d zero-counts ls
 
 -- documents with counts ----------------------------------------------------------------

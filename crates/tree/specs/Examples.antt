@@ -13,8 +13,8 @@ use Rattle.tree.specs.Content.{spells-name, spells-text}
 use Rattle.tree.specs.Characters.{characters, utf8, within, name-start-characters, name-characters, text-characters}
 use Rattle.tree.specs.Document.{Document, lines, select}
 use Rattle.tree.specs.Steps.{Step, T, C, R, U, D, I, TT, RR, UU, placed, Value, done, kind-parent, child-is, none, content-is}
-use Rattle.tree.specs.Steps.{numbers-are, cells-are, how-many, PlainAnswer, plain-value, unfit, plain-answers}
-use Rattle.tree.specs.Counts.{plain-touched}
+use Rattle.tree.specs.Steps.{numbers-are, cells-are, how-many, PlainAnswer, plain-value, unfit}
+use Rattle.tree.specs.Plain.{Operation, does, opens, closes, undoes, progress-after, answers-after, left-of, plain-answers}
 
 -- a node, what is below it, and what follows it
 abbrev pub a-node : ℕ → ℕ → String → Document → Document → Document
@@ -49,16 +49,37 @@ plain-examples =
     ∷ gives (U 9 (bytes "8")) done ∷
     gives (RR 6) (cells-are ((6, bytes "pace") ∷ (9, bytes "8") ∷ [])) ∷ gives (TT 0) (numbers-are (0 ∷ 1 ∷ 2 ∷ 3 ∷ 7 ∷ 6 ∷ 9 ∷ [])) ∷ []
 
-pub plain-examples-hold : plain-answers tree-E (map (λ x. x .0) plain-examples) ≡ map (λ x. x .1) plain-examples
-unfolding tree-E plain-answers lines select rows keep amend view place put within utf8 characters spells-name spells-text is-name is-text
-    allowed takes attributes-first children-rule insert-at placed
+pub plain-examples-hold : plain-answers tree-E (map (λ x. does (x .0)) plain-examples ∷ []) ≡ map (λ x. x .1) plain-examples
+unfolding tree-E plain-answers answers-after progress-after lines select rows keep amend view place put within utf8 characters spells-name
+    spells-text is-name is-text allowed takes attributes-first children-rule insert-at placed
 plain-examples-hold = refl
 
 -- the nodes that these steps touch, in order: none where the plain rules do not allow the step
-pub touched-examples-hold : plain-touched tree-E (map (λ x. x .0) plain-examples) ≡ 6 ∷ 4 ∷ 6 ∷ 9 ∷ 7 ∷ 9 ∷ []
-unfolding tree-E plain-touched lines select rows keep amend view place put within utf8 characters spells-name spells-text is-name is-text
+pub touched-examples-hold : left-of tree-E (map (λ x. does (x .0)) plain-examples) .touched ≡ 6 ∷ 4 ∷ 6 ∷ 9 ∷ 7 ∷ 9 ∷ []
+unfolding tree-E progress-after lines select rows keep amend view place put within utf8 characters spells-name spells-text is-name is-text
     allowed takes attributes-first children-rule insert-at placed
 touched-examples-hold = refl
+
+-- parts on E, one within another: an undo goes back to the last opening, a close forgets it, and both leave the answers
+abbrev part-examples : List (Operation Step)
+part-examples =
+    does (U 5 (bytes "7")) ∷ opens ∷ does (U 5 (bytes "8")) ∷ opens ∷ does (D 2) ∷ does (I 9 4 (bytes "x") 6 1) ∷ undoes
+    ∷ does (R 3) ∷ does (R 9) ∷ does (U 3 (bytes "1")) ∷ opens ∷ does (U 5 (bytes "9")) ∷ closes ∷ does (R 5) ∷ undoes
+    ∷ does (R 5) ∷ does (R 3) ∷ []
+
+pub part-answers-hold : plain-answers tree-E (part-examples ∷ (undoes ∷ closes ∷ does (R 5) ∷ []) ∷ [])
+    ≡ plain-value done ∷ plain-value done ∷ plain-value done ∷ plain-value done ∷ plain-value (content-is (bytes "2")) ∷ unfit
+    ∷ plain-value done ∷ plain-value done ∷ plain-value (content-is (bytes "9")) ∷ plain-value (content-is (bytes "7"))
+    ∷ plain-value (content-is (bytes "2")) ∷ plain-value (content-is (bytes "7")) ∷ []
+unfolding tree-E plain-answers answers-after progress-after lines select rows keep amend view place put within utf8 characters spells-name
+    spells-text is-name is-text allowed takes attributes-first children-rule insert-at placed
+part-answers-hold = refl
+
+-- a change that was undone touches nothing
+pub part-touched-holds : left-of tree-E part-examples .touched ≡ 5 ∷ []
+unfolding tree-E progress-after lines select rows keep amend view place put within utf8 characters spells-name spells-text is-name is-text
+    allowed takes attributes-first children-rule insert-at placed
+part-touched-holds = refl
 
 -- productions 4, 4a and 2: whether a code point begins a name, stands in one, stands in a text
 abbrev pub classes : ℕ → Bool × Bool × Bool

@@ -7,6 +7,7 @@ pub mod Spelling
 pub mod Values
 pub mod Document
 pub mod Steps
+pub mod Plain
 pub mod Counts
 pub mod CharacterExamples
 pub mod Examples

@@ -193,12 +193,3 @@ plain-answer s d = cond (fits s d) (plain-value (answer s d)) unfit
 
 abbrev pub plain-after : Step → Document → Document
 plain-after s d = cond (fits s d) (after s d) d
-
--- steps in order: the document that they leave, and their answers
-unfoldable pub plain-document : Document → List Step → Document
-plain-document d [] = d
-plain-document d (s ∷ ss) = plain-document (plain-after s d) ss
-
-unfoldable pub plain-answers : Document → List Step → List PlainAnswer
-plain-answers d [] = []
-plain-answers d (s ∷ ss) = plain-answer s d ∷ plain-answers (plain-after s d) ss

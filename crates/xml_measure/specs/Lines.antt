@@ -1,10 +1,9 @@
 -- The rows of the committed document: document 01, "the one held if they all aborted".
 use mathlib.Core.Path.{_≡_}
 use Prim.Native.Nat.{ℕ, suc, _≤_, _<_}
-use mathlib.Core.Bool.{false}
 use mathlib.Core.List.{List, map}
 use lib.ListN.{length, getD, take}
-use Rattle.protocol.specs.State.{Marked, as-shown}
+use Rattle.protocol.specs.State.{Marked, as-shown, nothing}
 use Rattle.table.specs.Flat.{second, prune}
 use Rattle.table.specs.Layout.{Entry}
 use Rattle.rows.specs.Places.{depth, item, is-committed}
@@ -14,7 +13,7 @@ use Rattle.xml_measure.specs.declared.committed.Rows.{Rows}
 
 -- a node as it is if all abort
 unfoldable pub committed-label : Marked → Label
-committed-label a = unnumbered (as-shown (λ u. false) a)
+committed-label a = unnumbered (as-shown nothing a)
 
 unfoldable pub committed-lines : List Entry → List Line
 committed-lines l = map (second committed-label) (prune is-committed 0 l)

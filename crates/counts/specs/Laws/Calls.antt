@@ -8,7 +8,7 @@ use borrow.Author.Tests.{le-ltb}
 use Rattle.tree.specs.Document.{here}
 use Rattle.tree.specs.Steps.{how-many}
 use Rattle.tree.specs.Laws.Lists.{every-same}
-use Rattle.protocol.specs.State.{State, Tree, shown, as-shown, number-held, document-of, committed-document}
+use Rattle.protocol.specs.State.{State, Tree, shown, as-shown, nothing, number-held, document-of, committed-document}
 use Rattle.protocol.specs.Calls.{count-of, refused, first-count, commit-count, unchanged, becomes, next}
 use Rattle.protocol.specs.Causes.{no-such-node}
 use Rattle.protocol.specs.Answers.{answer-of, granted-answer}
@@ -25,16 +25,16 @@ use Rattle.counts.specs.Committed.{committed-at}
 
 -- the committed document ---------------------------------------------------------------------
 
-committed-nowhere : (n : ℕ) (f : Tree) → number-held n f ≡ false → here n (document-of (λ u. false) f) ≡ false
+committed-nowhere : (n : ℕ) (f : Tree) → number-held n f ≡ false → here n (document-of nothing f) ≡ false
 unfolding document-of
-committed-nowhere n f h = view-nowhere (shown (λ u. false)) (as-shown (λ u. false)) (λ a. refl) n f h
+committed-nowhere n f h = view-nowhere (shown nothing) (as-shown nothing) (λ a. refl) n f h
 
 module _ {f : Tree} {n p : ℕ} (o : Holder f n p) where
-  committed-here : here n (document-of (λ u. false) f) ≡ committed-at (flat 0 f) p
+  committed-here : here n (document-of nothing f) ≡ committed-at (flat 0 f) p
   unfolding document-of committed-at
   committed-here =
-      view-here (shown (λ u. false)) (as-shown (λ u. false)) (λ a. refl) o
-      ∙ every-same (shown (λ u. false)) is-committed (item (flat 0 f) p ∷ ups (flat 0 f) p) (λ a m. shown-committed a)
+      view-here (shown nothing) (as-shown nothing) (λ a. refl) o
+      ∙ every-same (shown nothing) is-committed (item (flat 0 f) p ∷ ups (flat 0 f) p) (λ a m. shown-committed a)
 
   count-here : commit-count n f ≡ item (flat 0 f) p .count
   count-here = ap first-count (nodes-numbered o)

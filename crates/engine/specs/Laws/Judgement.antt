@@ -113,7 +113,7 @@ waiting t st room M l p =
     ∷ refusals (late-causes t st room l p)
 
 abbrev tree-after : ℕ → Step → State → List Entry → ℕ → Tree
-tree-after t st M l p = grant t (locks st (numbers-above l p)) (act t st (M .tree))
+tree-after t st M l p = grant t (locks st (numbers-above l p)) (act t (M .header .depth t) st (M .tree))
 
 abbrev granting : ℕ → Step → State → List Entry → ℕ → Next
 granting t st M l p = grants-step st (answer-at st t l p) (forgetting t (with-tree M (tree-after t st M l p)))
@@ -300,7 +300,7 @@ module _ {s : List ℕ} {t : ℕ} {a : Site} {w : NeedWords} {st : Step} (f : Fr
       (λ writing. refl)
 
   pub free-granted : {s′ : List ℕ} → first-cause (late-causes (a .t) st room (nodes s) (a .place)) ≡ 0
-      → Left s s′ (set-header (a .t) (λ u. false) (header s)) (stepped (a .t) st (a .place) (nodes s))
+      → Left s s′ (set-header (a .t) (λ u. false) (header s)) (stepped (a .t) (header s .depth (a .t)) st (a .place) (nodes s))
       → Grants s s′ (answer-at st (a .t) (nodes s) (a .place)) (step t st room)
   free-granted {s′} e l = record {
     formed = f .standing .formed;
@@ -325,19 +325,22 @@ module _ {s : List ℕ} {t : ℕ} {a : Site} {w : NeedWords} {st : Step} (f : Fr
           let g = M .tree in
           let at = f .standing in
           let ls = locks st (numbers-above (nodes s) (a .place)) in
-          let u : Tree = act (a .t) st g in
+          let level : ℕ = M .header .depth (a .t) in
+          let same : level ≡ header s .depth (a .t) = ap (λ (q : Header). q .depth (a .t)) (sym (h .header)) in
+          let u : Tree = act (a .t) level st g in
           let i : a .place < length (flat 0 g) = rw (h .rows) at (at .inside) in
           let o : number-of (item (flat 0 g) (a .place)) ≡ target st = rw (h .rows) at (at .number) in
-          let rows : flat 0 (tree-after (a .t) st M (nodes s) (a .place)) ≡ stepped (a .t) st (a .place) (nodes s) =
-          rw (h .rows) (step-rows (a .t) g (a .place) (holds-unique h) i st o (rw (h .rows) at (at .seen)) (none-held M h)) in
+          let at-level : flat 0 (tree-after (a .t) st M (nodes s) (a .place)) ≡ stepped (a .t) level st (a .place) (nodes s) =
+          rw (h .rows) (step-rows (a .t) level g (a .place) (holds-unique h) i st o (rw (h .rows) at (at .seen)) (none-held M h)) in
+          let rows = at-level ∙ ap (λ (z : ℕ). stepped (a .t) z st (a .place) (nodes s)) same in
           record {
             layout = l .layout;
             header = l .header ∙ ap (set-header (a .t) (λ u. false)) (h .header);
             rows = l .nodes ∙ sym rows;
             unique = rw (l .nodes, ← rows)
-                (unique-grant (a .t) ls u ∙ unique-act (a .t) st g (a .place) (holds-unique h) i o (none-held M h));
+                (unique-grant (a .t) ls u ∙ unique-act (a .t) level st g (a .place) (holds-unique h) i o (none-held M h));
             valid = valid-grant (a .t) ls u
-                (valid-act (a .t) st g (a .place) (at .high) (h .valid) (holds-unique h) i o (rw (h .rows) at (free-fits f .0)));
+                (valid-act (a .t) level st g (a .place) (at .high) (h .valid) (holds-unique h) i o (rw (h .rows) at (free-fits f .0)));
             sets = among-forgetting (M .header) (h .sets) (a .t);
           }
 

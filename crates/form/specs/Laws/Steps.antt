@@ -88,26 +88,27 @@ takes-low parent kind h = go (eqb parent document-kind) (eqb parent element-kind
     go false false c h = rw (eqb-true kind text-kind (and-right c _ h))
 
 -- t is a transaction, and the step finds its node at p, where cause 8 does not apply
-pub valid-act : (t : ℕ) (s : Step) (f : Tree) (p : ℕ) → t ≤ 16 → valid-tree f ≡ true → unique (flat 0 f) ≡ true → p < length (flat 0 f)
-    → number-of (item (flat 0 f) p) ≡ target s
-    → wrong-kind-on s (item (flat 0 f) p .now .kind) ≡ false → valid-tree (act t s f) ≡ true
-valid-act t (T n) f p l h u k e m = h
-valid-act t (C n i) f p l h u k e m = h
-valid-act t (R n) f p l h u k e m = h
-valid-act t (U n b) f p l h u k e m =
-    valid-some (λ r. has-number n (r .it)) (written-by t b) (keeps-node (keeps-written t b l))
-    (λ a d v. keeps-document (keeps-written t b l) a d) f h
-valid-act t (D n) f p l h u k e m = valid-some (λ r. has-number n (r .it)) (deleted-by t) (valid-deleted t l)
+pub valid-act : (t level : ℕ) (s : Step) (f : Tree) (p : ℕ) → t ≤ 16 → valid-tree f ≡ true → unique (flat 0 f) ≡ true
+    → p < length (flat 0 f) → number-of (item (flat 0 f) p) ≡ target s
+    → wrong-kind-on s (item (flat 0 f) p .now .kind) ≡ false → valid-tree (act t level s f) ≡ true
+valid-act t level (T n) f p l h u k e m = h
+valid-act t level (C n i) f p l h u k e m = h
+valid-act t level (R n) f p l h u k e m = h
+valid-act t level (U n b) f p l h u k e m =
+    valid-some (λ r. has-number n (r .it)) (written-by t level b) (keeps-node (keeps-written t level b l))
+    (λ a d v. keeps-document (keeps-written t level b l) a d) f h
+valid-act t level (D n) f p l h u k e m = valid-some (λ r. has-number n (r .it)) (deleted-by t level) (valid-deleted t level l)
     (λ a d v. absurd (eqb-false _ document-kind m (is-root f p h u k (e ∙ sym (eqb-true (a .now .number) n v) ∙ d .number)))) f h
-valid-act t (I x kind b n i) f p l h u k e m =
+valid-act t level (I x kind b n i) f p l h u k e m =
     let q : between element-kind text-kind kind ≡ true = takes-low (item (flat 0 f) p .now .kind) kind (not-false _ m) in
     let a : Node = record { number = x; kind = kind; content = b } in
-    valid-put (has-number n) (seen-by t) i (inserted-by t a)
-    (valid-inserted t a l (between-low element-kind text-kind kind q) (between-high element-kind text-kind kind q)) f h
-valid-act t (TT n) f p l h u k e m = h
-valid-act t (RR n) f p l h u k e m = h
-valid-act t (UU n a b) f p l h u k e m =
-    valid-some (renamed t n a) (written-by t b) (keeps-node (keeps-written t b l)) (λ a d v. keeps-document (keeps-written t b l) a d) f h
+    valid-put (has-number n) (seen-by t) i (inserted-by t level a)
+    (valid-inserted t level a l (between-low element-kind text-kind kind q) (between-high element-kind text-kind kind q)) f h
+valid-act t level (TT n) f p l h u k e m = h
+valid-act t level (RR n) f p l h u k e m = h
+valid-act t level (UU n a b) f p l h u k e m =
+    valid-some (renamed t n a) (written-by t level b) (keeps-node (keeps-written t level b l))
+    (λ a d v. keeps-document (keeps-written t level b l) a d) f h
 
 -- ends ------------------------------------------------------------------------------------------------
 

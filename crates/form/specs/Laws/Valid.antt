@@ -12,7 +12,7 @@ use Rattle.tree.specs.Document.{Node}
 use Rattle.tree.specs.Laws.Tests.{and-left, and-right}
 use Rattle.locks.specs.Needs.{Lock}
 use Rattle.protocol.specs.State.{nobody, Marked, Tree, written-by, deleted-by, inserted-by, granted-to, writer-of, Update, update-without}
-use Rattle.protocol.specs.State.{unwritten, without, lasting, undone, mark}
+use Rattle.protocol.specs.State.{unwritten, wrote, saving, without, lasting, undone, mark}
 use Rattle.form.specs.Form.{in-range, valid, valid-document, valid-tree}
 use Rattle.form.specs.Laws.Rows.{and-of, between-of, between-low, between-high, all-valid, tree-valid, valid-root}
 
@@ -95,8 +95,15 @@ update-small t u h = go (eqb (writer-of u) t)
     go true = omega arith
     go false = h
 
-pub keeps-written : (t : ℕ) (b : List ℕ) → t ≤ 16 → Keeps (written-by t b)
-keeps-written t b l = record { range = λ low high most a h. (h .0, h .1, l, h .3, h .4); number = λ a. refl }
+saving-small : (t level : ℕ) (b : List ℕ) (u : Update) → t ≤ 16 → writer-of (saving t level b u) ≤ 16
+saving-small t level b unwritten l = l
+saving-small t level b (wrote u i saved deeper) l = l
+
+pub keeps-written : (t level : ℕ) (b : List ℕ) → t ≤ 16 → Keeps (written-by t level b)
+keeps-written t level b l = record {
+  range = λ low high most a h. (h .0, h .1, saving-small t level (a .now .content) (a .update) l, h .3, h .4);
+  number = λ a. refl;
+}
 
 pub keeps-granted : (t : ℕ) (ls : List Lock) → Keeps (granted-to t ls)
 keeps-granted t ls = record { range = λ low high most a h. h; number = λ a. refl }
@@ -113,11 +120,11 @@ keeps-undone t = record {
   number = λ a. refl;
 }
 
-pub valid-deleted : (t : ℕ) → t ≤ 16 → (a : Marked) → Valid a → Valid (deleted-by t a)
-valid-deleted t l a h = (h .0, h .1, h .2, h .3, l)
+pub valid-deleted : (t level : ℕ) → t ≤ 16 → (a : Marked) → Valid a → Valid (deleted-by t level a)
+valid-deleted t level l a h = (h .0, h .1, h .2, h .3, l)
 
-pub valid-inserted : (t : ℕ) (a : Node) → t ≤ 16 → element-kind ≤ a .kind → a .kind ≤ text-kind → Valid (inserted-by t a)
-valid-inserted t a l low high = (low, high, omega arith, l, omega arith)
+pub valid-inserted : (t level : ℕ) (a : Node) → t ≤ 16 → element-kind ≤ a .kind → a .kind ≤ text-kind → Valid (inserted-by t level a)
+valid-inserted t level a l low high = (low, high, omega arith, l, omega arith)
 
 -- changes of a tree ----------------------------------------------------------------------------
 

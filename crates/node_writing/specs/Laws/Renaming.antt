@@ -26,7 +26,7 @@ use Rattle.node_writing.specs.Writing.{rest-renamed, rest-named, Renamed
 pub record Renaming (s₀ s : List ℕ) (p t : ℕ) (a b : List ℕ) (i hidden hits : ℕ) : Type 0 where
   pub kept : Kept s₀ s (nodes s)
   pub few : hits ≤ i
-  pub changing : Changing (seen-by t) (renamed-by t a b) (depth (nodes s₀) p) (rest-renamed t a b p (nodes s₀)) (nodes s) i hidden
+  pub changing : Changing (seen-by t) (renamed-by t 0 a b) (depth (nodes s₀) p) (rest-renamed t a b p (nodes s₀)) (nodes s) i hidden
   pub counting : Counting t a (depth (nodes s₀) p) (rest-named t a p (nodes s₀)) (nodes s) i hidden hits
 
 pub renaming-start : {s₀ : List ℕ} (p t : ℕ) (a b : List ℕ) → Layout s₀ → Renaming s₀ s₀ p t a b (p + 1) 0 0
@@ -44,7 +44,7 @@ module _ {s₀ s : List ℕ} {p t : ℕ} {a b : List ℕ} {i hidden hits : ℕ} 
   total = rest-named t a p (nodes s₀)
 
   abbrev g : Marked → Marked
-  g = renamed-by t a b
+  g = renamed-by t 0 a b
 
   -- at the end of the rows, or of the subtree
   pub renaming-end : length (nodes s) ≤ i → hits ≤ 1024 → RenamedRest s₀ s hits p t a b
@@ -106,11 +106,11 @@ pub renamed-whole : {s s₁ s₂ : List ℕ} {q r p t : ℕ} {a b : List ℕ} �
     → RenamedBelow s s₂ (q + r) p t a b
 unfolding rest-renamed rest-named
 renamed-whole {s} {s₁} {s₂} {q} {r} {p} {t} {a} {b} h m n =
-    let g : Entry → Entry = second (renamed-by t a b) in
+    let g : Entry → Entry = second (renamed-by t 0 a b) in
     let l : List Entry = nodes s in
     let d : depth (modify p g l) p ≡ depth l p = ap (λ (x : Entry). x .0) (getD-modify p g l no-entry h) in
     record {
-      kept = kept-as _ _ (rw d (changed-start t p l a b h)) (kept-then (modify p g l) (rest-renamed t a b p) (m .kept) (n .kept));
+      kept = kept-as _ _ (rw d (changed-start t p l a 0 b h)) (kept-then (modify p g l) (rest-renamed t a b p) (m .kept) (n .kept));
       hits = rw (m .hit, n .hits, m .kept .nodes, d) (sym (counted-start t p l a g));
       few = omega (arith, m .few, n .few);
     }

@@ -54,19 +54,20 @@ map-at g [] i d d′ h = absurd (omega arith)
 map-at g (x ∷ l) zero d d′ h = refl
 map-at g (x ∷ l) (suc i) d d′ h = map-at g l i d d′ (omega arith)
 
-module _ (t : ℕ) (ls : List Lock) where
-  rename-swap : (a b : List ℕ) (x : Marked) → granted-to t ls (renamed-by t a b x) ≡ renamed-by t a b (granted-to t ls x)
+module _ (t level : ℕ) (ls : List Lock) where
+  rename-swap : (a b : List ℕ) (x : Marked) → granted-to t ls (renamed-by t level a b x) ≡ renamed-by t level a b (granted-to t ls x)
   rename-swap a b x = go (is-named a (x .now))
     where
-      go : (c : Bool) → granted-to t ls (cond c (written-by t b x) x) ≡ cond c (written-by t b (granted-to t ls x)) (granted-to t ls x)
+      go : (c : Bool) → granted-to t ls (cond c (written-by t level b x) x)
+          ≡ cond c (written-by t level b (granted-to t ls x)) (granted-to t ls x)
       go true = refl
       go false = refl
 
   renamed-granted : (a b : List ℕ) (p : ℕ) (l : List Entry) → p < length l
-      → all-granted t ls (renamed-rows t a b p l) ≡ renamed-rows t a b p (all-granted t ls l)
+      → all-granted t ls (renamed-rows t level a b p l) ≡ renamed-rows t level a b p (all-granted t ls l)
   unfolding renamed-rows
   renamed-granted a b p l h =
-      let g : Marked → Marked = renamed-by t a b in
+      let g : Marked → Marked = renamed-by t level a b in
       let k : List Entry = all-granted t ls l in
       let e : getD k p no-entry ≡ second (granted-to t ls) (getD l p no-entry) =
       map-at (second (granted-to t ls)) l p no-entry no-entry h in
@@ -91,7 +92,7 @@ lacks-places n l (i ∷ is) k b =
     rw (ne-eqb (number-at l i) n (λ e. lacks-at n l i k (b i (List·Memᴰ·head refl)) e))
     (lacks-places n l is k (λ j m. b j (List·Memᴰ·tail m)))
 
-module _ (t : ℕ) (f : Tree) (p : ℕ) (u : unique (flat 0 f) ≡ true) (h : p < length (flat 0 f)) where
+module _ (t level : ℕ) (f : Tree) (p : ℕ) (u : unique (flat 0 f) ≡ true) (h : p < length (flat 0 f)) where
   -- the locks of a step, as they are granted along the way up
   module _ (s : Step) (e : number-at (flat 0 f) p ≡ target s) (new : any (λ m. number-held m f) (inserts s) ≡ false) where
     abbrev lock-list : List Lock
@@ -119,22 +120,22 @@ module _ (t : ℕ) (f : Tree) (p : ℕ) (u : unique (flat 0 f) ≡ true) (h : p 
   -- THE LAW: the locks along the way up, then the step
   pub step-rows : (s : Step) → number-at (flat 0 f) p ≡ target s → seen-at t (flat 0 f) p ≡ true
       → any (λ m. number-held m f) (inserts s) ≡ false
-      → flat 0 (grant t (locks s (numbers-above (flat 0 f) p)) (act t s f)) ≡ stepped t s p (flat 0 f)
+      → flat 0 (grant t (locks s (numbers-above (flat 0 f) p)) (act t level s f)) ≡ stepped t level s p (flat 0 f)
   unfolding stepped
   step-rows (T n) e s new = reads (T n) e new
   step-rows (C n k) e s new = reads (C n k) e new
   step-rows (R n) e s new = reads (R n) e new
-  step-rows (U n b) e s new = marks (U n b) e new (written-by t b) (λ a. refl)
-  step-rows (D n) e s new = marks (D n) e new (deleted-by t) (λ a. refl)
+  step-rows (U n b) e s new = marks (U n b) e new (written-by t level b) (λ a. refl)
+  step-rows (D n) e s new = marks (D n) e new (deleted-by t level) (λ a. refl)
   step-rows (I m kind b n k) e s new =
-      let x : Marked = inserted-by t (record { number = m; kind = kind; content = b }) in
+      let x : Marked = inserted-by t level (record { number = m; kind = kind; content = b }) in
       let w : Step = I m kind b n k in
       let ls : List Lock = lock-list w e new in
       let z : Lacks m (flat 0 f) = or-left _ _ (none-held w e new) in
       let o : has m (n ∷ numbers-above (flat 0 f) p) ≡ false =
       rw (ne-eqb n m (λ q. lacks-at m (flat 0 f) p z h (e ∙ q)), numbers-at-places (flat 0 f) p)
       (lacks-places m (flat 0 f) (above-places (flat 0 f) p) z (λ i o. above-inside (flat 0 f) p h i (List·Memᴰ·tail o))) in
-      grant-rows t ls (act t w f)
+      grant-rows t ls (act t level w f)
       ∙ ap (all-granted t ls) (insert-rows t n k x f p u h e)
       ∙ map-insert (second (granted-to t ls)) (new-place t k p (flat 0 f)) (suc (depth (flat 0 f) p), x) (flat 0 f)
       ∙ (λ j. insert (new-place t k p (flat 0 f)) (suc (depth (flat 0 f) p), granted-new t w (numbers-above (flat 0 f) p) x refl o j)
@@ -143,7 +144,7 @@ module _ (t : ℕ) (f : Tree) (p : ℕ) (u : unique (flat 0 f) ≡ true) (h : p 
   step-rows (RR n) e s new = reads (RR n) e new
   step-rows (UU n a b) e s new =
       let ls : List Lock = lock-list (UU n a b) e new in
-      grant-rows t ls (act t (UU n a b) f)
-      ∙ ap (all-granted t ls) (rename-rows t n a b f p u h e s)
-      ∙ renamed-granted t ls a b p (flat 0 f) h
-      ∙ ap (renamed-rows t a b p) (way (UU n a b) e new)
+      grant-rows t ls (act t level (UU n a b) f)
+      ∙ ap (all-granted t ls) (rename-rows t level n a b f p u h e s)
+      ∙ renamed-granted t level ls a b p (flat 0 f) h
+      ∙ ap (renamed-rows t level a b p) (way (UU n a b) e new)

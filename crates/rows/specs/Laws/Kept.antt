@@ -78,21 +78,21 @@ unique-insert i x l h k =
 
 -- a step ----------------------------------------------------------------------------------------
 
-pub unique-act : (t : ℕ) (s : Step) (f : Tree) (p : ℕ) → unique (flat 0 f) ≡ true → p < length (flat 0 f)
+pub unique-act : (t level : ℕ) (s : Step) (f : Tree) (p : ℕ) → unique (flat 0 f) ≡ true → p < length (flat 0 f)
     → number-at (flat 0 f) p ≡ target s
-    → any (λ m. number-held m f) (inserts s) ≡ false → unique (flat 0 (act t s f)) ≡ true
-unique-act t (T n) f p u h e new = u
-unique-act t (C n k) f p u h e new = u
-unique-act t (R n) f p u h e new = u
-unique-act t (U n b) f p u h e new = unique-mark (λ r. has-number n (r .it)) (written-by t b) (λ a. refl) f ∙ u
-unique-act t (D n) f p u h e new = unique-mark (λ r. has-number n (r .it)) _ (λ a. refl) f ∙ u
-unique-act t (I m kind b n k) f p u h e new =
-    let x : Marked = inserted-by t (record { number = m; kind = kind; content = b }) in
+    → any (λ m. number-held m f) (inserts s) ≡ false → unique (flat 0 (act t level s f)) ≡ true
+unique-act t level (T n) f p u h e new = u
+unique-act t level (C n k) f p u h e new = u
+unique-act t level (R n) f p u h e new = u
+unique-act t level (U n b) f p u h e new = unique-mark (λ r. has-number n (r .it)) (written-by t level b) (λ a. refl) f ∙ u
+unique-act t level (D n) f p u h e new = unique-mark (λ r. has-number n (r .it)) _ (λ a. refl) f ∙ u
+unique-act t level (I m kind b n k) f p u h e new =
+    let x : Marked = inserted-by t level (record { number = m; kind = kind; content = b }) in
     ap unique (insert-rows t n k x f p u h e)
     ∙ unique-insert _ _ (flat 0 f) u (ap (any (has-number m)) (sym (nodes-held f)) ∙ or-left _ _ new)
-unique-act t (TT n) f p u h e new = u
-unique-act t (RR n) f p u h e new = u
-unique-act t (UU n a b) f p u h e new = unique-mark (renamed t n a) (written-by t b) (λ a. refl) f ∙ u
+unique-act t level (TT n) f p u h e new = u
+unique-act t level (RR n) f p u h e new = u
+unique-act t level (UU n a b) f p u h e new = unique-mark (renamed t n a) (written-by t level b) (λ a. refl) f ∙ u
 
 -- ends ------------------------------------------------------------------------------------------
 

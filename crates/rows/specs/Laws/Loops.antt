@@ -169,11 +169,12 @@ module _ (t p : ℕ) (l : List Entry) where
   placed-start k = rw (add-one p)
 
   module _ (a : List ℕ) where
-    pub changed-start : (b : List ℕ) → p < length l
-        → Changing (seen-by t) (renamed-by t a b) (depth l p) (renamed-rows t a b p l) (modify p (second (renamed-by t a b)) l) (p + 1) 0
+    pub changed-start : (level : ℕ) (b : List ℕ) → p < length l
+        → Changing (seen-by t) (renamed-by t level a b) (depth l p) (renamed-rows t level a b p l)
+        (modify p (second (renamed-by t level a b)) l) (p + 1) 0
     unfolding renamed-rows
-    changed-start b h =
-        rw (add-one p, take-modify p (second (renamed-by t a b)) l no-entry h, drop-modify p (second (renamed-by t a b)) l, append-snoc)
+    changed-start level b h =
+        let g = second (renamed-by t level a b) in rw (add-one p, take-modify p g l no-entry h, drop-modify p g l, append-snoc)
 
     pub counted-start : (g : Entry → Entry)
         → Counting t a (depth l p) (length (keep (λ x. is-named a (x .now)) (subtree t l p))) (modify p g l) (p + 1) 0

@@ -110,37 +110,38 @@ module _ {A : Type 0} (shown : A → Bool) (g : A → A) where
 
 -- the law --------------------------------------------------------------------------------------
 
-module _ (t n : ℕ) (a b : List ℕ) where
+module _ (t level n : ℕ) (a b : List ℕ) where
   -- what UU makes of a row
   abbrev by-line : Row Marked Marked → Marked
-  by-line r = cond (renamed t n a r) (written-by t b (r .it)) (r .it)
+  by-line r = cond (renamed t n a r) (written-by t level b (r .it)) (r .it)
 
   -- a row without n on its line stays
   outside : (s : Row Marked Marked) → any (has-number n) (s .it ∷ s .above) ≡ false → by-line s ≡ s .it
   outside s h = rw h (go (every (seen-by t) (s .it ∷ s .above)))
     where
-      go : (x : Bool) → cond (x && false && is-named a (s .it .now)) (written-by t b (s .it)) (s .it) ≡ s .it
+      go : (x : Bool) → cond (x && false && is-named a (s .it .now)) (written-by t level b (s .it)) (s .it) ≡ s .it
       go true = refl
       go false = refl
 
   -- a row with n on its line goes by its name, if it is seen
-  inside : (s : Row Marked Marked) → any (has-number n) (s .it ∷ s .above) ≡ true → by-line s ≡ if-shown (seen-by t) (renamed-by t a b) s
+  inside : (s : Row Marked Marked) → any (has-number n) (s .it ∷ s .above) ≡ true
+      → by-line s ≡ if-shown (seen-by t) (renamed-by t level a b) s
   inside s h = rw h (go (every (seen-by t) (s .it ∷ s .above)))
     where
-      go : (x : Bool) → cond (x && true && is-named a (s .it .now)) (written-by t b (s .it)) (s .it)
-          ≡ cond x (renamed-by t a b (s .it)) (s .it)
+      go : (x : Bool) → cond (x && true && is-named a (s .it .now)) (written-by t level b (s .it)) (s .it)
+          ≡ cond x (renamed-by t level a b (s .it)) (s .it)
       go true = refl
       go false = refl
 
   pub rename-rows : (f : Tree) (p : ℕ) → unique (flat 0 f) ≡ true → p < length (flat 0 f) → number-at (flat 0 f) p ≡ n
       → seen-at t (flat 0 f) p ≡ true
-      → flat 0 (act t (UU n a b) f) ≡ renamed-rows t a b p (flat 0 f)
+      → flat 0 (act t level (UU n a b) f) ≡ renamed-rows t level a b p (flat 0 f)
   unfolding renamed-rows
   rename-rows f p u h e s =
       let o = holder f n p u h e in
       let c = o .place in
       let up : List Marked = c .it ∷ (c .above ++ []) in
-      let g : Marked → Marked = renamed-by t a b in
+      let g : Marked → Marked = renamed-by t level a b in
       let i : any (has-number n) up ≡ true = rw (o .number) in
       let v : every (seen-by t) up ≡ true = rw (append-nil (c .above)) (rw (item-at c, ups-at c) at s) in
       let low : amend (λ a. a) by-line up (c .children) ≡ amend (λ a. a) (if-shown (seen-by t) g) up (c .children) =

@@ -6,6 +6,7 @@ use mathlib.Core.List.{List, [], _∷_, map, List·Memᴰ, List·Memᴰ·head, L
 use lib.ListN.{length-map}
 use lib.Dec.{leb}
 use borrow.Author.Tests.{eqb-true, eq-eqb}
+use Rattle.tree.specs.Plain.{told}
 use Rattle.tree.specs.Lists.{keep}
 use Rattle.tree.specs.Forest.{Forest, view}
 use Rattle.tree.specs.Document.{here}
@@ -13,8 +14,8 @@ use Rattle.tree.specs.Steps.{done, how-many}
 use Rattle.tree.specs.Laws.Tests.{and-left}
 use Rattle.tree.specs.Laws.Lists.{keep-in, in-keep}
 use Rattle.tree.specs.Laws.View.{view-view, view-agree}
-use Rattle.protocol.specs.State.{nobody, State, Marked, nodes, has-number, shown, as-shown, document-of}
-use Rattle.protocol.specs.State.{committed-document, committed-with-counts}
+use Rattle.protocol.specs.State.{nobody, State, Marked, nodes, has-number, shown, as-shown, document-of, nothing, committed-document}
+use Rattle.protocol.specs.State.{committed-with-counts}
 use Rattle.protocol.specs.Laws.Shown.{shown-committed}
 use Rattle.protocol.specs.Causes.{no-such-node, no-more-commits}
 use Rattle.protocol.specs.Calls.{Call, commit, count-of, granted, refused, commit-limit, first-count, commit-count, next}
@@ -24,11 +25,10 @@ use Rattle.serializability.specs.Laws.Tests.{by-test}
 use Rattle.serializability.specs.Laws.Shown.{Place, Inside}
 use Rattle.serializability.specs.Laws.Numbers.{number-of, one-place, place-node, node-place}
 use Rattle.serializability.specs.Laws.CountsKept.{counts-of}
-use Rattle.serializability.specs.Laws.Tracking.{Tracks}
+use Rattle.serializability.specs.Laws.Tracks.{Tracks}
 use Rattle.serializability.specs.Laws.AnyOrder.{entries, reached-tracks, fed-is}
 use Rattle.serializability.specs.Laws.DocumentCount.{document-count}
 use Rattle.serializability.specs.Laws.Held.{visible, here-place}
-use Rattle.serializability.specs.Laws.Pending.{none}
 use Rattle.serializability.specs.Laws.OneCall.{commit-outcome}
 use Rattle.serializability.specs.Laws.Main.{plain-committed}
 
@@ -44,7 +44,7 @@ first-is (b ∷ l) m h = h b (List·Memᴰ·head refl)
 
 pub committed-without-counts : WithoutCounts
 unfolding committed-with-counts document-of
-committed-without-counts M = view-all (shown none) _ (λ a. a .node) (M .tree)
+committed-without-counts M = view-all (shown nothing) _ (λ a. a .node) (M .tree)
 
 module _ (cs : List Call) where
   abbrev M : State
@@ -59,19 +59,19 @@ module _ (cs : List Call) where
   count-is = rw (fed-is cs)
 
   -- a node of the committed document bears its count
-  bears : (r : Place) → Inside r (M .tree) → visible none r ≡ true → r .it .count ≡ plain-counts (since-start cs) (number-of r)
+  bears : (r : Place) → Inside r (M .tree) → visible nothing r ≡ true → r .it .count ≡ plain-counts (since-start cs) (number-of r)
   bears r i v = rw count-is (tr .counts r i (eqb-true _ nobody (sym (shown-committed (r .it)) ∙ and-left _ _ v)))
 
   counts-equal : committed-with-counts M ≡ plain-with-counts (since-start cs)
   unfolding committed-with-counts document-of
-  counts-equal = rw (← plain-committed cs) (sym (view-all (shown none) (as-shown none) _ (M .tree)
-      ∙ view-agree (λ a. a) (shown none) (shown none) (λ a. refl) (shown none) _ _ [] (M .tree) refl (λ r i e. refl)
-      (λ r i v. ap (λ (c : ℕ). record { node = as-shown none (r .it); count = c }) (sym (bears r i v)))))
+  counts-equal = rw (← plain-committed cs) (sym (view-all (shown nothing) (as-shown nothing) _ (M .tree)
+      ∙ view-agree (λ a. a) (shown nothing) (shown nothing) (λ a. refl) (shown nothing) _ _ [] (M .tree) refl (λ r i e. refl)
+      (λ r i v. ap (λ (c : ℕ). record { node = as-shown nothing (r .it); count = c }) (sym (bears r i v)))))
 
   -- the one node with this number
   count-found : (n : ℕ) → here n (committed-document M) ≡ true → commit-count n (M .tree) ≡ plain-counts (since-start cs) n
   count-found n h =
-      let p = here-place none (M .tree) n h in
+      let p = here-place nothing (M .tree) n h in
       first-is (keep (has-number n) (nodes (M .tree))) (keep-in (has-number n) (nodes (M .tree)) (place-node (M .tree) (p .1))
       (eq-eqb _ n (p .3)))
       (λ a m. let k = in-keep (has-number n) (nodes (M .tree)) m in
@@ -87,7 +87,7 @@ module _ (cs : List Call) where
   count-told n = rw (← plain-committed cs) (by-test (here n (committed-document M)) (λ e. rw (e, count-found n e)) (λ e. rw e))
 
   commits-same : M .header .commits ≡ commits-in (since-start cs)
-  commits-same = rw (fed-is cs) (tr .commits ∙ sym (length-map (entries cs .committed) (map (λ x. x .step))))
+  commits-same = rw (fed-is cs) (tr .commits ∙ sym (length-map (entries cs .committed) (map (told (λ x. x .step)))))
 
   commit-limited : (t : ℕ) → M .header .is-open t ≡ true → next (commit t) M .outcome
       ≡ cond (leb commit-limit (commits-in (since-start cs))) (refused no-more-commits) (granted done)

@@ -10,7 +10,7 @@ use Rattle.tree.specs.Laws.Tests.{and-left, and-right, refuted}
 use Rattle.tree.specs.Document.{node-0-alone}
 use Rattle.locks.specs.Needs.{Lock}
 use Rattle.protocol.specs.State.{WaitSets, Header, State, is-transaction, transactions, start-header, start-state, in-set, with-set}
-use Rattle.protocol.specs.State.{with-commits, remembering, ended, next-count}
+use Rattle.protocol.specs.State.{with-commits, with-depth, remembering, ended, next-count}
 use Rattle.protocol.specs.Rings.{AmongOpen, waits-within}
 use Rattle.protocol.specs.Calls.{Call, next, blocks, wait-set, closes-ring}
 use Rattle.protocol.specs.History.{Log, new-log, state-after}
@@ -19,11 +19,11 @@ use Rattle.serializability.specs.Theorem.{WaitPath, waits-for, waits-the
 use Rattle.serializability.specs.Laws.Tests.{by-test}
 use Rattle.serializability.specs.Laws.WaitSet.{sum-bit, transaction-in}
 use Rattle.serializability.specs.Laws.Outcomes.{every-call}
-use Rattle.serializability.specs.Laws.Runs.{Entry}
-use Rattle.serializability.specs.Laws.Tracking.{Tracks, calls-track, start-tracks}
+use Rattle.serializability.specs.Laws.Parts.{Entry}
+use Rattle.serializability.specs.Laws.Tracks.{Tracks}
+use Rattle.serializability.specs.Laws.Tracking.{calls-track, start-tracks}
 use Rattle.serializability.specs.Laws.AnyOrder.{reached-tracks}
-use Rattle.serializability.specs.Laws.Rings.{path-append, last-wait, first-wait, wider-path, found-path}
-use Rattle.serializability.specs.Laws.Rings.{path-found, ring-test}
+use Rattle.serializability.specs.Laws.Rings.{path-append, last-wait, first-wait, wider-path, found-path, path-found, ring-test}
 
 -- the set of t becomes another ---------------------------------------------------------------
 
@@ -59,6 +59,10 @@ start-ringless = record { among = among-start; no-ring = λ t p. false≢true (f
 -- how many commits there were plays no part
 recounted : {h : Header} (n : ℕ) → Ringless h → Ringless (with-commits n h)
 recounted n k = record { among = k .among; no-ring = k .no-ring }
+
+-- nor how many parts are open
+deepened : {h : Header} (t d : ℕ) → Ringless h → Ringless (with-depth t d h)
+deepened t d k = record { among = k .among; no-ring = k .no-ring }
 
 -- where only transactions are open
 numbered-waits : (h : Header) → ((u : ℕ) → h .is-open u ≡ true → is-transaction u ≡ true) → AmongOpen h → AmongTransactions (h .remembered)
@@ -100,7 +104,7 @@ module _ (M : State) (numbered : (u : ℕ) → M .header .is-open u ≡ true →
     refusal = λ c n i. k;
     at-start = start-ringless;
     at-unread = λ c i. k;
-    at-load = λ d h. recounted 0 k;
+    at-load = λ d h o. recounted 0 k;
     at-begin = λ t h o. record { among = among-begun (M .header) (k .among) t; no-ring = k .no-ring };
     at-commit = λ t h o l. recounted (next-count M) (ended-ringless t);
     at-abort = λ t h o. ended-ringless t;
@@ -108,6 +112,9 @@ module _ (M : State) (numbered : (u : ℕ) → M .header .is-open u ≡ true →
     at-step = λ t s room h o p. record { among = among-forgetting (M .header) (k .among) t; no-ring = fewer _ (forgets t) };
     at-write = k;
     at-count = λ n h. k;
+    at-open-part = λ t h o l. deepened t _ k;
+    at-close-part = λ t h o l. deepened t _ k;
+    at-undo-part = λ t h o l. deepened t _ k;
   })
     where
       ended-ringless : (t : ℕ) → Ringless (ended t (M .header))

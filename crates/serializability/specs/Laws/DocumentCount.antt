@@ -9,8 +9,10 @@ use Rattle.tree.specs.Lists.{has, keep}
 use Rattle.tree.specs.Forest.{nil, node, row}
 use Rattle.tree.specs.Content.{document-kind, element-kind}
 use Rattle.tree.specs.Document.{Document, Line, lines, in-subtree, select, here, at, numbers, rooted, legal}
-use Rattle.tree.specs.Steps.{Step, T, C, R, U, D, I, TT, RR, UU, fits, named, plain-after, plain-document}
-use Rattle.tree.specs.Counts.{Counts, touches, plain-touches, plain-touched, counted, zero-counts, counts-from}
+use Rattle.tree.specs.Steps.{Step, T, C, R, U, D, I, TT, RR, UU, fits, named, plain-after}
+use Rattle.tree.specs.Plain.{touches, plain-touches, Operation, does, opens, closes, undoes, Work, Progress, before-all, plain-operation}
+use Rattle.tree.specs.Plain.{last-opening, other-openings, progress-after, left-of}
+use Rattle.tree.specs.Counts.{Counts, counted, zero-counts, counts-from}
 use Rattle.tree.specs.Laws.Tests.{and-left, and-right, refuted}
 use Rattle.tree.specs.Laws.Lists.{any-append, in-map, in-keep, has-in}
 use Rattle.tree.specs.Laws.Rows.{self}
@@ -64,21 +66,48 @@ module _ (d : Document) (h : legal d ≡ true) where
   step-zero : (s : Step) → (has 0 (plain-touches s d) ≡ false) × (legal (plain-after s d) ≡ true)
   step-zero s = by-test (fits s d) (λ e. (rw e (zero-untouched s e), rw e (legal-after d s h e))) (λ e. (rw e, rw e h))
 
-steps-zero : (d : Document) → legal d ≡ true → (l : List Step)
-    → (has 0 (plain-touched d l) ≡ false) × (legal (plain-document d l) ≡ true)
-unfolding plain-touched plain-document
-steps-zero d h [] = (refl, h)
-steps-zero d h (s ∷ l) =
-    let a = step-zero d h s in
-    let b = steps-zero (plain-after s d) (a .1) l in
-    (rw (any-append (λ q. eqb q 0) (plain-touches s d) (plain-touched (plain-after s d) l), a .0) (b .0), b .1)
+-- a transaction keeps this: now, and at each opening
+record Sound (w : Work) : Type 0 where
+  untouched : has 0 (w .touched) ≡ false
+  document-legal : legal (w .document) ≡ true
 
-counts-zero : (k : ℕ) (d : Document) → legal d ≡ true → (c : Counts) (ls : List (List Step)) → counts-from k d c ls 0 ≡ c 0
+abbrev All-sound : List Work → Type 0
+All-sound [] = Unit {0}
+All-sound (w ∷ ws) = Sound w × All-sound ws
+
+other-sound : (ws : List Work) → All-sound ws → All-sound (other-openings ws)
+other-sound [] o = tt
+other-sound (w ∷ ws) o = o .1
+
+last-sound : (now : Work) (ws : List Work) → Sound now → All-sound ws → Sound (last-opening now ws)
+last-sound now [] n o = n
+last-sound now (w ∷ ws) n o = o .0
+
+operation-zero : (o : Operation Step) (p : Progress) → Sound (p .now) → All-sound (p .openings)
+    → Sound (plain-operation o p .now) × All-sound (plain-operation o p .openings)
+operation-zero (does s) p n o =
+    let a = step-zero (p .now .document) (n .document-legal) s in (
+      record {
+        untouched = rw (any-append (λ q. eqb q 0) (p .now .touched) (plain-touches s (p .now .document)), n .untouched) (a .0);
+        document-legal = a .1;
+      },
+      o,
+    )
+operation-zero opens p n o = (n, (n, o))
+operation-zero closes p n o = (n, other-sound (p .openings) o)
+operation-zero undoes p n o = (last-sound (p .now) (p .openings) n o, other-sound (p .openings) o)
+
+operations-zero : (l : List (Operation Step)) (p : Progress) → Sound (p .now) → All-sound (p .openings) → Sound (progress-after p l .now)
+unfolding progress-after
+operations-zero [] p n o = n
+operations-zero (x ∷ l) p n o = let a = operation-zero x p n o in operations-zero l (plain-operation x p) (a .0) (a .1)
+
+counts-zero : (k : ℕ) (d : Document) → legal d ≡ true → (c : Counts) (ls : List (List (Operation Step))) → counts-from k d c ls 0 ≡ c 0
 unfolding counts-from
 counts-zero k d h c [] = refl
 counts-zero k d h c (l ∷ ls) =
-    let a = steps-zero d h l in
-    counts-zero (suc k) (plain-document d l) (a .1) (counted k (plain-touched d l) c) ls ∙ rw (a .0)
+    let a = operations-zero l (before-all d) (record { untouched = refl; document-legal = h }) tt in
+    counts-zero (suc k) (left-of d l .document) (a .document-legal) (counted k (left-of d l .touched) c) ls ∙ rw (a .untouched)
 
 pub document-count : (cs : List Call) → plain-counts (since-start cs) 0 ≡ 0
 unfolding plain-counts

@@ -17,30 +17,42 @@ use Rattle.locks.specs.Needs.{Lock, locks, needs}
 use Rattle.locks.specs.Laws.Places.{insertion-guards, U-locks, UU-locks}
 use Rattle.serializability.specs.Laws.Tests.{by-test, cond-same}
 use Rattle.protocol.specs.State.{nobody, Marked, Tree, has-number, number-held, seen-by, callers-document, written-by, deleted-by}
-use Rattle.protocol.specs.State.{inserted-by, granted-to, mark, mark-node, renamed, act, grant, writer-of}
+use Rattle.protocol.specs.State.{inserted-by, granted-to, mark, mark-node, renamed, act, grant, Update, unwritten, wrote, writer-of, saving}
 use Rattle.serializability.specs.Laws.Granting.{keeps-written, keeps-deleted}
 use Rattle.serializability.specs.Laws.Shown.{Place, Inside, path, numbers-of}
 use Rattle.serializability.specs.Laws.Numbers.{number-of, in-mark, marked-numbers, mark-distinct, inserted-distinct}
 use Rattle.serializability.specs.Laws.Marks.{Within, marked-by, Guarded, Renames, Authored, Covered, author-more, above-is}
 use Rattle.serializability.specs.Laws.Seen.{Compatible-step, renamed-under}
 
+-- who saves is the writer
+pub writer-saving : (t d : ℕ) (b : List ℕ) (u : Update) → writer-of (saving t d b u) ≡ t
+writer-saving t d b unwritten = refl
+writer-saving t d b (wrote u l saved deeper) = refl
+
 -- locks are only added
 module _ (holds holds' : ℕ → List Lock) (more : (u : ℕ) → Within (holds u) (holds' u)) where
-  module _ (f : Tree) (cov : Covered holds f) (t : ℕ) where
-    -- a node's deleter and writer are as they were, or are t, with the locks for it
-    Deleted : (Place → Marked) → Place → Type 0
-    Deleted c r = (c r .deleter ≡ r .it .deleter) ⊎ ((c r .deleter ≡ t) × Within (locks (D (number-of r)) (numbers-of (r .above)))
-        (holds' t))
+  module _ (f : Tree) (cov : Covered holds f) (t d : ℕ) where
+    -- who deleted or wrote a node had marked or written it, or is t, with the locks for it
+    abbrev pub Deleted : (Place → Marked) → Place → Type 0
+    Deleted c r = (u : ℕ) → (u ≡ nobody → ⊥) → eqb (c r .deleter) u ≡ true
+        → (marked-by u (r .it) ≡ true) ⊎ ((u ≡ t) × Within (locks (D (number-of r)) (numbers-of (r .above))) (holds' t))
 
     abbrev Writes : Place → Type 0
     Writes r = Within (locks (U (number-of r) []) (numbers-of (r .above))) (holds' t) ⊎ Renames holds' t (numbers-of (path r))
 
-    Written : (Place → Marked) → Place → Type 0
-    Written c r = (writer-of (c r .update) ≡ writer-of (r .it .update)) ⊎ ((writer-of (c r .update) ≡ t) × Writes r)
+    abbrev pub Written : (Place → Marked) → Place → Type 0
+    Written c r = (u : ℕ) → (u ≡ nobody → ⊥) → eqb (writer-of (c r .update)) u ≡ true
+        → (eqb (writer-of (r .it .update)) u ≡ true) ⊎ ((u ≡ t) × Writes r)
 
-    mark-covered : (c : Place → Marked) → ((r : Place) → c r .now .number ≡ number-of r) → ((r : Place) → c r .inserter ≡ r .it .inserter)
-        → ((r : Place) → Inside r f → Deleted c r) → ((r : Place) → Inside r f → Written c r) → Covered holds' (mark c f)
-    unfolding Deleted Written
+    pub same-deleter : (c : Place → Marked) (r : Place) → c r .deleter ≡ r .it .deleter → Deleted c r
+    same-deleter c r x u nu e = inl (rw (← x, e) (or-true (eqb (r .it .inserter) u)))
+
+    pub same-writer : (c : Place → Marked) (r : Place) → writer-of (c r .update) ≡ writer-of (r .it .update) → Written c r
+    same-writer c r x u nu e = inl (rw x at e)
+
+    pub mark-covered : (c : Place → Marked) → ((r : Place) → c r .now .number ≡ number-of r)
+        → ((r : Place) → c r .inserter ≡ r .it .inserter) → ((r : Place) → Inside r f → Deleted c r)
+        → ((r : Place) → Inside r f → Written c r) → Covered holds' (mark c f)
     mark-covered c sn si del wri = record { distinct = mark-distinct c sn f (cov .distinct); guarded = gd; authored = au }
       where
         gd : (r : Place) → Inside r (mark c f) → Guarded holds' (r .it) (r .above)
@@ -49,9 +61,7 @@ module _ (holds holds' : ℕ → List Lock) (more : (u : ℕ) → Within (holds 
             let s = a .0 in
             let j' : List·Memᴰ l (locks (D (number-of s)) (numbers-of (s .above))) = rw (a .2, sn s, marked-numbers c sn (s .above)) at j in
             let old : marked-by u (s .it) ≡ true → List·Memᴰ l (holds' u) = λ e. more u l (cov .guarded s (a .1) u nu e l j') in
-            ⊎-elim (λ e. old (rw e)) (λ (e : eqb (c s .deleter) u ≡ true). ⊎-elim
-            (λ (x : c s .deleter ≡ s .it .deleter). old (rw (← x, e) (or-true (eqb (s .it .inserter) u))))
-            (λ x. rw (← eqb-true t u (rw (x .0) at e)) (x .1 l j')) (del s (a .1)))
+            ⊎-elim (λ e. old (rw e)) (λ (e : eqb (c s .deleter) u ≡ true). ⊎-elim old (λ x. rw (x .0) (x .1 l j')) (del s (a .1) u nu e))
             (or-cases (eqb (s .it .inserter) u) (eqb (c s .deleter) u) (rw (a .2, si s) at h))
 
         au : (r : Place) → Inside r (mark c f) → Authored holds' (r .it) (r .above)
@@ -60,26 +70,30 @@ module _ (holds holds' : ℕ → List Lock) (more : (u : ℕ) → Within (holds 
             let s = a .0 in
             let g : eqb (writer-of (c s .update)) u ≡ true = rw (a .2) at h in
             rw (a .2, si s, sn s, marked-numbers c sn (s .above)) (⊎-elim
-            (λ x. author-more holds holds' u (more u) _ _ (λ e. e) (number-of s) (numbers-of (s .above))
-            (cov .authored s (a .1) u nu (rw x at g)))
-            (λ x. rw (← eqb-true t u (rw (x .0) at g)) (inr (x .1))) (wri s (a .1)))
+            (λ x. author-more holds holds' u (more u) _ _ (λ e. e) (number-of s) (numbers-of (s .above)) (cov .authored s (a .1) u nu x))
+            (λ x. rw (x .0) (inr (x .1))) (wri s (a .1) u nu g))
 
     -- t wrote where a test says so, with the locks for it
     write-covered : (test : Place → Bool) (b : List ℕ) → ((r : Place) → Inside r f → test r ≡ true → Writes r)
-        → Covered holds' (mark (λ r. cond (test r) (written-by t b (r .it)) (r .it)) f)
-    unfolding Deleted Written
-    write-covered test b h = mark-covered _ (keeps-written t b test .number) (keeps-written t b test .inserter)
-        (λ r i. inl (cond-same (λ (a : Marked). a .deleter) (test r) (written-by t b (r .it)) (r .it) refl))
-        (λ r i. by-test (test r) (λ e. rw e (inr (refl, h r i e))) (λ e. rw e (inl refl)))
+        → Covered holds' (mark (λ r. cond (test r) (written-by t d b (r .it)) (r .it)) f)
+    write-covered test b h =
+        let c : Place → Marked = λ r. cond (test r) (written-by t d b (r .it)) (r .it) in
+        mark-covered c (keeps-written t d b test .number) (keeps-written t d b test .inserter)
+        (λ r i. same-deleter c r (cond-same (λ (a : Marked). a .deleter) (test r) (written-by t d b (r .it)) (r .it) refl))
+        (λ r i u nu g. by-test (test r)
+        (λ e. inr (sym (eqb-true t u (rw (e, writer-saving t d (r .it .now .content) (r .it .update)) at g)), h r i e))
+        (λ e. inl (rw e at g)))
 
     delete-covered : (n : ℕ) → ((r : Place) → Inside r f → number-of r ≡ n
-        → Within (locks (D (number-of r)) (numbers-of (r .above))) (holds' t)) → Covered holds' (mark-node n (deleted-by t) f)
-    unfolding Deleted Written
+        → Within (locks (D (number-of r)) (numbers-of (r .above))) (holds' t)) → Covered holds' (mark-node n (deleted-by t d) f)
     delete-covered n h =
-        let k = keeps-deleted t (λ r. has-number n (r .it)) in
-        mark-covered _ (k .number) (k .inserter)
-        (λ r i. by-test (has-number n (r .it)) (λ e. rw e (inr (refl, h r i (eqb-true _ n e)))) (λ e. rw e (inl refl)))
-        (λ r i. inl (cond-same (λ (a : Marked). writer-of (a .update)) (has-number n (r .it)) (deleted-by t (r .it)) (r .it) refl))
+        let c : Place → Marked = λ r. cond (has-number n (r .it)) (deleted-by t d (r .it)) (r .it) in
+        let k = keeps-deleted t d (λ r. has-number n (r .it)) in
+        mark-covered c (k .number) (k .inserter)
+        (λ r i u nu g. by-test (has-number n (r .it)) (λ e. inr (sym (eqb-true t u (rw e at g)), h r i (eqb-true _ n e)))
+        (λ e. inl (rw (rw e at g) (or-true (eqb (r .it .inserter) u)))))
+        (λ r i. same-writer c r
+        (cond-same (λ (a : Marked). writer-of (a .update)) (has-number n (r .it)) (deleted-by t d (r .it)) (r .it) refl))
 
     -- other locks, the same marks
     same-covered : Covered holds' f
@@ -93,15 +107,15 @@ module _ (holds holds' : ℕ → List Lock) (more : (u : ℕ) → Within (holds 
     -- t inserted a node whose number nobody had, with the locks for its deletion
     insert-covered : (n k : ℕ) (new : Node) → number-held (new .number) f ≡ false
         → ((r : Place) → Inside r f → number-of r ≡ n → Within (locks (D (new .number)) (n ∷ numbers-of (r .above))) (holds' t))
-        → Covered holds' (put (has-number n) (seen-by t) k (inserted-by t new) f)
+        → Covered holds' (put (has-number n) (seen-by t) k (inserted-by t d new) f)
     insert-covered n k new un w = record {
-      distinct = inserted-distinct n (seen-by t) k (inserted-by t new) f (cov .distinct) un;
-      guarded = λ r i. gd r (in-put (has-number n) (seen-by t) k (inserted-by t new) (λ a. a) [] f i);
-      authored = λ r i. au r (in-put (has-number n) (seen-by t) k (inserted-by t new) (λ a. a) [] f i);
+      distinct = inserted-distinct n (seen-by t) k (inserted-by t d new) f (cov .distinct) un;
+      guarded = λ r i. gd r (in-put (has-number n) (seen-by t) k (inserted-by t d new) (λ a. a) [] f i);
+      authored = λ r i. au r (in-put (has-number n) (seen-by t) k (inserted-by t d new) (λ a. a) [] f i);
     }
       where
         Put : Place → Type 0
-        Put r = New (has-number n) (seen-by t) k (inserted-by t new) (λ a. a) r [] f
+        Put r = New (has-number n) (seen-by t) k (inserted-by t d new) (λ a. a) r [] f
 
         inserter-is : (u : ℕ) → (u ≡ nobody → ⊥) → (eqb t u || eqb nobody u) ≡ true → t ≡ u
         inserter-is u nu h = ⊎-elim (eqb-true t u) (λ e. absurd (nu (sym (eqb-true nobody u e)))) (or-cases (eqb t u) (eqb nobody u) h)
@@ -119,7 +133,7 @@ module _ (holds holds' : ℕ → List Lock) (more : (u : ℕ) → Within (holds 
     module _ (nz : t ≡ nobody → ⊥) where
       pub act-covered : (s : Step) → here (target s) (callers-document t f) ≡ true → Compatible-step holds f cov t nz s
           → ((m : ℕ) → has m (inserts s) ≡ true → number-held m f ≡ false)
-          → Within (needs s (callers-document t f)) (holds' t) → Covered holds' (act t s f)
+          → Within (needs s (callers-document t f)) (holds' t) → Covered holds' (act t d s f)
       act-covered (T n) hs c new w = same-covered
       act-covered (C n k) hs c new w = same-covered
       act-covered (R n) hs c new w = same-covered
@@ -151,6 +165,9 @@ module _ (holds holds' : ℕ → List Lock) (more : (u : ℕ) → Within (holds 
 
 -- locks in the nodes are no marks
 pub grant-covered : (holds : ℕ → List Lock) (t : ℕ) (ls : List Lock) (f : Tree) → Covered holds f → Covered holds (grant t ls f)
-unfolding grant Deleted Written
-grant-covered holds t ls f cov = mark-covered holds holds (λ u l i. i) f cov t (λ r. granted-to t ls (r .it)) (λ r. refl) (λ r. refl)
-    (λ r i. inl refl) (λ r i. inl refl)
+unfolding grant
+grant-covered holds t ls f cov =
+    let c : Place → Marked = λ r. granted-to t ls (r .it) in
+    let more : (u : ℕ) → Within (holds u) (holds u) = λ u l i. i in
+    mark-covered holds holds more f cov t 0 c (λ r. refl) (λ r. refl)
+    (λ r i. same-deleter holds holds more f cov t 0 c r refl) (λ r i. same-writer holds holds more f cov t 0 c r refl)

@@ -2,14 +2,14 @@
 use Prim.Native.Nat.{ℕ, suc}
 use mathlib.Core.Path.{_≡_, refl, sym, ap, _∙_}
 use mathlib.Core.Bool.{Bool, true, false, not, _&&_, false≢true, true≢false}
-use mathlib.Core.List.{List, [], _∷_}
+use mathlib.Core.List.{List, []}
 use lib.ListN.{length}
 use lib.Dec.{eqb, leb}
 use borrow.Author.Tests.{eqb-true, not-false}
 use Rattle.tree.specs.Forest.{nil, node, row, amend, view, put}
 use Rattle.tree.specs.Content.{document-kind, element-kind, is-name, allowed, children-rule, attributes-first, insert-at}
-use Rattle.tree.specs.Document.{Node, Document, Line, lines, is, child, in-subtree, select, here, at, kinds, top-kinds, ruled}
-use Rattle.tree.specs.Document.{rooted, legal}
+use Rattle.tree.specs.Document.{Node, Document, Line, lines, is, child, in-subtree, select, here, at, kinds, top-kinds, ruled, rooted}
+use Rattle.tree.specs.Document.{legal}
 use Rattle.tree.specs.Steps.{Step, U, D, I, UU, fits, after, placed, named, rewrite, remove}
 use Rattle.tree.specs.Laws.Tests.{and-left, and-right, refuted}
 use Rattle.tree.specs.Laws.Rows.{self}
@@ -19,7 +19,8 @@ use Rattle.serializability.specs.Laws.Classes.{Rewriting, update, rename
 use Rattle.serializability.specs.Laws.Classes.{touched, written, after-rewriting}
 use Rattle.serializability.specs.Laws.Kept.{Fit, fit-parts, fits-here}
 use Rattle.serializability.specs.Laws.Uniqueness.{unique-after}
-use Rattle.serializability.specs.Laws.Runs.{Entry, Run}
+use Rattle.serializability.specs.Laws.Parts.{Parts, end, did, undone}
+use Rattle.serializability.specs.Laws.Runs.{Run}
 use Rattle.serializability.specs.Laws.Rules.{ruled-amend, ruled-view, ruled-put, Has-node, node-line, children-kinds}
 
 -- the document node ----------------------------------------------------------------------------------
@@ -120,6 +121,7 @@ legal-after d s h g = legal-whole (after s d) (record {
     rules (removing x) g = ruled-view (λ a. not (eqb (a .number) x)) d (l .rules)
     rules (inserting m kind b n k) g = ruled-insertion m kind b n k d (l .unique) g (l .rules)
 
-pub legal-run : (d : Document) (l : List Entry) (e : Document) → legal d ≡ true → Run d l e → legal e ≡ true
-legal-run d [] e h r = rw (← r) h
-legal-run d (x ∷ l) e h r = legal-run (after (x .step) d) l e (legal-after d (x .step) h (r .0 .fit)) (r .1)
+pub legal-run : (d : Document) (l : Parts) (e : Document) → legal d ≡ true → Run d l e → legal e ≡ true
+legal-run d end e h r = rw (← r) h
+legal-run d (did x l) e h r = legal-run (after (x .step) d) l e (legal-after d (x .step) h (r .0 .fit)) (r .1)
+legal-run d (undone k l) e h r = legal-run d l e h (r .1)

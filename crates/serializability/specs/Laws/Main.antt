@@ -4,19 +4,21 @@ use mathlib.Core.Path.{_≡_, refl, sym, ap, _∙_}
 use mathlib.Core.Bool.{Bool, true, false, false≢true, true≢false}
 use mathlib.Core.List.{List, [], _∷_, _++_, map, append-nil, List·Memᴰ}
 use mathlib.Core.Logic.{_↔_}
-use Rattle.tree.specs.Lists.{any, has, joined}
-use Rattle.tree.specs.Steps.{PlainAnswer, plain-value, unfit, plain-document}
+use Rattle.tree.specs.Lists.{any}
+use Rattle.tree.specs.Steps.{PlainAnswer, plain-value, unfit}
+use Rattle.tree.specs.Plain.{left-of}
 use Rattle.tree.specs.Laws.Tests.{refuted}
 use Rattle.tree.specs.Laws.Lists.{any-at, at-any, every-at, any-same, in-map}
-use Rattle.serializability.specs.Laws.Runs.{run-document}
+use Rattle.serializability.specs.Laws.PlainRun.{follows}
 use Rattle.protocol.specs.State.{State, start-state, is-transaction, transactions, held-document, document-of, committed-document}
-use Rattle.protocol.specs.Calls.{Call, start, load, begin, commit, abort, step, write, count-of, written, next}
+use Rattle.protocol.specs.Calls.{Call, start, load, begin, commit, abort, step, write, count-of, open-part, close-part, undo-part, written}
+use Rattle.protocol.specs.Calls.{next}
 use Rattle.protocol.specs.History.{Event, history, state-after, event, fed, answered, plain, plain-run-answers, pending-in, pending}
-use Rattle.serializability.specs.Theorem.{since-start, reached, writes-plain, Demand3}
+use Rattle.serializability.specs.Theorem.{since-start, reached, values-in, writes-plain, Demand3}
 use Rattle.serializability.specs.Laws.Reached.{always-reached}
-use Rattle.serializability.specs.Laws.Tracking.{Tracks}
+use Rattle.serializability.specs.Laws.Tracks.{Tracks}
 use Rattle.serializability.specs.Laws.AnyOrder.{entries, reached-tracks, fed-is, any-order}
-use Rattle.serializability.specs.Laws.Pending.{steps, log-run, quiet-held, held-quiet}
+use Rattle.serializability.specs.Laws.Pending.{steps, only, log-run, quiet-held, held-quiet}
 
 -- a list of calls begins in one fixed state: start forgets the state before it
 pub start-forgets : (M : State) (cs : List Call) → (history M (start ∷ cs) ≡ since-start cs) × (state-after M (start ∷ cs) ≡ reached cs)
@@ -41,28 +43,28 @@ module _ (cs : List Call) where
   unfolding plain
   plain-committed = sym (rw (append-nil (fed h .committed)) at (any-order cs [] refl .document))
 
-  plain-same-answers : plain-run-answers h ≡ map plain-value (joined (answered h .committed))
+  plain-same-answers : plain-run-answers h ≡ map plain-value (values-in (answered h .committed))
   unfolding plain-run-answers
   plain-same-answers = rw (append-nil (fed h .committed), append-nil (answered h .committed)) at (any-order cs [] refl .answers)
 
   none-unfit : List·Memᴰ unfit (plain-run-answers h) → ⊥
-  none-unfit i = true≢false (ap is-unfit (in-map plain-value (joined (answered h .committed)) (rw plain-same-answers at i) .2))
+  none-unfit i = true≢false (ap is-unfit (in-map plain-value (values-in (answered h .committed)) (rw plain-same-answers at i) .2))
 
   -- pending, by the marks
   abbrev pending-of : ℕ → Bool
   pending-of t = pending-in (committed-document (reached cs)) (steps (entries cs .open-log t))
-      (document-of (λ u. has u (t ∷ [])) (reached cs .tree))
+      (document-of (only t) (reached cs .tree))
 
   pending-is : pending h ≡ any pending-of transactions
   unfolding pending
   pending-is = any-same _ _ transactions (λ t i. one t)
     where
-      one : (t : ℕ) → pending-in (plain h) (fed h .open-log t) (plain-document (plain h) (fed h .open-log t)) ≡ pending-of t
+      one : (t : ℕ) → pending-in (plain h) (fed h .open-log t) (left-of (plain h) (fed h .open-log t) .document) ≡ pending-of t
       one t = rw (
         fed-is cs,
         ← plain-committed,
-        run-document (committed-document (reached cs)) (entries cs .open-log t) _
-            (log-run (tr .c) (entries cs .open-log) (reached cs) (tr .good) t),
+        follows (committed-document (reached cs)) (entries cs .open-log t) _
+            (log-run (tr .c) (entries cs .open-log) (reached cs) (tr .good) (tr .depths) t) .document,
       )
 
   held-plain : (held-document (reached cs) ≡ plain h) ↔ (pending h ≡ false)
@@ -71,11 +73,12 @@ module _ (cs : List Call) where
       forth : held-document (reached cs) ≡ plain h → pending h ≡ false
       forth e = rw pending-is (refuted _ (λ p.
           let a = any-at pending-of transactions p in
-          true≢false (sym (a .2) ∙ held-quiet (tr .c) (entries cs .open-log) (reached cs) (tr .good) (e ∙ sym plain-committed) (a .0)
+          true≢false (sym (a .2) ∙ held-quiet (tr .c) (entries cs .open-log) (reached cs) (tr .good) (tr .depths)
+          (e ∙ sym plain-committed) (a .0)
           (λ z. false≢true (rw z at (every-at is-transaction transactions refl (a .1)))))))
 
       back : pending h ≡ false → held-document (reached cs) ≡ plain h
-      back e = quiet-held (tr .c) (entries cs .open-log) (reached cs) (tr .good)
+      back e = quiet-held (tr .c) (entries cs .open-log) (reached cs) (tr .good) (tr .depths)
           (λ t i. refuted _ (λ p. true≢false (sym (at-any pending-of transactions i p) ∙ (sym pending-is ∙ e)))) ∙ plain-committed
 
 -- writes ---------------------------------------------------------------------------------------
@@ -123,6 +126,9 @@ is-write (abort t) = false
 is-write (step t s room) = false
 is-write write = true
 is-write (count-of n) = false
+is-write (open-part t) = false
+is-write (close-part t) = false
+is-write (undo-part t) = false
 
 all-writes : (cs : List Call) → writes-plain [] (since-start cs)
 unfolding history is-write state-after

@@ -5,12 +5,12 @@ use mathlib.Core.Bool.{Bool, true, false, _&&_, _||_, false≢true, true≢false
 use mathlib.Core.List.{List, [], _∷_, List·Memᴰ}
 use mathlib.Core.Logic.{_⊎_, inl, inr, ⊎-elim, ⊎-map}
 use lib.Dec.{eqb}
-use borrow.Author.Tests.{eqb-true, eqb-false, eq-eqb, ne-eqb}
+use borrow.Author.Tests.{eqb-true, eqb-false, eq-eqb, ne-eqb, not-true}
 use Rattle.tree.specs.Lists.{every, has, leads}
 use Rattle.tree.specs.Forest.{row}
 use Rattle.tree.specs.Document.{Line, here, at}
 use Rattle.tree.specs.Steps.{Step, U, D, UU, target}
-use Rattle.tree.specs.Laws.Tests.{and-left, or-left, or-right, or-cases}
+use Rattle.tree.specs.Laws.Tests.{and-left, and-right, or-left, or-right, or-cases}
 use Rattle.tree.specs.Laws.Rows.{Each, each-above}
 use Rattle.tree.specs.Laws.View.{in-view}
 use Rattle.locks.specs.Modes.{LU, LUU}
@@ -140,6 +140,15 @@ module _ (holds : ℕ → List Lock) (f : Tree) (cov : Covered holds f) (t : ℕ
 
   pub own-node : (r : Place) → Inside r f → number-of r ≡ n₀ → every (own t) (path r) ≡ true
   own-node r i e = own-all (path r) (known r i) (λ q h. rw (e, above-is r i e) at h)
+
+  -- t sees it, so nobody deleted it
+  pub undeleted : (r : Place) → Inside r f → number-of r ≡ n₀ → r .it .deleter ≡ nobody
+  undeleted r i e =
+      let v = target-place in
+      let same : r ≡ v .0 = one-place f (cov .distinct) i (v .1) (e ∙ sym (v .2)) in
+      let see : seen-by t (r .it) ≡ true = ap (λ (x : Place). seen-by t (x .it)) same ∙ and-left _ _ (v .4) in
+      let mine : local t (r .it .deleter) ≡ true = and-right (local t (r .it .inserter)) _ (and-left _ _ (own-node r i e)) in
+      ⊎-elim (eqb-true _ nobody) (λ x. absurd (true≢false (sym x ∙ not-true _ see))) (or-cases (eqb (r .it .deleter) nobody) _ mine)
 
   -- where the node is locked so that it takes no insertion or deletion of a child
   pub own-child : clashing (need s .node) (need (D 0) .parent) ≡ true → (r : Place) → Inside r f → leads n₀ (numbers-of (r .above)) ≡ true

@@ -14,9 +14,9 @@ use Rattle.protocol.specs.State.{State, is-transaction, transactions, callers-d
 use Rattle.protocol.specs.Lent.{Room}
 use Rattle.protocol.specs.Causes.{not-a-transaction, not-open, no-such-node, deadlock}
 use Rattle.protocol.specs.Rings.{in-ring}
-use Rattle.protocol.specs.Calls.{Call, start, load, begin, commit, abort, step, write, count-of, Outcome, granted, written, waits}
-use Rattle.protocol.specs.Calls.{refused, refused-at, held-back, Check, blocks, wait-set, closes-ring, step-checks, commit-limit}
-use Rattle.protocol.specs.Calls.{commits-reached, judged, next}
+use Rattle.protocol.specs.Calls.{Call, start, load, begin, commit, abort, step, write, count-of, open-part, close-part, undo-part, Outcome}
+use Rattle.protocol.specs.Calls.{granted, written, waits, refused, refused-at, held-back, Check, blocks, wait-set, closes-ring, step-checks}
+use Rattle.protocol.specs.Calls.{commit-limit, commits-reached, judged, next}
 use Rattle.protocol.specs.History.{is-granted}
 use Rattle.serializability.specs.Theorem.{left-by, NotGranted, StepGranted, CommitOutcome, Waiting, NoClashNoWait, FoundNotSeven}
 use Rattle.serializability.specs.Theorem.{DeadlockOnly}
@@ -37,13 +37,16 @@ refusal-leaves (abort t) n M = refl
 refusal-leaves (step t s room) n M = refl
 refusal-leaves write n M = refl
 refusal-leaves (count-of m) n M = refl
+refusal-leaves (open-part t) n M = refl
+refusal-leaves (close-part t) n M = refl
+refusal-leaves (undo-part t) n M = refl
 
 pub not-granted : NotGranted
 not-granted c M = every-call (λ x n. is-granted (n .outcome) ≡ false → (n .steps ≡ []) × (n .state ≡ left-by x (n .outcome) M)) M (record {
   refusal = λ x n i h. (refl, refusal-leaves x n M);
   at-start = λ h. absurd (true≢false h);
   at-unread = λ x i h. (refl, refl);
-  at-load = λ d l h. absurd (true≢false h);
+  at-load = λ d l o h. absurd (true≢false h);
   at-begin = λ t i o h. absurd (true≢false h);
   at-commit = λ t i o l h. absurd (true≢false h);
   at-abort = λ t i o h. absurd (true≢false h);
@@ -51,6 +54,9 @@ not-granted c M = every-call (λ x n. is-granted (n .outcome) ≡ false → (n .
   at-step = λ t s room i o p h. absurd (true≢false h);
   at-write = λ h. (refl, refl);
   at-count = λ n i h. absurd (true≢false h);
+  at-open-part = λ t i o l h. absurd (true≢false h);
+  at-close-part = λ t i o l h. absurd (true≢false h);
+  at-undo-part = λ t i o l h. absurd (true≢false h);
 }) c
 
 -- demand 2 -------------------------------------------------------------------------------

@@ -5,15 +5,18 @@ use mathlib.Core.Bool.{Bool, true, false, cond}
 use mathlib.Core.List.{List, [], _∷_, _++_, map, append-nil, append-assoc, List·Memᴰ, List·Memᴰ·head, List·Memᴰ·tail}
 use lib.Dec.{eqb}
 use Rattle.tree.specs.Lists.{has, keep, distinct}
+use Rattle.tree.specs.Plain.{Operation}
 use Rattle.tree.specs.Laws.Tests.{or-left, or-right}
-use Rattle.protocol.specs.State.{State, start-state, transactions}
+use Rattle.protocol.specs.State.{State, start-state, transactions, all-of}
 use Rattle.protocol.specs.Calls.{Call, start, commit, StepAnswer, next}
-use Rattle.protocol.specs.History.{Event, history, state-after, is-granted, Log, with-log, with-commit, committed-then, log-after, fed, plain}
+use Rattle.protocol.specs.History.{Event, history, state-after, is-granted, Log, with-log, with-commit, committed-then, log-after, fed}
+use Rattle.protocol.specs.History.{plain}
 use Rattle.serializability.specs.Theorem.{since-start, reached, OpenOrder, OpenInAnyOrder, CommitInAnyOrder}
 use Rattle.serializability.specs.Laws.Orders.{distinct-head, distinct-tail}
 use Rattle.serializability.specs.Laws.WaitSet.{has-kept, kept-distinct}
-use Rattle.serializability.specs.Laws.Ends.{document-same}
+use Rattle.serializability.specs.Laws.GoodLaws.{document-same}
 use Rattle.serializability.specs.Laws.AnyOrder.{entries, reached-tracks, any-order}
+use Rattle.serializability.specs.Laws.Tracks.{by-levels}
 use Rattle.serializability.specs.Laws.Held.{held-shown}
 use Rattle.serializability.specs.Laws.Main.{plain-committed, history-append}
 
@@ -28,9 +31,8 @@ pub open-in-any-order : (cs : List Call) → OpenInAnyOrder cs
 open-in-any-order cs b o =
     let tr = reached-tracks cs in
     rw (
-      held-shown (tr .c) (entries cs .open-log) (reached cs) (tr .good),
-      document-same (reached cs .header .is-open) (λ u. has u b)
-          (reached cs .tree) (λ u. sym (o .all u)),
+      held-shown (tr .c) (by-levels (entries cs .open-log)) (reached cs) (tr .good),
+      document-same (all-of (reached cs .header .is-open)) (all-of (λ u. has u b)) (reached cs .tree) (λ u l. sym (o .all u)),
     ) (any-order cs b (o .once))
 
 -- commits one behind the other -------------------------------------------------------------------
@@ -42,7 +44,8 @@ module _ {E : Type 0} (entry : StepAnswer → E) where
   log-append L (e ∷ h) k = log-append _ h k
 
   -- t is none of b
-  logs-of-others : (t : ℕ) (l : List E) (log : ℕ → List E) (b : List ℕ) → has t b ≡ false → map (with-log t l log) b ≡ map log b
+  logs-of-others : (t : ℕ) (l : List (Operation E)) (log : ℕ → List (Operation E)) (b : List ℕ) → has t b ≡ false
+      → map (with-log t l log) b ≡ map log b
   logs-of-others t l log [] n = refl
   logs-of-others t l log (u ∷ b) n = rw (or-left (eqb u t) (has t b) n, logs-of-others t l log b (or-right (eqb u t) (has t b) n))
 

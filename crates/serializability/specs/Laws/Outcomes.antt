@@ -4,7 +4,7 @@ use mathlib.Core.Path.{_≡_, refl, sym, ap, _∙_}
 use mathlib.Core.Bool.{Bool, true, false, not, false≢true}
 use mathlib.Core.List.{List, [], _∷_, List·Memᴰ, List·Memᴰ·head, List·Memᴰ·tail}
 use lib.ListN.{length, take, drop}
-use lib.Dec.{eqb}
+use lib.Dec.{eqb, leb}
 use borrow.Author.Tests.{not-false}
 use Rattle.tree.specs.Lists.{any, every, has, keep}
 use Rattle.tree.specs.Laws.Lists.{every-at, keep-in}
@@ -13,13 +13,16 @@ use Rattle.tree.specs.Steps.{Step, done, how-many, unknown, wrong-kind, wrong-c
 use Rattle.locks.specs.Needs.{needs}
 use Rattle.serializability.specs.Laws.Tests.{by-test}
 use Rattle.protocol.specs.State.{State, is-transaction, transactions, callers-document, committed-document, act, grant, start-state}
-use Rattle.protocol.specs.State.{with-tree, opened, forgetting, committed, aborted, with-document}
+use Rattle.protocol.specs.State.{with-tree, opened, forgetting, committed, aborted, with-document, part-opened, part-closed}
+use Rattle.protocol.specs.State.{part-taken-back}
 use Rattle.protocol.specs.Lent.{Room}
 use Rattle.protocol.specs.Causes.{causes, not-a-transaction, already-open, not-open, no-such-node, open-at-load, no-more-commits}
-use Rattle.protocol.specs.Calls.{Call, start, load, begin, commit, abort, step, write, count-of, Input, unreadable, stands-for, node-limit}
-use Rattle.protocol.specs.Calls.{loadable, Outcome, granted, written, waits, refused, refused-at, Next, unchanged, becomes, grants-step}
-use Rattle.protocol.specs.Calls.{held-back, Check, checked, refusing, wait-set, number-in-use, closes-ring, step-checks, judged, if-open}
-use Rattle.protocol.specs.Calls.{loaded, commit-limit, commits-reached, commit-count, next}
+use Rattle.protocol.specs.Causes.{part-not-allowed}
+use Rattle.protocol.specs.Calls.{Call, start, load, begin, commit, abort, step, write, count-of, open-part, close-part, undo-part, Input}
+use Rattle.protocol.specs.Calls.{unreadable, stands-for, node-limit, part-limit, loadable, Outcome, granted, written, waits, refused}
+use Rattle.protocol.specs.Calls.{refused-at, Next, unchanged, becomes, grants-step, held-back, Check, checked, refusing, wait-set}
+use Rattle.protocol.specs.Calls.{number-in-use, closes-ring, step-checks, judged, if-open, loaded, commit-limit, commits-reached}
+use Rattle.protocol.specs.Calls.{commit-count, next}
 
 -- none of the checks applies
 abbrev pub AllPassed : List Check → Type 0
@@ -72,7 +75,7 @@ pub record Cases (P : Call → Next → Type 0) (M : State) : Type 0 where
   pub refusal : (c : Call) (cause : ℕ) → has cause causes ≡ true → P c (unchanged (refused cause) M)
   pub at-start : P start (becomes done start-state)
   pub at-unread : (c i : ℕ) → P (load (unreadable c i)) (unchanged (refused-at c i) M)
-  pub at-load : (d : Document) (h : loadable node-limit d ≡ true)
+  pub at-load : (d : Document) (h : loadable node-limit d ≡ true) → any (M .header .is-open) transactions ≡ false
       → P (load (stands-for d h)) (becomes (how-many (length (lines d))) (with-document d M))
   pub at-begin : (t : ℕ) → is-transaction t ≡ true → M .header .is-open t ≡ false → P (begin t) (becomes done (opened t M))
   pub at-commit : (t : ℕ) → is-transaction t ≡ true → M .header .is-open t ≡ true → commits-reached commit-limit M ≡ false
@@ -83,9 +86,16 @@ pub record Cases (P : Call → Next → Type 0) (M : State) : Type 0 where
       → P (step t s room) (held-back t M (waits w))
   pub at-step : (t : ℕ) (s : Step) (room : Room) → is-transaction t ≡ true → M .header .is-open t ≡ true
       → let d = callers-document t (M .tree) in Passed t s M d
-      → P (step t s room) (grants-step s (answer s d) (forgetting t (with-tree M (grant t (needs s d) (act t s (M .tree))))))
+      → P (step t s room) (grants-step s (answer s d)
+      (forgetting t (with-tree M (grant t (needs s d) (act t (M .header .depth t) s (M .tree))))))
   pub at-write : P write (unchanged (written (committed-document M)) M)
   pub at-count : (n : ℕ) → here n (committed-document M) ≡ true → P (count-of n) (becomes (how-many (commit-count n (M .tree))) M)
+  pub at-open-part : (t : ℕ) → is-transaction t ≡ true → M .header .is-open t ≡ true → leb part-limit (M .header .depth t) ≡ false
+      → P (open-part t) (becomes done (part-opened t M))
+  pub at-close-part : (t : ℕ) → is-transaction t ≡ true → M .header .is-open t ≡ true → eqb (M .header .depth t) 0 ≡ false
+      → P (close-part t) (becomes done (part-closed t M))
+  pub at-undo-part : (t : ℕ) → is-transaction t ≡ true → M .header .is-open t ≡ true → eqb (M .header .depth t) 0 ≡ false
+      → P (undo-part t) (becomes done (part-taken-back t M))
 
 module _ (P : Call → Next → Type 0) (M : State) (k : Cases P M) where
   -- behind checks that refuse, where `stop` changes nothing at a refusal
@@ -109,9 +119,16 @@ module _ (P : Call → Next → Type 0) (M : State) (k : Cases P M) where
       refusing-case c ((refused not-a-transaction, not (is-transaction t)) ∷ (refused not-open, not (M .header .is-open t)) ∷ []) n refl
       (λ p. g (not-false _ (p .0)) (not-false _ (p .1 .0)))
 
-  load-case : (i : Input) → P (load i) (loaded i M)
-  load-case (unreadable c i) = k .at-unread c i
-  load-case (stands-for d h) = k .at-load d h
+  -- one check more
+  one-more-case : (c : Call) (t cause : ℕ) (x : Bool) (n : Next) → has cause causes ≡ true
+      → (is-transaction t ≡ true → M .header .is-open t ≡ true → x ≡ false → P c n)
+      → P c (if-open t M (refusing ((refused cause, x) ∷ []) M n))
+  one-more-case c t cause x n e g = if-open-case c t _ (λ h o.
+      refusing-case c ((refused cause, x) ∷ []) n (rw e) (λ p. g h o (p .0)))
+
+  load-case : (i : Input) → any (M .header .is-open) transactions ≡ false → P (load i) (loaded i M)
+  load-case (unreadable c i) o = k .at-unread c i
+  load-case (stands-for d h) o = k .at-load d h o
 
   -- 7, 8, 9, 10 and 17 before the wait, then the wait, then 11, 12, 13
   step-case : (t : ℕ) (s : Step) (room : Room) → is-transaction t ≡ true → M .header .is-open t ≡ true
@@ -135,15 +152,17 @@ module _ (P : Call → Next → Type 0) (M : State) (k : Cases P M) where
   unfolding next
   every-call start = k .at-start
   every-call (load i) =
-      refusing-case (load i) ((refused open-at-load, any (M .header .is-open) transactions) ∷ []) _ refl (λ p. load-case i)
+      refusing-case (load i) ((refused open-at-load, any (M .header .is-open) transactions) ∷ []) _ refl (λ p. load-case i (p .0))
   every-call (begin t) =
       refusing-case (begin t) ((refused not-a-transaction, not (is-transaction t)) ∷ (refused already-open, M .header .is-open t) ∷ [])
       _ refl (λ p. k .at-begin t (not-false _ (p .0)) (p .1 .0))
-  every-call (commit t) = if-open-case (commit t) t _ (λ h o.
-      refusing-case (commit t) ((refused no-more-commits, commits-reached commit-limit M) ∷ []) _ refl (λ p. k .at-commit t h o (p .0)))
+  every-call (commit t) = one-more-case (commit t) t no-more-commits (commits-reached commit-limit M) _ refl (k .at-commit t)
   every-call (abort t) = if-open-case (abort t) t _ (k .at-abort t)
   every-call (step t s room) = if-open-case (step t s room) t _ (step-case t s room)
   every-call write = k .at-write
   every-call (count-of n) =
       refusing-case (count-of n) ((refused no-such-node, not (here n (committed-document M))) ∷ []) _ refl
       (λ p. k .at-count n (not-false _ (p .0)))
+  every-call (open-part t) = one-more-case (open-part t) t part-not-allowed (leb part-limit (M .header .depth t)) _ refl (k .at-open-part t)
+  every-call (close-part t) = one-more-case (close-part t) t part-not-allowed (eqb (M .header .depth t) 0) _ refl (k .at-close-part t)
+  every-call (undo-part t) = one-more-case (undo-part t) t part-not-allowed (eqb (M .header .depth t) 0) _ refl (k .at-undo-part t)

@@ -3,7 +3,8 @@ use mathlib.Core.Path.{_≡_, refl, ap, _∙_}
 use mathlib.Core.Bool.{false}
 use mathlib.Core.List.{List, [], _∷_}
 use Rattle.protocol.specs.State.{State, WaitSets, start-state}
-use Rattle.protocol.specs.Calls.{Call, start, load, begin, commit, abort, step, write, count-of, Next, next}
+use Rattle.protocol.specs.Calls.{Call, start, load, begin, commit, abort, step, write, count-of, open-part, close-part, undo-part, Next}
+use Rattle.protocol.specs.Calls.{next}
 use Rattle.protocol.specs.History.{history, state-after, is-granted, waited-for, sets-left, sets-after}
 use Rattle.serializability.specs.Theorem.{AsTold}
 use Rattle.serializability.specs.Laws.Outcomes.{every-call}
@@ -18,6 +19,9 @@ refused-left (abort t) r = refl
 refused-left (step t s room) r = refl
 refused-left write r = refl
 refused-left (count-of n) r = refl
+refused-left (open-part t) r = refl
+refused-left (close-part t) r = refl
+refused-left (undo-part t) r = refl
 
 -- one call
 abbrev SetsLeft : WaitSets → Call → Next → Type 0
@@ -28,7 +32,7 @@ sets-next c M = every-call (SetsLeft (M .header .remembered)) M (record {
   refusal = λ c cause h. refused-left c (M .header .remembered);
   at-start = refl;
   at-unread = λ c i. refl;
-  at-load = λ d h. refl;
+  at-load = λ d h o. refl;
   at-begin = λ t i o. refl;
   at-commit = λ t i o l. refl;
   at-abort = λ t i o. refl;
@@ -36,6 +40,9 @@ sets-next c M = every-call (SetsLeft (M .header .remembered)) M (record {
   at-step = λ t s room i o p. refl;
   at-write = refl;
   at-count = λ n h. refl;
+  at-open-part = λ t i o l. refl;
+  at-close-part = λ t i o l. refl;
+  at-undo-part = λ t i o l. refl;
 }) c
 
 -- lists of calls

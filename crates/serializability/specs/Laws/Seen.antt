@@ -1,11 +1,11 @@
 -- A step whose locks are compatible with the others' sees in its caller's document what it sees in the document of every set
 -- of transactions with the caller in it.
-use Prim.Native.Nat.{ℕ}
+use Prim.Native.Nat.{ℕ, suc}
 use mathlib.Core.Path.{_≡_, refl, _∙_, sym, ap}
 use mathlib.Core.Bool.{Bool, true, false, not, _&&_, false≢true, true≢false, or-true}
 use mathlib.Core.List.{List, [], _∷_, map}
 use mathlib.Core.Logic.{⊎-elim}
-use lib.Dec.{eqb}
+use lib.Dec.{eqb, leb}
 use borrow.Author.Tests.{eq-eqb, eqb-true, ne-eqb}
 use Rattle.tree.specs.Lists.{any, every, has, leads, keep}
 use Rattle.tree.specs.Document.{here, Node, Line, lines, select}
@@ -22,10 +22,12 @@ use Rattle.serializability.specs.Laws.Classes.{bars-writing, writing-bar
 use Rattle.serializability.specs.Laws.Lines.{at-line}
 use Rattle.serializability.specs.Laws.Views.{shape, Shapes, Whole, Reach, itself, children, subtree, within, reach, Views}
 use Rattle.protocol.specs.State.{nobody, Marked, Tree, has-number, seen-by, callers-document, document-of, renamed, act, number-held}
-use Rattle.protocol.specs.State.{done-by, shown, as-shown, writer-of}
+use Rattle.protocol.specs.State.{Levels, done-by, shown, content-shown, as-shown, Update, unwritten, wrote, writer-of}
+use Rattle.serializability.specs.Laws.OpenLevels.{FallingUpdate, LevelsOpen, content-all}
 use Rattle.serializability.specs.Laws.Shown.{Place, path, numbers-of, local, U-shown, D-shown, I-shown, UU-shown, write-hidden}
-use Rattle.serializability.specs.Laws.Shown.{D-hidden, I-hidden, Inside}
-use Rattle.serializability.specs.Laws.Marks.{Covered, own-node, own, own-child, own-subtree, writer-node, writer-subtree}
+use Rattle.serializability.specs.Laws.Shown.{D-hidden, I-hidden, Inside, Own-update}
+use Rattle.serializability.specs.Laws.Marks.{Covered, own-node, own, own-child, own-subtree, undeleted, writer-node}
+use Rattle.serializability.specs.Laws.Marks.{writer-subtree}
 use Rattle.serializability.specs.Laws.Numbers.{number-of, place-held}
 
 -- the test of UU holds only in the subtree
@@ -96,24 +98,35 @@ unheld-absent sh text f m h = refuted _ (λ e.
 
 -- the caller, and a set with it ------------------------------------------------------------
 
-module _ (t : ℕ) (nz : t ≡ nobody → ⊥) (S : ℕ → Bool) (st : S t ≡ true) where
-  local-done : (u : ℕ) → local t u ≡ true → done-by S u ≡ true
-  local-done u h = ⊎-elim (λ p. rw p) (λ q. rw (eqb-true u t q, st) (or-true (eqb t nobody))) (or-cases (eqb u nobody) (eqb u t) h)
+module _ (t : ℕ) (nz : t ≡ nobody → ⊥) (S : Levels) (st : (l : ℕ) → S t l ≡ true) where
+  local-done : (u l : ℕ) → local t u ≡ true → done-by S u l ≡ true
+  local-done u l h = ⊎-elim (λ p. rw p) (λ q. rw (eqb-true u t q, st l) (or-true (eqb t nobody))) (or-cases (eqb u nobody) (eqb u t) h)
 
-  local-deleted : (u : ℕ) → local t u ≡ true → not (not (eqb u nobody) && S u) ≡ not (eqb u t)
-  local-deleted u h = ⊎-elim (λ (p : eqb u nobody ≡ true). rw (p, ne-eqb u t (λ q. nz (sym q ∙ eqb-true u nobody p))))
-      (λ q. rw (eqb-true u t q, st, ne-eqb t nobody nz, eq-eqb t t refl)) (or-cases (eqb u nobody) (eqb u t) h)
+  local-deleted : (u l : ℕ) → local t u ≡ true → not (not (eqb u nobody) && S u l) ≡ not (eqb u t)
+  local-deleted u l h = ⊎-elim (λ (p : eqb u nobody ≡ true). rw (p, ne-eqb u t (λ q. nz (sym q ∙ eqb-true u nobody p))))
+      (λ q. rw (eqb-true u t q, st l, ne-eqb t nobody nz, eq-eqb t t refl)) (or-cases (eqb u nobody) (eqb u t) h)
 
   -- where t alone left marks the set shows what t sees
   pub own-shown : (a : Marked) → own t a ≡ true → shown S a ≡ seen-by t a
-  own-shown a h = rw (local-done (a .inserter) (and-left _ _ h), local-deleted (a .deleter) (and-right (local t (a .inserter)) _ h))
+  own-shown a h = rw (
+    local-done (a .inserter) (a .insertion-level) (and-left _ _ h),
+    local-deleted (a .deleter) (a .deletion-level) (and-right (local t (a .inserter)) _ h),
+  )
 
   pub own-path : (l : List Marked) → every (own t) l ≡ true → every (shown S) l ≡ every (seen-by t) l
   own-path [] h = refl
   own-path (a ∷ l) h = rw (own-shown a (and-left _ _ h), own-path l (and-right (own t a) _ h))
 
-  pub own-content : (a : Marked) → local t (writer-of (a .update)) ≡ true → as-shown S a ≡ a .now
-  own-content a h = rw (local-done (writer-of (a .update)) h)
+  -- where t alone wrote it shows the content as it is now
+  own-content : (b : List ℕ) (u : Update) → Own-update t u → content-shown S b u ≡ b
+  own-content b unwritten h = refl
+  own-content b (wrote u l saved deeper) h = rw (h .0) (content-all (S t) st b deeper l saved)
+
+-- a writer that is t or nobody: somebody wrote what is written
+pub own-update : (depth : ℕ → ℕ) (t : ℕ) (u : Update) → FallingUpdate depth u → local t (writer-of u) ≡ true → Own-update t u
+own-update depth t unwritten h e = tt
+own-update depth t (wrote u l saved deeper) h e =
+    (⊎-elim (λ p. absurd (h .0 (eqb-true u nobody p))) (eqb-true u t) (or-cases (eqb u nobody) (eqb u t) e), suc (depth u), h .1)
 
 -- a step of t on a node of its document, compatible with what the others hold, which inserts no number held
 module _ (holds : ℕ → List Lock) (f : Tree) (cov : Covered holds f) (t : ℕ) (nz : t ≡ nobody → ⊥) where
@@ -143,53 +156,59 @@ module _ (holds : ℕ → List Lock) (f : Tree) (cov : Covered holds f) (t : ℕ
       go subtree b u v e = writer-subtree holds f cov t s hs c (and-right (excludes (need s .node) (need (UU 0 [] []))) _ v) b u
           (and-left _ _ v) r i e
 
-  pub seen : (S : ℕ → Bool) → S t ≡ true → (s : Step) → here (target s) (callers-document t f) ≡ true → Compatible-step s
-      → ((m : ℕ) → has m (inserts s) ≡ true → number-held m f ≡ false) → Views s (callers-document t f) (document-of S f)
-  unfolding callers-document document-of
-  seen S st s hs c new = record {
-    node = agree-shapes (seen-by t) (shown S) (λ a. a .now .content) (λ a. as-shown S a .content) f itself (target s)
-        (λ r i e. own-path t nz S st (path r) (own-node holds f cov t s hs c r i (eqb-true _ (target s) e)));
-    lines = agree-shapes (seen-by t) (shown S) (λ a. a .now .content) (λ a. as-shown S a .content) f (reach s) (target s)
-        (λ r i e. own-path t nz S st (path r) (own-seen s hs c r i e));
-    contents = λ z. agree-whole (seen-by t) (shown S) (λ a. a .now .content) (λ a. as-shown S a .content) f (reach s) (target s)
-        (λ r i e. own-path t nz S st (path r) (own-seen s hs c r i e))
-        (λ r i e. ap (λ (x : Node). x .content) (own-content t nz S st (r .it) (own-read (reads-contents s z) hs c r i e)));
-    absent = λ m h. unheld-absent (shown S) (λ a. as-shown S a .content) f m (new m h) ∙ sym
-        (unheld-absent (seen-by t) (λ a. a .now .content) f m (new m h));
-  }
+  -- the levels of the marks are open
+  module _ (depth : ℕ → ℕ) (lv : (r : Place) → Inside r f → LevelsOpen depth (r .it)) where
+    own-saved : {s : Step} → Contents s → here (target s) (callers-document t f) ≡ true → Compatible-step s
+        → (r : Place) → Inside r f → places (reach s) (target s) r ≡ true → Own-update t (r .it .update)
+    own-saved z hs c r i e = own-update depth t (r .it .update) (lv r i .writes) (own-read z hs c r i e)
 
-  -- a granted step is the plain step in the document of every set with its transaction, and nothing in the others
-  module _ (S : ℕ → Bool) where
-    pub act-shown : S t ≡ true → (s : Step) → here (target s) (callers-document t f) ≡ true → Compatible-step s
-        → document-of S (act t s f) ≡ after s (document-of S f)
-    act-shown st (T n) hs c = refl
-    act-shown st (C n k) hs c = refl
-    act-shown st (R n) hs c = refl
-    act-shown st (U n b) hs c = U-shown t nz S st n b f
-    act-shown st (D n) hs c = D-shown t nz S st n f
-    act-shown st (I m kind b n k) hs c = I-shown t nz S st n k (record { number = m; kind = kind; content = b }) f
-        (λ r a p i o e. own-shown t nz S st (r .it) (and-left _ _ (own-seen (I m kind b n k) hs c r i
-        (rw o (eq-eqb _ n e)))))
-    act-shown st (TT n) hs c = refl
-    act-shown st (RR n) hs c = refl
-    act-shown st (UU n a b) hs c = UU-shown t nz S st n a b f
-        (λ r i e. (
-          own-path t nz S st (path r) (own-seen (UU n a b) hs c r i e),
-          own-content t nz S st (r .it)
-              (own-read (write (rename n a b)) hs c r i e),
-        ))
+    pub seen : (S : Levels) → ((l : ℕ) → S t l ≡ true) → (s : Step) → here (target s) (callers-document t f) ≡ true → Compatible-step s
+        → ((m : ℕ) → has m (inserts s) ≡ true → number-held m f ≡ false) → Views s (callers-document t f) (document-of S f)
+    unfolding callers-document document-of
+    seen S st s hs c new = record {
+      node = agree-shapes (seen-by t) (shown S) (λ a. a .now .content) (λ a. as-shown S a .content) f itself (target s)
+          (λ r i e. own-path t nz S st (path r) (own-node holds f cov t s hs c r i (eqb-true _ (target s) e)));
+      lines = agree-shapes (seen-by t) (shown S) (λ a. a .now .content) (λ a. as-shown S a .content) f (reach s) (target s)
+          (λ r i e. own-path t nz S st (path r) (own-seen s hs c r i e));
+      contents = λ z. agree-whole (seen-by t) (shown S) (λ a. a .now .content) (λ a. as-shown S a .content) f (reach s) (target s)
+          (λ r i e. own-path t nz S st (path r) (own-seen s hs c r i e))
+          (λ r i e. own-content t nz S st (r .it .now .content) (r .it .update) (own-saved (reads-contents s z) hs c r i e));
+      absent = λ m h. unheld-absent (shown S) (λ a. as-shown S a .content) f m (new m h) ∙ sym
+          (unheld-absent (seen-by t) (λ a. a .now .content) f m (new m h));
+    }
 
-    pub act-hidden : S t ≡ false → (s : Step) → here (target s) (callers-document t f) ≡ true → Compatible-step s
-        → document-of S (act t s f) ≡ document-of S f
-    act-hidden st (T n) hs c = refl
-    act-hidden st (C n k) hs c = refl
-    act-hidden st (R n) hs c = refl
-    act-hidden st (U n b) hs c = write-hidden t nz S st (λ r. has-number n (r .it)) b f
-        (λ r i e. own-read (write (update n b)) hs c r i e)
-    act-hidden st (D n) hs c = D-hidden t nz S st n f
-        (λ r i e. and-right (local t (r .it .inserter)) _ (and-left _ _ (own-node holds f cov t (D n) hs c r i e)))
-    act-hidden st (I m kind b n k) hs c = I-hidden t nz S st n k (record { number = m; kind = kind; content = b }) f
-    act-hidden st (TT n) hs c = refl
-    act-hidden st (RR n) hs c = refl
-    act-hidden st (UU n a b) hs c = write-hidden t nz S st (renamed t n a) b f
-        (λ r i e. own-read (write (rename n a b)) hs c r i (renamed-under t n a r e))
+    -- a granted step is the plain step in the document of every set with all that its transaction did
+    module _ (d : ℕ) (S : Levels) where
+      pub act-shown : ((l : ℕ) → S t l ≡ true) → (s : Step) → here (target s) (callers-document t f) ≡ true → Compatible-step s
+          → document-of S (act t d s f) ≡ after s (document-of S f)
+      act-shown st (T n) hs c = refl
+      act-shown st (C n k) hs c = refl
+      act-shown st (R n) hs c = refl
+      act-shown st (U n b) hs c = U-shown t d nz S st n b f
+      act-shown st (D n) hs c = D-shown t d nz S st n f
+      act-shown st (I m kind b n k) hs c = I-shown t d nz S st n k (record { number = m; kind = kind; content = b }) f
+          (λ r a p i o e. own-shown t nz S st (r .it) (and-left _ _ (own-seen (I m kind b n k) hs c r i
+          (rw o (eq-eqb _ n e)))))
+      act-shown st (TT n) hs c = refl
+      act-shown st (RR n) hs c = refl
+      act-shown st (UU n a b) hs c = UU-shown t d nz S st n a b f
+          (λ r i e. (
+            own-path t nz S st (path r) (own-seen (UU n a b) hs c r i e),
+            ap (with-content (r .it .now)) (own-content t nz S st (r .it .now .content) (r .it .update)
+                (own-saved (write (rename n a b)) hs c r i e)),
+          ))
+
+      -- and nothing in the document of a set without the step's level and those that are deeper
+      pub act-hidden : ((l : ℕ) → leb d l ≡ true → S t l ≡ false) → (s : Step) → here (target s) (callers-document t f) ≡ true
+          → Compatible-step s → document-of S (act t d s f) ≡ document-of S f
+      act-hidden st (T n) hs c = refl
+      act-hidden st (C n k) hs c = refl
+      act-hidden st (R n) hs c = refl
+      act-hidden st (U n b) hs c = write-hidden t d nz S st (λ r. has-number n (r .it)) b f
+          (λ r i e. own-saved (write (update n b)) hs c r i e)
+      act-hidden st (D n) hs c = D-hidden t d nz S st n f (λ r i e. undeleted holds f cov t (D n) hs c r i e)
+      act-hidden st (I m kind b n k) hs c = I-hidden t d nz S st n k (record { number = m; kind = kind; content = b }) f
+      act-hidden st (TT n) hs c = refl
+      act-hidden st (RR n) hs c = refl
+      act-hidden st (UU n a b) hs c = write-hidden t d nz S st (renamed t n a) b f
+          (λ r i e. own-saved (write (rename n a b)) hs c r i (renamed-under t n a r e))

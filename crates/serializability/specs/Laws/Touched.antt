@@ -1,29 +1,31 @@
 -- What a granted step touches: the places that it writes, where nobody else wrote, and the node that it inserts.
-use Prim.Native.Nat.{ℕ}
+use Prim.Native.Nat.{ℕ, _≤_}
 use mathlib.Core.Path.{_≡_, refl, sym, ap, _∙_}
-use mathlib.Core.Bool.{Bool, true, false, cond, _&&_, _||_, false≢true, true≢false, or-true, or-false, and-true, and-false}
+use mathlib.Core.Bool.{Bool, true, false, cond, _&&_, _||_, false≢true, true≢false, or-true, or-false, and-false}
 use mathlib.Core.List.{List, []}
-use mathlib.Core.Logic.{⊎-elim}
-use lib.Dec.{eqb}
-use borrow.Author.Tests.{eqb-true, eqb-false, eq-eqb, ne-eqb}
+use lib.Dec.{eqb, ltb}
+use borrow.Author.Tests.{eqb-true, eq-eqb, ne-eqb, le-ltb}
 use Rattle.tree.specs.Lists.{any, every, has, keep}
 use Rattle.tree.specs.Forest.{row}
 use Rattle.tree.specs.Document.{Document, Line, lines, in-subtree, select, here, numbers}
 use Rattle.tree.specs.Steps.{Step, T, C, R, U, D, I, TT, RR, UU, target, inserts, named}
-use Rattle.tree.specs.Counts.{touches}
-use Rattle.tree.specs.Laws.Tests.{and-left, and-right, or-cases, both-ways, refuted}
+use Rattle.tree.specs.Plain.{touches}
+use Rattle.tree.specs.Laws.Tests.{and-left, and-right, both-ways, refuted}
 use Rattle.tree.specs.Laws.Lists.{any-map, in-map, map-in, in-keep, keep-in, has-in, in-has}
 use Rattle.tree.specs.Laws.View.{in-view, view-in}
 use Rattle.locks.specs.Needs.{Lock}
-use Rattle.protocol.specs.State.{nobody, Marked, Tree, has-number, number-held, seen-by, callers-document, renamed, writer-of, touched-by}
+use Rattle.protocol.specs.State.{nobody, Marked, Tree, has-number, number-held, seen-by, callers-document, renamed}
+use Rattle.protocol.specs.State.{Update, unwritten, wrote, writer-of, level-of, saving}
+use Rattle.serializability.specs.Laws.Parts.{Extent, below, all, shows}
+use Rattle.serializability.specs.Laws.OpenLevels.{touched-within}
 use Rattle.serializability.specs.Laws.Tests.{by-test, eqb-sym}
 use Rattle.serializability.specs.Laws.Lines.{of-lines, to-lines}
 use Rattle.serializability.specs.Laws.Views.{reach}
 use Rattle.serializability.specs.Laws.Classes.{Rewriting, update, rename, Class, reading, rewriting, removing, inserting, class}
 use Rattle.serializability.specs.Laws.Classes.{inserts-none, write}
-use Rattle.serializability.specs.Laws.Shown.{Place, Inside, path, numbers-of, local}
+use Rattle.serializability.specs.Laws.Shown.{Place, Inside, path, numbers-of, local, Own-update}
 use Rattle.serializability.specs.Laws.Numbers.{number-of, Distinct, one-place, place-held}
-use Rattle.serializability.specs.Laws.Marks.{Covered}
+use Rattle.serializability.specs.Laws.Marks.{Covered, undeleted}
 use Rattle.serializability.specs.Laws.Seen.{places, renamed-under, Compatible-step, own-read}
 
 -- the places whose contents a granted step of t writes
@@ -38,6 +40,18 @@ writes t (TT n) r = false
 writes t (RR n) r = false
 writes t (UU n a b) r = renamed t n a r
 
+-- the places that it deletes
+abbrev pub deletes : Step → Place → Bool
+deletes (T n) r = false
+deletes (C n k) r = false
+deletes (R n) r = false
+deletes (U n b) r = false
+deletes (D n) r = has-number n (r .it)
+deletes (I m kind b n k) r = false
+deletes (TT n) r = false
+deletes (RR n) r = false
+deletes (UU n a b) r = false
+
 -- such a step writes contents, and sees the place
 writes-within : (t : ℕ) (s : Step) (r : Place) → writes t s r ≡ true → Rewriting s × (places (reach s) (target s) r ≡ true)
 writes-within t (T n) r h = absurd (false≢true h)
@@ -50,23 +64,61 @@ writes-within t (TT n) r h = absurd (false≢true h)
 writes-within t (RR n) r h = absurd (false≢true h)
 writes-within t (UU n a b) r h = (rename n a b, renamed-under t n a r h)
 
--- what a granted step writes nobody else wrote
-pub own-written : (holds : ℕ → List Lock) (f : Tree) (cov : Covered holds f) (t : ℕ) (nz : t ≡ nobody → ⊥) (s : Step)
-    → here (target s) (callers-document t f) ≡ true → Compatible-step holds f cov t nz s → (r : Place) → Inside r f → writes t s r ≡ true
-    → local t (writer-of (r .it .update)) ≡ true
-own-written holds f cov t nz s hs c r i e = let w = writes-within t s r e in own-read holds f cov t nz (write (w .0)) hs c r i (w .1)
+module _ (holds : ℕ → List Lock) (f : Tree) (cov : Covered holds f) (t : ℕ) (nz : t ≡ nobody → ⊥) (s : Step)
+    (hs : here (target s) (callers-document t f) ≡ true) (c : Compatible-step holds f cov t nz s) (r : Place) (i : Inside r f) where
+  -- what a granted step writes nobody else wrote
+  pub own-written : writes t s r ≡ true → local t (writer-of (r .it .update)) ≡ true
+  own-written e = let w = writes-within t s r e in own-read holds f cov t nz (write (w .0)) hs c r i (w .1)
 
--- who touched a node that t writes or leaves: the others as before, and t where it writes
-pub writer-touched : (t u : ℕ) → (u ≡ nobody → ⊥) → (x : Bool) (a : Marked) → (x ≡ true → local t (writer-of (a .update)) ≡ true)
-    → (eqb (a .inserter) u || eqb (cond x t (writer-of (a .update))) u) ≡ (touched-by u a || (eqb u t && x))
-writer-touched t u nu false a h = rw (and-false (eqb u t), or-false (touched-by u a))
-writer-touched t u nu true a h = rw (and-true (eqb u t), eqb-sym t u) (by-test (eqb u t)
-    (λ e. rw (e, or-true (eqb (a .inserter) u), or-true (touched-by u a)))
-    (λ e. rw (e, other e, or-false (eqb (a .inserter) u)) (sym (or-false (eqb (a .inserter) u)))))
-  where
-    other : eqb u t ≡ false → eqb (writer-of (a .update)) u ≡ false
-    other e = ne-eqb _ u (λ i. ⊎-elim (λ p. nu (sym i ∙ eqb-true _ nobody p)) (λ p. eqb-false u t e (sym i ∙ eqb-true _ t p))
-        (or-cases (eqb (writer-of (a .update)) nobody) (eqb (writer-of (a .update)) t) (h refl)))
+  -- what it deletes nobody had deleted
+  pub deletes-undeleted : deletes s r ≡ true → r .it .deleter ≡ nobody
+  deletes-undeleted e = undeleted holds f cov t s hs c r i (deletes-target s e)
+    where
+      deletes-target : (s : Step) → deletes s r ≡ true → number-of r ≡ target s
+      deletes-target (T n) h = absurd (false≢true h)
+      deletes-target (C n k) h = absurd (false≢true h)
+      deletes-target (R n) h = absurd (false≢true h)
+      deletes-target (U n b) h = absurd (false≢true h)
+      deletes-target (D n) h = eqb-true _ n h
+      deletes-target (I m kind b n k) h = absurd (false≢true h)
+      deletes-target (TT n) h = absurd (false≢true h)
+      deletes-target (RR n) h = absurd (false≢true h)
+      deletes-target (UU n a b) h = absurd (false≢true h)
+
+-- the marks of a node that t writes at level d, where only t can have written, or leaves
+module _ (t d : ℕ) (nz : t ≡ nobody → ⊥) (w : Bool) (b : List ℕ) (a a' : Marked) (i : a' .inserter ≡ a .inserter)
+    (j : a' .insertion-level ≡ a .insertion-level) (k : a' .update ≡ cond w (saving t d b (a .update)) (a .update))
+    (mine : w ≡ true → Own-update t (a .update)) where
+  -- those of others stay
+  pub written-other : (x : Extent) (u : ℕ) → (u ≡ nobody → ⊥) → (u ≡ t → ⊥) → touched-within x u a' ≡ touched-within x u a
+  written-other x u nu ne = rw (i, j, k) (ap (λ z. (eqb (a .inserter) u && shows x (a .insertion-level)) || z) (by-test w
+      (λ e. rw e (go (a .update) (mine e))) (λ e. rw e)))
+    where
+      off : eqb t u ≡ false
+      off = ne-eqb t u (λ z. ne (sym z))
+
+      go : (v : Update) → Own-update t v → (eqb (writer-of (saving t d b v)) u && shows x (level-of (saving t d b v)))
+          ≡ (eqb (writer-of v) u && shows x (level-of v))
+      go unwritten o = rw (off, ne-eqb nobody u (λ z. nu (sym z)))
+      go (wrote v l saved deeper) o = rw (o .0, off)
+
+  -- and those of its lower levels
+  pub written-lower : (n : ℕ) → n ≤ d → touched-within (below n) t a' ≡ touched-within (below n) t a
+  written-lower n h = rw (i, j, k) (ap (λ z. (eqb (a .inserter) t && ltb (a .insertion-level) n) || z) (by-test w
+      (λ e. rw e (go (a .update) (mine e))) (λ e. rw e)))
+    where
+      go : (v : Update) → Own-update t v → (eqb (writer-of (saving t d b v)) t && ltb (level-of (saving t d b v)) n)
+          ≡ (eqb (writer-of v) t && ltb (level-of v) n)
+      go unwritten o = rw (le-ltb d n h, and-false (eqb t t), ne-eqb nobody t (λ z. nz (sym z)))
+      go (wrote v l saved deeper) o = rw (o .0)
+
+  -- it touches what it writes
+  pub written-own : touched-within all t a' ≡ (touched-within all t a || w)
+  written-own = rw (i, k) (by-test w (λ e. rw e (go (a .update))) (λ e. rw e (sym (or-false (touched-within all t a)))))
+    where
+      go : (v : Update) → ((eqb (a .inserter) t && true) || (eqb (writer-of (saving t d b v)) t && true)) ≡ (touched-within all t a || true)
+      go unwritten = rw (eq-eqb t t refl, or-true (eqb (a .inserter) t && true), or-true (touched-within all t a))
+      go (wrote v l saved deeper) = rw (eq-eqb t t refl, or-true (eqb (a .inserter) t && true), or-true (touched-within all t a))
 
 -- what a step inserts it touches
 pub inserted-touched : (s : Step) (d : Document) (m : ℕ) → has m (inserts s) ≡ true → has m (touches s d) ≡ true

@@ -10,7 +10,7 @@ use Rattle.tree.specs.Forest.{row}
 use Rattle.tree.specs.Document.{Node, Document, Line, lines, is, child, in-subtree, select, first-line, some?, here, at}
 use Rattle.tree.specs.Steps.{Step, T, C, R, U, D, I, TT, RR, UU, target, inserts, fits, answer, kth, numbers-are, with-content, rewrite}
 use Rattle.tree.specs.Steps.{remove}
-use Rattle.tree.specs.Counts.{touches}
+use Rattle.tree.specs.Plain.{touches}
 use Rattle.tree.specs.Laws.Lists.{keep-keep, keep-all, keep-map, in-keep, map-map, map-self}
 use Rattle.tree.specs.Laws.Put.{put-kept}
 use Rattle.locks.specs.Needs.{needs, locks}

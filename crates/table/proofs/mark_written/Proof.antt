@@ -10,7 +10,7 @@ set-writer-requires : tie.Need-set-writer-requires
 set-writer-requires c κs =
     let writer = c .before .before .writer in
     let begin = c .before .before .before .before .before in
-    let size = over-size (begin .args .s .now) (begin .args .i) (begin .args .t) _ (writer .ensures) (begin .pre .0) (begin .pre .1)
+    let size = over-size (begin .args .s .now) (begin .args .i) (begin .args .t) _ (writer .ensures) (begin .pre .1) (begin .pre .0)
     (c .before .if1 .taken) in
     (begin .pre .0, begin .pre .1, begin .pre .2, size)
 
@@ -20,7 +20,7 @@ returns c =
     let writer = c4 .before .writer in
     let begin = c4 .before .before .before .before in
     let set-writer = c .before .before .set-writer in
-    written-over (begin .args .s .now) (begin .args .i) (begin .args .t) _ (writer .ensures) (begin .pre .0) (begin .pre .1)
+    written-over (begin .args .s .now) (begin .args .i) (begin .args .t) _ (writer .ensures) (begin .pre .1) (begin .pre .0)
     (c4 .if1 .taken)
     (set-writer .ensures)
 
@@ -38,7 +38,8 @@ returns-2 c =
     let begin = c8 .before .before .before .before in
     let copy-content = c .before .before .before .before .before .before .copy-content in
     let set-writer = c .before .before .set-writer2 in
-    written-first (begin .args .s .now) (begin .args .i) (begin .args .t) _ (writer .ensures) (c8 .if1 .left) (copy-content .ensures)
+    written-first (begin .args .s .now) (begin .args .i) (begin .args .t) _ (writer .ensures) (begin .pre .1) (c8 .if1 .left)
+    (copy-content .ensures)
     (set-writer .ensures)
 
 pub mark-written-spec : {M : Type 1} → statement M

@@ -1,21 +1,22 @@
 -- The bytes of a cell that stand for themselves, read and stored.
-use mathlib.Core.Path.{_≡_, refl, sym, _∙_}
+use mathlib.Core.Path.{_≡_, refl, sym, ap, _∙_}
 use Prim.Native.Nat.{ℕ, zero, suc, _+_, _≤_, _<_}
 use mathlib.Core.Bool.{Bool, true, false, cond}
-use mathlib.Core.List.{List}
+use mathlib.Core.List.{List, []}
 use native.Mathlib.Omega.{arith}
 use lib.ListN.{length, getD, set}
 use lib.Seq.{drop-set-lt, getD-set-other}
 use lib.Dec.{eqb}
 use borrow.Author.Tests.{eqb-true, ne-eqb}
 use Rattle.locks.specs.Modes.{ModeSet}
-use Rattle.protocol.specs.State.{nobody, unwritten, wrote, writer-of, Marked, with-update}
+use Rattle.protocol.specs.State.{nobody, unwritten, wrote, writer-of, Marked, with-update, deleted-by}
 use Rattle.table.specs.Lists.{modify}
 use Rattle.table.specs.Flat.{second}
-use Rattle.table.specs.Layout.{entry-at, cell-size, cell-at, word, double-word, slot, depth, number, cell, decode, entry, nodes}
-use Rattle.table.specs.Layout.{stored, update-of, no-entry, Sized, Layout, Kept}
+use Rattle.table.specs.Layout.{entry-at, cell-size, cell-at, word, double-word, slot, depth, number, cell, decode, Entry, entry}
+use Rattle.table.specs.Layout.{nodes, stored, update-of, no-entry, Sized, Layout, Kept}
 use Rattle.table.specs.Fields.{field, storable, with-field, saved-bytes, saved-size}
-use Rattle.table.specs.Laws.Lists.{getD-set-eqb}
+use Rattle.table.specs.Laws.Lists.{getD-set-eqb, modify-same}
+use Rattle.table.specs.Laws.Kept.{kept-as}
 use Rattle.table.specs.Laws.Bytes.{only-set, only-wider, double-word-off, part-at, part-set}
 use Rattle.table.specs.Laws.Nodes.{node-at, length-nodes, length-cell, cell-kept}
 
@@ -37,7 +38,7 @@ number-at s i h = rw (node-at s i (omega (arith, length-nodes s)))
 pub writer-update : (u : ℕ) (b : List ℕ) → writer-of (update-of u b) ≡ u
 writer-update u b = go (eqb u 0) refl
   where
-    go : (t : Bool) → eqb u 0 ≡ t → writer-of (cond t unwritten (wrote u b)) ≡ u
+    go : (t : Bool) → eqb u 0 ≡ t → writer-of (cond t unwritten (wrote u 0 b [])) ≡ u
     go true e = sym (eqb-true u 0 e)
     go false e = refl
 
@@ -114,9 +115,23 @@ module _ (s : List ℕ) (i o v k : ℕ) (e : k ≡ slot s i) (h : Layout s) (l :
 
 -- the writer, where the size of what becomes the saved content is in range
 pub writer-kept : (s : List ℕ) (i t k : ℕ) → k ≡ slot s i → Layout s → i < length (nodes s) → 1 ≤ t → saved-size s i ≤ 32
-    → Kept s (set s (cell-at k + 1) t) (modify i (second (with-update (wrote t (saved-bytes s i)))) (nodes s))
+    → Kept s (set s (cell-at k + 1) t) (modify i (second (with-update (wrote t 0 (saved-bytes s i) []))) (nodes s))
 unfolding saved-bytes saved-size decode
 writer-kept s i t k e h l b y =
-    byte-kept s i 1 t k e h l (omega arith) (with-update (wrote t (saved-bytes s i)))
+    byte-kept s i 1 t k e h l (omega arith) (with-update (wrote t 0 (saved-bytes s i) []))
     (λ m q. decode-byte 1 t (cell s k) (omega arith) (in-cell s i 1 t k e h l (omega arith)) m q ∙ rw (ne-eqb t 0 (λ z. omega arith), e))
     (λ z n. rw (← e) at y)
+
+-- all is marked at level 0
+pub at-level-0 : (s : List ℕ) (i : ℕ) → i < length (nodes s)
+    → (getD (nodes s) i no-entry .1 .insertion-level ≡ 0) × (getD (nodes s) i no-entry .1 .deletion-level ≡ 0)
+unfolding entry decode
+at-level-0 s i l =
+    let z = node-at s i (omega (arith, length-nodes s)) in
+    (ap (λ (x : Entry). x .1 .insertion-level) z, ap (λ (x : Entry). x .1 .deletion-level) z)
+
+-- the deleter, at level 0
+pub deleted-kept : (s s′ : List ℕ) (i v : ℕ) → i < length (nodes s) → Kept s s′ (modify i (second (with-field 3 v)) (nodes s))
+    → Kept s s′ (modify i (second (deleted-by v 0)) (nodes s))
+deleted-kept s s′ i v l k =
+    kept-as _ _ (modify-same i (second (with-field 3 v)) (second (deleted-by v 0)) (nodes s) no-entry (rw (at-level-0 s i l .1))) k

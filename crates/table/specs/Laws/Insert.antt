@@ -159,6 +159,7 @@ module _ (s s₁ s₂ s₃ s₄ : List ℕ) (n p k d m : ℕ) (h : Layout s) (c 
       record {
         node = new;
         number = refl;
+        level = refl;
         many = length-nodes s₄ ∙ counted ∙ omega (arith, length-nodes s);
         left = then-left (nodes s) (insert p (d, new)) first-left
             (outline-left only (first-left .layout) kept-header (n + 1) counted (omega arith) (omega arith) (back p n) from
@@ -169,17 +170,17 @@ module _ (s s₁ s₂ s₃ s₄ : List ℕ) (n p k d m : ℕ) (h : Layout s) (c 
 pub inserted : {s s₁ s₂ s₃ s₄ s₅ s₆ s₇ s₈ : List ℕ} (p d n kind t : ℕ) (b : List ℕ) → Opened s s₁ p d n →
     Kept s₁ s₂ (modify p (second (with-kind kind)) (nodes s₁)) → Kept s₂ s₃ (modify p (second (with-update unwritten)) (nodes s₂))
     → Kept s₃ s₄ (modify p (second (with-inserter t)) (nodes s₃)) →
-    Kept s₄ s₅ (modify p (second (deleted-by 0)) (nodes s₄)) → Kept s₅ s₆ (modify p (second (with-bytes b)) (nodes s₅))
+    Kept s₄ s₅ (modify p (second (deleted-by 0 0)) (nodes s₄)) → Kept s₅ s₆ (modify p (second (with-bytes b)) (nodes s₅))
     → Kept s₆ s₇ (modify p (second (with-count 0)) (nodes s₆)) → Kept s₇ s₈ (modify p (second unlocked) (nodes s₇)) →
-    p ≤ length (nodes s) → Left s s₈ (header s) (insert p (d, inserted-by t (record { number = n; kind = kind; content = b })) (nodes s))
+    p ≤ length (nodes s) → Left s s₈ (header s) (insert p (d, inserted-by t 0 (record { number = n; kind = kind; content = b })) (nodes s))
 inserted {s} {s₁} {s₂} {s₃} {s₄} {s₅} {s₆} {s₇} {s₈} p d n kind t b o a₁ a₂ a₃ a₄ a₅ a₆ a₇ h =
     let step : (s′ s″ : List ℕ) (x : Entry) (f : Marked → Marked) → Left s s′ (header s) (insert p x (nodes s))
     → Kept s′ s″ (modify p (second f) (nodes s′)) → Left s s″ (header s) (insert p (second f x) (nodes s)) =
     λ s′ s″ x f l k. left-as _ _ (modify-insert p (second f) x (nodes s) h) (left-then (insert p x (nodes s)) (modify p (second f)) l k) in
     let l =
     step s₇ s₈ _ unlocked (step s₆ s₇ _ (with-count 0) (step s₅ s₆ _ (with-bytes b)
-    (step s₄ s₅ _ (deleted-by 0)
+    (step s₄ s₅ _ (deleted-by 0 0)
     (step s₃ s₄ _ (with-inserter t)
     (step s₂ s₃ _ (with-update unwritten) (step s₁ s₂ (d, o .node) (with-kind kind) (o .left) a₁) a₂) a₃) a₄) a₅) a₆) a₇
     in
-    left-as _ _ (rw (o .number)) l
+    left-as _ _ (rw (o .number, o .level)) l

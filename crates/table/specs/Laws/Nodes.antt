@@ -50,7 +50,7 @@ placed-then a b = placed-as b (a .slot) (a .depth) (a .number)
 
 -- the header by its fields
 pub header-is : (s : List ℕ) {f : ℕ → Bool} {r : WaitSets} {k : ℕ} → is-open s ≡ f → remembered s ≡ r → commits s ≡ k → header s
-    ≡ record { is-open = f; remembered = r; commits = k }
+    ≡ record { is-open = f; remembered = r; commits = k; depth = λ t. 0 }
 header-is s e d c = rw (e, d, c)
 
 -- what a change outside of a region leaves there --------------------------------------------

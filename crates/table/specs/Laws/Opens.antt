@@ -6,7 +6,7 @@ use mathlib.Core.List.{List}
 use native.Mathlib.Omega.{arith}
 use lib.Bits.{bitXor}
 use lib.Dec.{eqb}
-use Rattle.protocol.specs.State.{with-open, struck-header, ended}
+use Rattle.protocol.specs.State.{with-open, with-depth, with-depths, struck-header, ended}
 use Rattle.table.specs.Layout.{open-at, word, slot, is-open, header, nodes, Layout, Left}
 use Rattle.table.specs.Laws.Bytes.{Only, only-word, put-word, word-put}
 use Rattle.table.specs.Laws.Nodes.{header-is, same-cell, same-held, same-remembered, same-commits, left-none}
@@ -28,6 +28,16 @@ turned-left s s′ t w v e x y h a b =
     (same-commits o (λ q. omega arith)))
     (λ j q. (same-cell o (slot s j) (λ r. omega arith), same-held o (omega arith) (slot s j)))
 
+-- no part of t is open anyway
+no-parts : {s s′ : List ℕ} (t : ℕ) (f : ℕ → Bool) → Left s s′ (with-open f (header s)) (nodes s)
+    → Left s s′ (with-depth t 0 (with-open f (header s))) (nodes s)
+no-parts {s} {s′} t f l =
+    subst (λ (g : ℕ → ℕ). Left s s′ (with-depths g (with-open f (header s))) (nodes s)) (fun-ext (λ u. go (eqb u t))) l
+  where
+    go : (x : Bool) → _≡_ {A = ℕ} 0 (cond x 0 0)
+    go true = refl
+    go false = refl
+
 -- the two cases
 module _ {s s′ : List ℕ} (t : ℕ)
     (l : Left s s′ (with-open (λ u. cond (eqb u t) (not (is-open s t)) (is-open s u)) (header s)) (nodes s)) where
@@ -43,7 +53,8 @@ module _ {s s′ : List ℕ} (t : ℕ)
 
   -- and then struck from all sets
   pub ended-left : {s″ : List ℕ} → is-open s t ≡ true → Struck s′ s″ t → Left s s″ (ended t (header s)) (nodes s)
-  ended-left e k = left-on (nodes s) (struck-header t) (λ ns. ns) (flags _ (λ u. rw e (go (eqb u t) (is-open s u)))) k
+  ended-left e k = left-on (nodes s) (struck-header t) (λ ns. ns)
+      (no-parts t (λ u. not (eqb u t) && is-open s u) (flags _ (λ u. rw e (go (eqb u t) (is-open s u))))) k
     where
       go : (x y : Bool) → cond x false y ≡ (not x && y)
       go true y = refl

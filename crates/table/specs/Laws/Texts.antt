@@ -2,7 +2,7 @@
 use mathlib.Core.Path.{_≡_, refl, sym, ap, _∙_}
 use Prim.Native.Nat.{ℕ, zero, suc, _+_, _*_, _-_, _≤_, _<_}
 use mathlib.Core.Bool.{Bool, true, false, cond, not, true≢false}
-use mathlib.Core.List.{List}
+use mathlib.Core.List.{List, []}
 use native.Mathlib.Omega.{arith}
 use native.Mathlib.Nat.{add-assoc}
 use lib.ListN.{length, getD, take, drop, set, length-drop}
@@ -10,11 +10,11 @@ use lib.Dec.{eqb}
 use borrow.Author.Tests.{eq-eqb, ne-eqb}
 use lib.Seq.{getD-set-same, getD-set-other, getD-take, getD-drop, ext-getD, length-take-le}
 use Rattle.locks.specs.Modes.{ModeSet}
-use Rattle.protocol.specs.State.{nobody, unwritten, wrote, writer-of, saved-of, Marked, with-update}
+use Rattle.protocol.specs.State.{nobody, Update, unwritten, wrote, writer-of, saved-of, Marked, with-update, saving}
 use Rattle.table.specs.Lists.{modify}
 use Rattle.table.specs.Flat.{second}
-use Rattle.table.specs.Layout.{cell-size, cell-at, double-word, part, count, slot, cell, stored, update-of, decode, entry, nodes}
-use Rattle.table.specs.Layout.{no-entry, Sized, Layout, Kept}
+use Rattle.table.specs.Layout.{cell-size, cell-at, double-word, part, count, slot, cell, stored, update-of, decode}
+use Rattle.table.specs.Layout.{Entry, entry, nodes, no-entry, Sized, Layout, Kept}
 use Rattle.table.specs.Fields.{has-text, text, with-text, restored, Stored, marked-written, saved-bytes, saved-size}
 use Rattle.table.specs.Laws.Lists.{modify-modify, modify-same}
 use Rattle.table.specs.Laws.Bytes.{Only, off, only-set, only-both, Filled, part-same, double-word-same}
@@ -30,7 +30,8 @@ has-two (suc (suc o)) a h = absurd (true≢false (sym h))
 saved-update : (u : ℕ) (b : List ℕ) → not (eqb (writer-of (update-of u b)) nobody) ≡ true → saved-of (update-of u b) ≡ b
 saved-update u b = go (eqb u nobody)
   where
-    go : (t : Bool) → not (eqb (writer-of (cond t unwritten (wrote u b))) nobody) ≡ true → saved-of (cond t unwritten (wrote u b)) ≡ b
+    go : (t : Bool) → not (eqb (writer-of (cond t unwritten (wrote u 0 b []))) nobody) ≡ true
+        → saved-of (cond t unwritten (wrote u 0 b [])) ≡ b
     go true h = absurd (true≢false (sym h))
     go false h = refl
 
@@ -179,10 +180,39 @@ restored-kept s s′ i t = kept-as _ _ (modify-same i _ (second restored) (nodes
 
 -- the writer stored ------------------------------------------------------------------------
 
+-- where nobody wrote nothing is saved
+pub not-written : (s : List ℕ) (i : ℕ) → i < length (nodes s) → writer-of (getD (nodes s) i no-entry .1 .update) ≡ nobody
+    → getD (nodes s) i no-entry .1 .update ≡ unwritten
+unfolding entry decode
+not-written s i l h =
+    let z = node-at s i (omega (arith, length-nodes s)) in
+    let c : List ℕ = cell s (slot s i) in
+    ap (λ (x : Entry). x .1 .update) z ∙ go (getD c 1 0) (stored 1 c) (sym (ap (λ (x : Entry). writer-of (x .1 .update)) z) ∙ h)
+  where
+    go : (u : ℕ) (b : List ℕ) → writer-of (update-of u b) ≡ nobody → update-of u b ≡ unwritten
+    go u b e = rw (eq-eqb u nobody (sym (writer-update u b) ∙ e))
+
+-- t writes over the content c: what is saved then, where b were the saved bytes
+saving-update : (t u : ℕ) (c b : List ℕ) → saving t 0 c (update-of u b) ≡ wrote t 0 (cond (eqb u nobody) c b) []
+saving-update t u c b = go (eqb u nobody)
+  where
+    go : (x : Bool) → saving t 0 c (cond x unwritten (wrote u 0 b [])) ≡ wrote t 0 (cond x c b) []
+    go true = refl
+    go false = refl
+
 -- t becomes the writer of the node at i, which u wrote
-module _ (s : List ℕ) (i t u : ℕ) (e : u ≡ writer-of (getD (nodes s) i no-entry .1 .update)) where
+module _ (s : List ℕ) (i t u : ℕ) (e : u ≡ writer-of (getD (nodes s) i no-entry .1 .update)) (l : i < length (nodes s)) where
   a : Marked
   a = getD (nodes s) i no-entry .1
+
+  saving-node : (c : List ℕ) → saving t 0 c (a .update) ≡ wrote t 0 (cond (eqb u nobody) c (saved-bytes s i)) []
+  unfolding a entry decode saved-bytes
+  saving-node c =
+      let z = node-at s i (omega (arith, length-nodes s)) in
+      let w : u ≡ getD (cell s (slot s i)) 1 0 = e ∙ ap (λ (x : Entry). writer-of (x .1 .update)) z
+      ∙ writer-update (getD (cell s (slot s i)) 1 0) (stored 1 (cell s (slot s i))) in
+      ap (λ (x : Entry). saving t 0 c (x .1 .update)) z
+      ∙ saving-update t (getD (cell s (slot s i)) 1 0) c (stored 1 (cell s (slot s i))) ∙ rw w
 
   written : {s₁ : List ℕ} (g : Marked → Marked) → g a ≡ marked-written t a → Kept s s₁ (modify i (second g) (nodes s))
       → Kept s s₁ (modify i (second (marked-written t)) (nodes s))
@@ -192,7 +222,7 @@ module _ (s : List ℕ) (i t u : ℕ) (e : u ≡ writer-of (getD (nodes s) i no-
       (ap (λ (b : Marked). (getD (nodes s) i no-entry .0, b)) q)) k
 
   -- what is saved stays
-  module _ (h : Layout s) (l : i < length (nodes s)) (n : u ≡ nobody → ⊥) where
+  module _ (h : Layout s) (n : u ≡ nobody → ⊥) where
     has-saved : has-text 1 a ≡ true
     unfolding a
     has-saved = rw (ne-eqb (writer-of (a .update)) nobody (λ q. n (e ∙ q)))
@@ -201,21 +231,22 @@ module _ (s : List ℕ) (i t u : ℕ) (e : u ≡ writer-of (getD (nodes s) i no-
     unfolding a has-saved saved-size
     over-size = small s i 1 (slot s i) refl h l has-saved
 
-    pub written-over : {s₁ : List ℕ} → Kept s s₁ (modify i (second (with-update (wrote t (saved-bytes s i)))) (nodes s))
+    pub written-over : {s₁ : List ℕ} → Kept s s₁ (modify i (second (with-update (wrote t 0 (saved-bytes s i) []))) (nodes s))
         → Kept s s₁ (modify i (second (marked-written t)) (nodes s))
-    unfolding a has-saved written saved-bytes
+    unfolding a written saved-bytes saving-node
     written-over k =
-        written (with-update (wrote t (saved-bytes s i)))
-        (rw (ne-eqb (writer-of (a .update)) nobody (λ q. n (e ∙ q)), text-is s i 1 (slot s i) refl h l has-saved)) k
+        written (with-update (wrote t 0 (saved-bytes s i) []))
+        (ap (λ (x : Update). with-update x a) (sym (saving-node (a .now .content) ∙ rw (ne-eqb u nobody n)))) k
 
   -- the content now is saved first
   pub written-first : {s₁ s₂ : List ℕ} → u ≡ nobody → Stored s s₁ i 1 (getD (nodes s) i no-entry .1 .now .content)
-      → Kept s₁ s₂ (modify i (second (with-update (wrote t (saved-bytes s₁ i)))) (nodes s₁))
+      → Kept s₁ s₂ (modify i (second (with-update (wrote t 0 (saved-bytes s₁ i) []))) (nodes s₁))
       → Kept s s₂ (modify i (second (marked-written t)) (nodes s))
-  unfolding a written saved-bytes
+  unfolding a written saved-bytes saving-node
   written-first {s₁} n m k =
       let b : List ℕ = a .now .content in
-      let f : Marked → Marked = with-update (wrote t (saved-bytes s₁ i)) in
-      written (λ x. f (with-text 1 b x)) (rw (eq-eqb (writer-of (a .update)) nobody (sym e ∙ n), m .bytes))
+      let f : Marked → Marked = with-update (wrote t 0 (saved-bytes s₁ i) []) in
+      written (λ x. f (with-text 1 b x))
+      (ap (λ (x : Update). with-update x a) (ap (λ (x : List ℕ). wrote t 0 x []) (m .bytes) ∙ sym (saving-node b ∙ rw (eq-eqb u nobody n))))
       (kept-as _ _ (modify-modify i (second f) (second (with-text 1 b)) (nodes s))
       (kept-then (modify i (second (with-text 1 b)) (nodes s)) (modify i (second f)) (m .kept) k))

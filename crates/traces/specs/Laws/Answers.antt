@@ -7,7 +7,7 @@ use lib.ListN.{length}
 use Rattle.tree.specs.Document.{Document}
 use Rattle.protocol.specs.State.{State, start-state, committed-document}
 use Rattle.protocol.specs.Lent.{first-lent, second-lent}
-use Rattle.protocol.specs.Calls.{Call, start, load, begin, commit, abort, step, write, count-of, next}
+use Rattle.protocol.specs.Calls.{Call, start, load, begin, commit, abort, step, write, count-of, open-part, close-part, undo-part, next}
 use Rattle.protocol.specs.Calls.{Outcome, granted, written, waits, refused, refused-at}
 use Rattle.protocol.specs.Answers.{code-of, answer-of, lent-after, as-it-was}
 use Rattle.protocol.specs.declared.Answer.{Answer}
@@ -32,6 +32,9 @@ ensured-cases x r P f g h (commit t) e = h (commit t) e
 ensured-cases x r P f g h (abort t) e = h (abort t) e
 ensured-cases x r P f g h (step t s room) e = h (step t s room) e
 ensured-cases x r P f g h (count-of n) e = h (count-of n) (e .on-state)
+ensured-cases x r P f g h (open-part t) e = h (open-part t) e
+ensured-cases x r P f g h (close-part t) e = h (close-part t) e
+ensured-cases x r P f g h (undo-part t) e = h (undo-part t) e
 
 -- where nothing is written
 same-first : (text : List ℕ → Document → List ℕ) (r : Answer) (o : Outcome) (b : List ℕ) → ((w : Document → Answer) → r ≡ answer-of w o)

@@ -57,7 +57,7 @@ all-listed {room} {q} {c} m M = every-call (λ c n. Makes room q c → listed (n
   refusal = λ c cause h m. h;
   at-start = λ m. refl;
   at-unread = λ c i m. unread-listed m;
-  at-load = λ d h m. refl;
+  at-load = λ d h w m. refl;
   at-begin = λ t i o m. refl;
   at-commit = λ t i o l m. refl;
   at-abort = λ t i o m. refl;
@@ -65,4 +65,7 @@ all-listed {room} {q} {c} m M = every-call (λ c n. Makes room q c → listed (n
   at-step = λ t s room i o p m. refl;
   at-write = λ m. refl;
   at-count = λ n h m. refl;
+  at-open-part = λ t i o l m. refl;
+  at-close-part = λ t i o l m. refl;
+  at-undo-part = λ t i o l m. refl;
 }) c m

@@ -2,7 +2,7 @@
 use mathlib.Core.Path.{_≡_, refl, sym, ap, _∙_}
 use Prim.Native.Nat.{ℕ, _<_}
 use mathlib.Core.Bool.{Bool, true, false, cond}
-use mathlib.Core.List.{List, map}
+use mathlib.Core.List.{List}
 use lib.ListN.{length, length-map}
 use lib.Dec.{leb}
 use borrow.Author.Tests.{lt-leb}
@@ -18,13 +18,12 @@ use Rattle.protocol.specs.declared.Answer.{Answer}
 use Rattle.protocol.specs.declared.Answer.the-variants.{Done, Count, Refused}
 use Rattle.xml_write.specs.Contract.{writing}
 use Rattle.serializability.specs.Theorem.{since-start, reached, commits-in}
-use Rattle.serializability.specs.Laws.Logs.{map-joined}
 use Rattle.serializability.specs.Laws.Reached.{always-reached}
 use Rattle.serializability.specs.Laws.Main.{plain-committed}
 use Rattle.serializability.specs.Laws.DocumentCount.{root-here}
 use Rattle.serializability.specs.Laws.Counts.{counts-plain}
 use Rattle.traces.specs.Exchange.{Exchange}
-use Rattle.traces.specs.Theorem.{Demand2, GrantedStep, Feeds, plain-left, counts-of}
+use Rattle.traces.specs.Theorem.{Demand2, GrantedStep, operations, Feeds, plain-left, counts-of}
 
 -- the code of one of two outcomes
 told-cond : {M : State} {c : Call} (y : Exchange) (b : Bool) (o p : Outcome) (a a′ : Answer) → Demand2 M y c
@@ -43,14 +42,14 @@ told-cond y b o p a a′ d e f g = d .by-definition .code ∙ ap code-of (ap (an
 module _ (cs : List Call) (L : Log GrantedStep) (f : Feeds L (since-start cs)) where
   plain-is : plain-left (L .initial) (L .committed) ≡ plain (since-start cs)
   unfolding plain
-  plain-is = rw (← map-joined (λ g. g .step) (L .committed), f .initial, f .committed)
+  plain-is = rw (f .initial, f .committed)
 
   counts-are : counts-of L ≡ plain-counts (since-start cs)
   unfolding plain-counts
   counts-are = rw (f .initial, f .committed)
 
   commits-are : commits-in (since-start cs) ≡ length (L .committed)
-  commits-are = ap length (sym (f .committed)) ∙ length-map (L .committed) (map (λ g. g .step))
+  commits-are = ap length (sym (f .committed)) ∙ length-map (L .committed) operations
 
   -- short of the limit
   pub commits-left : length (L .committed) < commit-limit → commits-reached commit-limit (reached cs) ≡ false

@@ -16,7 +16,8 @@ use Rattle.locks.specs.Needs.{needs}
 use Rattle.protocol.specs.State.{State, is-transaction, callers-document, act, grant, with-tree, forgetting}
 use Rattle.protocol.specs.Lent.{Room, has-room, first-lent, second-lent}
 use Rattle.protocol.specs.Causes.{not-a-transaction, not-open}
-use Rattle.protocol.specs.Calls.{Input, Call, start, load, begin, commit, abort, step, write, count-of, Outcome, granted, written, waits}
+use Rattle.protocol.specs.Calls.{Input, Call, start, load, begin, commit, abort, step, write, count-of, open-part, close-part, undo-part}
+use Rattle.protocol.specs.Calls.{Outcome, granted, written, waits}
 use Rattle.protocol.specs.Calls.{refused, refused-at, Next, unchanged, held-back, grants-step, Check, checked, step-checks, judged, next}
 use Rattle.protocol.specs.History.{is-granted}
 use Rattle.protocol.specs.Answers.{code-of, lent-after, as-it-was}
@@ -42,6 +43,9 @@ is-step (abort t) = false
 is-step (step t s room) = true
 is-step write = false
 is-step (count-of n) = false
+is-step (open-part t) = false
+is-step (close-part t) = false
+is-step (undo-part t) = false
 
 -- 1, then 3
 abbrev open-checks : ℕ → State → List Check
@@ -74,7 +78,7 @@ step-quiet : (lent : Value → List ℕ) (t : ℕ) (s : Step) (room : Room) (M :
 unfolding next judged lent-after
 step-quiet lent t s room M h =
     let d = callers-document t (M .tree) in
-    let n : Next = grants-step s (answer s d) (forgetting t (with-tree M (grant t (needs s d) (act t s (M .tree))))) in
+    let n : Next = grants-step s (answer s d) (forgetting t (with-tree M (grant t (needs s d) (act t (M .header .depth t) s (M .tree))))) in
     behind-checks lent (λ o. unchanged o M) (λ o. refl) (open-checks t M) (judged t s room M d) refl
     (λ _. behind-checks lent (held-back t M) (held-back-outcome t M) (step-checks t s room M d) n refl
     (λ p. rw (h (answer s d) (not-false _ (p .1 .1 .1 .1 .1 .1 .1 .1 .0)))))
@@ -108,7 +112,7 @@ module _ (lent : Value → List ℕ) (h : lent done ≡ []) (k : (n : ℕ) → l
     refusal = λ c cause r i. refl;
     at-start = λ i. rw h;
     at-unread = λ c o i. refl;
-    at-load = λ d l i. rw (k (length (lines d)));
+    at-load = λ d l w i. rw (k (length (lines d)));
     at-begin = λ t a o i. rw h;
     at-commit = λ t a o l i. rw h;
     at-abort = λ t a o i. rw h;
@@ -116,6 +120,9 @@ module _ (lent : Value → List ℕ) (h : lent done ≡ []) (k : (n : ℕ) → l
     at-step = λ t s room a o p i. absurd (true≢false i);
     at-write = λ i. refl;
     at-count = λ n a i. rw (k _);
+    at-open-part = λ t a o l i. rw h;
+    at-close-part = λ t a o l i. rw h;
+    at-undo-part = λ t a o l i. rw h;
   }) c
 
 -- the exported functions ---------------------------------------------------------------------

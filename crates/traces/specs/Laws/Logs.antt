@@ -9,23 +9,25 @@ use lib.ListN.{length}
 use borrow.Author.Tests.{eqb-true, eq-eqb}
 use Rattle.tree.specs.Document.{Document, node-0-alone}
 use Rattle.tree.specs.Lists.{joined}
-use Rattle.tree.specs.Steps.{Step, Value, PlainAnswer, plain-value, plain-document, plain-answers}
+use Rattle.tree.specs.Steps.{Step, Value, PlainAnswer, plain-value}
+use Rattle.tree.specs.Plain.{Operation, does, opens, closes, undoes, steps-in, told, plain-answers}
 use Rattle.tree.specs.Laws.Tests.{refuted}
-use Rattle.tree.specs.Laws.Lists.{map-map}
+use Rattle.tree.specs.Laws.Lists.{map-map, map-append}
 use Rattle.protocol.specs.State.{State}
 use Rattle.protocol.specs.Lent.{first-lent, second-lent}
-use Rattle.protocol.specs.Calls.{Call, start, load, begin, commit, abort, step, write, count-of}
+use Rattle.protocol.specs.Calls.{Call, start, load, begin, commit, abort, step, write, count-of, open-part, close-part, undo-part}
 use Rattle.protocol.specs.Calls.{unreadable, stands-for, Outcome, waits, refused, StepAnswer, Next, next}
 use Rattle.protocol.specs.History.{history, state-after, is-granted, Log, new-log, committed-then, logged, log-after, fed, answered}
 use Rattle.protocol.specs.Answers.{code-of, answer-of, lent-after, as-it-was}
 use Rattle.xml_write.specs.Contract.{writing, text-after}
-use Rattle.serializability.specs.Theorem.{since-start, reached, steps-of, answers-of, Runs}
+use Rattle.serializability.specs.Theorem.{since-start, reached, operations-of, answers-of, Runs}
 use Rattle.serializability.specs.Laws.Outcomes.{every-call}
-use Rattle.serializability.specs.Laws.Logs.{read-off, logged-read, joined-read}
+use Rattle.serializability.specs.Laws.Levels.{steps-told}
+use Rattle.serializability.specs.Laws.Logs.{read-off, logged-read, committed-read}
 use Rattle.serializability.specs.Laws.AnyOrder.{any-order}
 use Rattle.serializability.specs.Laws.Main.{is-write, further}
 use Rattle.traces.specs.Exchange.{Exchange, outcome, told-granted}
-use Rattle.traces.specs.Theorem.{Demand2, Each, GrantedStep, granted-in, log-by-codes, granted-steps, steps, Feeds}
+use Rattle.traces.specs.Theorem.{Demand2, Each, GrantedStep, granted-in, log-by-codes, granted-steps, operations, Feeds}
 use Rattle.traces.specs.Theorem.{Answered, AllAnswered, PlainAnswers, plain-left, RunsInOrder}
 
 -- one call ---------------------------------------------------------------------------------
@@ -74,6 +76,9 @@ module _ (x : Exchange) where
   none-taken (step u s room) o g t = rw (t refl, g)
   none-taken write o g t = none-granted (told-granted (x .code))
   none-taken (count-of n) o g t = none-granted (told-granted (x .code))
+  none-taken (open-part u) o g t = none-granted (told-granted (x .code))
+  none-taken (close-part u) o g t = none-granted (told-granted (x .code))
+  none-taken (undo-part u) o g t = none-granted (told-granted (x .code))
 
   gives : (c : Call) (M : State) → Gives c (next c M)
   unfolding answer-of lent-after is-write
@@ -81,7 +86,7 @@ module _ (x : Exchange) where
     refusal = λ c cause r t m. ([], refl, none-taken c (refused cause) refl t);
     at-start = λ t m. ([], refl, none-granted (told-granted (x .code)));
     at-unread = λ c i t m. ([], refl, none-granted (told-granted (x .code)));
-    at-load = λ d h t m. ([], refl, none-granted (told-granted (x .code)));
+    at-load = λ d h w t m. ([], refl, none-granted (told-granted (x .code)));
     at-begin = λ u i o t m. ([], refl, none-granted (told-granted (x .code)));
     at-commit = λ u i o l t m. ([], refl, none-granted (told-granted (x .code)));
     at-abort = λ u i o t m. ([], refl, none-granted (told-granted (x .code)));
@@ -94,6 +99,9 @@ module _ (x : Exchange) where
     );
     at-write = λ t m. ([], refl, none-granted (told-granted (x .code)));
     at-count = λ n h t m. ([], refl, none-granted (told-granted (x .code)));
+    at-open-part = λ u i o l t m. ([], refl, none-granted (told-granted (x .code)));
+    at-close-part = λ u i o l t m. ([], refl, none-granted (told-granted (x .code)));
+    at-undo-part = λ u i o l t m. ([], refl, none-granted (told-granted (x .code)));
   }) c
 
 -- the flag of a call that writes plays no part
@@ -109,6 +117,9 @@ same-flag (abort t) a b es L h = rw (h refl)
 same-flag (step t s room) a b es L h = refl
 same-flag write a b es L h = refl
 same-flag (count-of n) a b es L h = refl
+same-flag (open-part t) a b es L h = rw (h refl)
+same-flag (close-part t) a b es L h = rw (h refl)
+same-flag (undo-part t) a b es L h = rw (h refl)
 
 -- lists of calls ---------------------------------------------------------------------------
 
@@ -166,6 +177,27 @@ all-answered : (gs : List Given) → AllAnswered (map plain-value (map (λ g. g 
 all-answered [] = tt
 all-answered (g ∷ gs) = (g .answered, all-answered gs)
 
+-- what is told of the steps --------------------------------------------------------------------
+
+operation-is : (o : Operation Given) → told (λ (s : GrantedStep). s .step) (told by-exchange o) ≡ told (λ (g : Given). g .taken .step) o
+operation-is (does g) = refl
+operation-is opens = refl
+operation-is closes = refl
+operation-is undoes = refl
+
+operations-are : (os : List (Operation Given)) → operations (map (told by-exchange) os) ≡ map (told (λ (g : Given). g .taken .step)) os
+operations-are os = map-map (told (λ (s : GrantedStep). s .step)) (told by-exchange) (told (λ (g : Given). g .taken .step)) os
+    (λ o i. operation-is o)
+
+all-operations : (ts : List (List (Operation Given)))
+    → map operations (map (map (told by-exchange)) ts) ≡ map (map (told (λ (g : Given). g .taken .step))) ts
+all-operations ts = map-map operations (map (told by-exchange)) (map (told (λ (g : Given). g .taken .step))) ts (λ os i. operations-are os)
+
+joined-steps : {E F : Type 0} (g : E → F) (ts : List (List (Operation E)))
+    → joined (map steps-in (map (map (told g)) ts)) ≡ map g (joined (map steps-in ts))
+joined-steps g [] = refl
+joined-steps g (l ∷ ts) = rw (steps-told g l, joined-steps g ts) (sym (map-append g (steps-in l) (joined (map steps-in ts))))
+
 -- x is the granted start
 module _ (x : Exchange) (xs : List Exchange) (cs : List Call) (g : outcome (x .code) ≡ 0) (h : Each InReached [] xs cs) where
   abbrev G : Log GrantedStep
@@ -186,47 +218,43 @@ module _ (x : Exchange) (xs : List Exchange) (cs : List Call) (g : outcome (x .c
   unfolding log-by-codes
   codes-are = rw g (log-given [] xs cs h (new-log node-0-alone) .3)
 
-  steps-are : (gs : List Given) → steps (map by-exchange gs) ≡ map (λ g. g .taken .step) gs
-  steps-are gs = map-map (λ (s : GrantedStep). s .step) by-exchange (λ g. g .taken .step) gs (λ g i. refl)
-
   pub feeds : Feeds G (since-start cs)
   feeds = rw codes-are (record {
     initial = sym (ap (λ (F : Log Step). F .initial) fed-is);
-    committed = map-map steps (map by-exchange) (map (λ g. g .taken .step)) (K .committed) (λ gs i. steps-are gs)
-        ∙ sym (ap (λ (F : Log Step). F .committed) fed-is);
-    open-log = λ t. steps-are (K .open-log t) ∙ sym (ap (λ (F : Log Step). F .open-log t) fed-is);
+    committed = all-operations (K .committed) ∙ sym (ap (λ (F : Log Step). F .committed) fed-is);
+    open-log = λ t. operations-are (K .open-log t) ∙ sym (ap (λ (F : Log Step). F .open-log t) fed-is);
   })
 
   -- `Runs`, said of the log of exchanges
   pub runs-given : (b : List ℕ) (d : Document) → Runs (since-start cs) b d → RunsInOrder G b d
-  runs-given b d r = rw codes-are (record { answers = answers-given; document = document-given })
+  runs-given b d r = rw codes-are (record {
+    answers = rw (committed-read by-exchange K b) answers-given;
+    document = rw (committed-read by-exchange K b) document-given;
+  })
     where
-      all : List Given
-      all = joined (committed-then K b)
+      ts : List (List (Operation Given))
+      ts = committed-then K b
 
-      same-steps : steps-of (since-start cs) b ≡ steps (map by-exchange all)
-      same-steps = rw (fed-is, joined-read (λ (g : Given). g .taken .step) K b) (sym (steps-are all))
+      same-operations : operations-of (since-start cs) b ≡ map operations (map (map (told by-exchange)) ts)
+      same-operations = rw (fed-is, committed-read (λ (g : Given). g .taken .step) K b) (sym (all-operations ts))
 
-      same-values : answers-of (since-start cs) b ≡ map (λ g. g .taken .value) all
-      same-values = rw answered-is (joined-read (λ (g : Given). g .taken .value) K b)
+      same-values : answers-of (since-start cs) b ≡ map (λ g. g .taken .value) (joined (map steps-in ts))
+      same-values = rw (answered-is, committed-read (λ (g : Given). g .taken .value) K b) (joined-steps (λ (g : Given). g .taken .value) ts)
 
       first : fed (since-start cs) .initial ≡ K .initial
       first = ap (λ (F : Log Step). F .initial) fed-is
 
-      same-answers : AllAnswered (plain-answers (K .initial) (steps (map by-exchange all))) (map by-exchange all)
-      same-answers =
-          let e : plain-answers (K .initial) (steps (map by-exchange all)) ≡ map plain-value (map (λ g. g .taken .value) all) =
-          rw (first, same-steps, same-values) at (r .answers) in
-          subst (λ (vs : List PlainAnswer). AllAnswered vs (map by-exchange all)) (sym e) (all-answered all)
+      answers-given : PlainAnswers (K .initial) (map (map (told by-exchange)) ts)
+      answers-given =
+          let e : plain-answers (K .initial) (map operations (map (map (told by-exchange)) ts))
+          ≡ map plain-value (map (λ g. g .taken .value) (joined (map steps-in ts))) =
+          rw (first, same-operations, same-values) at (r .answers) in
+          rw (joined-steps by-exchange ts)
+          (subst (λ (vs : List PlainAnswer). AllAnswered vs (map by-exchange (joined (map steps-in ts)))) (sym e)
+          (all-answered (joined (map steps-in ts))))
 
-      same-document : plain-document (K .initial) (steps (map by-exchange all)) ≡ d
-      same-document = rw (first, same-steps) at (r .document)
-
-      answers-given : PlainAnswers (K .initial) (committed-then (read-off by-exchange K) b)
-      answers-given = rw (joined-read by-exchange K b) same-answers
-
-      document-given : plain-left (K .initial) (committed-then (read-off by-exchange K) b) ≡ d
-      document-given = rw (joined-read by-exchange K b) same-document
+      document-given : plain-left (K .initial) (map (map (told by-exchange)) ts) ≡ d
+      document-given = rw (first, same-operations) at (r .document)
 
   -- the committed transactions, and none behind them
   pub plain-answers-given : PlainAnswers (G .initial) (G .committed)

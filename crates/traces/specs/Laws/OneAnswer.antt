@@ -4,7 +4,7 @@ use Prim.Native.Nat.{_≤_}
 use lib.ListN.{length}
 use Rattle.protocol.specs.State.{State, start-state}
 use Rattle.protocol.specs.Lent.{first-lent, second-lent}
-use Rattle.protocol.specs.Calls.{Call, start, load, begin, commit, abort, step, write, count-of, next}
+use Rattle.protocol.specs.Calls.{Call, start, load, begin, commit, abort, step, write, count-of, open-part, close-part, undo-part, next}
 use Rattle.protocol.specs.Answers.{code-of, lent-after, as-it-was}
 use Rattle.protocol.specs.declared.Answer.{Answer}
 use Rattle.protocol.specs.declared.Answer.the-variants.{Done}
@@ -60,6 +60,9 @@ module _ (x y : Exchange) (f : x .first .before ≡ y .first .before) (g : x .se
     one-call (abort t) h k = on-states (abort t) h k
     one-call (step t st room) h k = on-states (step t st room) h k
     one-call (count-of n) h k = on-states (count-of n) (h .on-state) (k .on-state)
+    one-call (open-part t) h k = on-states (open-part t) h k
+    one-call (close-part t) h k = on-states (close-part t) h k
+    one-call (undo-part t) h k = on-states (undo-part t) h k
 
 -- both requests make the same call: load's input is what its bytes read as, in one way
 pub one-answer : EveryChoice

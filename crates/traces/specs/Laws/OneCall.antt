@@ -11,7 +11,7 @@ use borrow.Author.Tests.{leb-true, leb-false, ne-eqb}
 use Rattle.tree.specs.Forest.{Forest, nil, node, rows, view}
 use Rattle.tree.specs.Document.{Node, Document, ordered, legal, lines}
 use Rattle.tree.specs.Steps.{Value, done, how-many}
-use Rattle.protocol.specs.State.{State, start-state, shown, as-shown, document-of, committed-document}
+use Rattle.protocol.specs.State.{State, start-state, shown, as-shown, nothing, document-of, committed-document}
 use Rattle.protocol.specs.Lent.{Room, filled, first-lent, second-lent}
 use Rattle.protocol.specs.Calls.{node-limit, Call, start, write, count-of, Outcome, granted, written, waits, refused, refused-at, next}
 use Rattle.protocol.specs.History.{is-granted, is-wait}
@@ -211,7 +211,7 @@ few-lines : {s : List ℕ} {M : State} → Holds s M → length (lines (committe
 unfolding lines document-of
 few-lines {s} {M} h = omega (
   arith,
-  view-length (shown (λ u. false)) (as-shown (λ u. false)) (λ (a : Node). a .number) [] 0
+  view-length (shown nothing) (as-shown nothing) (λ (a : Node). a .number) [] 0
       (M .tree),
   h .layout .many,
   h .layout .room,

@@ -4,7 +4,7 @@ use Prim.Native.Nat.{ℕ}
 use mathlib.Core.Bool.{Bool, false}
 use mathlib.Core.List.{List, [], _∷_, _++_}
 use Rattle.protocol.specs.State.{State, WaitSets}
-use Rattle.protocol.specs.Calls.{Call, start, load, begin, commit, abort, step, write, count-of, next}
+use Rattle.protocol.specs.Calls.{Call, start, load, begin, commit, abort, step, write, count-of, open-part, close-part, undo-part, next}
 use Rattle.protocol.specs.History.{history, state-after, is-granted, waited-for, sets-left, sets-after}
 use Rattle.serializability.specs.Theorem.{reached}
 use Rattle.serializability.specs.Laws.Main.{is-write, further}
@@ -26,6 +26,9 @@ same-sets (abort t) g h w v r e = rw (e refl .0)
 same-sets (step t s room) g h w v r e = rw (e refl .0, e refl .1)
 same-sets write g h w v r e = refl
 same-sets (count-of n) g h w v r e = refl
+same-sets (open-part t) g h w v r e = refl
+same-sets (close-part t) g h w v r e = refl
+same-sets (undo-part t) g h w v r e = refl
 
 -- one call
 sets-told : (M : State) (x : Exchange) (c : Call) → Demand2 M x c → (r : WaitSets)

@@ -72,7 +72,7 @@ returns-2 c =
     let at-admit = at-document-cause .before .before in
     let f = step-free name.D (D _) refl (at-admit .admit .ensures) (at-document-cause .document-cause .ensures)
     (at-needed .needed .ensures) (at-judge .judge .ensures) (at-if1 .if1 .left) in
-    let marked = left-then _ (modify _ (second (deleted-by _))) (free-locked f (at-grant .grant .ensures) .left)
+    let marked = left-then _ (modify _ (second (deleted-by _ _))) (free-locked f (at-grant .grant .ensures) .left)
     (at-set-deleter .set-deleter .ensures) in
     performed-grants (free-granted f no-room refl marked) _ refl
 

@@ -86,7 +86,7 @@ returns-2 c =
     let f = step-free name.UU (UU _ (args .a .now) (args .b .now)) refl (at-admit .admit .ensures)
     (at-rename-cause .rename-cause .ensures) (at-needed .needed .ensures) (at-judge .judge .ensures) (at-if1 .if1 .left) in
     let below = at-rename-below .rename-below .ensures in
-    let renamed = left-then _ (renamed-rows _ _ _ _) (free-locked f (at-grant .grant .ensures) .left) (below .kept) in
+    let renamed = left-then _ (renamed-rows _ _ _ _ _) (free-locked f (at-grant .grant .ensures) .left) (below .kept) in
     performed-grants (free-granted f no-room refl renamed) _ (rw (named-locked f (at-grant .grant .ensures) (below .hits)))
 
 pub rename-tree-spec : {M : Type 1} → statement M

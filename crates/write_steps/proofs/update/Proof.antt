@@ -77,7 +77,7 @@ returns-2 c =
     let start = at-admit .before .before .before .before .before in
     let f = step-free name.U (U _ (start .args .b .now)) refl (at-admit .admit .ensures) (at-update-cause .update-cause .ensures)
     (at-needed .needed .ensures) (at-judge .judge .ensures) (at-if1 .if1 .left) in
-    let written = left-then _ (modify _ (second (written-by _ _))) (free-locked f (at-grant .grant .ensures) .left)
+    let written = left-then _ (modify _ (second (written-by _ _ _))) (free-locked f (at-grant .grant .ensures) .left)
     (at-write .write .ensures) in
     performed-grants (free-granted f no-room refl written) _ refl
 

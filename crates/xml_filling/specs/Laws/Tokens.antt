@@ -75,10 +75,10 @@ module _ (x : List ℕ) (at to : ℕ) (r : Run name-byte x at to) where
 
 -- a node put behind the last
 pub put-last : {s s′ : List ℕ} (p d kind : ℕ) (b : List ℕ) → p ≡ length (nodes s)
-    → Left s s′ (header s) (insert p (d, inserted-by 0 (record { number = p; kind = kind; content = b })) (nodes s))
+    → Left s s′ (header s) (insert p (d, inserted-by 0 0 (record { number = p; kind = kind; content = b })) (nodes s))
     → Put s s′ ((d, record { kind = kind; content = b }) ∷ [])
 unfolding insert entries
 put-last {s} {s′} p d kind b e l =
-    left-as (insert p (d, inserted-by 0 (record { number = p; kind = kind; content = b })) (nodes s))
+    left-as (insert p (d, inserted-by 0 0 (record { number = p; kind = kind; content = b })) (nodes s))
     (with-rows s ((d, record { kind = kind; content = b }) ∷ []))
     (rw (e, take-length (nodes s), drop-length (nodes s))) l

@@ -3,6 +3,7 @@ use mathlib.Core.Path.{_≡_}
 use Prim.Native.Nat.{ℕ}
 use mathlib.Core.Bool.{true}
 use mathlib.Core.List.{List, []}
+use native.Mathlib.Omega.{arith}
 use lib.ListN.{take}
 use Rattle.tree.specs.Forest.{view}
 use Rattle.tree.specs.Document.{node-0-alone}
@@ -12,6 +13,7 @@ use Rattle.table.specs.Flat.{flat, second}
 use Rattle.table.specs.Fields.{with-bytes, unlocked}
 use Rattle.table.specs.Layout.{nodes, Left, Kept, header}
 use Rattle.table.specs.Laws.Kept.{left-then, left-on, left-as}
+use Rattle.table.specs.Laws.Fields.{at-level-0}
 use Rattle.form.specs.Form.{form}
 use Rattle.form.specs.Laws.Holds.{form-holds}
 use Rattle.form.specs.Laws.Valid.{root-of}
@@ -26,7 +28,8 @@ alone s h =
     let p = form-holds s h in
     let r = root-of (p .0 .tree) (p .1 .valid) in
     let d = r .document in
-    rw (p .1 .rows, r .whole, d .kind, d .number, d .inserter, d .deleter)
+    let z = rw (p .1 .rows, r .whole) at (at-level-0 s 0 (omega (arith, p .1 .layout .some, p .1 .layout .many))) in
+    rw (p .1 .rows, r .whole, d .kind, d .number, d .inserter, d .deleter, z .0, z .1)
 
 pub emptied : {s s₁ s₂ s₃ s₄ s₅ s₆ : List ℕ} → form s ≡ true → Left s s₁ (header s) (take 1 (nodes s)) →
     Kept s₁ s₂ (modify 0 (second (with-update unwritten)) (nodes s₁)) → Kept s₂ s₃ (modify 0 (second (with-bytes [])) (nodes s₂)) →

@@ -1,7 +1,7 @@
 -- The rows of the committed document of the state that the bytes hold.
 use mathlib.Core.Path.{_≡_, refl, sym, ap, _∙_, fun-ext}
 use Prim.Native.Nat.{ℕ, zero, suc, _≤_, _<_}
-use mathlib.Core.Bool.{Bool, true, false, _&&_, and-true}
+use mathlib.Core.Bool.{Bool, true, _&&_, and-true}
 use mathlib.Core.List.{List, [], _∷_, _++_, append-assoc}
 use native.Mathlib.Omega.{arith}
 use lib.ListN.{length, getD}
@@ -10,7 +10,7 @@ use Rattle.tree.specs.Forest.{nil, node, view}
 use Rattle.tree.specs.Content.{document-kind, between}
 use Rattle.tree.specs.Laws.View.{view-view}
 use Rattle.tree.specs.Laws.Tests.{and-left, and-right}
-use Rattle.protocol.specs.State.{Marked, Tree, State, nobody, shown, as-shown, document-of, committed-document}
+use Rattle.protocol.specs.State.{Marked, Tree, State, nobody, shown, as-shown, nothing, document-of, committed-document}
 use Rattle.table.specs.Flat.{flat}
 use Rattle.table.specs.Layout.{nodes}
 use Rattle.rows.specs.Places.{depth, is-committed}
@@ -25,17 +25,17 @@ use Rattle.xml_measure.specs.declared.committed.Rows.{Rows}
 use Rattle.xml_measure.specs.Lines.{committed-label, committed-lines, line-at, lines, Selected, Listed}
 use Rattle.xml_measure.specs.Laws.Lines.{length-lines, line-of}
 
-none-shown : (λ (a : Marked). shown (λ u. false) a && true) ≡ is-committed
-none-shown = fun-ext (λ a. and-true (shown (λ u. false) a) ∙ shown-committed a)
+none-shown : (λ (a : Marked). shown nothing a && true) ≡ is-committed
+none-shown = fun-ext (λ a. and-true (shown nothing a) ∙ shown-committed a)
 
-shape-of : (f : Tree) → shape (document-of (λ u. false) f) ≡ view is-committed committed-label f
+shape-of : (f : Tree) → shape (document-of nothing f) ≡ view is-committed committed-label f
 unfolding shape document-of committed-label
 shape-of f =
-    view-view (shown (λ u. false)) (as-shown (λ u. false)) (λ a. true) unnumbered f
-    ∙ ap (λ (t : Marked → Bool). view t (λ a. unnumbered (as-shown (λ u. false) a)) f) none-shown
+    view-view (shown nothing) (as-shown nothing) (λ a. true) unnumbered f
+    ∙ ap (λ (t : Marked → Bool). view t (λ a. unnumbered (as-shown nothing a)) f) none-shown
 
 shape-root : (f : Tree) (r : Root f)
-    → shape (document-of (λ u. false) f)
+    → shape (document-of nothing f)
     ≡ node (record { kind = document-kind; content = committed-label (r .it) .content }) (view is-committed committed-label (r .below)) nil
 unfolding view committed-label
 shape-root f r =

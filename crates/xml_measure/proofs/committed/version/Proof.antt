@@ -12,4 +12,4 @@ returns c =
 
 pub version-spec : {M : Type 1} → statement M
 version-spec = tie.close (tie.spec (λ c κs. search needs) returns
-    (λ c. (omega arith, version-now _ _ (sym (c .before .writer .ensures) ∙ c .if1 .left), refl)))
+    (λ c. (omega arith, version-now _ _ (search needs) (sym (c .before .writer .ensures) ∙ c .if1 .left), refl)))
