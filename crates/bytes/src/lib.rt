@@ -1,10 +1,12 @@
 // Byte strings compared: how far two agree, and which comes first in their order. Lists of places, kept in the order of what stands there.
+#![tactic(auto)]
+
 ghost use Rattle.std.specs.Prelude.{◌≡◌, ◌<◌, ◌≤◌, min, length};
 ghost use Rattle.bytes.specs.Agreement.{Agreement};
 ghost use Rattle.bytes.specs.Sorted.{Inserted};
 
 // How a byte string lies to another in the order of their first difference; one that begins the other comes first.
-#[derive(Drop)]
+#[derive(Clone, Copy)]
 pub enum Order {
     Before,
     Same,
@@ -12,7 +14,7 @@ pub enum Order {
 }
 
 // Where a name belongs among sorted ones, or that it is one of them.
-#[derive(Drop)]
+#[derive(Clone, Copy)]
 pub enum Place {
     Taken,
     Free(usize),

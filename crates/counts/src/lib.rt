@@ -1,4 +1,6 @@
 // The call of document 02, A.7, that tells which commit last touched a node.
+#![tactic(auto)]
+
 ghost use Rattle.std.specs.Prelude.{◌≡◌, ◌<◌, length};
 ghost use Rattle.protocol.specs.Calls.{count_of};
 ghost use Rattle.table.specs.Layout.{nodes, Layout};

@@ -1,4 +1,6 @@
 // The test for a ring of transactions each waiting for the next. Sets are words: bit t-1 for each transaction t.
+#![tactic(auto)]
+
 ghost use Rattle.std.specs.Prelude.{◌≡◌, ℕ, ◌≤◌, length};
 ghost use Rattle.protocol.specs.State.{in_set};
 ghost use Rattle.protocol.specs.Rings.{in_ring};

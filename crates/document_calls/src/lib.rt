@@ -1,4 +1,6 @@
 // Load, write and count_of, answered by the number of 64 bits. Every contract is `Contract` of traces/specs/Contract.antt.
+#![tactic(auto)]
+
 ghost use Rattle.traces.specs.Exchange.{Request, with_none, with_one};
 ghost use Rattle.traces.specs.Contract.{Contract};
 

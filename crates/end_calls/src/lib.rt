@@ -1,4 +1,6 @@
 // Start, begin, commit and abort, answered by the number of 64 bits. Every contract is `Contract` of traces/specs/Contract.antt.
+#![tactic(auto)]
+
 ghost use Rattle.traces.specs.Exchange.{Request, with_none};
 ghost use Rattle.traces.specs.Contract.{Contract};
 

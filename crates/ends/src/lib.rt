@@ -1,4 +1,6 @@
 // Start, begin, commit and abort.
+#![tactic(auto)]
+
 mod pass;
 
 ghost use Rattle.protocol.specs.Calls.{begin, commit, abort};

@@ -1,5 +1,7 @@
 // What all steps share: the caller and the node are judged, then the step's own causes and the wait, then the locks are granted; and T, the
 // first step.
+#![tactic(auto)]
+
 pub mod locking;
 
 ghost use Rattle.std.specs.Prelude.{◌≡◌, false, cond, ◌<◌, ◌≤◌, length, eqb};
@@ -43,7 +45,7 @@ pub fn caller(s: &[u8], t: u32) -> u8
 
 // A step before its own causes: why it is refused, or 0; then its transaction, the place of its node, and how many nodes the way up from
 // there has. Their places, 2 KB, are lent beside it and not copied.
-#[derive(Drop)]
+#[derive(Clone, Copy)]
 pub struct Admission {
     pub cause: u8,
     pub t: u8,
@@ -105,7 +107,7 @@ pub fn document_cause(s: &[u8], found: u8, place: usize) -> u8
 }
 
 // Whether nothing keeps a step from being granted, so far; else the refusal or the wait. The set is 0 unless the step waits.
-#[derive(Drop)]
+#[derive(Clone, Copy)]
 pub struct Verdict {
     pub free: bool,
     pub set: u16,

@@ -3,6 +3,8 @@
 // cause of a refusal, else 0. A refusal of load has the byte offset behind it. What was written follows the line of a write. In the end
 // three requests of document 02: A.14, three commit in every order, A.6, three that would wait for each other, and A.7, which commit last
 // touched a node.
+#![tactic(auto)]
+
 mod counts;
 mod deadlock;
 mod inputs;

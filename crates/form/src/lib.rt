@@ -1,4 +1,6 @@
 // The form of the lent bytes (docs/STATE.md): its check, and the bytes of the beginning.
+#![tactic(auto)]
+
 mod numbers;
 mod sets;
 

@@ -1,4 +1,6 @@
 // The table of lock modes, sets of modes as 16-bit words, and what each step needs.
+#![tactic(auto)]
+
 ghost use Rattle.std.specs.Prelude.{◌≡◌, cond, ◌+◌, ◌*◌, ◌^◌, ◌<◌};
 ghost use Rattle.std.specs.Int.Bits.{bit_or};
 ghost use Rattle.locks.specs.Words.{clash_at, word, in_common, mask_of, need_words};
@@ -98,7 +100,7 @@ pub fn mask(w: u16) -> u16
 }
 
 // The nine steps by name.
-#[derive(Drop)]
+#[derive(Clone, Copy)]
 pub enum StepName {
     T,
     C,
@@ -112,7 +114,7 @@ pub enum StepName {
 }
 
 // What a step needs: sets of modes on its node, on the node's parent, above that, and on a node that it inserts.
-#[derive(Drop)]
+#[derive(Clone, Copy)]
 pub struct NeedWords {
     pub node: u16,
     pub parent: u16,

@@ -1,4 +1,6 @@
 // What reading steps find in the lent bytes: a child, a content, a subtree as the caller sees it; and what they put into lent buffers.
+#![tactic(auto)]
+
 ghost use Rattle.std.specs.Prelude.{◌≡◌, map, ◌+◌, ◌*◌, ◌<◌, ◌≤◌, length};
 ghost use Rattle.protocol.specs.Answers.{granted_answer};
 ghost use Rattle.protocol.specs.Lent.{list_bytes, cell, cells, filled};

@@ -1,4 +1,6 @@
 // What U, UU and I do to the nodes in the lent bytes, and the place of a new child.
+#![tactic(auto)]
+
 ghost use Rattle.std.specs.Prelude.{◌≡◌, ◌&&◌, map, ◌+◌, ◌<◌, ◌≤◌, length};
 ghost use Rattle.tree.specs.Lists.{same};
 ghost use Rattle.tree.specs.Steps.{is_named, placed};
@@ -113,7 +115,7 @@ pub fn rename_below(s: &mut [u8], p: usize, t: u8, a: &[u8], b: &[u8]) -> usize
 // The place of a new child -----------------------------------------------------------
 
 // Children, counted by one pass: how many, how many attributes, whether attributes are first, and whether their parent takes them all.
-#[derive(Drop)]
+#[derive(Clone, Copy)]
 pub struct Tally {
     pub count: usize,
     pub attributes: usize,

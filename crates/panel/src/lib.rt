@@ -1,4 +1,6 @@
 // The calls of the library as C programs see them (include/noodlefen.h). Every contract is `Contract` of traces/specs/Contract.antt.
+#![tactic(auto)]
+
 ghost use Rattle.tree.specs.Steps.{T, C, R, U, D, I, TT, RR, UU};
 ghost use Rattle.traces.specs.Exchange.{Request, with_none, with_one, with_two};
 ghost use Rattle.traces.specs.Contract.{Contract};

@@ -1,4 +1,6 @@
 // What a call answers, and the number of 64 bits that stands for it.
+#![tactic(auto)]
+
 ghost use Rattle.std.specs.Prelude.{◌≡◌};
 ghost use Rattle.protocol.specs.Answers.{code_of};
 
@@ -6,7 +8,7 @@ pub mod causes;
 pub mod sets;
 
 // The outcomes of the calls.
-#[derive(Drop)]
+#[derive(Clone, Copy)]
 pub enum Answer {
     // start, begin, commit, abort, U, D and I granted
     Done,

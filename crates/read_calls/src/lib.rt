@@ -1,4 +1,6 @@
 // The steps that read, answered by the number of 64 bits. Every contract is `Contract` of traces/specs/Contract.antt.
+#![tactic(auto)]
+
 ghost use Rattle.tree.specs.Steps.{T, C, R, TT, RR};
 ghost use Rattle.traces.specs.Exchange.{Request, with_none, with_one, with_two};
 ghost use Rattle.traces.specs.Contract.{Contract};

@@ -1,4 +1,6 @@
 // The steps that only read: C, R, TT and RR.
+#![tactic(auto)]
+
 ghost use Rattle.tree.specs.Steps.{C, R, TT, RR};
 ghost use Rattle.protocol.specs.Calls.{step};
 ghost use Rattle.protocol.specs.Lent.{first_lent, second_lent};

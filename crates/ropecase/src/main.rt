@@ -1,5 +1,7 @@
 // Tree E and example P1 of document 01, through the exported calls: a line for each call, with its place, the transaction, G (granted),
 // W (waits) or R (refused), and a number.
+#![tactic(auto)]
+
 use libc::STDOUT_FILENO;
 
 // G, W or R.

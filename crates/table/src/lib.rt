@@ -1,5 +1,7 @@
 // The lent bytes: where they hold the nodes, the locks, the open transactions, the wait sets and the counts of commits (docs/STATE.md). The
 // contracts of public functions speak of `header` and `nodes`, but for `sets::remember`, which names the bytes that a wait changes.
+#![tactic(auto)]
+
 pub mod counts;
 pub mod layout;
 pub mod outline;

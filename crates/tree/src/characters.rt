@@ -7,7 +7,7 @@ ghost use Rattle.tree.specs.Values.{ranges, class, part_of, Small, Behind, readi
 
 // A character as far as it is read: how many bytes are still to come, its value so far, and the least code point that is spelled with as
 // many bytes in all.
-#[derive(Drop)]
+#[derive(Clone, Copy)]
 struct Part {
     more: u32,
     value: u32,
@@ -223,7 +223,7 @@ pub fn begins(b: u8, text: bool) -> bool
 }
 
 // Where the reading stands: whether the character is the first, and how far it is read.
-#[derive(Drop)]
+#[derive(Clone, Copy)]
 struct Begun {
     first: bool,
     part: Part,
@@ -241,7 +241,7 @@ fn behind(first: bool, p: Part) -> Begun
 }
 
 // How bytes are spelled: as whole characters of the class, or no further than the first so many of them.
-#[derive(Drop)]
+#[derive(Clone, Copy)]
 pub enum Reading {
     Whole,
     Broken(usize),

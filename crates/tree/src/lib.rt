@@ -1,4 +1,6 @@
 // Which bytes are a name, a text, the content of a kind, and which kind may stand under which.
+#![tactic(auto)]
+
 ghost use Rattle.std.specs.Prelude.{◌≡◌};
 ghost use Rattle.tree.specs.Content.{name_start, name_byte, text_byte, is_name, is_text, allowed, takes};
 

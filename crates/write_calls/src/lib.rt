@@ -1,4 +1,6 @@
 // The steps that write, answered by the number of 64 bits. Every contract is `Contract` of traces/specs/Contract.antt.
+#![tactic(auto)]
+
 ghost use Rattle.tree.specs.Steps.{U, D, I, UU};
 ghost use Rattle.traces.specs.Exchange.{Request, with_none};
 ghost use Rattle.traces.specs.Contract.{Contract};

@@ -1,4 +1,6 @@
 // The steps that change the tree: U, D, I and UU.
+#![tactic(auto)]
+
 ghost use Rattle.std.specs.Prelude.{◌≡◌, cond, ◌<◌, length};
 ghost use Rattle.tree.specs.Steps.{U, D, I, UU, wrong_content_on};
 ghost use Rattle.protocol.specs.Causes.{content_not_allowed};

@@ -1,5 +1,7 @@
 // The grammar of the inputs, what an input stands for, and how a document is written: definitions and theorems, in specs/.
 // The fixed byte strings of both stand here: the reader compares with them, the writer writes them.
+#![tactic(auto)]
+
 pub const SHORT_DECLARATION: [u8; 21] = *b"<?xml version=\"1.0\"?>";
 
 pub const LONG_DECLARATION: [u8; 38] = *b"<?xml version=\"1.0\" encoding=\"UTF-8\"?>";

@@ -9,7 +9,7 @@ use crate::copying;
 use xml_text::markup;
 
 // The lengths of the first and of the last sixteen bytes.
-#[derive(Drop)]
+#[derive(Clone, Copy)]
 pub struct Halves {
     pub first: u8,
     pub last: u8,

@@ -1,5 +1,7 @@
 // Fills the lent table with the nodes of an accepted input, in document order: each is put behind the last. The tokens are those by which
 // the input was judged, but for the bytes of values and texts that stand for themselves; it is accepted, so none of them is refused.
+#![tactic(auto)]
+
 ghost use Rattle.std.specs.Prelude.{◌≡◌, [], ◌∷◌, ◌<◌, ◌≤◌, max, length};
 ghost use Rattle.table.specs.Layout.{nodes, Layout};
 ghost use Rattle.xml_filling.specs.Fill.{Put, least, Decodes, Fits, TextPut, EndsAt, Behind, InTag, AtAttribute, AtElement, Filling};
@@ -25,7 +27,7 @@ fn put(s: &mut [u8], depth: u16, kind: u8, content: &[u8])
 }
 
 // How many bytes a value or a text stands for, and the cursor behind it.
-#[derive(Drop)]
+#[derive(Clone, Copy)]
 pub struct Content {
     pub length: usize,
     pub next: Cursor,
@@ -141,7 +143,7 @@ fn attribute(from: Cursor, s: &mut [u8], x: &[u8], depth: u16) -> Cursor
 }
 
 // Behind a tag: the cursor, and the depth of the nodes there.
-#[derive(Drop)]
+#[derive(Clone, Copy)]
 pub struct Level {
     pub at: usize,
     pub depth: u16,

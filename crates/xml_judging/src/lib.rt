@@ -1,4 +1,6 @@
 // Judges a whole input by the grammar and the limits: the declaration, the root element, what is behind it, the length.
+#![tactic(auto)]
+
 ghost use Rattle.std.specs.Prelude.{◌≡◌, true, ◌+◌, ◌-◌, ◌≤◌, length};
 ghost use Rattle.xml.specs.Laws.Automaton.{at_start, epilog, closed};
 ghost use Rattle.xml.specs.Laws.Monitor.{monitoring};
@@ -14,7 +16,7 @@ use xml_reader::{Child, Prolog, Tag, children, start, start_tags};
 use xml_tokens::Cursor;
 
 // How many nodes more there could be; or a cause and its offset.
-#[derive(Drop)]
+#[derive(Clone, Copy)]
 pub enum Judged {
     Accepted(usize),
     Rejected(u8, usize),

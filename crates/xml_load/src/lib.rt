@@ -1,4 +1,6 @@
 // Load: the input is judged, and where it is accepted the state is replaced by its document.
+#![tactic(auto)]
+
 ghost use Rattle.std.specs.Prelude.{◌≡◌, true, ℕ};
 ghost use Rattle.tree.specs.Lists.{any};
 ghost use Rattle.tree.specs.Document.{node_0_alone};

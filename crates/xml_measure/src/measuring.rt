@@ -13,7 +13,7 @@ use crate::committed;
 use xml_text::markup;
 
 // The names of attributes behind a node: how many are kept; or the node cannot be written where it is.
-#[derive(Drop)]
+#[derive(Clone, Copy)]
 pub enum Admission {
     Refused,
     Kept(usize),

@@ -1,5 +1,7 @@
 // What goes over several tokens: the way to the root element; start tags, where the names of the attributes are kept; and what stands in an
 // element, where the names of the open elements are kept. But for the first, these serve judging alone.
+#![tactic(auto)]
+
 pub mod children;
 mod names;
 pub mod start;
@@ -9,7 +11,7 @@ use xml_tokens::Cursor;
 
 // A start tag: the cursor behind it and how many nodes may still come, where content follows and where the element is empty; or a cause and
 // its offset.
-#[derive(Drop)]
+#[derive(Clone, Copy)]
 pub enum Tag {
     Opened(Cursor, usize),
     Emptied(Cursor, usize),
@@ -17,14 +19,14 @@ pub enum Tag {
 }
 
 // Inside the document: the cursor, the number of open elements and how many nodes may still come; or a cause and its offset.
-#[derive(Drop)]
+#[derive(Clone, Copy)]
 pub enum Child {
     At(Cursor, usize, usize),
     Stopped(u8, usize),
 }
 
 // At the first byte of the root element's name, or the offset where there is none.
-#[derive(Drop)]
+#[derive(Clone, Copy)]
 pub enum Prolog {
     Root(Cursor),
     NoRoot(usize),

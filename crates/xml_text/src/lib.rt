@@ -1,2 +1,4 @@
 // The pieces of an XML text, each put at the front of the lent bytes.
+#![tactic(auto)]
+
 pub mod markup;

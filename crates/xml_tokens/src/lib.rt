@@ -1,6 +1,8 @@
 // The tokens of an input: a cursor by value, whose methods hand back the token and the place behind it. Judging an input and filling a
 // table with its nodes go over the same tokens, but for the bytes of values and texts that stand for themselves, and for the name in an
 // end tag, which is compared when judging alone.
+#![tactic(auto)]
+
 mod classes;
 mod contents;
 mod letters;
@@ -10,41 +12,41 @@ mod tokens;
 ghost use Rattle.std.specs.Prelude.{◌≡◌, get_or};
 ghost use Rattle.xml.specs.Bytes.{blank};
 
-#[derive(Drop)]
+#[derive(Clone, Copy)]
 pub struct Cursor {
     pub at: usize,
 }
 
 // A reference behind its ampersand: the byte that it stands for, or the offset where no reference goes on.
-#[derive(Drop)]
+#[derive(Clone, Copy)]
 pub enum Reference {
     Byte(u8, Cursor),
     NoReference(usize),
 }
 
 // What a part of the input leads to: the cursor behind it and how many nodes may still come; or a cause and its offset.
-#[derive(Drop)]
+#[derive(Clone, Copy)]
 pub enum Read {
     Past(Cursor, usize),
     Refused(u8, usize),
 }
 
 // A part of a content: the cursor behind it and how many bytes the content has then; or a cause and its offset.
-#[derive(Drop)]
+#[derive(Clone, Copy)]
 pub enum Piece {
     Taken(Cursor, usize),
     Unfit(u8, usize),
 }
 
 // Behind an opening quote, or the offset where there is none.
-#[derive(Drop)]
+#[derive(Clone, Copy)]
 pub enum Equals {
     Quoted(u8, Cursor),
     NoQuote(usize),
 }
 
 // What comes next in a start tag: its end, of an empty-element tag too, or an attribute; or the offset of a wrong byte.
-#[derive(Drop)]
+#[derive(Clone, Copy)]
 pub enum Item {
     Open(Cursor),
     Empty(Cursor),
@@ -53,7 +55,7 @@ pub enum Item {
 }
 
 // Behind a <: the name of a start tag, what stands behind the slash of an end tag, or the offset of another byte.
-#[derive(Drop)]
+#[derive(Clone, Copy)]
 pub enum Markup {
     StartTag(Cursor),
     EndTag(Cursor),
@@ -61,7 +63,7 @@ pub enum Markup {
 }
 
 // Behind an end tag, or the offset where it is wrong.
-#[derive(Drop)]
+#[derive(Clone, Copy)]
 pub enum End {
     Behind(Cursor),
     Mismatch(usize),
