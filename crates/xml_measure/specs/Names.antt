@@ -3,7 +3,7 @@ use Rattle.std.specs.Prelude.{ℕ, ◌+◌, ◌≤◌, ◌≡◌, true, false, c
 use Rattle.tree.specs.Content.{attribute_kind, text_kind}
 use Rattle.xml.specs.Bytes.{used}
 use Rattle.table.specs.Layout.{Entry}
-use Rattle.bytes.specs.Sorted.{entries, Increasing, Among, Lists, Added}
+use Rattle.byte_strings.specs.Sorted.{entries, Increasing, Among, Lists, Added}
 use Rattle.xml_text.specs.Rows.{Line, fits}
 use Rattle.xml_measure.specs.Lines.{label_at, Inside}
 use Rattle.xml_measure.specs.declared.measuring.Admission.{Admission}

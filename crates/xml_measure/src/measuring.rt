@@ -4,7 +4,7 @@ mod names;
 ghost use Rattle.std.specs.Prelude.{◌≡◌, ◌<◌, ◌≤◌, length};
 ghost use Rattle.table.specs.Layout.{nodes, Layout};
 ghost use Rattle.xml_text.specs.Rows.{extra, cost, measured};
-ghost use Rattle.bytes.specs.Sorted.{Increasing};
+ghost use Rattle.byte_strings.specs.Sorted.{Increasing};
 ghost use Rattle.xml_measure.specs.Lines.{label_at, lines, Inside, Listed};
 ghost use Rattle.xml_measure.specs.Walk.{previous_kind};
 ghost use Rattle.xml_measure.specs.Names.{names_at, Admitted};

@@ -10,7 +10,7 @@ use Rattle.xml.specs.Laws.Judge.{Verdict, bad}
 use Rattle.xml.specs.Laws.Scan.{scan_at}
 use Rattle.xml.specs.Laws.Goes.{Leads, Goes}
 use Rattle.xml.specs.Laws.Tokens.{name_at}
-use Rattle.bytes.specs.Sorted.{entries, Among, Lists, Added}
+use Rattle.byte_strings.specs.Sorted.{entries, Among, Lists, Added}
 use Rattle.xml_tokens.specs.declared.Cursor.{Cursor}
 use Rattle.xml_tokens.specs.declared.End.{End}
 use Rattle.xml_tokens.specs.declared.End.TheVariants.{Behind, Mismatch}

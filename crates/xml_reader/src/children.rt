@@ -20,7 +20,7 @@ fn end_tag(cursor: Cursor, s: &[u8], from: usize) -> End
     let end = start.name(s);
     let to = end.at;
     let word = &s[from..to];
-    let n = bytes::agreement(s, at, word);
+    let n = byte_strings::agreement(s, at, word);
     if n != to - from {
         return End::Mismatch(at + n);
     }

@@ -3,12 +3,12 @@
 ghost use Rattle.std.specs.Prelude.{◌≡◌, ◌+◌, ◌<◌, ◌≤◌, length};
 ghost use Rattle.tree.specs.Content.{name_byte};
 ghost use Rattle.xml.specs.Laws.Tokens.{name_at};
-ghost use Rattle.bytes.specs.Order.{Ordered};
-ghost use Rattle.bytes.specs.Sorted.{Increasing, Belongs};
+ghost use Rattle.byte_strings.specs.Order.{Ordered};
+ghost use Rattle.byte_strings.specs.Sorted.{Increasing, Belongs};
 ghost use Rattle.xml_tokens.specs.Steps.{Run};
 ghost use Rattle.xml_reader.specs.Elements.{Placed, Attributed, Kept, attribute_names, EnterRead};
 
-use bytes::{Order, Place};
+use byte_strings::{Order, Place};
 use xml_tokens::peek;
 
 // How the name that stands between two offsets lies to the one at another.
@@ -17,7 +17,7 @@ fn order(s: &[u8], from: usize, to: usize, other: usize) -> Order
     ensures { Ordered (name_at s.now from) (name_at s.now other) result }
 {
     let word = &s[from..to];
-    let n = bytes::agreement(s, other, word);
+    let n = byte_strings::agreement(s, other, word);
     let next = peek(s, other + n);
     let more = tree::name_byte(next);
     if n == to - from {
@@ -78,7 +78,7 @@ pub fn enter(
     match place(s, names, lo, count, from, to) {
         Place::Taken => false,
         Place::Free(k) => {
-            bytes::insert(names, lo + k, lo + count, (from - 1) as u16);
+            byte_strings::insert(names, lo + k, lo + count, (from - 1) as u16);
             true
         }
     }

@@ -35,7 +35,7 @@ fn root(cursor: Cursor, s: &[u8]) -> Prolog
 fn declared(s: &[u8], word: &[u8]) -> Prolog
     ensures { DeclaredRead s.now (word_at word.now 0 s.now) result }
 {
-    let n = bytes::agreement(s, 0, word);
+    let n = byte_strings::agreement(s, 0, word);
     if n == word.len() {
         let behind = Cursor { at: n };
         return root(behind, s);

@@ -1,6 +1,6 @@
 // Start tags and their attributes.
 ghost use Rattle.std.specs.Prelude.{◌≡◌, ◌+◌, ◌≤◌, length, get_or};
-ghost use Rattle.bytes.specs.Sorted.{Increasing};
+ghost use Rattle.byte_strings.specs.Sorted.{Increasing};
 ghost use Rattle.xml_reader.specs.Elements.{Placed, Attributed, Kept, attribute_names, AttributeEnters};
 ghost use Rattle.xml_reader.specs.Elements.{AttributesRead, Named, ElementRead};
 

@@ -46,7 +46,7 @@ impl Cursor {
         ensures { Refers s.now self.at (word_at word.now value (drop self.at s.now)) result }
     {
         let at = self.at;
-        let n = bytes::agreement(s, at, word);
+        let n = byte_strings::agreement(s, at, word);
         if n == word.len() {
             return Reference::Byte(value, Cursor { at: at + n });
         }

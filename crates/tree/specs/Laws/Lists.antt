@@ -202,7 +202,7 @@ module _ {A : Type 0} where
   in_map f (x ∷ xs) (Memᴰ.head e) = (x, Memᴰ.head refl, e)
   in_map f (x ∷ xs) (Memᴰ.tail m) = let g = in_map f xs m in (g.0, Memᴰ.tail g.1, g.2)
 
-  pub map_in : {B : Type 0} (f : A → B) {l : List A} {a : A} → Memᴰ a l → Memᴰ (f a) (map f l)
+  pub map_in : {B : Type 0} (f : A → B) {a : A} {l : List A} → Memᴰ a l → Memᴰ (f a) (map f l)
   map_in f (Memᴰ.head e) = Memᴰ.head (ap f e)
   map_in f (Memᴰ.tail m) = Memᴰ.tail (map_in f m)
 

@@ -174,7 +174,7 @@ text_on x z b h e =
     go true w r n = ap (λ (y : Spelling). y.here) (r w)
     go false w r n = n w ∙ h.first
 
-pub step_invariant : {u : Bool} {c d : Config} {b : ℕ} {v : List Event} → Step u c b d v → (x : Spelling) {y : Monitor} → Invariant c x
+pub step_invariant : {u : Bool} {c : Config} {b : ℕ} {d : Config} {v : List Event} → Step u c b d v → (x : Spelling) {y : Monitor} → Invariant c x
     → monitor (on x) v ≡ seen y → Next d x y
 step_invariant (s_start_blank h) x s w = quiet x (λ r. r) w
 step_invariant s_start_open x s w = quiet x (λ r. r) w

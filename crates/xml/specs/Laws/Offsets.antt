@@ -153,7 +153,7 @@ value_begins x {y} a b h = go (blank b) refl h
     go true e h = blank_begins b e
     go false e h = text_begins x a b h
 
-facts : {u : Bool} {c d : Config} {b : ℕ} {v : List Event} → Step u c b d v → (x : Spelling) {y : Monitor}
+facts : {u : Bool} {c : Config} {b : ℕ} {d : Config} {v : List Event} → Step u c b d v → (x : Spelling) {y : Monitor}
     → monitor (monitor.on x) v ≡ seen y
     → ((births v ≡ 0) ⊎ Begins (place c) b) × Before (place d) b
 unfolding births

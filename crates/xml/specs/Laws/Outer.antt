@@ -64,7 +64,7 @@ tag_outer (tag_blank h) = refl
 tag_outer tag_slash = refl
 tag_outer tag_close = refl
 
-outer_step : {u : Bool} {c d : Config} {b : ℕ} {v : List Event} → Step u c b d v → outer c ≡ true → Outer d v
+outer_step : {u : Bool} {c : Config} {b : ℕ} {d : Config} {v : List Event} → Step u c b d v → outer c ≡ true → Outer d v
 outer_step (s_start_blank h) e = outer_on refl
 outer_step s_start_open e = outer_on refl
 outer_step (s_first_name h) e = outer_node

@@ -84,7 +84,7 @@ data Quiet (c : Config) (v : List Event) : Bool → Type 0 where
 late_by : {c : Config} {v : List Event} (t : Bool) → t ≡ false → Quiet c v t
 late_by t h = rw h late
 
-quiet_step : {u : Bool} {c d : Config} {b : ℕ} {v : List Event} → Step u c b d v → Quiet c v (is_early (phase d))
+quiet_step : {u : Bool} {c : Config} {b : ℕ} {d : Config} {v : List Event} → Step u c b d v → Quiet c v (is_early (phase d))
 quiet_step (s_start_blank h) = quiet refl refl
 quiet_step s_start_open = quiet refl refl
 quiet_step (s_first_name h) = late

@@ -137,7 +137,7 @@ module _ {u : Bool} where
   unfolding depth
   child l (r_behind p r) = child_in l p r
 
-  back : {c d : Config} {b : ℕ} {v e : List Event} {s : List ℕ} → Step u c b d v → Rest u d s e → Rest u c (b ∷ s) (v ++ e)
+  back : {c : Config} {b : ℕ} {d : Config} {v e : List Event} {s : List ℕ} → Step u c b d v → Rest u d s e → Rest u c (b ∷ s) (v ++ e)
   unfolding tell depth tell_bytes
   back (s_start_blank h) r = let x = from_prolog r in started (x.0, bare (spaced_root h x.1), x.2)
   back s_start_open r = from_first r

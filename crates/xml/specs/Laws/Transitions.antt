@@ -183,7 +183,7 @@ tag_no_name (tag_blank {b = b} h) = blank_no_name b h
 tag_no_name tag_slash = (refl, refl)
 tag_no_name tag_close = (refl, refl)
 
-pub forth : {u : Bool} {c d : Config} {b : ℕ} {v : List Event} → Step u c b d v → step u c b ≡ move d v
+pub forth : {u : Bool} {c : Config} {b : ℕ} {d : Config} {v : List Event} → Step u c b d v → step u c b ≡ move d v
 unfolding step blank name_start name_byte text_literal value_literal text_byte
 forth (s_start_blank h) = rw h
 forth s_start_open = refl

@@ -10,8 +10,8 @@ use Rattle.xml.specs.Bytes.{used}
 use Rattle.table.specs.Layout.{Entry}
 use Rattle.rows.specs.Places.{depth}
 use Rattle.xml_text.specs.Rows.{Line, parent_of, previous_of, fits, cost, repeated, judge, prolog, measured}
-use Rattle.bytes.specs.Sorted.{Increasing, Among, Lists}
-use Rattle.bytes.specs.Laws.Sorted.{lists_none, increasing_none, among_seen}
+use Rattle.byte_strings.specs.Sorted.{Increasing, Among, Lists}
+use Rattle.byte_strings.specs.Laws.Sorted.{lists_none, increasing_none, among_seen}
 use Rattle.xml_measure.specs.Lines.{label_at, line_at, lines, Inside, Listed}
 use Rattle.xml_measure.specs.Laws.Lines.{length_lines, lines_from}
 use Rattle.xml_measure.specs.declared.measuring.Admission.{Admission}

@@ -5,11 +5,11 @@ use borrow.Author.Tests.{ne_eqb}
 use Rattle.tree.specs.Content.{attribute_kind, text_kind}
 use Rattle.xml.specs.Bytes.{used}
 use Rattle.table.specs.Layout.{Entry}
-use Rattle.bytes.specs.declared.Order.{Order}
-use Rattle.bytes.specs.Order.{Ordered}
-use Rattle.bytes.specs.Sorted.{entries, Increasing, Between, Inserted}
-use Rattle.bytes.specs.Laws.Sorted.{lists_none, increasing_none}
-use Rattle.bytes.specs.Laws.Entries.{each_entry, entry_added}
+use Rattle.byte_strings.specs.declared.Order.{Order}
+use Rattle.byte_strings.specs.Order.{Ordered}
+use Rattle.byte_strings.specs.Sorted.{entries, Increasing, Between, Inserted}
+use Rattle.byte_strings.specs.Laws.Sorted.{lists_none, increasing_none}
+use Rattle.byte_strings.specs.Laws.Entries.{each_entry, entry_added}
 use Rattle.xml_text.specs.Rows.{Line, names_before, repeated}
 use Rattle.xml_measure.specs.Lines.{label_at, Inside}
 use Rattle.xml_measure.specs.declared.measuring.Admission.{Admission}

@@ -2,14 +2,14 @@
 // by halving, whatever they are.
 ghost use Rattle.std.specs.Prelude.{◌≡◌, ◌<◌, length};
 ghost use Rattle.table.specs.Layout.{nodes, Layout};
-ghost use Rattle.bytes.specs.Order.{Ordered};
-ghost use Rattle.bytes.specs.Sorted.{Increasing, Belongs};
+ghost use Rattle.byte_strings.specs.Order.{Ordered};
+ghost use Rattle.byte_strings.specs.Sorted.{Increasing, Belongs};
 ghost use Rattle.xml_measure.specs.Lines.{label_at, Inside};
 ghost use Rattle.xml_measure.specs.Names.{names_at, Entered, Followed};
 
 use super::Admission;
 use crate::committed;
-use bytes::{Order, Place};
+use byte_strings::{Order, Place};
 
 // How the content of the node at p lies to that of the node at q.
 fn order(s: &[u8], p: usize, q: usize) -> Order
@@ -18,7 +18,7 @@ fn order(s: &[u8], p: usize, q: usize) -> Order
 {
     let a = committed::content(s, p);
     let b = committed::content(s, q);
-    let n = bytes::agreement(b, 0, a);
+    let n = byte_strings::agreement(b, 0, a);
     if n == a.len() {
         if n == b.len() {
             return Order::Same;
@@ -70,7 +70,7 @@ fn enter(s: &[u8], names: &mut [u16; 1024], count: usize, p: usize) -> Admission
     match place(s, names, count, p) {
         Place::Taken => Admission::Refused,
         Place::Free(k) => {
-            bytes::insert(names, k, count, p as u16);
+            byte_strings::insert(names, k, count, p as u16);
             Admission::Kept(count + 1)
         }
     }

@@ -30,8 +30,8 @@ use Rattle.xml_tokens.specs.Steps.{no_step, quiet_step, NamePlace, NameRead, Equ
 use Rattle.xml_tokens.specs.Steps.{text_refused}
 use Rattle.xml_tokens.specs.Laws.Spelling.{monitor_name}
 use Rattle.xml_tokens.specs.Laws.Letters.{name_run, name_scan, name_stops, name_ended, quiet_either}
-use Rattle.bytes.specs.Sorted.{Among}
-use Rattle.bytes.specs.Laws.Sorted.{among_seen}
+use Rattle.byte_strings.specs.Sorted.{Among}
+use Rattle.byte_strings.specs.Laws.Sorted.{among_seen}
 use Rattle.xml_reader.specs.Elements.{Attributed, AttributeRead, attribute_past, attribute_refused, Kept, attribute_names, Entered}
 use Rattle.xml_reader.specs.Elements.{EnterRead, is_entered, is_repeated, NamesRead, names_past, names_refused, AttributeEnters}
 use Rattle.xml_reader.specs.Laws.Configurations.{value_contents}

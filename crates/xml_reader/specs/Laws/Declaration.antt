@@ -26,7 +26,7 @@ use Rattle.xml.specs.Laws.Tells.{Tells, tells_then, tells_step, read_alike, tell
 use Rattle.xml.specs.Laws.Fixed.{word_at, agree, declaration_at, declarations_at}
 use Rattle.xml_reader.specs.declared.Prolog.{Prolog}
 use Rattle.xml_reader.specs.declared.Prolog.TheVariants.{NoRoot}
-use Rattle.bytes.specs.Agreement.{Agreement}
+use Rattle.byte_strings.specs.Agreement.{Agreement}
 use Rattle.xml_reader.specs.Prolog.{RootRead, root_at, no_root, DeclaredRead, behind_it, short_of_it}
 
 -- a byte that is not 0 is inside

@@ -18,7 +18,7 @@ use Rattle.xml.specs.Laws.Tokens.{name_at}
 use Rattle.xml.specs.Laws.Fixed.{agree}
 use Rattle.xml_tokens.specs.declared.End.{End}
 use Rattle.xml_tokens.specs.declared.End.TheVariants.{Mismatch}
-use Rattle.bytes.specs.Agreement.{Agreement}
+use Rattle.byte_strings.specs.Agreement.{Agreement}
 use Rattle.xml_tokens.specs.Steps.{Run, CloseRead, close_behind, close_wrong}
 use Rattle.xml_tokens.specs.Laws.Letters.{name_of, length_name}
 use Rattle.xml_reader.specs.Elements.{EndRead, end_behind, end_mismatch}

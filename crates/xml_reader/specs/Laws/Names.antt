@@ -10,13 +10,13 @@ use Rattle.tree.specs.Lists.{every}
 use Rattle.tree.specs.Content.{name_start, name_byte}
 use Rattle.xml.specs.Laws.Tokens.{span, span_length, span_byte, span_behind, name_at}
 use Rattle.xml.specs.Laws.Fixed.{agree}
-use Rattle.bytes.specs.declared.Order.TheVariants.{Before, Same, Behind}
-use Rattle.bytes.specs.Agreement.{Agreement}
-use Rattle.bytes.specs.Order.{Ordered}
-use Rattle.bytes.specs.Laws.Agreeing.{agree_most}
-use Rattle.bytes.specs.Laws.Order.{order_same, order_shorter, order_longer, order_smaller, order_greater}
-use Rattle.bytes.specs.Sorted.{Increasing, Between, Inserted}
-use Rattle.bytes.specs.Laws.Entries.{each_entry, entry_added}
+use Rattle.byte_strings.specs.declared.Order.TheVariants.{Before, Same, Behind}
+use Rattle.byte_strings.specs.Agreement.{Agreement}
+use Rattle.byte_strings.specs.Order.{Ordered}
+use Rattle.byte_strings.specs.Laws.Agreeing.{agree_most}
+use Rattle.byte_strings.specs.Laws.Order.{order_same, order_shorter, order_longer, order_smaller, order_greater}
+use Rattle.byte_strings.specs.Sorted.{Increasing, Between, Inserted}
+use Rattle.byte_strings.specs.Laws.Entries.{each_entry, entry_added}
 use Rattle.xml_tokens.specs.Steps.{Run}
 use Rattle.xml_tokens.specs.Laws.Runs.{run_passes}
 use Rattle.xml_tokens.specs.Laws.Letters.{name_of, length_name}

@@ -23,8 +23,8 @@ use Rattle.xml_tokens.specs.Steps.{no_step, quiet_step, NamePlace, NameRead, Tag
 use Rattle.xml_tokens.specs.Laws.Letters.{name_run, name_scan, name_stops, name_ended, quiet_either}
 use Rattle.xml_reader.specs.declared.Tag.{Tag}
 use Rattle.xml_reader.specs.declared.Tag.TheVariants.{Opened, Emptied, Broken}
-use Rattle.bytes.specs.Sorted.{Lists}
-use Rattle.bytes.specs.Laws.Sorted.{lists_none}
+use Rattle.byte_strings.specs.Sorted.{Lists}
+use Rattle.byte_strings.specs.Laws.Sorted.{lists_none}
 use Rattle.xml_reader.specs.Elements.{stack, Placed, Attributed, AttributeRead, attribute_past, attribute_refused, Kept}
 use Rattle.xml_reader.specs.Elements.{attribute_names, Entered, NamesRead, names_past, AttributeEnters, AttributesRead}
 use Rattle.xml_reader.specs.Elements.{attributes_opened, attributes_emptied, attributes_broken, Onward, ElementRead, element_opened}

@@ -13,7 +13,7 @@ use Rattle.xml.specs.Laws.Fixed.{agree, word_at, reference_at}
 use Rattle.xml_tokens.specs.declared.Cursor.{Cursor}
 use Rattle.xml_tokens.specs.declared.Reference.{Reference}
 use Rattle.xml_tokens.specs.declared.Reference.TheVariants.{Byte, NoReference}
-use Rattle.bytes.specs.Agreement.{Agreement}
+use Rattle.byte_strings.specs.Agreement.{Agreement}
 use Rattle.xml_tokens.specs.Steps.{Run, Refers, refers, no_reference}
 
 -- a run: i is where the loop stands, from where it began

@@ -1,5 +1,5 @@
 use native.Mathlib.Omega.{arith}
-use Rattle.bytes.specs.Laws.Sorted.{taken_of, free_of}
+use Rattle.byte_strings.specs.Laws.Sorted.{taken_of, free_of}
 use Rattle.xml_reader.specs.Elements.{is_repeated}
 use Rattle.xml_reader.specs.Laws.Names.{enter_new, enter_kept}
 use Rattle.xml_reader.specs.Laws.StartTags.{kept_same}

@@ -9,8 +9,8 @@ use native.Mathlib.Omega.{arith}
 use borrow.Author.Rules.{rules}
 use lib.ListN.{length}
 use Rattle.xml.specs.Laws.Automaton.{behind_part}
-use Rattle.bytes.specs.Sorted.{Increasing}
-use Rattle.bytes.specs.Laws.Sorted.{increasing_none}
+use Rattle.byte_strings.specs.Sorted.{Increasing}
+use Rattle.byte_strings.specs.Laws.Sorted.{increasing_none}
 use Rattle.xml_reader.specs.Elements.{Placed, Kept, attribute_names}
 use Rattle.xml_reader.proofs.start_tags.attributes.Statement.{statement}
 use Rattle.xml_reader.proofs.start_tags.attributes.Tie as tie

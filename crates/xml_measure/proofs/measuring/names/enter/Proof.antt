@@ -1,5 +1,5 @@
 use native.Mathlib.Omega.{arith}
-use Rattle.bytes.specs.Laws.Sorted.{taken_of, free_of}
+use Rattle.byte_strings.specs.Laws.Sorted.{taken_of, free_of}
 use Rattle.xml_measure.specs.Names.{is_repeated}
 use Rattle.xml_measure.specs.Laws.Names.{entered}
 use borrow.Author.Rules.{rules}

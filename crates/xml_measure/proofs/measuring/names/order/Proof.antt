@@ -1,5 +1,5 @@
 use native.Mathlib.Omega.{arith}
-use Rattle.bytes.specs.Laws.Order.{order_same, order_shorter, order_longer, order_smaller, order_greater}
+use Rattle.byte_strings.specs.Laws.Order.{order_same, order_shorter, order_longer, order_smaller, order_greater}
 use Rattle.xml_measure.specs.Laws.Names.{ordered_by}
 use borrow.Author.Rules.{rules}
 use Rattle.xml_measure.proofs.measuring.names.order.Statement.{statement}

@@ -3,8 +3,8 @@ use native.Mathlib.Omega.{arith}
 use mathlib.Core.Path.{◌≡◌}
 use Prim.Native.Nat.{◌+◌, ◌-◌, ◌/◌, ◌≤◌}
 use Rattle.table.specs.Layout.{nodes}
-use Rattle.bytes.specs.Sorted.{Between, is_free}
-use Rattle.bytes.specs.Laws.Sorted.{between_start, turn_before, turn_behind, turn_same}
+use Rattle.byte_strings.specs.Sorted.{Between, is_free}
+use Rattle.byte_strings.specs.Laws.Sorted.{between_start, turn_before, turn_behind, turn_same}
 use Rattle.xml_measure.specs.Lines.{label_at}
 use Rattle.xml_measure.specs.Names.{names_at}
 use Rattle.xml_measure.specs.Laws.Names.{ordered_at}

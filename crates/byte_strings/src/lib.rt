@@ -2,8 +2,8 @@
 #![tactic(auto)]
 
 ghost use Rattle.std.specs.Prelude.{◌≡◌, ◌<◌, ◌≤◌, min, length};
-ghost use Rattle.bytes.specs.Agreement.{Agreement};
-ghost use Rattle.bytes.specs.Sorted.{Inserted};
+ghost use Rattle.byte_strings.specs.Agreement.{Agreement};
+ghost use Rattle.byte_strings.specs.Sorted.{Inserted};
 
 // How a byte string lies to another in the order of their first difference; one that begins the other comes first.
 #[derive(Clone, Copy)]

@@ -3,9 +3,9 @@ use Rattle.std.specs.Prelude.{ℕ, suc, ◌≤◌, ◌<◌, ◌≡◌, refl, Boo
 use Rattle.std.proofs.Common.{sym, ap, ◌∙◌, subst, arith, drop_of_length-le, drop-cons, eqb-true}
 use Rattle.std.proofs.lemmas.Bool.{eqb-false}
 use Rattle.xml.specs.Laws.Fixed.{agree}
-use Rattle.bytes.specs.declared.Order.{Order}
-use Rattle.bytes.specs.declared.Order.TheVariants.{Before, Same, Behind}
-use Rattle.bytes.specs.Order.{Precedes, shorter, smaller, later, Ordered, is_before, is_same, is_behind}
+use Rattle.byte_strings.specs.declared.Order.{Order}
+use Rattle.byte_strings.specs.declared.Order.TheVariants.{Before, Same, Behind}
+use Rattle.byte_strings.specs.Order.{Precedes, shorter, smaller, later, Ordered, is_before, is_same, is_behind}
 
 pub precedes_through : {a b c : List ℕ} → Precedes a b → Precedes b c → Precedes a c
 precedes_through shorter (smaller h) = shorter

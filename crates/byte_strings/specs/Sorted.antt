@@ -1,9 +1,9 @@
 -- Names in their order, each once, for those that were seen.
 use Rattle.std.specs.Prelude.{ℕ, suc, ◌+◌, ◌≤◌, ◌<◌, ◌≡◌, true, false, List, ◌∷◌, length, get_or}
 use Rattle.xml.specs.Bytes.{used}
-use Rattle.bytes.specs.Order.{Precedes}
-use Rattle.bytes.specs.declared.Place.{Place}
-use Rattle.bytes.specs.declared.Place.TheVariants.{Taken, Free}
+use Rattle.byte_strings.specs.Order.{Precedes}
+use Rattle.byte_strings.specs.declared.Place.{Place}
+use Rattle.byte_strings.specs.declared.Place.TheVariants.{Taken, Free}
 
 -- the name of the i-th entry from place lo on; f is the name that an entry stands for
 unfoldable pub entries : (ℕ → List ℕ) → List ℕ → ℕ → ℕ → List ℕ

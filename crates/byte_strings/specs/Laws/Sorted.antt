@@ -7,13 +7,13 @@ use Rattle.tree.specs.Lists.{same}
 use Rattle.tree.specs.Laws.Tests.{refuted, or_cases}
 use Rattle.tree.specs.Laws.Compare.{same_equal, same_self}
 use Rattle.xml.specs.Bytes.{used}
-use Rattle.bytes.specs.declared.Order.{Order}
-use Rattle.bytes.specs.declared.Order.TheVariants.{Before, Same, Behind}
-use Rattle.bytes.specs.declared.Place.{Place}
-use Rattle.bytes.specs.declared.Place.TheVariants.{Taken, Free}
-use Rattle.bytes.specs.Order.{Precedes, Ordered}
-use Rattle.bytes.specs.Sorted.{Increasing, Among, Lists, Between, Belongs, is_taken, is_free, Added}
-use Rattle.bytes.specs.Laws.Order.{precedes_through, precedes_none, before_of, same_of, behind_of}
+use Rattle.byte_strings.specs.declared.Order.{Order}
+use Rattle.byte_strings.specs.declared.Order.TheVariants.{Before, Same, Behind}
+use Rattle.byte_strings.specs.declared.Place.{Place}
+use Rattle.byte_strings.specs.declared.Place.TheVariants.{Taken, Free}
+use Rattle.byte_strings.specs.Order.{Precedes, Ordered}
+use Rattle.byte_strings.specs.Sorted.{Increasing, Among, Lists, Between, Belongs, is_taken, is_free, Added}
+use Rattle.byte_strings.specs.Laws.Order.{precedes_through, precedes_none, before_of, same_of, behind_of}
 
 pub lists_none : (name : ℕ → List ℕ) → Lists name 0 []
 unfolding used

@@ -1,9 +1,9 @@
 use borrow.Author.Rules.{rules}
 use native.Mathlib.Omega.{arith}
 use Prim.Native.Nat.{◌≤◌}
-use Rattle.bytes.specs.Laws.Entries.{Shifting, shift_start, shift_turn, shift_end}
-use Rattle.bytes.proofs.insert.Statement.{statement}
-use Rattle.bytes.proofs.insert.Tie as tie
+use Rattle.byte_strings.specs.Laws.Entries.{Shifting, shift_start, shift_turn, shift_end}
+use Rattle.byte_strings.proofs.insert.Statement.{statement}
+use Rattle.byte_strings.proofs.insert.Tie as tie
 
 abbrev invariant-loop : tie.invariant-loop
 invariant-loop list₀ at end place i₀ list i = (at ≤ i) × (i ≤ end) × Shifting list₀ list end i

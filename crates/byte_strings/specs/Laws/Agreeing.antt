@@ -7,7 +7,7 @@ use Rattle.std.proofs.Math.ListN.{drop_of_length-le}
 use Rattle.std.proofs.Math.Seq.{drop-cons}
 use borrow.Author.Tests.{eq-eqb, ne_eqb, leb-true, leb-false}
 use Rattle.xml.specs.Laws.Fixed.{agree}
-use Rattle.bytes.specs.Agreement.{Agreement}
+use Rattle.byte_strings.specs.Agreement.{Agreement}
 
 pub agree_most : (w l : List ℕ) → agree w l ≤ length l
 unfolding agree

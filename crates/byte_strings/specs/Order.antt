@@ -1,7 +1,7 @@
 -- The order of byte strings.
 use Rattle.std.specs.Prelude.{ℕ, ◌<◌, ◌≡◌, List, [], ◌∷◌}
-use Rattle.bytes.specs.declared.Order.{Order}
-use Rattle.bytes.specs.declared.Order.TheVariants.{Before, Same, Behind}
+use Rattle.byte_strings.specs.declared.Order.{Order}
+use Rattle.byte_strings.specs.declared.Order.TheVariants.{Before, Same, Behind}
 
 -- by the first byte that differs; one that begins the other comes first
 pub data Precedes : List ℕ → List ℕ → Type 0 where

@@ -3,9 +3,9 @@ use native.Mathlib.Omega.{arith}
 use Prim.Native.Nat.{◌-◌, ◌≤◌, min}
 use mathlib.Core.Path.{◌≡◌}
 use lib.ListN.{length}
-use Rattle.bytes.specs.Laws.Agreeing.{Agreeing, agree_start, agree_turn, agree_differ, agree_end}
-use Rattle.bytes.proofs.agreement.Statement.{statement}
-use Rattle.bytes.proofs.agreement.Tie as tie
+use Rattle.byte_strings.specs.Laws.Agreeing.{Agreeing, agree_start, agree_turn, agree_differ, agree_end}
+use Rattle.byte_strings.proofs.agreement.Statement.{statement}
+use Rattle.byte_strings.proofs.agreement.Tie as tie
 
 abbrev invariant-loop : tie.invariant-loop
 invariant-loop s at word end n₀ n =

@@ -2,8 +2,8 @@
 use Rattle.std.specs.Prelude.{ℕ, suc, ◌+◌, ◌-◌, ◌≤◌, ◌<◌, ◌≡◌, refl, Bool, true, false, List, eqb, length, get_or, set}
 use Rattle.std.proofs.Common.{ap, ◌∙◌, arith, length-set, get_or-set_same, get_or-set_other, eqb-true}
 use Rattle.std.proofs.lemmas.Bool.{eqb-false}
-use Rattle.bytes.specs.Sorted.{entries, Increasing, Between, Inserted, Added}
-use Rattle.bytes.specs.Laws.Sorted.{Side, side, side_before, side_here, side_behind, added}
+use Rattle.byte_strings.specs.Sorted.{entries, Increasing, Between, Inserted, Added}
+use Rattle.byte_strings.specs.Laws.Sorted.{Side, side, side_before, side_here, side_behind, added}
 
 -- the loop that shifts: those from place i on stand further, those before it as they were
 pub record Shifting (os os' : List ℕ) (end i : ℕ) : Type 0 where
