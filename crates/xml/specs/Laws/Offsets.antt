@@ -218,6 +218,7 @@ module _ (s : List ℕ) (i : ℕ) where
   opens (quote double) e h = rw e (at_quote double e h)
   opens (quote single) e h = rw e (at_quote single e h)
   opens text e h = rw e (at_text e h)
+  opens none e h = elim h [ ]
 
 begun_at : (s : List ℕ) (i : ℕ) {v : List Event} {c : Config} {y : Spelling} → i ≤ length s → Strict at_start initial (take i s) v c y
     → Begins (place c) (get_or s i 0) → NodeBegins s i (node_offset s i)
