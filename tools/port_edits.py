@@ -109,8 +109,7 @@ BREAK = set("=:;,→×≡≤<∷+-*/&|^↔⊎λ{}[]") | {"&&", "||", "++", "->",
 
 def tight(text):
     """`f x .g y` as `(f x).g y`, and `(x .g)` as `x.g`."""
-    out = []    # pieces of the innermost open bracket; None begins each bracket
-    stack = [out]
+    stack = [[]]    # the pieces of each bracket that is open; an empty one stands before a projection
     for p in PIECE.findall(text):
         if p in "({[":
             stack.append([p])
