@@ -42,10 +42,8 @@ fn close(x: &mut [u8], n: usize) -> usize {
 // An element with n empty elements in it; its length.
 pub fn element(x: &mut [u8], n: usize) -> usize {
     open(x);
-    let mut i: usize = 0;
-    while i < n {
+    for i in 0..n {
         child(x, i);
-        i += 1;
     }
     close(x, n)
 }

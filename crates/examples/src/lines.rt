@@ -1,5 +1,5 @@
 // What is printed.
-use libc::STDOUT_FILENO;
+use std::io::{self, Print};
 
 fn letter(answer: u64) -> u8 {
     let outcome = answer % 256;
@@ -25,41 +25,41 @@ fn number(answer: u64) -> u64 {
     value(answer)
 }
 
-fn outcome(what: &[u8], answer: u64) {
-    io::write_all(STDOUT_FILENO, what);
+fn outcome(out: &impl Print, what: &[u8], answer: u64) -> io::Result<()> {
+    out.write_all(what)?;
     let letter = [b':', b' ', letter(answer), b' '];
-    io::write_all(STDOUT_FILENO, &letter);
-    io::print_decimal(STDOUT_FILENO, number(answer));
+    out.write_all(&letter)?;
+    out.print(number(answer))
 }
 
 // A call that is no load.
-pub fn line(what: &[u8], answer: u64) {
-    outcome(what, answer);
-    io::write_all(STDOUT_FILENO, b"\n");
+pub fn line(out: &impl Print, what: &[u8], answer: u64) -> io::Result<()> {
+    outcome(out, what, answer)?;
+    out.write_all(b"\n")
 }
 
 // The offset, where the cause has one.
-fn offset(answer: u64) {
+fn offset(out: &impl Print, answer: u64) -> io::Result<()> {
     let cause = answer / 256 % 256;
     if 4 <= cause {
         if cause <= 6 {
-            io::write_all(STDOUT_FILENO, b" at ");
-            io::print_decimal(STDOUT_FILENO, value(answer));
+            print!(out; " at {}", value(answer))?;
         }
     }
+    Ok(())
 }
 
 // A load.
-pub fn load(what: &[u8], answer: u64) {
-    outcome(what, answer);
-    offset(answer);
-    io::write_all(STDOUT_FILENO, b"\n");
+pub fn load(out: &impl Print, what: &[u8], answer: u64) -> io::Result<()> {
+    outcome(out, what, answer)?;
+    offset(out, answer)?;
+    out.write_all(b"\n")
 }
 
 // The first n bytes, as they are.
-pub fn text(bytes: &[u8], n: usize) {
+pub fn text(out: &impl Print, bytes: &[u8], n: usize) -> io::Result<()> {
     if n <= bytes.len() {
-        io::write_all(STDOUT_FILENO, &bytes[..n]);
+        out.write_all(&bytes[..n])?;
     }
-    io::write_all(STDOUT_FILENO, b"\n");
+    out.write_all(b"\n")
 }

@@ -1,4 +1,5 @@
-// The calls of the library as C programs see them (include/noodlefen.h). Every contract is `Contract` of traces/specs/Contract.antt.
+// The calls of the library, under the names of include/noodlefen.h; the crate panel_c exports them to C. Every contract is `Contract` of
+// traces/specs/Contract.antt.
 #![tactic(auto)]
 
 ghost use Rattle.tree.specs.Steps.{T, C, R, U, D, I, TT, RR, UU};
@@ -6,80 +7,70 @@ ghost use Rattle.traces.specs.Exchange.{Request, with_none, with_one, with_two};
 ghost use Rattle.traces.specs.Contract.{Contract};
 
 // The state is set to the beginning.
-#[unsafe(no_mangle)]
-pub extern "C" fn noodlefen_start(state: &mut [u8]) -> u64
+pub fn noodlefen_start(state: &mut [u8]) -> u64
     ensures { Contract (with_none Request.start state.old state.new result) }
 {
     end_calls::start(state)
 }
 
 // The state is replaced by the document that the input stands for.
-#[unsafe(no_mangle)]
-pub extern "C" fn noodlefen_load(state: &mut [u8], xml: &[u8]) -> u64
+pub fn noodlefen_load(state: &mut [u8], xml: &[u8]) -> u64
     ensures { Contract (with_none (Request.load xml.now) state.old state.new result) }
 {
     document_calls::load(state, xml)
 }
 
 // The committed document is written to out.
-#[unsafe(no_mangle)]
-pub extern "C" fn noodlefen_write(state: &[u8], out: &mut [u8]) -> u64
+pub fn noodlefen_write(state: &[u8], out: &mut [u8]) -> u64
     ensures { Contract (with_one Request.write state.now state.now out.old out.new result) }
 {
     document_calls::write(state, out)
 }
 
 // The count of the commit that inserted node n of the committed document or last updated its content.
-#[unsafe(no_mangle)]
-pub extern "C" fn noodlefen_count_of(state: &[u8], n: u32) -> u64
+pub fn noodlefen_count_of(state: &[u8], n: u32) -> u64
     ensures { Contract (with_none (Request.count_of n) state.now state.now result) }
 {
     document_calls::count_of(state, n)
 }
 
 // Transaction t begins.
-#[unsafe(no_mangle)]
-pub extern "C" fn noodlefen_begin(state: &mut [u8], t: u32) -> u64
+pub fn noodlefen_begin(state: &mut [u8], t: u32) -> u64
     ensures { Contract (with_none (Request.begin t) state.old state.new result) }
 {
     end_calls::begin(state, t)
 }
 
 // Transaction t ends, and its changes last.
-#[unsafe(no_mangle)]
-pub extern "C" fn noodlefen_commit(state: &mut [u8], t: u32) -> u64
+pub fn noodlefen_commit(state: &mut [u8], t: u32) -> u64
     ensures { Contract (with_none (Request.commit t) state.old state.new result) }
 {
     end_calls::commit(state, t)
 }
 
 // Transaction t ends, and its changes are undone.
-#[unsafe(no_mangle)]
-pub extern "C" fn noodlefen_abort(state: &mut [u8], t: u32) -> u64
+pub fn noodlefen_abort(state: &mut [u8], t: u32) -> u64
     ensures { Contract (with_none (Request.abort t) state.old state.new result) }
 {
     end_calls::abort(state, t)
 }
 
 // T(n): the kind and the parent of node n.
-#[unsafe(no_mangle)]
-pub extern "C" fn noodlefen_test(state: &mut [u8], t: u32, n: u32) -> u64
+pub fn noodlefen_test(state: &mut [u8], t: u32, n: u32) -> u64
     ensures { Contract (with_none (Request.step t (T n)) state.old state.new result) }
 {
     read_calls::test(state, t, n)
 }
 
 // C(n, k): the number and the kind of the k-th child of node n, or none.
-#[unsafe(no_mangle)]
-pub extern "C" fn noodlefen_child(state: &mut [u8], t: u32, n: u32, k: u32) -> u64
+pub fn noodlefen_child(state: &mut [u8], t: u32, n: u32, k: u32) -> u64
     ensures { Contract (with_none (Request.step t (C n k)) state.old state.new result) }
 {
     read_calls::child(state, t, n, k)
 }
 
 // R(n): the content of node n, into out.
-#[unsafe(no_mangle)]
-pub extern "C" fn noodlefen_read(state: &mut [u8], t: u32, n: u32, out: &mut [u8]) -> u64
+pub fn noodlefen_read(state: &mut [u8], t: u32, n: u32, out: &mut [u8]) -> u64
     ensures { Contract
         (with_one (Request.step t (R n)) state.old state.new out.old out.new result) }
 {
@@ -87,24 +78,21 @@ pub extern "C" fn noodlefen_read(state: &mut [u8], t: u32, n: u32, out: &mut [u8
 }
 
 // U(n, bytes): node n has the bytes as its content.
-#[unsafe(no_mangle)]
-pub extern "C" fn noodlefen_update(state: &mut [u8], t: u32, n: u32, bytes: &[u8]) -> u64
+pub fn noodlefen_update(state: &mut [u8], t: u32, n: u32, bytes: &[u8]) -> u64
     ensures { Contract (with_none (Request.step t (U n bytes.now)) state.old state.new result) }
 {
     write_calls::update(state, t, n, bytes)
 }
 
 // D(n): node n and all below it are deleted.
-#[unsafe(no_mangle)]
-pub extern "C" fn noodlefen_delete(state: &mut [u8], t: u32, n: u32) -> u64
+pub fn noodlefen_delete(state: &mut [u8], t: u32, n: u32) -> u64
     ensures { Contract (with_none (Request.step t (D n)) state.old state.new result) }
 {
     write_calls::delete(state, t, n)
 }
 
 // I(m, kind, bytes, n, k): a new node m becomes the k-th child of node n.
-#[unsafe(no_mangle)]
-pub extern "C" fn noodlefen_insert(
+pub fn noodlefen_insert(
     state: &mut [u8],
     t: u32,
     m: u32,
@@ -119,8 +107,7 @@ pub extern "C" fn noodlefen_insert(
 }
 
 // TT(n): the numbers of node n and all below it, in document order.
-#[unsafe(no_mangle)]
-pub extern "C" fn noodlefen_test_tree(state: &mut [u8], t: u32, n: u32, numbers: &mut [u8]) -> u64
+pub fn noodlefen_test_tree(state: &mut [u8], t: u32, n: u32, numbers: &mut [u8]) -> u64
     ensures { Contract
         (with_one (Request.step t (TT n)) state.old state.new numbers.old numbers.new result) }
 {
@@ -128,8 +115,7 @@ pub extern "C" fn noodlefen_test_tree(state: &mut [u8], t: u32, n: u32, numbers:
 }
 
 // RR(n): as TT, and a cell with the content of each.
-#[unsafe(no_mangle)]
-pub extern "C" fn noodlefen_read_tree(
+pub fn noodlefen_read_tree(
     state: &mut [u8],
     t: u32,
     n: u32,
@@ -143,14 +129,7 @@ pub extern "C" fn noodlefen_read_tree(
 }
 
 // UU(n, from, to): each element in the subtree of node n that is named so gets the other name.
-#[unsafe(no_mangle)]
-pub extern "C" fn noodlefen_rename_tree(
-    state: &mut [u8],
-    t: u32,
-    n: u32,
-    from: &[u8],
-    to: &[u8],
-) -> u64
+pub fn noodlefen_rename_tree(state: &mut [u8], t: u32, n: u32, from: &[u8], to: &[u8]) -> u64
     ensures { Contract
         (with_none (Request.step t (UU n from.now to.now)) state.old state.new result) }
 {

@@ -2,7 +2,7 @@
 // W (waits) or R (refused), and a number.
 #![tactic(auto)]
 
-use libc::STDOUT_FILENO;
+use std::io::{self, Print};
 
 // G, W or R.
 fn letter(answer: u64) -> u8 {
@@ -24,66 +24,76 @@ fn number(answer: u64) -> u64 {
     answer / 65536 % 4294967296
 }
 
-fn line(place: u64, t: u64, answer: u64) {
-    io::print_decimal(STDOUT_FILENO, place);
-    io::write_all(STDOUT_FILENO, b" ");
-    io::print_decimal(STDOUT_FILENO, t);
+fn line(rt: &impl Print, place: u64, t: u64, answer: u64) -> io::Result<()> {
+    print!(rt; "{place} {t}")?;
     let outcome = [b' ', letter(answer), b' '];
-    io::write_all(STDOUT_FILENO, &outcome);
-    io::print_decimal(STDOUT_FILENO, number(answer));
-    io::write_all(STDOUT_FILENO, b"\n");
+    rt.write_all(&outcome)?;
+    rt.println(number(answer))
 }
 
-fn begin(state: &mut [u8], place: u64, t: u32) {
-    line(place, t as u64, panel::noodlefen_begin(state, t));
+fn begin(rt: &impl Print, state: &mut [u8], place: u64, t: u32) -> io::Result<()> {
+    line(rt, place, t as u64, panel::noodlefen_begin(state, t))
 }
 
-fn abort(state: &mut [u8], place: u64, t: u32) {
-    line(place, t as u64, panel::noodlefen_abort(state, t));
+fn abort(rt: &impl Print, state: &mut [u8], place: u64, t: u32) -> io::Result<()> {
+    line(rt, place, t as u64, panel::noodlefen_abort(state, t))
 }
 
 // U
-fn update(state: &mut [u8], place: u64, t: u32, n: u32, bytes: &[u8]) {
-    line(place, t as u64, panel::noodlefen_update(state, t, n, bytes));
+fn update(
+    rt: &impl Print,
+    state: &mut [u8],
+    place: u64,
+    t: u32,
+    n: u32,
+    bytes: &[u8],
+) -> io::Result<()> {
+    line(
+        rt,
+        place,
+        t as u64,
+        panel::noodlefen_update(state, t, n, bytes),
+    )
 }
 
 // R
-fn read(state: &mut [u8], place: u64, t: u32, n: u32) {
+fn read(rt: &impl Print, state: &mut [u8], place: u64, t: u32, n: u32) -> io::Result<()> {
     let mut out = [0u8; 32];
     line(
+        rt,
         place,
         t as u64,
         panel::noodlefen_read(state, t, n, &mut out),
-    );
+    )
 }
 
 // C
-fn child(state: &mut [u8], place: u64, t: u32, n: u32, k: u32) {
-    line(place, t as u64, panel::noodlefen_child(state, t, n, k));
+fn child(rt: &impl Print, state: &mut [u8], place: u64, t: u32, n: u32, k: u32) -> io::Result<()> {
+    line(rt, place, t as u64, panel::noodlefen_child(state, t, n, k))
 }
 
 // t2 waits for what t1 wrote.
-fn until_the_wait(state: &mut [u8]) {
-    begin(state, 1, 1);
-    begin(state, 2, 2);
-    update(state, 3, 1, 5, b"7");
-    read(state, 4, 2, 5);
+fn until_the_wait(rt: &impl Print, state: &mut [u8]) -> io::Result<()> {
+    begin(rt, state, 1, 1)?;
+    begin(rt, state, 2, 2)?;
+    update(rt, state, 3, 1, 5, b"7")?;
+    read(rt, state, 4, 2, 5)
 }
 
 // After the abort of t1, t2 reads what was there before.
-fn after_the_wait(state: &mut [u8]) {
-    child(state, 5, 1, 4, 1);
-    abort(state, 6, 1);
-    read(state, 7, 2, 5);
+fn after_the_wait(rt: &impl Print, state: &mut [u8]) -> io::Result<()> {
+    child(rt, state, 5, 1, 4, 1)?;
+    abort(rt, state, 6, 1)?;
+    read(rt, state, 7, 2, 5)
 }
 
-fn main() {
+fn main(rt: HostRuntime) -> io::Result<()> {
     let mut state = [0u8; 116784];
     panel::noodlefen_start(&mut state);
     panel::noodlefen_load(
         &mut state,
         b"<lift rope=\"2\"><speed>6</speed><ramp/></lift>",
     );
-    until_the_wait(&mut state);
-    after_the_wait(&mut state);
+    until_the_wait(&rt, &mut state)?;
+    after_the_wait(&rt, &mut state)
 }
