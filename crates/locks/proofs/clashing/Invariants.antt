@@ -1,0 +1,14 @@
+use borrow.Author.Rules.{rules}
+use native.Mathlib.Omega.{arith}
+use Prim.Native.Nat.{ℕ, ◌-◌, ◌≤◌}
+use mathlib.Core.Path.{◌≡◌, sym, ap, ◌∙◌}
+use Rattle.locks.specs.Modes.{clash}
+use Rattle.locks.specs.Words.{clash_table, clash_at, word}
+use Rattle.locks.specs.Laws.Words.{word_turn, word_none, word_below}
+use Rattle.locks.proofs.clashing.Given as goal
+
+abbrev pub invariant-loop-a : goal.invariant-loop-a
+invariant-loop-a l = (l.a ≤ 12) × (l.m ≡ word (λ x. clash_at x l.b) (12 - l.a) l.a)
+
+abbrev pub decreases-loop-a : goal.decreases-loop-a
+decreases-loop-a l = l.a
