@@ -1,0 +1,11 @@
+use borrow.Author.Rules.{rules}
+use Rattle.table.specs.Layout.{nodes}
+use Rattle.counts.specs.Laws.Committed.{Climbing, climbing_none, climbing_start, climbing_passed, climbing_inserted}
+use Rattle.counts.specs.Laws.Committed.{climbing_found, climbing_done}
+use Rattle.counts.proofs.committed.Given as goal
+
+abbrev pub invariant-loop-k : goal.invariant-loop-k
+invariant-loop-k l = Climbing (nodes l.s) l.p l.e l.k
+
+abbrev pub decreases-loop-k : goal.decreases-loop-k
+decreases-loop-k l = l.k
