@@ -15,9 +15,13 @@ precedes_through (smaller h) (later q) = smaller h
 precedes_through (later p) (smaller k) = smaller k
 precedes_through (later p) (later q) = later (precedes_through p q)
 
+not_equal : {a b : List ℕ} → Precedes a b → a ≡ b → ⊥
+not_equal shorter e = cc
+not_equal (smaller {x = x} {y = y} h) e = let f : x ≡ y = cc in omega arith
+not_equal (later {xs = xs} {ys = ys} p) e = let f : xs ≡ ys = cc in not_equal p f
+
 pub precedes_none : {a : List ℕ} → Precedes a a → ⊥
-precedes_none (smaller h) = omega arith
-precedes_none (later p) = precedes_none p
+precedes_none p = not_equal p refl
 
 module _ {a b : List ℕ} where
   pub before_of : Ordered a b Before → Precedes a b

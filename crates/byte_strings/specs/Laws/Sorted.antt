@@ -119,9 +119,11 @@ module _ {name name' : ℕ → List ℕ} {n k : ℕ} {w : List ℕ} (s : Increas
   module _ (seen : List (List ℕ)) (x : Lists name n seen) where
     added_each : (i : ℕ) → i < n + 1 → Side k i → used (w ∷ seen) (name' i) ≡ true
     unfolding used
-    added_each i h (side_before p) = rw (ahead i p, x.each_seen i (omega arith)) (or-true (same w (name i)))
+    added_each i h (side_before p) = subst (λ (z : List ℕ). used (w ∷ seen) z ≡ true) (sym (ahead i p))
+        (rw (x.each_seen i (omega arith)) (or-true (same w (name i))))
     added_each i h side_here = rw (here, same_self w)
-    added_each (suc i) h (side_behind p) = rw (further i p (omega arith), x.each_seen i (omega arith)) (or-true (same w (name i)))
+    added_each (suc i) h (side_behind p) = subst (λ (z : List ℕ). used (w ∷ seen) z ≡ true) (sym (further i p (omega arith)))
+        (rw (x.each_seen i (omega arith)) (or-true (same w (name i))))
 
     moved : {v : List ℕ} → Among name n v → Among name' (n + 1) v
     moved {v} a = go (ltb a.at k) refl

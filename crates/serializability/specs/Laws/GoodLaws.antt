@@ -22,6 +22,7 @@ use Rattle.serializability.specs.Laws.Good.{locks_of, whole, holds, Brought, sho
 -- locks ----------------------------------------------------------------------------------------
 
 pub in_locks_of : (l : Parts) (x : Entry) → Of x l → Within x.held (locks_of l)
+in_locks_of end x m k i = elim m [ ]
 in_locks_of (did y l) x (here e) k i = Memᴰ.append_left {s = y.held} (locks_of l) (rw e at i)
 in_locks_of (did y l) x (later m) k i = Memᴰ.append_right y.held (in_locks_of l x m k i)
 in_locks_of (undone j l) x (inside m) k i = Memᴰ.append_left {s = locks_of j} (locks_of l) (in_locks_of j x m k i)

@@ -1,6 +1,6 @@
 -- A granted step keeps the marks covered by the locks that are held then.
 use Rattle.std.specs.Prelude.{ℕ, ◌≡◌, refl, Bool, true, false, cond, ◌||◌, ◌⊎◌, eqb}
-use Rattle.std.proofs.Common.{sym, inl, inr, ⊎_elim, eqb-true, eq-eqb}
+use Rattle.std.proofs.Common.{sym, subst, inl, inr, ⊎_elim, eqb-true, eq-eqb}
 use Rattle.std.proofs.lemmas.Bool.{false≢true}
 use Rattle.std.proofs.Math.Bool.{or-true}
 use mathlib.Core.List.{List, [], ◌∷◌, Memᴰ}
@@ -70,7 +70,9 @@ module _ (holds holds' : ℕ → List Lock) (more : (u : ℕ) → Within (holds 
             let g : eqb (writer_of (c s).update) u ≡ true = rw a.2 at h in
             rw (a.2, si s, sn s, marked_numbers c sn s.above) (⊎_elim
             (λ x. author_more holds holds' u (more u) _ _ (λ e. e) (number_of s) (numbers_of s.above) (cov.authored s a.1 u nu x))
-            (λ x. rw x.0 (inr x.1)) (wri s a.1 u nu g))
+            (λ x. inr (subst (λ (v : ℕ). Within (locks (U (number_of s) []) (numbers_of s.above)) (holds' v) ⊎ Renames holds' v (numbers_of (path s)))
+                (sym x.0) x.1))
+            (wri s a.1 u nu g))
 
     -- t wrote where a test says so, with the locks for it
     write_covered : (test : Place → Bool) (b : List ℕ) → ((r : Place) → Inside r f → test r ≡ true → Writes r)

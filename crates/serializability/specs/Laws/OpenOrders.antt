@@ -9,7 +9,7 @@ use Rattle.tree.specs.Laws.Tests.{or_left, or_right}
 use Rattle.protocol.specs.State.{State, start_state, transactions, all_of}
 use Rattle.protocol.specs.Calls.{Call, start, commit, StepAnswer, next}
 use Rattle.protocol.specs.History.{Event, history, state_after, is_granted, Log, with_log, with_commit, committed_then, log_after, fed}
-use Rattle.protocol.specs.History.{plain}
+use Rattle.protocol.specs.History.{plain, logged}
 use Rattle.serializability.specs.Theorem.{since_start, reached, OpenOrder, OpenInAnyOrder, CommitInAnyOrder}
 use Rattle.serializability.specs.Laws.Orders.{distinct_head, distinct_tail}
 use Rattle.serializability.specs.Laws.WaitSet.{has_kept, kept_distinct}
@@ -40,7 +40,7 @@ module _ {E : Type 0} (entry : StepAnswer → E) where
   log_append : (L : Log E) (h k : List Event) → log_after entry L (h ++ k) ≡ log_after entry (log_after entry L h) k
   unfolding log_after
   log_append L [] k = refl
-  log_append L (e ∷ h) k = log_append _ h k
+  log_append L (e ∷ h) k = log_append (logged e.call (is_granted e.outcome) (map entry e.steps) L) h k
 
   -- t is none of b
   logs_of_others : (t : ℕ) (l : List (Operation E)) (log : ℕ → List (Operation E)) (b : List ℕ) → has t b ≡ false

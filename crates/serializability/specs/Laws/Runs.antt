@@ -76,6 +76,7 @@ unique_run d (undone k l) e u r = unique_run d l e u r.1
 
 -- every entry of a run is valid somewhere
 pub run_valid : (d : Document) (l : Parts) (e : Document) → Run d l e → (y : Entry) → Of y l → (c : Document) × Valid y c
+run_valid d end e r y m = elim m [ ]
 run_valid d (did x l) e r y (parts.here q) = (d, rw q r.0)
 run_valid d (did x l) e r y (later m) = run_valid (after x.step d) l e r.1 y m
 run_valid d (undone k l) e r y (inside m) = run_valid d k r.0.0 r.0.1 y m
@@ -97,6 +98,7 @@ pub not_of_end : {y : Entry} → Of y end → ⊥
 not_of_end = elim [ ]
 
 pub of_then_left : {y : Entry} (l k : Parts) → Of y l → Of y (then l k)
+of_then_left end k m = elim m [ ]
 of_then_left (did x l) k (parts.here q) = parts.here q
 of_then_left (did x l) k (later m) = later (of_then_left l k m)
 of_then_left (undone j l) k (inside m) = inside m

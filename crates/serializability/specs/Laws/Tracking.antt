@@ -235,7 +235,7 @@ unfolding state_after history log_after
 calls_track L M tr [] = record { log = L; tracks = tr; read = λ E g e h. refl }
 calls_track L M tr (c ∷ cs) =
     let x = call_tracks L M tr c in
-    let rest = calls_track _ (next c M).state x.tracks cs in
+    let rest = calls_track (logged c (is_granted (next c M).outcome) x.entries L) (next c M).state x.tracks cs in
     record {
       log = rest.log;
       tracks = rest.tracks;

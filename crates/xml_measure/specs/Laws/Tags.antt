@@ -1,7 +1,7 @@
 -- The attributes of an element stand behind its start tag: the names before one of them are those of the start tag opened last.
 use Rattle.std.specs.Prelude.{◌≡◌, Bool, cond, ◌&&◌, length, set, ◌⊎◌}
 use Rattle.std.proofs.Math.Path.{refl, sym}
-use Rattle.std.proofs.Common.{ap, ◌∙◌, arith, get_or-set_same, get_or-set_other, inl, inr}
+use Rattle.std.proofs.Common.{subst, ap, ◌∙◌, arith, get_or-set_same, get_or-set_other, inl, inr}
 use Prim.Native.Nat.{ℕ, suc, ◌-◌, ◌≤◌, ◌<◌}
 use Rattle.std.proofs.Math.Bool.{true, false, and-false}
 use Rattle.std.proofs.lemmas.Bool.{false≢true}
@@ -144,7 +144,8 @@ module _ {kinds : List ℕ} {top : ℕ} {pre : List Line} (t : Tagged kinds top 
             next e z v (inl n) = absurd (takes_none (get_or kinds (d - 1) 0) (rw (eqb-true a.kind 0 n) at taken))
             next e z v (inr n) =
                 rw (z, le-ltb d d (omega arith), eq-eqb d d refl, not_first, n)
-                (ap (λ (ns : List (List ℕ)). a.content ∷ ns) (tagged_names (eqb-true a.kind attribute_kind n)))
+                (ap (λ (ns : List (List ℕ)). a.content ∷ ns) (subst (λ (v : ℕ). names_before v pre ≡ tag_names pre) (sym z)
+                  (tagged_names (eqb-true a.kind attribute_kind n))))
         side e l k i false ex false ey =
             let y : e ≡ d → ⊥ = eqb-false e d ex in
             let z : suc e ≡ d → ⊥ = eqb-false (suc e) d ey in
