@@ -1,0 +1,13 @@
+use borrow.Author.Rules.{rules}
+use mathlib.Core.Path.{ap, ◌∙◌}
+use Rattle.protocol.specs.State.{WaitSets}
+use Rattle.protocol.specs.Rings.{in_ring}
+use Rattle.engine.specs.Laws.Waiting.{replaced_sets}
+use Rattle.engine.proofs.closes_ring.Goals as goal
+
+pub returns : goal.returns
+returns c =
+    let start = c in
+    c.ring.ensures ∙ ap (λ (r : WaitSets). in_ring r start.args.t)
+    (replaced_sets start.args.t start.args.set c.gather.ensures (search rules) (search rules)
+    (search rules))

@@ -1,0 +1,18 @@
+use borrow.Author.Rules.{rules}
+use native.Mathlib.Omega.{arith}
+use Prim.Native.Nat.{◌-◌}
+use mathlib.Core.Path.{◌≡◌, refl, ◌∙◌}
+use lib.ListN.{drop}
+use Rattle.table.specs.Layout.{nodes}
+use Rattle.engine.specs.Way.{nodes_of}
+use Rattle.engine.specs.Waits.{touches_from}
+use Rattle.engine.specs.Laws.Waits.{touch_found, touch_passed, touch_none, touches_word, words_small}
+use Rattle.engine.proofs.locking.touches.Given as goal
+
+abbrev pub invariant-loop-j : goal.invariant-loop-j
+invariant-loop-j l =
+    let way = nodes_of (nodes l.s) (record { places = l.places; count = l.count }) in
+    touches_from l.masks 0 l.u way ≡ touches_from l.masks l.j l.u (drop l.j way)
+
+abbrev pub decreases-loop-j : goal.decreases-loop-j
+decreases-loop-j l = l.count - l.j

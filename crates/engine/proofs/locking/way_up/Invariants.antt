@@ -1,0 +1,11 @@
+use borrow.Author.Rules.{rules}
+use Rattle.table.specs.Layout.{nodes}
+use Rattle.engine.specs.Laws.Way.{Climbing, climbing_hidden, climbing_start, climbing_passed, climbing_deleted}
+use Rattle.engine.specs.Laws.Way.{climbing_found, climbing_done}
+use Rattle.engine.proofs.locking.way_up.Given as goal
+
+abbrev pub invariant-loop-k : goal.invariant-loop-k
+invariant-loop-k l = Climbing (nodes l.s) l.t l.p l.e l.k l.count l.places
+
+abbrev pub decreases-loop-k : goal.decreases-loop-k
+decreases-loop-k l = l.k
