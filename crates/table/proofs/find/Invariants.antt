@@ -1,0 +1,17 @@
+use borrow.Author.Rules.{rules}
+use mathlib.Core.Path.{◌≡◌, sym, ◌∙◌}
+use Prim.Native.Nat.{◌+◌, ◌-◌, ◌≤◌}
+use lib.ListN.{length, drop}
+use borrow.Author.Tests.{eq-eqb, ne_eqb}
+use Rattle.table.specs.Lists.{first}
+use Rattle.table.specs.Layout.{nodes, no_entry}
+use Rattle.table.specs.Laws.First.{first_found, first_passed, first_none}
+use lib.Dec.{eqb}
+use Rattle.table.proofs.find.Given as goal
+
+abbrev pub invariant-loop-i : goal.invariant-loop-i
+invariant-loop-i l = (l.i ≤ length (nodes l.s))
+    × (first (λ x. eqb x.1.now.number l.n) (nodes l.s) ≡ l.i + first (λ x. eqb x.1.now.number l.n) (drop l.i (nodes l.s)))
+
+abbrev pub decreases-loop-i : goal.decreases-loop-i
+decreases-loop-i l = length (nodes l.s) - l.i

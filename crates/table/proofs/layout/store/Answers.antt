@@ -1,0 +1,15 @@
+use Rattle.table.specs.Laws.Bytes.{filled_done, Filled, filled_none, filled_more}
+use borrow.Author.Rules.{rules}
+use mathlib.Core.Path.{refl}
+use Prim.Native.Nat.{◌-◌, ◌≤◌}
+use lib.ListN.{length, get_or}
+use Rattle.table.proofs.layout.store.Goals as goal
+
+pub loop-j-init : goal.loop-j-init
+loop-j-init c = (search rules, filled_none _ _ _)
+
+pub loop-j-preserved : goal.loop-j-preserved
+loop-j-preserved c = (search rules, filled_more _ _ _ _ _ _ c.loop-j.invariant.1 (search rules) refl)
+
+pub returns : goal.returns
+returns c = filled_done _ _ c.loop-j.invariant.1 (search rules) (search rules)

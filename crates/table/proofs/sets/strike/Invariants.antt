@@ -1,0 +1,11 @@
+use borrow.Author.Rules.{rules}
+use native.Mathlib.Omega.{arith}
+use Prim.Native.Nat.{◌-◌, ◌≤◌}
+use Rattle.table.specs.Laws.Sets.{StruckBelow, strike_start, strike_turn, strike_done}
+use Rattle.table.proofs.sets.strike.Given as goal
+
+abbrev pub invariant-loop-v : goal.invariant-loop-v
+invariant-loop-v l = (1 ≤ l.v) × (l.v ≤ 17) × StruckBelow l.initial.s l.s l.t l.v
+
+abbrev pub decreases-loop-v : goal.decreases-loop-v
+decreases-loop-v l = 17 - l.v

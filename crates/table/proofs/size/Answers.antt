@@ -1,0 +1,15 @@
+use native.Mathlib.Omega.{arith}
+use Prim.Native.Nat.{◌+◌, ◌*◌}
+use Rattle.table.specs.Laws.Texts.{size_small, size_at}
+use borrow.Author.Rules.{rules}
+use Rattle.table.proofs.size.Goals as goal
+
+pub overflow_cast-result : goal.overflow_cast-result
+overflow_cast-result c = omega (arith, c.shared_slice_known-2-1.given (8208 + 74 * c.slot.result + 4 + c.args.o))
+
+pub returns : goal.returns
+returns c =
+    let a = c in
+    let slot = c.slot in
+    let e = size_at _ a.args.i a.args.o _ slot.ensures.0 a.requires.0 a.requires.1 a.requires.3 in
+    (e, rw e (size_small _ a.args.i a.args.o _ slot.ensures.0 a.requires.0 a.requires.1 a.requires.3))

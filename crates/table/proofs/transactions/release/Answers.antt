@@ -1,0 +1,6 @@
+use Rattle.table.specs.Laws.Locks.{released_kept}
+use borrow.Author.Rules.{rules}
+use Rattle.table.proofs.transactions.release.Goals as goal
+
+pub returns : goal.returns
+returns c = released_kept _ _ c.set_lock.ensures

@@ -1,0 +1,15 @@
+use borrow.Author.Rules.{rules}
+use native.Mathlib.Omega.{arith}
+use Prim.Native.Nat.{◌-◌, ◌≤◌, ◌<◌}
+use lib.ListN.{length}
+use Rattle.table.specs.Lists.{modify}
+use Rattle.table.specs.Flat.{second}
+use Rattle.table.specs.Layout.{nodes, Kept}
+use Rattle.table.specs.Laws.Locks.{cleared, clear_start, clear_turn, clear_done}
+use Rattle.table.proofs.transactions.unlock.Given as goal
+
+abbrev pub invariant-loop-t : goal.invariant-loop-t
+invariant-loop-t l = (1 ≤ l.t) × (l.t ≤ 17) × (l.i < length (nodes l.s)) × Kept l.initial.s l.s (modify l.i (second (cleared l.t)) (nodes l.initial.s))
+
+abbrev pub decreases-loop-t : goal.decreases-loop-t
+decreases-loop-t l = 17 - l.t
