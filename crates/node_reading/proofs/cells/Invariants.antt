@@ -1,0 +1,13 @@
+use borrow.Author.Rules.{rules}
+use native.Mathlib.Omega.{arith}
+use mathlib.Core.Path.{refl}
+use Prim.Native.Nat.{◌-◌, ◌≤◌}
+use Rattle.table.specs.Layout.{nodes}
+use Rattle.node_reading.specs.Laws.Buffers.{cell_piece, Written, written_start, written_more, cells_done}
+use Rattle.node_reading.proofs.cells.Given as goal
+
+abbrev pub invariant-loop-j : goal.invariant-loop-j
+invariant-loop-j l = (l.j ≤ l.count) × Written cell_piece 33 (nodes l.s) l.places l.j l.initial.out l.out
+
+abbrev pub decreases-loop-j : goal.decreases-loop-j
+decreases-loop-j l = l.count - l.j

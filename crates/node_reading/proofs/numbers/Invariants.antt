@@ -1,0 +1,13 @@
+use mathlib.Core.Path.{refl}
+use borrow.Author.Rules.{rules}
+use native.Mathlib.Omega.{arith}
+use Prim.Native.Nat.{◌-◌, ◌≤◌}
+use Rattle.table.specs.Layout.{nodes}
+use Rattle.node_reading.specs.Laws.Buffers.{number_piece, Written, written_start, written_number, numbers_done}
+use Rattle.node_reading.proofs.numbers.Given as goal
+
+abbrev pub invariant-loop-j : goal.invariant-loop-j
+invariant-loop-j l = (l.j ≤ l.count) × Written number_piece 4 (nodes l.s) l.places l.j l.initial.out l.out
+
+abbrev pub decreases-loop-j : goal.decreases-loop-j
+decreases-loop-j l = l.count - l.j
