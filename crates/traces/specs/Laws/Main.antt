@@ -71,6 +71,8 @@ holds_same e h = rw e h
 each_both : (before : List Call) (s : List ℕ) (xs : List Exchange) (cs : List Call) → Holds s (reached before) → Linked s xs → Made xs cs
     → Each Both before xs cs
 each_both before s [] [] h l no_call = tt
+each_both before s [] (c ∷ cs) h l m = elim m [ ]
+each_both before s (x ∷ xs) [] h l m = elim m [ ]
 each_both before s (x ∷ xs) (c ∷ cs) h l (call_then m k) =
     let b = both before x c l.0 m (holds_same l.1 h) in
     (b, each_both (before ++ (c ∷ [])) x.state.after xs cs (rw (further before c) b.0.by_definition.left) l.2 k)
@@ -79,6 +81,8 @@ each_both before s (x ∷ xs) (c ∷ cs) h l (call_then m k) =
 holds_last : (before : List Call) (s : List ℕ) (xs : List Exchange) (cs : List Call) → Holds s (reached before) → Linked s xs → Made xs cs
     → Holds (last_state s xs) (reached (before ++ cs))
 holds_last before s [] [] h l no_call = rw (append-nil before) h
+holds_last before s [] (c ∷ cs) h l m = elim m [ ]
+holds_last before s (x ∷ xs) [] h l m = elim m [ ]
 holds_last before s (x ∷ xs) (c ∷ cs) h l (call_then m k) =
     let b = both before x c l.0 m (holds_same l.1 h) in
     let n : Holds x.state.after (reached (before ++ (c ∷ []))) = rw (further before c) b.0.by_definition.left in

@@ -60,7 +60,7 @@ Behind =
 
 free : (c : Behind) → let at_needed = c.before.before.before.before.before in let at_admit = at_needed.before.before.before in
     let a = at_admit.before.before.before.before.before.args in
-    Free a.s.now a.t (site at_admit.admit.result at_admit.admit.new.1.1.1.0) at_needed.needed.result
+    Free a.s.now a.t (site at_admit.admit.result at_admit.admit.new.way) at_needed.needed.result
     (I a.m a.kind a.b.now a.n a.k)
 free c =
     let at_judge = c.before.before in

@@ -29,7 +29,7 @@ returns c =
     let child = c.before.before.before.child in
     let x = c.before.x in
     let open_names = closed (stack a.s.now l.names 0 l.depth) in
-    let whole = child.new.1.1.0 in
+    let whole = child.new.names in
     let read = subst (λ (r : Child). ChildRead a.s.now open_names l.i l.n whole r) x.given.1 child.ensures in
     content_stopped _ _ _ _ _ _ _ _ l.invariant.1 read
 
@@ -40,7 +40,7 @@ loop-less c =
     let child = c.before.before.before.child in
     let next = c.before.next in
     let open_names = closed (stack a.s.now l.names 0 l.depth) in
-    let whole = child.new.1.1.0 in
+    let whole = child.new.names in
     let read = subst (λ (r : Child). ChildRead a.s.now open_names l.i l.n whole r) next.given.1 child.ensures in
     let z = content_turn _ _ _ _ _ _ _ _ l.invariant.1 read in
     omega (arith, z.1, z.2)
@@ -52,7 +52,7 @@ loop-again c =
     let child = c.before.before.before.child in
     let next = c.before.next in
     let open_names = closed (stack a.s.now l.names 0 l.depth) in
-    let whole = child.new.1.1.0 in
+    let whole = child.new.names in
     let read = subst (λ (r : Child). ChildRead a.s.now open_names l.i l.n whole r) next.given.1 child.ensures in
     let z = content_turn _ _ _ _ _ _ _ _ l.invariant.1 read in
     (z.2, z.0)

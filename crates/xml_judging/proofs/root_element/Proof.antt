@@ -20,7 +20,7 @@ root_content_requires c κs =
     let args = c.before.before.before.before.before.before.before.args in
     let start_tag = c.before.before.before.before.start_tag in
     let next2 = c.before.before.next2 in
-    opened_inside start_tag.new.1.1.0 (start_tag.ensures.1.as_long ∙ search rules) start_tag.ensures.2
+    opened_inside start_tag.new.names (start_tag.ensures.1.as_long ∙ search rules) start_tag.ensures.2
     (omega (arith, pre.0.inside)) pre.2 pre.1
     (subst (λ (r : Tag). ElementRead args.s.now args.c.at args.spare r) next2.given.1 start_tag.ensures.0)
 
@@ -45,7 +45,7 @@ returns-3 c =
     let start_tag = c.before.before.before.before.before.start_tag in
     let next2 = c.before.before.before.next2 in
     let read = subst (λ (r : Tag). ElementRead args.s.now args.c.at args.spare r) next2.given.1 start_tag.ensures.0 in
-    root_open _ _ _ start_tag.new.1.1.0 _ start_tag.ensures.2 read c.root_content.ensures
+    root_open _ _ _ start_tag.new.names _ start_tag.ensures.2 read c.root_content.ensures
 
 pub root_element_spec : {M : Type 1} → statement M
 root_element_spec = tie.close (tie.spec (λ c κs. search rules) (λ c. search rules) (λ c. search rules) behind_root_requires

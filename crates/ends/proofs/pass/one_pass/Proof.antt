@@ -68,7 +68,7 @@ loop-again c =
       omega (arith, l.invariant.2),
       moved.ensures.kept.many ∙ lock.ensures.many ∙ ends.ensures.kept.many ∙ l.invariant.3,
       kept_on (kept_on (kept_on l.invariant.4 ends.ensures.kept) lock.ensures) moved.ensures.kept,
-      passed_next args.commits args.n args.t (nodes args.s.now) l.below l.auto l.j _ _ inside
+      passed_next args.commits args.n args.t (nodes args.s.now) l.below l.kept l.j _ _ inside
           l.invariant.0 l.invariant.5 ends.ensures lock.ensures moved.ensures,
     )
 
@@ -81,7 +81,7 @@ cut_requires c κs =
     let past : length (nodes l.s) ≤ l.j = omega (arith, c.before.loop-test.false, l.invariant.3) in
     let some : 1 ≤ length rows = omega (arith, pre.0.some, pre.0.many) in (
       l.invariant.4.layout,
-      passed_some start.args.commits start.args.n start.args.t rows l.auto l.below l.j (nodes l.s)
+      passed_some start.args.commits start.args.n start.args.t rows l.kept l.below l.j (nodes l.s)
           l.invariant.5 past some pre.3,
       omega (arith, l.invariant.0, l.invariant.1, l.invariant.3),
     )
@@ -97,7 +97,7 @@ returns c =
     record {
       count = omega (arith, l.invariant.1, l.invariant.2, test.false, count.ensures);
       bound = omega (arith, l.invariant.1, l.invariant.2, count.ensures, pre.0.room, pre.0.many);
-      left = passed_left start.args.commits start.args.n start.args.t l.auto l.below l.j l.invariant.4 l.invariant.5 past
+      left = passed_left start.args.commits start.args.n start.args.t l.kept l.below l.j l.invariant.4 l.invariant.5 past
           c.before.before.cut.ensures;
     }
 
