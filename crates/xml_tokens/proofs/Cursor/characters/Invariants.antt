@@ -1,0 +1,16 @@
+use native.Mathlib.Omega.{arith}
+use Prim.Native.Nat.{◌-◌, ◌≤◌}
+use mathlib.Core.Path.{sym, ◌∙◌}
+use borrow.Author.Rules.{rules}
+use borrow.Author.Tests.{not-true, not-false}
+use lib.ListN.{length}
+use Rattle.xml_tokens.specs.Laws.Characters.{CharactersTo, characters_start, characters_end, characters_stop, characters_wrong}
+use Rattle.xml_tokens.specs.Laws.Characters.{characters_full, characters_byte, characters_unfit, characters_special, special_as}
+use Rattle.xml_tokens.specs.Laws.Characters.{special_inside}
+use Rattle.xml_tokens.proofs.Cursor.characters.Given as goal
+
+abbrev pub invariant-loop-i : goal.invariant-loop-i
+invariant-loop-i l = (l.initial.i ≤ l.i) × (l.i ≤ length l.s) × (l.count ≤ 32) × CharactersTo l.s l.stop l.spare l.initial.i l.k l.count l.i
+
+abbrev pub decreases-loop-i : goal.decreases-loop-i
+decreases-loop-i l = length l.s - l.i

@@ -1,0 +1,26 @@
+use borrow.Author.Rules.{rules}
+use Prim.Native.Nat.{◌-◌, ◌≤◌}
+use mathlib.Core.Path.{sym, ◌∙◌}
+use borrow.Author.Tests.{not-true, not-false}
+use lib.ListN.{length}
+use Rattle.xml_tokens.specs.Classes.{ascii_name}
+use Rattle.xml_tokens.specs.Laws.Runs.{Running, run_start, run_turn, run_stop, run_end}
+use Rattle.xml_tokens.proofs.Cursor.plain_name.Goals as goal
+
+pub loop-i-init : goal.loop-i-init
+loop-i-init c = (search rules, run_start _ _ _)
+
+pub loop-i-preserved : goal.loop-i-preserved
+loop-i-preserved c =
+    let l = c.loop-i in
+    let ascii_name = c.ascii_name in
+    (search rules, run_turn _ _ _ _ l.invariant.1 (search rules) (sym ascii_name.ensures ∙ not-false _ c.if-not-ascii_name.false-raw))
+
+pub returns-after-loop-i : goal.returns-after-loop-i
+returns-after-loop-i c = run_end _ _ _ _ c.loop-i.invariant.1 (search rules) (search rules)
+
+pub returns-then-not-ascii_name : goal.returns-then-not-ascii_name
+returns-then-not-ascii_name c =
+    let l = c.loop-i in
+    let ascii_name = c.ascii_name in
+    run_stop _ _ _ _ l.invariant.1 (search rules) (sym ascii_name.ensures ∙ not-true _ c.if-not-ascii_name.true-raw)
