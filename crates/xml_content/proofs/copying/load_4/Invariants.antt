@@ -1,0 +1,14 @@
+use mathlib.Core.List.{◌++◌, append-nil}
+use borrow.Author.Rules.{rules}
+use Prim.Native.Nat.{◌-◌, ◌≤◌}
+use mathlib.Core.Path.{◌≡◌, refl, ◌∙◌}
+use native.Mathlib.Omega.{arith}
+use lib.ListN.{length, take, drop}
+use Rattle.xml_text.specs.Lending.{copy_more}
+use Rattle.xml_content.proofs.copying.load_4.Given as goal
+
+abbrev pub invariant-loop-i : goal.invariant-loop-i
+invariant-loop-i l = (l.i ≤ 4) × (length l.initial.a ≡ 4) × (l.a ≡ take l.i l.p ++ drop l.i l.initial.a)
+
+abbrev pub decreases-loop-i : goal.decreases-loop-i
+decreases-loop-i l = 4 - l.i
