@@ -1,0 +1,62 @@
+use borrow.Author.Rules.{rules}
+use mathlib.Core.Path.{refl}
+use Rattle.locks.specs.declared.StepName.TheVariants as name
+use Rattle.rows.specs.Rows.{stepped}
+use Rattle.tree.specs.Steps.{C}
+use Rattle.engine.specs.Contract.{no_room}
+use Rattle.engine.specs.Laws.Outcomes.{performed_grants}
+use Rattle.engine.specs.Laws.Judgement.{none_first, ready, stop_ready, step_stopped, step_free, free_granted, free_locked}
+use Rattle.read_steps.specs.Laws.Steps.{room_left, child_fits}
+use Rattle.read_steps.proofs.child.Goals as goal
+
+pub judge-verdict-requires : goal.judge-verdict-requires
+judge-verdict-requires c = ready c.admit-at.ensures (none_first _)
+
+pub stop-requires : goal.stop-requires
+stop-requires c =
+    let at_judge = c in
+    let at_needed = at_judge in
+    let at_admit = at_needed in
+    stop_ready at_admit.admit-at.ensures (none_first _) at_judge.judge-verdict.ensures
+
+pub returns-then-not-verdict : goal.returns-then-not-verdict
+returns-then-not-verdict c =
+    let at_if1 = c in
+    let at_judge = at_if1 in
+    let at_needed = at_judge in
+    let at_admit = at_needed in
+    (step_stopped name.C (C _ _) refl at_admit.admit-at.ensures (none_first _) at_needed.needed-need.ensures at_judge.judge-verdict.ensures
+    at_if1.if-not-verdict.true no_room c.stop.ensures).performed
+
+pub kth_child-answer-requires : goal.kth_child-answer-requires
+kth_child-answer-requires c =
+    let at_judge = c in
+    let at_needed = at_judge in
+    let at_admit = at_needed in
+    let f = step_free name.C (C _ 0) refl at_admit.admit-at.ensures (none_first _) at_needed.needed-need.ensures
+    at_judge.judge-verdict.ensures c.if-not-verdict.false in
+    (f.standing.layout, f.standing.inside)
+
+pub grant-requires : goal.grant-requires
+grant-requires c =
+    let at_if1 = c in
+    let at_judge = at_if1 in
+    let at_needed = at_judge in
+    let at_admit = at_needed in
+    let f = step_free name.C (C _ 0) refl at_admit.admit-at.ensures (none_first _) at_needed.needed-need.ensures
+    at_judge.judge-verdict.ensures at_if1.if-not-verdict.false in
+    (f.standing.layout, f.standing.low, f.standing.high, f.standing.climbed.inside)
+
+pub returns : goal.returns
+unfolding stepped
+returns c =
+    let at_grant = c in
+    let at_kth_child = at_grant in
+    let at_if1 = at_kth_child in
+    let at_judge = at_if1 in
+    let at_needed = at_judge in
+    let at_admit = at_needed in
+    let f = step_free name.C (C _ _) refl at_admit.admit-at.ensures (none_first _) at_needed.needed-need.ensures
+    at_judge.judge-verdict.ensures at_if1.if-not-verdict.false in
+    let left = (free_locked f at_grant.grant.ensures).left in
+    performed_grants (free_granted f no_room (room_left _ no_room (child_fits _ _)) left) _ at_kth_child.kth_child-answer.ensures

@@ -1,0 +1,92 @@
+use borrow.Author.Rules.{rules}
+use mathlib.Core.Path.{refl}
+use Rattle.locks.specs.declared.StepName.TheVariants as name
+use Rattle.rows.specs.Rows.{stepped}
+use Rattle.tree.specs.Steps.{TT}
+use Rattle.engine.specs.Contract.{room_of}
+use Rattle.engine.specs.Laws.Judgement.{none_first, ready, stop_ready, step_stopped, step_free, free_refused, free_granted, free_locked}
+use Rattle.read_steps.specs.Laws.Steps.{room_left, room_short, not_none, stopped_one, numbers_fit, numbers_short, numbers_granted}
+use Rattle.read_steps.proofs.test_tree.Goals as goal
+
+pub judge-verdict-requires : goal.judge-verdict-requires
+judge-verdict-requires c = ready c.admit-at.ensures (none_first _)
+
+pub stop-requires : goal.stop-requires
+stop-requires c =
+    let at_judge = c in
+    let at_needed = at_judge in
+    let at_admit = at_needed in
+    stop_ready at_admit.admit-at.ensures (none_first _) at_judge.judge-verdict.ensures
+
+pub returns-then-not-verdict : goal.returns-then-not-verdict
+returns-then-not-verdict c =
+    let at_if1 = c in
+    let at_judge = at_if1 in
+    let at_needed = at_judge in
+    let at_admit = at_needed in
+    let start = at_admit in
+    stopped_one (step_stopped name.TT (TT _) refl at_admit.admit-at.ensures (none_first _) at_needed.needed-need.ensures
+    at_judge.judge-verdict.ensures at_if1.if-not-verdict.true (room_of start.args.out.now) c.stop.ensures) _
+
+pub select-count-requires : goal.select-count-requires
+select-count-requires c =
+    let at_judge = c in
+    let at_needed = at_judge in
+    let at_admit = at_needed in
+    let f = step_free name.TT (TT _) refl at_admit.admit-at.ensures (none_first _) at_needed.needed-need.ensures
+    at_judge.judge-verdict.ensures c.if-not-verdict.false in
+    (f.standing.layout, f.standing.inside, refl)
+
+pub returns-then-out-count : goal.returns-then-out-count
+returns-then-out-count c =
+    let at_select = c in
+    let at_if1 = at_select in
+    let at_judge = at_if1 in
+    let at_needed = at_judge in
+    let at_admit = at_needed in
+    let start = at_admit in
+    let out = start.args.out.now in
+    let f = step_free name.TT (TT _) refl at_admit.admit-at.ensures (none_first _) at_needed.needed-need.ensures
+    at_judge.judge-verdict.ensures at_if1.if-not-verdict.false in
+    stopped_one (free_refused f (room_of out) 13 (room_short _ (room_of out)
+    (numbers_short _ at_select.select-count.ensures out c.if-out-count.true)) not_none) _
+
+pub numbers-requires : goal.numbers-requires
+numbers-requires c =
+    let at_select = c in
+    let at_if1 = at_select in
+    let at_judge = at_if1 in
+    let at_needed = at_judge in
+    let at_admit = at_needed in
+    let f = step_free name.TT (TT _) refl at_admit.admit-at.ensures (none_first _) at_needed.needed-need.ensures
+    at_judge.judge-verdict.ensures at_if1.if-not-verdict.false in
+    (f.standing.layout, at_select.select-count.ensures.inside, c.if-out-count.false)
+
+pub grant-requires : goal.grant-requires
+grant-requires c =
+    let at_if1 = c in
+    let at_judge = at_if1 in
+    let at_needed = at_judge in
+    let at_admit = at_needed in
+    let f = step_free name.TT (TT _) refl at_admit.admit-at.ensures (none_first _) at_needed.needed-need.ensures
+    at_judge.judge-verdict.ensures at_if1.if-not-verdict.false in
+    (f.standing.layout, f.standing.low, f.standing.high, f.standing.climbed.inside)
+
+pub returns : goal.returns
+unfolding stepped
+returns c =
+    let at_grant = c in
+    let at_numbers = at_grant in
+    let at_if2 = at_numbers in
+    let at_select = at_if2 in
+    let at_if1 = at_select in
+    let at_judge = at_if1 in
+    let at_needed = at_judge in
+    let at_admit = at_needed in
+    let start = at_admit in
+    let out = start.args.out.now in
+    let f = step_free name.TT (TT _) refl at_admit.admit-at.ensures (none_first _) at_needed.needed-need.ensures
+    at_judge.judge-verdict.ensures at_if1.if-not-verdict.false in
+    let fits = room_left _ (room_of out) (numbers_fit _ at_select.select-count.ensures out at_if2.if-out-count.false) in
+    let granted = free_granted f (room_of out) fits (free_locked f at_grant.grant.ensures).left in
+    numbers_granted _ at_select.select-count.ensures at_numbers.numbers.ensures granted
