@@ -1,0 +1,14 @@
+use borrow.Author.Rules.{rules}
+use Prim.Native.Nat.{◌-◌, ◌≤◌}
+use mathlib.Core.Path.{◌≡◌}
+use lib.ListN.{length}
+use Rattle.tree.specs.Lists.{same}
+use Rattle.table.specs.Layout.{part}
+use Rattle.form.specs.Laws.Begins.{same_from, begins_start, begins_differs, begins_next, begins_end}
+use Rattle.form.proofs.begins.Given as goal
+
+abbrev pub invariant-loop-i : goal.invariant-loop-i
+invariant-loop-i l = (l.i ≤ length l.b) × (same (part l.s 0 (length l.b)) l.b ≡ same_from l.i l.s l.b)
+
+abbrev pub decreases-loop-i : goal.decreases-loop-i
+decreases-loop-i l = length l.b - l.i

@@ -1,0 +1,16 @@
+use borrow.Author.Rules.{rules}
+use native.Mathlib.Omega.{arith}
+use Prim.Native.Nat.{◌-◌, ◌≤◌}
+use mathlib.Core.Path.{◌≡◌, refl}
+use Rattle.tree.specs.Lists.{distinct}
+use Rattle.table.specs.Layout.{number, tabulate}
+use Rattle.form.specs.Check.{Chains}
+use Rattle.form.specs.Laws.Numbers.{chains_begin, chains_next, numbers_from, numbers_begin, numbers_met, numbers_next, numbers_end}
+use Rattle.form.proofs.numbers.distinct.Given as goal
+
+abbrev pub invariant-loop-i : goal.invariant-loop-i
+invariant-loop-i l =
+    (l.i ≤ l.n) × (distinct (tabulate l.n (number l.s)) ≡ numbers_from (number l.s) l.n l.heads l.next l.i) × (Chains l.i l.heads l.next)
+
+abbrev pub decreases-loop-i : goal.decreases-loop-i
+decreases-loop-i l = l.n - l.i
