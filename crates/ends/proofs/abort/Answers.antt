@@ -1,0 +1,14 @@
+use borrow.Author.Rules.{rules}
+use Rattle.ends.specs.Laws.Calls.{abort_barred, abort_done}
+use Rattle.ends.proofs.abort.Goals as goal
+
+pub returns-then-cause-ne0 : goal.returns-then-cause-ne0
+returns-then-cause-ne0 c = abort_barred _ (c.caller-cause.ensures.barred c.if-cause-ne0.true)
+
+pub end-requires : goal.end-requires
+end-requires c = c.caller-cause.ensures.opened c.if-cause-ne0.false
+
+pub returns : goal.returns
+returns c =
+    let at_if1 = c in
+    abort_done (at_if1.caller-cause.ensures.opened at_if1.if-cause-ne0.false) c.end.ensures

@@ -1,0 +1,17 @@
+use borrow.Author.Rules.{rules}
+use native.Mathlib.Omega.{arith}
+use Prim.Native.Nat.{◌-◌, ◌≤◌, ◌<◌}
+use mathlib.Core.Path.{◌≡◌, sym, ◌∙◌}
+use lib.ListN.{length}
+use Rattle.table.specs.Layout.{nodes, Kept}
+use Rattle.table.specs.Laws.Kept.{kept_same, kept_on}
+use Rattle.ends.specs.Laws.Pass.{Passed, passed_start, passed_next, passed_some, passed_left, moved_most}
+use Rattle.ends.proofs.pass.one_pass.Given as goal
+
+abbrev pub invariant-loop-j : goal.invariant-loop-j
+invariant-loop-j l =
+    (l.kept ≤ l.j) × (l.j ≤ l.m) × (l.visits ≡ l.j) × (length (nodes l.s) ≡ l.m) × Kept l.initial.s l.s (nodes l.s)
+    × Passed l.commits l.n l.t (nodes l.initial.s) l.kept l.below l.j (nodes l.s)
+
+abbrev pub decreases-loop-j : goal.decreases-loop-j
+decreases-loop-j l = l.m - l.j
