@@ -1,0 +1,49 @@
+use Rattle.xml_text.specs.Laws.Pieces.{terms, byte_counted}
+use native.Mathlib.Omega.{arith}
+use borrow.Author.Rules.{rules}
+use Rattle.xml_text.proofs.markup.byte_length.Goals as goal
+
+pub overflow_mul-result : goal.overflow_mul-result
+overflow_mul-result c = omega (arith, terms c.args.value c.args.b)
+
+pub overflow_add-result : goal.overflow_add-result
+overflow_add-result c = omega (arith, terms c.args.value c.args.b)
+
+pub overflow_mul-result-2 : goal.overflow_mul-result-2
+overflow_mul-result-2 c = omega (arith, terms c.args.value c.args.b)
+
+pub overflow_add-result-2 : goal.overflow_add-result-2
+overflow_add-result-2 c = omega (arith, terms c.args.value c.args.b)
+
+pub overflow_mul-result-3 : goal.overflow_mul-result-3
+overflow_mul-result-3 c = omega (arith, terms c.args.value c.args.b)
+
+pub overflow_add-result-3 : goal.overflow_add-result-3
+overflow_add-result-3 c = omega (arith, terms c.args.value c.args.b)
+
+pub overflow_mul-result-4 : goal.overflow_mul-result-4
+overflow_mul-result-4 c = omega (arith, terms c.args.value c.args.b)
+
+pub overflow_add-result-4 : goal.overflow_add-result-4
+overflow_add-result-4 c = omega (arith, terms c.args.value c.args.b)
+
+pub overflow_mul-result-5 : goal.overflow_mul-result-5
+overflow_mul-result-5 c = omega (arith, terms c.args.value c.args.b)
+
+pub overflow_mul-result-6 : goal.overflow_mul-result-6
+overflow_mul-result-6 c = omega (arith, terms c.args.value c.args.b)
+
+pub overflow_add-result-5 : goal.overflow_add-result-5
+overflow_add-result-5 c = omega (arith, terms c.args.value c.args.b)
+
+pub overflow_mul-result-7 : goal.overflow_mul-result-7
+overflow_mul-result-7 c = omega (arith, terms c.args.value c.args.b)
+
+pub overflow_mul-result-8 : goal.overflow_mul-result-8
+overflow_mul-result-8 c = omega (arith, terms c.args.value c.args.b)
+
+pub overflow_add-result-6 : goal.overflow_add-result-6
+overflow_add-result-6 c = omega (arith, terms c.args.value c.args.b)
+
+pub returns : goal.returns
+returns c = byte_counted c.args.value c.args.b

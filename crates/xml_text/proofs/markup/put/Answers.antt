@@ -1,0 +1,22 @@
+use mathlib.Core.List.{◌++◌}
+use lib.Seq.{take-length}
+use Rattle.xml_text.specs.Lending.{copy_more}
+use borrow.Author.Rules.{rules}
+use Prim.Native.Nat.{◌-◌, ◌≤◌}
+use mathlib.Core.Path.{◌≡◌, refl, ◌∙◌}
+use native.Mathlib.Omega.{arith}
+use lib.ListN.{length, take, drop, length-set}
+use Rattle.xml_text.proofs.markup.put.Goals as goal
+
+pub loop-i-preserved : goal.loop-i-preserved
+loop-i-preserved c =
+    let l = c in
+    (refl, (omega arith, (simp length-set l.loop-i.invariant.1.1.0, copy_more _ _ _ _ (omega arith) (omega arith) l.loop-i.invariant.1.1.1)))
+
+pub returns : goal.returns
+returns c =
+    let e : c.loop-i.i ≡ length c.args.p.now = omega arith in
+    record {
+      count = refl;
+      bytes = c.loop-i.invariant.1.1.1 ∙ rw (e, take-length);
+    }

@@ -1,0 +1,15 @@
+use mathlib.Core.List.{◌++◌}
+use lib.Seq.{take-length}
+use Rattle.xml_text.specs.Lending.{copy_more}
+use borrow.Author.Rules.{rules}
+use Prim.Native.Nat.{◌-◌, ◌≤◌}
+use mathlib.Core.Path.{◌≡◌, refl, ◌∙◌}
+use native.Mathlib.Omega.{arith}
+use lib.ListN.{length, take, drop, length-set}
+use Rattle.xml_text.proofs.markup.put.Given as goal
+
+abbrev pub invariant-loop-i : goal.invariant-loop-i
+invariant-loop-i l = (l.n ≡ length l.p) × ((l.i ≤ l.n) × ((length l.out ≡ length l.initial.out) × (l.out ≡ take l.i l.p ++ drop l.i l.initial.out)))
+
+abbrev pub decreases-loop-i : goal.decreases-loop-i
+decreases-loop-i l = l.n - l.i
