@@ -1,0 +1,14 @@
+use borrow.Author.Rules.{rules}
+use Prim.Native.Nat.{◌-◌}
+use mathlib.Core.Path.{refl, sym, ◌∙◌}
+use lib.ListN.{length, replicate}
+use Rattle.table.specs.Layout.{nodes}
+use Rattle.xml_measure.specs.Laws.Selection.{Selecting, selecting_start, selecting_end, selecting_hidden, selecting_inserted}
+use Rattle.xml_measure.specs.Laws.Selection.{selecting_found}
+use Rattle.xml_measure.proofs.committed.select.Given as goal
+
+abbrev pub invariant-loop-i : goal.invariant-loop-i
+invariant-loop-i l = Selecting (nodes l.s) l.hidden l.i l.count l.places
+
+abbrev pub decreases-loop-i : goal.decreases-loop-i
+decreases-loop-i l = length (nodes l.s) - l.i
