@@ -1,0 +1,87 @@
+use borrow.Author.Rules.{rules}
+use native.Mathlib.Omega.{arith}
+use Prim.Native.Nat.{◌+◌, ◌-◌, ◌≤◌, max}
+use mathlib.Core.Path.{◌≡◌, refl, ap, subst, ◌∙◌}
+use lib.ListN.{length, take, drop, length-set}
+use Rattle.xml.specs.Laws.Fixed.{reference_at}
+use Rattle.xml_tokens.specs.declared.Reference.{Reference}
+use Rattle.xml_tokens.specs.Steps.{Refers}
+use Rattle.xml_tokens.specs.Laws.Specials.{reference_inside}
+use Rattle.xml_filling.specs.Laws.Decoding.{Decoding, decode_start, decode_end, decode_stop, decode_full, decode_lost, decode_byte}
+use Rattle.xml_filling.specs.Laws.Decoding.{decode_reference}
+use Rattle.xml_filling.proofs.decode.Goals as goal
+
+pub loop-i-init : goal.loop-i-init
+loop-i-init c = (search rules, search rules, search rules, search rules, decode_start _ _ _)
+
+pub returns-then-b-stop : goal.returns-then-b-stop
+returns-then-b-stop c =
+    let l = c.loop-i in
+    (l.invariant.3, decode_stop _ _ _ _ _ _ l.invariant.4 l.invariant.0 l.invariant.2 l.invariant.3 (search rules) _ c.if-b-stop.true refl)
+
+pub loop-i-preserved-then-b-ne38 : goal.loop-i-preserved-then-b-ne38
+loop-i-preserved-then-b-ne38 c =
+    let l = c.loop-i in
+    let e = c.least-low.ensures in
+    let if1 = c.if-b-stop in (
+      search rules,
+      search rules,
+      search rules,
+      simp length-set l.invariant.3,
+      decode_byte _ _ _ _ _ _ l.invariant.4 l.invariant.0 l.invariant.2 l.invariant.3 (search rules) if1.false (search rules) _
+          c.if-b-ne38.true (c.larger.ensures ∙ ap (max _) e),
+    )
+
+pub loop-i-smaller : goal.loop-i-smaller
+loop-i-smaller c =
+    let c₆ = c in
+    let if3 = c.if-b-ne38 in
+    let reference = c.reference in
+    let m = c₆ in
+    let l = m.loop-i in
+    let x = m.args.x.now in
+    let name = reference_at (drop (l.i + 1) x) in
+    let r = subst (λ (r : Reference). Refers x (l.i + 1) name r) c.in-Byte.is reference.ensures in
+    let y = reference_inside r in
+    omega (arith, y.0, y.1)
+
+pub loop-i-preserved : goal.loop-i-preserved
+loop-i-preserved c =
+    let c₆ = c in
+    let if3 = c.if-b-ne38 in
+    let reference = c.reference in
+    let m = c₆ in
+    let l = m.loop-i in
+    let x = m.args.x.now in
+    let name = reference_at (drop (l.i + 1) x) in
+    let r = subst (λ (r : Reference). Refers x (l.i + 1) name r) c.in-Byte.is reference.ensures in
+    let y = reference_inside r in (
+      omega (arith, y.0),
+      y.1,
+      search rules,
+      simp length-set l.invariant.3,
+      decode_reference _ _ _ _ _ _ l.invariant.4 l.invariant.0 l.invariant.2 l.invariant.3 (search rules) c₆.if-b-stop.false (search rules)
+          if3.false r,
+    )
+
+pub returns-after-loop-i : goal.returns-after-loop-i
+returns-after-loop-i c =
+    let l = c.loop-i in (l.invariant.3, decode_end _ _ _ _ _ _ l.invariant.4 l.invariant.0 l.invariant.2 l.invariant.3 _ (search rules))
+
+pub returns-then-n-eq32 : goal.returns-then-n-eq32
+returns-then-n-eq32 c = let l = c.loop-i in (
+  l.invariant.3,
+  decode_full _ _ _ _ _ _ l.invariant.4 l.invariant.0 l.invariant.2 l.invariant.3 (search rules) c.if-b-stop.false _ c.if-n-eq32.true,
+)
+
+pub returns-in-NoReference : goal.returns-in-NoReference
+returns-in-NoReference c =
+    let c₅ = c in
+    let l = c₅.loop-i in
+    let x = c₅.args.x.now in
+    let name = reference_at (drop (l.i + 1) x) in
+    let r = subst (λ (r : Reference). Refers x (l.i + 1) name r) c.in-NoReference.is c.reference.ensures in (
+      l.invariant.3,
+      decode_lost _ _ _ _ _ _ l.invariant.4 l.invariant.0 l.invariant.2 l.invariant.3 (search rules) c₅.if-b-stop.false _
+          c.if-b-ne38.false r,
+    )

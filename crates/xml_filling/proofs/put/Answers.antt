@@ -1,0 +1,6 @@
+use Rattle.xml_filling.specs.Laws.Tokens.{put_last}
+use borrow.Author.Rules.{rules}
+use Rattle.xml_filling.proofs.put.Goals as goal
+
+pub returns : goal.returns
+returns c = put_last _ _ _ _ c.count-n.ensures c.insert.ensures
