@@ -44,7 +44,7 @@ pub record Performed (s s' : List ℕ) (r : Answer) (call : Call) : Type 0 where
   -- call writes
   pub answer : (M : State) → Holds s M → (writing : Document → Answer) → r ≡ answer_of writing (next call M).outcome
   -- which slot each node has, the order of the free slots, and the bytes that docs/STATE.md calls free are the program's choice at every
-  -- granted call; what all choices have in common is `one_answer` (traces), and the bytes hold this one state (`holds-one` in form)
+  -- granted call; what all choices have in common is `one_answer` (traces), and the bytes hold this one state (`holds_one` in form)
   pub state : (M : State) → Holds s M → Holds s' (next call M).state
   -- a wait or a refusal: "left as it was: everything", but for what the definition changes
   pub still : (M : State) → Holds s M → is_granted (next call M).outcome ≡ false
@@ -53,7 +53,7 @@ pub record Performed (s s' : List ℕ) (r : Answer) (call : Call) : Type 0 where
   pub long : length s' ≡ length s
   pub behind : drop state_size s' ≡ drop state_size s
 
--- the call was lent a buffer too, which held b and now holds b'; `lent` is first-lent or second-lent. No such call writes, so what
+-- the call was lent a buffer too, which held b and now holds b'; `lent` is first_lent or second_lent. No such call writes, so what
 -- `as_it_was` says of a text plays no part
 pub record Lent (lent : Value → List ℕ) (s b b' : List ℕ) (call : Call) : Type 0 where
   pub unformed : form s ≡ false → b' ≡ b

@@ -45,7 +45,7 @@ code_of (Refused cause) = packed 2 cause 0
 code_of (RefusedAt cause offset) = packed 2 cause offset
 
 -- a lent buffer afterwards: "bytes of a lent buffer behind the answer keep their values". Only a granted call puts anything there: what
--- `lent`, which is first-lent or second-lent, has for its answer, and what `text` says of the buffer and the document written
+-- `lent`, which is first_lent or second_lent, has for its answer, and what `text` says of the buffer and the document written
 unfoldable pub lent_after : (Value → List ℕ) → (List ℕ → Document → List ℕ) → Outcome → List ℕ → List ℕ
 lent_after lent text (granted v) buffer = filled (lent v) buffer
 lent_after lent text (written d) buffer = text buffer d

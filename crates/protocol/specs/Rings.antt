@@ -1,4 +1,4 @@
--- Rings of transactions each waiting for the next, which are cycles of the waits-for graph: document 02, A.6.
+-- Rings of transactions each waiting for the next, which are cycles of the waits_for graph: document 02, A.6.
 use Rattle.std.specs.Prelude.{ℕ, zero, suc, ◌≡◌, Bool, true, false, ◌&&◌, ◌||◌}
 use Rattle.tree.specs.Lists.{any}
 use Rattle.protocol.specs.State.{transactions, WaitSets, Header}
@@ -12,6 +12,6 @@ abbrev pub waits_within : ℕ → WaitSets → ℕ → ℕ → Bool
 waits_within zero r t u = false
 waits_within (suc n) r t u = r t u || any (λ v. r v u && waits_within n r t v) transactions
 
--- t is in a ring; among sixteen transactions none is longer than sixteen (`ring-test` in serializability: this is a path of any length)
+-- t is in a ring; among sixteen transactions none is longer than sixteen (`ring_test` in serializability: this is a path of any length)
 unfoldable pub in_ring : WaitSets → ℕ → Bool
 in_ring r t = waits_within 16 r t t

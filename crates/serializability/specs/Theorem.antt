@@ -23,7 +23,7 @@ use Rattle.protocol.specs.History.{Event, history, state_after, is_granted, comm
 use Rattle.protocol.specs.History.{plain_run_answers, plain_counts, plain_with_counts, inserted, pending, waited_for, sets_after}
 
 -- a list that begins with a start, which is always granted, and the state that it reaches. They begin in one fixed state: start forgets the
--- state before it (`start-forgets`)
+-- state before it (`start_forgets`)
 abbrev pub since_start : List Call → List Event
 since_start cs = history start_state (start ∷ cs)
 
@@ -147,7 +147,7 @@ pub record CountsPlain (cs : List Call) : Type 0 where
   -- what count_of tells: the plain run's count for a node of its document, and 7 for all other numbers
   pub told : (n : ℕ) → (next (count_of n) (reached cs)).outcome
       ≡ cond (here n (plain (since_start cs))) (granted (how_many (plain_counts (since_start cs) n))) (refused no_such_node)
-  -- "a loaded node and the document bear 0": the document in every state, a loaded node by `zero-counts`
+  -- "a loaded node and the document bear 0": the document in every state, a loaded node by `zero_counts`
   pub document : plain_counts (since_start cs) 0 ≡ 0
   -- the number of commits in the state is that of the transactions committed since the last granted start or load
   pub commits : (reached cs).header.commits ≡ commits_in (since_start cs)

@@ -76,7 +76,7 @@ pub record Contract (x : Exchange) : Type 0 where
 -- every choice -------------------------------------------------------------------------
 
 -- which slot each node has, the order of the free slots and the free bytes of docs/STATE.md are the program's choice at every granted call.
--- What all choices have in common (laws one-answer, one-start): the number, the lent buffers, and the one state that the bytes left hold
+-- What all choices have in common (laws one_answer, one_start): the number, the lent buffers, and the one state that the bytes left hold
 pub record OneAnswer (x y : Exchange) : Type 0 where
   pub code : x.code ≡ y.code
   pub first : x.first.after ≡ y.first.after

@@ -118,8 +118,8 @@ pub record StateBytes (x : Exchange) : Type 0 where
   pub begun : x.request ≡ Request.start → outcome x.code ≡ 0 → form x.state.after ≡ true
   pub kept : form x.state.before ≡ true → form x.state.after ≡ true
 
--- in every state that bytes hold, reached by calls or not. A write there is by `write-answer` and `write-buffer`, which are `writing` and
--- `text-after` but for a tree against the rules, as no call leaves it: that is not expressible either
+-- in every state that bytes hold, reached by calls or not. A write there is by `write_answer` and `write_buffer`, which are `writing` and
+-- `text_after` but for a tree against the rules, as no call leaves it: that is not expressible either
 pub record Answers (x : Exchange) : Type 0 where
   pub on_states : (M : State) (c : Call) → Holds x.state.before M → MakesCall x c → ByDefinition write_answer write_buffer M x c
   -- a start needs no state before it, only bytes enough
@@ -312,7 +312,7 @@ pub record Delivered (x : Exchange) (xs : List Exchange) : Type 0 where
   pub start_code : x.code ≡ 0
   pub start_buffers : Same x.first × Same x.second
   pub demand_1 : (y : Exchange) → Memᴰ y (x ∷ xs) → Demand1 y
-  -- the state that demand 3 speaks of is the one that the bytes hold in the end; they hold no other (`holds-one`)
+  -- the state that demand 3 speaks of is the one that the bytes hold in the end; they hold no other (`holds_one`)
   pub held : Holds (last_state x.state.after xs) (reached calls)
   pub demand_2 : Each (λ before y c. Demand2 (reached before) y c) [] xs calls
   pub demand_3 : Demand3 calls

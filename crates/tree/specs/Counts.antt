@@ -1,4 +1,4 @@
--- The counts of commits on a plain document: document 02, A.7. They stand beside the document: `with-counts` puts the two together.
+-- The counts of commits on a plain document: document 02, A.7. They stand beside the document: `with_counts` puts the two together.
 use Rattle.std.specs.Prelude.{ℕ, suc, true, cond, List, [], ◌∷◌}
 use Rattle.tree.specs.Lists.{has}
 use Rattle.tree.specs.Forest.{Forest, view}

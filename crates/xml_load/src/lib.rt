@@ -54,7 +54,7 @@ fn replace(s: &mut [u8], x: &[u8])
     xml_filling::fill(s, x);
 }
 
-// Load: the node count, or why the input is refused. Every input reads as one thing (the theorems `reading` and `one-reading` of crate
+// Load: the node count, or why the input is refused. Every input reads as one thing (the theorems `reading` and `one_reading` of crate
 // xml).
 pub fn load(s: &mut [u8], x: &[u8]) -> Answer
     ensures { (i : Input) → ReadsAs x.now i → Performed s.old s.new result (load i) }

@@ -30,7 +30,7 @@ may_stand parent previous kind =
     takes parent kind && cond (eqb parent element_kind) (not (eqb kind attribute_kind) || in_start_tag previous) (eqb previous 0)
 
 -- every node may stand where it is, below this parent and behind this sibling; for the children of the document node this is `ordered`
--- (law ordered-document)
+-- (law ordered_document)
 unfoldable pub in_order : ℕ → ℕ → Shape → Bool
 in_order parent previous nil = true
 in_order parent previous (node a ks fs) =

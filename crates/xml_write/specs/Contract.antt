@@ -21,7 +21,7 @@ unfoldable pub text_after : List ℕ → Document → List ℕ
 text_after o d = cond (writable (length o) d) (filled (write d) o) o
 
 -- bytes of the form may hold a tree that no call leaves, with children against the tree's rules: it is not expressible either.
--- Every document of the rules is ordered, so these are `writing` and `text-after` in every list of calls
+-- Every document of the rules is ordered, so these are `writing` and `text_after` in every list of calls
 unfoldable pub write_answer : ℕ → Document → Answer
 write_answer room d = cond (ordered d) (writing room d) (Refused 14)
 

@@ -94,7 +94,7 @@ module _ (l : List ℕ) (t reach next v : ℕ) (h : v < 16) (j : Joined l t reac
 
 -- rounds -------------------------------------------------------------------------------
 
--- `waits-within`, which unfolds at a numeral, under a name that does not
+-- `waits_within`, which unfolds at a numeral, under a name that does not
 unfoldable within : ℕ → WaitSets → ℕ → ℕ → Bool
 within n r t u = waits_within n r t u
 
