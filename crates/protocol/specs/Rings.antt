@@ -1,4 +1,4 @@
--- Rings of transactions each waiting for the next, which are cycles of the waits_for graph: document 02, A.6.
+-- Rings of transactions each waiting for the next, which are cycles of the waits-for graph: document 02, A.6.
 use Rattle.std.specs.Prelude.{ℕ, zero, suc, ◌≡◌, Bool, true, false, ◌&&◌, ◌||◌}
 use Rattle.tree.specs.Lists.{any}
 use Rattle.protocol.specs.State.{transactions, WaitSets, Header}

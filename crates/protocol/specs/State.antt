@@ -26,7 +26,7 @@ Tree = Forest Marked
 abbrev pub in_set : ℕ → ℕ → Bool
 in_set w t = cond (is_transaction t) (bit w (t - 1)) false
 
--- the waits_for graph: for each transaction, the set of those that it waits for
+-- the waits-for graph: for each transaction, the set of those that it waits for
 abbrev pub WaitSets : Type 0
 WaitSets = ℕ → ℕ → Bool
 
