@@ -5,11 +5,11 @@
 // touched a node.
 #![tactic(auto)]
 
-mod counts;
-mod deadlock;
 mod inputs;
 mod lines;
 mod orders;
+mod rings;
+mod touched;
 
 use std::io::{self, Print};
 
@@ -121,14 +121,14 @@ fn main(rt: HostRuntime) -> io::Result<()> {
     orders::all(&rt, state)?;
     lines::line(&rt, b"start", panel::noodlefen_start(&mut state))?;
     load_e(&rt, &mut state)?;
-    deadlock::hold(&rt, &mut state)?;
-    deadlock::ring(&rt, &mut state)?;
-    deadlock::give_way(&rt, &mut state)?;
+    rings::hold(&rt, &mut state)?;
+    rings::ring(&rt, &mut state)?;
+    rings::give_way(&rt, &mut state)?;
     lines::line(&rt, b"start", panel::noodlefen_start(&mut state))?;
     load_e(&rt, &mut state)?;
-    counts::enter(&rt, &mut state)?;
-    counts::first_commit(&rt, &mut state)?;
-    counts::second_commit(&rt, &mut state)?;
-    counts::aborted(&rt, &mut state)?;
-    counts::inserted(&rt, &mut state)
+    touched::enter(&rt, &mut state)?;
+    touched::first_commit(&rt, &mut state)?;
+    touched::second_commit(&rt, &mut state)?;
+    touched::aborted(&rt, &mut state)?;
+    touched::inserted(&rt, &mut state)
 }

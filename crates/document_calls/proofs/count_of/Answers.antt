@@ -1,0 +1,7 @@
+use mathlib.Core.Path.{refl}
+use borrow.Author.Rules.{rules}
+use Rattle.traces.specs.Laws.Exports.{count_contract}
+use Rattle.document_calls.proofs.count_of.Goals as goal
+
+pub returns : goal.returns
+returns c = count_contract c.code.ensures refl c.count_of-answer.ensures

@@ -1,0 +1,6 @@
+use borrow.Author.Rules.{rules}
+use Rattle.traces.specs.Laws.Exports.{load_contract}
+use Rattle.document_calls.proofs.load.Goals as goal
+
+pub returns : goal.returns
+returns c = load_contract c.code.ensures c.load-answer.ensures

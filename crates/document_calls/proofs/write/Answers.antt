@@ -1,0 +1,6 @@
+use borrow.Author.Rules.{rules}
+use Rattle.traces.specs.Laws.Exports.{write_contract}
+use Rattle.document_calls.proofs.write.Goals as goal
+
+pub returns : goal.returns
+returns c = write_contract c.code.ensures c.write-answer.ensures

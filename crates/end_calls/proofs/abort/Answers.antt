@@ -1,0 +1,6 @@
+use borrow.Author.Rules.{rules}
+use Rattle.traces.specs.Laws.Exports.{abort_contract}
+use Rattle.end_calls.proofs.abort.Goals as goal
+
+pub returns : goal.returns
+returns c = abort_contract c.code.ensures c.abort-answer.ensures

@@ -1,0 +1,6 @@
+use borrow.Author.Rules.{rules}
+use Rattle.traces.specs.Laws.Exports.{begin_contract}
+use Rattle.end_calls.proofs.begin.Goals as goal
+
+pub returns : goal.returns
+returns c = begin_contract c.code.ensures c.begin-answer.ensures

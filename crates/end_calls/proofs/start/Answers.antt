@@ -1,0 +1,6 @@
+use borrow.Author.Rules.{rules}
+use Rattle.traces.specs.Laws.Exports.{start_contract}
+use Rattle.end_calls.proofs.start.Goals as goal
+
+pub returns : goal.returns
+returns c = start_contract c.code.ensures c.start-answer.ensures

@@ -1,0 +1,7 @@
+use borrow.Author.Rules.{rules}
+use Rattle.traces.specs.Contract.{makes_step}
+use Rattle.traces.specs.Laws.Exports.{none_contract}
+use Rattle.read_calls.proofs.test.Goals as goal
+
+pub returns : goal.returns
+returns c = none_contract c.code.ensures makes_step c.test-answer.ensures
