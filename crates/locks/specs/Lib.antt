@@ -1,4 +1,3 @@
 pub mod Modes
 pub mod Needs
 pub mod Words
-pub mod Laws

@@ -13,4 +13,3 @@ pub mod PlainRun
 pub mod Deadlock
 pub mod Counting
 pub mod Parts
-pub mod Laws

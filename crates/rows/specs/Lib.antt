@@ -2,4 +2,3 @@ pub mod Places
 pub mod Found
 pub mod Placing
 pub mod Rows
-pub mod Laws

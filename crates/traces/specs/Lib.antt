@@ -1,4 +1,3 @@
 pub mod Exchange
 pub mod Contract
 pub mod Theorem
-pub mod Laws

@@ -13,8 +13,8 @@ use Rattle.protocol.specs.declared.Answer.TheVariants.{Count, Refused}
 use Rattle.table.specs.Flat.{flat}
 use Rattle.table.specs.Layout.{nodes}
 use Rattle.rows.specs.Places.{item, ups, place_of, is_committed}
-use Rattle.protocol.specs.Laws.Shown.{shown_committed}
-use Rattle.rows.specs.Laws.Find.{Holder, holder, held_place, found_number, nodes_numbered, view_nowhere, view_here}
+use Rattle.protocol.proofs.Laws.Shown.{shown_committed}
+use Rattle.rows.proofs.Laws.Find.{Holder, holder, held_place, found_number, nodes_numbered, view_nowhere, view_here}
 use Rattle.form.specs.Form.{form, Holds}
 use Rattle.engine.specs.Contract.{Performed}
 use Rattle.engine.specs.Laws.Outcomes.{performed_stays, performed_grants}

@@ -5,7 +5,7 @@ use Rattle.std.proofs.Common.{◌∙◌, arith, eq-eqb, ne_eqb}
 use Rattle.protocol.specs.State.{nobody, Marked}
 use Rattle.table.specs.Layout.{Entry}
 use Rattle.rows.specs.Places.{depth, item, is_committed}
-use Rattle.rows.specs.Laws.Up.{all_up, all_up_fails, all_up_found, all_up_passed, all_up_start, all_at_up}
+use Rattle.rows.proofs.Laws.Up.{all_up, all_up_fails, all_up_found, all_up_passed, all_up_start, all_at_up}
 use Rattle.counts.specs.Committed.{committed_at}
 
 -- by the inserter x that was read

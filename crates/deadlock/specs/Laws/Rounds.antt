@@ -11,10 +11,10 @@ use Rattle.std.proofs.Math.ListN.{get_or}
 use Rattle.tree.specs.Lists.{any}
 use Rattle.locks.specs.Modes.{bit}
 use Rattle.locks.specs.Words.{some_place}
-use Rattle.locks.specs.Laws.Sets.{bit_of_or}
+use Rattle.locks.proofs.Laws.Sets.{bit_of_or}
 use Rattle.protocol.specs.State.{is_transaction, transactions, in_set, WaitSets}
 use Rattle.protocol.specs.Rings.{waits_within, in_ring}
-use Rattle.protocol.specs.Laws.Transactions.{is_transaction_of, empty_set}
+use Rattle.protocol.proofs.Laws.Transactions.{is_transaction_of, empty_set}
 use Rattle.deadlock.specs.Sets.{sets_of, onward}
 
 -- sets ---------------------------------------------------------------------------------

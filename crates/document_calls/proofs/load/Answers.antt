@@ -1,5 +1,5 @@
 use borrow.Author.Rules.{rules}
-use Rattle.traces.specs.Laws.Exports.{load_contract}
+use Rattle.traces.proofs.Laws.Exports.{load_contract}
 use Rattle.document_calls.proofs.load.Goals as goal
 
 pub returns : goal.returns

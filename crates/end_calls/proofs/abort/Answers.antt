@@ -1,5 +1,5 @@
 use borrow.Author.Rules.{rules}
-use Rattle.traces.specs.Laws.Exports.{abort_contract}
+use Rattle.traces.proofs.Laws.Exports.{abort_contract}
 use Rattle.end_calls.proofs.abort.Goals as goal
 
 pub returns : goal.returns

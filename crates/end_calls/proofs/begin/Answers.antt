@@ -1,5 +1,5 @@
 use borrow.Author.Rules.{rules}
-use Rattle.traces.specs.Laws.Exports.{begin_contract}
+use Rattle.traces.proofs.Laws.Exports.{begin_contract}
 use Rattle.end_calls.proofs.begin.Goals as goal
 
 pub returns : goal.returns

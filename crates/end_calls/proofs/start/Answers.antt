@@ -1,5 +1,5 @@
 use borrow.Author.Rules.{rules}
-use Rattle.traces.specs.Laws.Exports.{start_contract}
+use Rattle.traces.proofs.Laws.Exports.{start_contract}
 use Rattle.end_calls.proofs.start.Goals as goal
 
 pub returns : goal.returns

@@ -11,7 +11,7 @@ use Rattle.protocol.specs.State.{nobody, Header, State, Tree, commit_tree, with_
 use Rattle.protocol.specs.State.{next_count, committed, aborted}
 use Rattle.protocol.specs.Rings.{AmongOpen}
 use Rattle.protocol.specs.Causes.{no_more_commits}
-use Rattle.protocol.specs.Laws.WaitSets.{among_begun, among_ended}
+use Rattle.protocol.proofs.Laws.WaitSets.{among_begun, among_ended}
 use Rattle.protocol.specs.Calls.{Call, begin, commit, abort, refused, commit_limit, Next, unchanged, becomes, refusing, if_open}
 use Rattle.protocol.specs.Calls.{commits_reached, next}
 use Rattle.protocol.specs.Answers.{answer_of, granted_answer}
@@ -25,8 +25,8 @@ use Rattle.form.specs.Start.{Started}
 use Rattle.form.specs.Laws.Holds.{form_holds}
 use Rattle.form.specs.Laws.Valid.{FineDocument, root_of}
 use Rattle.form.specs.Laws.Steps.{holds_left, holds_unique, valid_commit, valid_abort}
-use Rattle.rows.specs.Laws.Ends.{commit_rows, abort_rows}
-use Rattle.rows.specs.Laws.Kept.{unique_commit, unique_abort}
+use Rattle.rows.proofs.Laws.Ends.{commit_rows, abort_rows}
+use Rattle.rows.proofs.Laws.Kept.{unique_commit, unique_abort}
 use Rattle.engine.specs.Contract.{Performed}
 use Rattle.engine.specs.Admission.{Opened, Barred}
 use Rattle.ends.specs.Ends.{Restarted}

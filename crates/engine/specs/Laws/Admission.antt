@@ -9,8 +9,8 @@ use Rattle.protocol.specs.Lent.{Room}
 use Rattle.protocol.specs.Calls.{step, Next, if_open, judged, next}
 use Rattle.table.specs.Layout.{nodes, is_open}
 use Rattle.rows.specs.Places.{item, number_of, place_of}
-use Rattle.rows.specs.Laws.Find.{found_number}
-use Rattle.rows.specs.Laws.Judgement.{missing, deleted, found, judged_missing, judged_found}
+use Rattle.rows.proofs.Laws.Find.{found_number}
+use Rattle.rows.proofs.Laws.Judgement.{missing, deleted, found, judged_missing, judged_found}
 use Rattle.engine.specs.Way.{Places, Climb}
 use Rattle.form.specs.Form.{form, Holds}
 use Rattle.form.specs.Laws.Holds.{form_layout, holds_form}

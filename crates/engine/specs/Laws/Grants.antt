@@ -12,7 +12,7 @@ use Rattle.tree.specs.Steps.{Step}
 use Rattle.locks.specs.Needs.{Need, need}
 use Rattle.locks.specs.Words.{word_of, words}
 use Rattle.locks.specs.declared.NeedWords.{NeedWords}
-use Rattle.locks.specs.Laws.Sets.{in_union, SameSets, need_sets}
+use Rattle.locks.proofs.Laws.Sets.{in_union, SameSets, need_sets}
 use Rattle.protocol.specs.State.{Marked, with_held}
 use Rattle.table.specs.Lists.{modify}
 use Rattle.table.specs.Flat.{second}
@@ -23,7 +23,7 @@ use Rattle.table.specs.Laws.Lists.{modify_same}
 use Rattle.table.specs.Laws.Bytes.{put_word}
 use Rattle.table.specs.Laws.Kept.{kept_same, kept_then, kept_as, left_then}
 use Rattle.table.specs.Laws.Sets.{remembered_left}
-use Rattle.protocol.specs.Laws.Transactions.{empty_set}
+use Rattle.protocol.proofs.Laws.Transactions.{empty_set}
 use Rattle.rows.specs.Places.{item}
 use Rattle.rows.specs.Rows.{granted_modes, granted_along}
 use Rattle.engine.specs.Way.{Places, places_of, Inside}

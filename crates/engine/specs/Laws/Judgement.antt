@@ -17,7 +17,7 @@ use Rattle.locks.specs.declared.StepName.{StepName}
 use Rattle.locks.specs.declared.NeedWords.{NeedWords}
 use Rattle.protocol.specs.State.{in_set, with_set, Header, State, Tree, act, grant, number_held, with_tree, set_header, forgetting}
 use Rattle.protocol.specs.Rings.{in_ring}
-use Rattle.protocol.specs.Laws.WaitSets.{among_forgetting}
+use Rattle.protocol.proofs.Laws.WaitSets.{among_forgetting}
 use Rattle.protocol.specs.Causes.{deadlock}
 use Rattle.protocol.specs.Lent.{Room}
 use Rattle.protocol.specs.Calls.{step, Check, checked, waits, refused, unchanged, held_back, closes_ring, grants_step, Next, next}
@@ -29,10 +29,10 @@ use Rattle.table.specs.Layout.{Entry, nodes, is_open, remembered, Layout, Left, 
 use Rattle.table.specs.Laws.Kept.{left_as}
 use Rattle.rows.specs.Places.{item, number_of, place_of, ups, numbers_above}
 use Rattle.rows.specs.Found.{answer_at, used_in, wait_word, judged_at}
-use Rattle.rows.specs.Laws.Find.{held_place}
+use Rattle.rows.proofs.Laws.Find.{held_place}
 use Rattle.rows.specs.Rows.{granted_up, stepped}
-use Rattle.rows.specs.Laws.Granted.{step_rows}
-use Rattle.rows.specs.Laws.Kept.{unique_grant, unique_act}
+use Rattle.rows.proofs.Laws.Granted.{step_rows}
+use Rattle.rows.proofs.Laws.Kept.{unique_grant, unique_act}
 use Rattle.form.specs.Form.{Holds}
 use Rattle.form.specs.Laws.Steps.{holds_unique, valid_grant, valid_act}
 use Rattle.engine.specs.Way.{Inside}

@@ -11,8 +11,8 @@ use Rattle.locks.specs.Modes.{Mode, LT, LC, LR, LU, LW, LTT, LRR, LUU, LIR, LIU,
 use Rattle.locks.specs.Modes.{among, clash, against, in_word}
 use Rattle.locks.specs.Needs.{Need}
 use Rattle.locks.specs.Words.{mask_of, word_of, words}
-use Rattle.locks.specs.Laws.Clash.{clash_symmetric}
-use Rattle.locks.specs.Laws.Sets.{in_mask, SameSets}
+use Rattle.locks.proofs.Laws.Clash.{clash_symmetric}
+use Rattle.locks.proofs.Laws.Sets.{in_mask, SameSets}
 use Rattle.protocol.specs.State.{Marked}
 use Rattle.rows.specs.Found.{blocks_node, blocks_way, blocks_at}
 use Rattle.engine.specs.Waits.{masks_of, touches, touches_from, blocks_by}

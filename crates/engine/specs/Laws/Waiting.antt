@@ -8,17 +8,17 @@ use Rattle.tree.specs.Laws.Tests.{and_left}
 use Rattle.locks.specs.Modes.{bit}
 use Rattle.locks.specs.Needs.{Need}
 use Rattle.locks.specs.Words.{word}
-use Rattle.locks.specs.Laws.Sets.{word_bit}
+use Rattle.locks.proofs.Laws.Sets.{word_bit}
 use Rattle.protocol.specs.State.{is_transaction, in_set, with_set, Marked, Header, State, set_header, remembering}
 use Rattle.protocol.specs.Lent.{Room}
 use Rattle.protocol.specs.Calls.{step, waits, held_back, next}
 use Rattle.protocol.specs.Answers.{answer_of, lent_after}
 use Rattle.protocol.specs.declared.Answer.TheVariants.{Waits}
-use Rattle.protocol.specs.Laws.WaitSets.{among_set}
+use Rattle.protocol.proofs.Laws.WaitSets.{among_set}
 use Rattle.table.specs.Layout as table
 use Rattle.table.specs.Layout.{set_at, is_open, remembered, part, header}
 use Rattle.table.specs.Laws.Bytes.{put_word, only_word, part_off, drop_high}
-use Rattle.protocol.specs.Laws.Transactions.{transaction_low, transaction_high, is_transaction_of}
+use Rattle.protocol.proofs.Laws.Transactions.{transaction_low, transaction_high, is_transaction_of}
 use Rattle.table.specs.Laws.Sets.{remembered_left}
 use Rattle.table.specs.Sets.{Gathered}
 use Rattle.rows.specs.Found.{blocks_at, wait_word}

@@ -14,8 +14,8 @@ use Rattle.tree.specs.Steps.{Step}
 use Rattle.locks.specs.Needs.{need}
 use Rattle.locks.specs.Words.{word, words, in_common}
 use Rattle.locks.specs.declared.NeedWords.{NeedWords}
-use Rattle.locks.specs.Laws.Words.{word_turn, word_small}
-use Rattle.locks.specs.Laws.Sets.{need_sets}
+use Rattle.locks.proofs.Laws.Words.{word_turn, word_small}
+use Rattle.locks.proofs.Laws.Sets.{need_sets}
 use Rattle.protocol.specs.State.{Marked}
 use Rattle.table.specs.Layout.{Entry, nodes, slot}
 use Rattle.table.specs.Transaction.{Loaded}

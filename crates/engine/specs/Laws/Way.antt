@@ -13,8 +13,8 @@ use Rattle.protocol.specs.State.{Marked, seen_by}
 use Rattle.table.specs.Layout.{Entry}
 use Rattle.rows.specs.Places.{depth, item, number_of, climb, above_places, ups, numbers_above, seen_at}
 use Rattle.rows.specs.Rows.{granted_along, granted_up}
-use Rattle.rows.specs.Laws.Up.{climb_found, climb_passed, climb_start}
-use Rattle.rows.specs.Laws.Up.{all_up, all_up_fails, all_up_found, all_up_passed, all_up_start, all_at_up}
+use Rattle.rows.proofs.Laws.Up.{climb_found, climb_passed, climb_start}
+use Rattle.rows.proofs.Laws.Up.{all_up, all_up_fails, all_up_found, all_up_passed, all_up_start, all_at_up}
 use Rattle.engine.specs.Way.{Places, way_up, places_of, nodes_of, Climbed, Climb}
 use Rattle.engine.specs.Grants.{granted_on}
 

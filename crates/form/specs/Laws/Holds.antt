@@ -20,7 +20,7 @@ use Rattle.table.specs.Layout.{tabulate, state_size, format_mark, set_at, word, 
 use Rattle.table.specs.Layout.{Sized, Layout}
 use Rattle.table.specs.Laws.Lists.{map_tabulate}
 use Rattle.table.specs.Laws.Nodes.{length_nodes}
-use Rattle.protocol.specs.Laws.Transactions.{transaction_low, transaction_high}
+use Rattle.protocol.proofs.Laws.Transactions.{transaction_low, transaction_high}
 use Rattle.rows.specs.Places.{unique}
 use Rattle.form.specs.Form.{valid_rows, valid_tree, slots, cells, sizes_in_range, apart, sets_open, form, Holds}
 use Rattle.form.specs.Laws.Rows.{and_of, between_of, between_low, between_high, valid_forest}

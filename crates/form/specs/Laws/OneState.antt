@@ -8,7 +8,7 @@ use Rattle.tree.specs.Forest.{Forest, nil, node}
 use Rattle.protocol.specs.State.{Header, Tree, State}
 use Rattle.table.specs.Flat.{flat}
 use Rattle.rows.specs.Places.{below}
-use Rattle.rows.specs.Laws.NodeAt.{below_flat, below_none}
+use Rattle.rows.proofs.Laws.NodeAt.{below_flat, below_none}
 use Rattle.form.specs.Form.{Holds}
 
 module _ {A : Type 0} where

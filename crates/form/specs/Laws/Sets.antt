@@ -13,11 +13,11 @@ use borrow.Author.Tests.{eqb-true, eqb-false, eq-eqb}
 use Rattle.tree.specs.Lists.{every}
 use Rattle.tree.specs.Laws.Tests.{refuted, both_ways}
 use Rattle.locks.specs.Modes.{bit}
-use Rattle.locks.specs.Laws.Sets.{bit_of_or}
-use Rattle.locks.specs.Laws.Common.{same_bits}
+use Rattle.locks.proofs.Laws.Sets.{bit_of_or}
+use Rattle.locks.proofs.Laws.Common.{same_bits}
 use Rattle.protocol.specs.State.{transactions, in_set}
 use Rattle.table.specs.Layout.{open_at, set_at, word, is_open, remembered, header}
-use Rattle.protocol.specs.Laws.Transactions.{is_transaction_of}
+use Rattle.protocol.proofs.Laws.Transactions.{is_transaction_of}
 use Rattle.table.specs.Laws.Sets.{set_word}
 use Rattle.form.specs.Form.{sets_open}
 use Rattle.form.specs.Check.{set_open}

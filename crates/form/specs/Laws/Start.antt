@@ -10,7 +10,7 @@ use Rattle.tree.specs.Forest.{view}
 use Rattle.tree.specs.Document.{Node, node_0_alone}
 use Rattle.locks.specs.Modes.{no_mode, in_word}
 use Rattle.protocol.specs.State.{is_transaction, in_set, unmarked, tree_of, start_state}
-use Rattle.protocol.specs.Laws.WaitSets.{among_start}
+use Rattle.protocol.proofs.Laws.WaitSets.{among_start}
 use Rattle.table.specs.Layout.{tabulate, state_size, format_mark, commits_at, entry_at, cell_size, lock_at, set_at, word, double_word, part}
 use Rattle.table.specs.Layout.{count, slot, depth, number, cell, is_open, remembered, commits, held, decode, entry, nodes, Layout}
 use Rattle.table.specs.Flat.{flat}
@@ -18,7 +18,7 @@ use Rattle.table.specs.Laws.Bytes.{Filled, filled_more, length_part, part_at, dr
 use Rattle.table.specs.Laws.Nodes.{length_nodes, header_is}
 use Rattle.table.specs.Laws.Fields.{cell_byte}
 use Rattle.table.specs.Laws.Locks.{no_modes}
-use Rattle.protocol.specs.Laws.Transactions.{transaction_low, transaction_high, empty_set}
+use Rattle.protocol.proofs.Laws.Transactions.{transaction_low, transaction_high, empty_set}
 use Rattle.rows.specs.Places.{unique}
 use Rattle.form.specs.Form.{Holds}
 use Rattle.form.specs.Start.{outline_byte, start_byte, Started}

@@ -15,7 +15,7 @@ use Rattle.protocol.specs.Rings.{AmongOpen}
 use Rattle.table.specs.Flat.{flat}
 use Rattle.table.specs.Layout.{Entry, Left}
 use Rattle.rows.specs.Places.{item, number_of, unique}
-use Rattle.rows.specs.Laws.Find.{unique_head, lacks_at}
+use Rattle.rows.proofs.Laws.Find.{unique_head, lacks_at}
 use Rattle.form.specs.Form.{in_range, valid, valid_document, valid_below, valid_rows, valid_tree, Holds}
 use Rattle.form.specs.Laws.Rows.{and_of, between_low, between_high, all_valid}
 use Rattle.form.specs.Laws.Valid.{Valid, FineDocument, keeps_node, keeps_document, keeps_written, keeps_granted, keeps_lasting}

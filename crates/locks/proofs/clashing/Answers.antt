@@ -4,7 +4,7 @@ use Prim.Native.Nat.{ℕ, ◌-◌, ◌≤◌}
 use mathlib.Core.Path.{◌≡◌, sym, ap, ◌∙◌}
 use Rattle.locks.specs.Modes.{clash}
 use Rattle.locks.specs.Words.{clash_table, clash_at, word}
-use Rattle.locks.specs.Laws.Words.{word_turn, word_none, word_below}
+use Rattle.locks.proofs.Laws.Words.{word_turn, word_none, word_below}
 use Rattle.locks.proofs.clashing.Goals as goal
 
 pub loop-a-init : goal.loop-a-init

@@ -1,4 +1,4 @@
-use Rattle.locks.specs.Laws.Common.{and_common}
+use Rattle.locks.proofs.Laws.Common.{and_common}
 use Rattle.locks.proofs.share.Goals as goal
 
 pub returns : goal.returns

@@ -7,8 +7,8 @@ use Rattle.protocol.specs.declared.Answer.TheVariants.{Child, NoChild}
 use Rattle.table.specs.Layout.{Entry}
 use Rattle.rows.specs.Places.{depth, item, children_from, children}
 use Rattle.rows.specs.Found.{kth_child}
-use Rattle.rows.specs.Laws.Children.{child_found, child_deleted, child_passed, child_left, child_end, kth_zero}
-use Rattle.rows.specs.Laws.Children.{kth_none, kth_first, kth_later}
+use Rattle.rows.proofs.Laws.Children.{child_found, child_deleted, child_passed, child_left, child_end, kth_zero}
+use Rattle.rows.proofs.Laws.Children.{kth_none, kth_first, kth_later}
 
 -- the rows from i on are still to be looked at, and the left-th child among them is the k-th of all
 pub record Counting (t : ℕ) (l : List Entry) (p k e left i : ℕ) : Type 0 where

@@ -8,7 +8,7 @@ use Rattle.std.proofs.Math.Seq.{length-take-le}
 use Rattle.tree.specs.Laws.Lists.{map_append}
 use Rattle.table.specs.Layout.{Entry}
 use Rattle.rows.specs.Places.{depth, item, seen_from, subtree}
-use Rattle.rows.specs.Laws.Subtree.{seen_hidden, seen_deleted, seen_found, seen_left, seen_end}
+use Rattle.rows.proofs.Laws.Subtree.{seen_hidden, seen_deleted, seen_found, seen_left, seen_end}
 use Rattle.engine.specs.Way.{places_of, nodes_of}
 use Rattle.engine.specs.Laws.Way.{inside_set}
 use Rattle.node_reading.specs.Subtree.{Selected}

@@ -2,7 +2,7 @@ use native.Mathlib.Omega.{arith}
 use mathlib.Core.List.{[]}
 use Rattle.tree.specs.Steps.{I}
 use Rattle.locks.specs.Words.{need_words}
-use Rattle.locks.specs.Laws.Sets.{need_sets}
+use Rattle.locks.proofs.Laws.Sets.{need_sets}
 use Rattle.node_writing.specs.Laws.Putting.{put_left, put_long}
 use borrow.Author.Rules.{rules}
 use Rattle.node_writing.proofs.put.Goals as goal

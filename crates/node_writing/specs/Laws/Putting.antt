@@ -11,7 +11,7 @@ use Rattle.table.specs.Flat.{second}
 use Rattle.table.specs.Layout.{Entry, nodes, Left, Kept, header}
 use Rattle.table.specs.Fields.{with_modes}
 use Rattle.table.specs.Laws.Kept.{left_then, left_as}
-use Rattle.rows.specs.Laws.Placing.{length_insert}
+use Rattle.rows.proofs.Laws.Placing.{length_insert}
 use Rattle.table.specs.Laws.ListInsertion.{modify_insert}
 use Rattle.rows.specs.Rows.{granted_modes}
 

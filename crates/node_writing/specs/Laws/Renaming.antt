@@ -10,9 +10,9 @@ use Rattle.table.specs.Laws.Lists.{getD_modify}
 use Rattle.table.specs.Laws.Kept.{kept_same, kept_then, kept_as}
 use Rattle.rows.specs.Places.{depth, item}
 use Rattle.rows.specs.Rows.{left_out, renamed_by}
-use Rattle.rows.specs.Laws.Lists.{drop_modify}
-use Rattle.rows.specs.Laws.Loops.{Changing, changed_end, changed_out, changed_hidden, changed_unseen, changed_row, changed_start, Counting}
-use Rattle.rows.specs.Laws.Loops.{counted_end, counted_out, counted_hidden, counted_unseen, counted_other, counted_hit, counted_start}
+use Rattle.rows.proofs.Laws.Lists.{drop_modify}
+use Rattle.rows.proofs.Laws.Loops.{Changing, changed_end, changed_out, changed_hidden, changed_unseen, changed_row, changed_start, Counting}
+use Rattle.rows.proofs.Laws.Loops.{counted_end, counted_out, counted_hidden, counted_unseen, counted_other, counted_hit, counted_start}
 use Rattle.node_writing.specs.Writing.{rest_renamed, rest_named, Renamed, RenamedRest, RenamedBelow}
 
 -- s₀ are the bytes before the loop; the rows before i are done, with these hits

@@ -10,8 +10,8 @@ use Rattle.protocol.specs.State.{Marked}
 use Rattle.table.specs.Layout.{Entry}
 use Rattle.rows.specs.Places.{depth, item, children_from, children}
 use Rattle.rows.specs.Placing.{attributes, ordered_behind, placed_by}
-use Rattle.rows.specs.Laws.Children.{child_found, child_deleted, child_passed, child_left, child_end}
-use Rattle.rows.specs.Laws.Placing.{ordered_start, attributes_one, attributes_other, placed_pass}
+use Rattle.rows.proofs.Laws.Children.{child_found, child_deleted, child_passed, child_left, child_end}
+use Rattle.rows.proofs.Laws.Placing.{ordered_start, attributes_one, attributes_other, placed_pass}
 use Rattle.node_writing.specs.Writing.{counted, Counted}
 use Rattle.node_writing.specs.declared.Tally.{Tally}
 

@@ -8,7 +8,7 @@ use Rattle.std.proofs.Math.Dec.{eqb}
 use borrow.Author.Tests.{ltb-true, ltb-false, lt-ltb, le-ltb, eqb-true, eqb-false}
 use Rattle.tree.specs.Laws.Tests.{refuted}
 use Rattle.locks.specs.Modes.{ModeSet, no_mode, in_word, index}
-use Rattle.protocol.specs.Laws.Transactions.{transaction_low, transaction_high, is_transaction_of}
+use Rattle.protocol.proofs.Laws.Transactions.{transaction_low, transaction_high, is_transaction_of}
 use Rattle.protocol.specs.State.{is_transaction, Marked, released, with_held}
 use Rattle.table.specs.Lists.{modify}
 use Rattle.table.specs.Flat.{second}

@@ -13,7 +13,7 @@ use Rattle.table.specs.Laws.Bits.{bit_of_xor}
 use Rattle.table.specs.Laws.Bytes.{Only, only_word, put_word, word_put, word_off}
 use Rattle.table.specs.Laws.Kept.{left_on}
 use Rattle.table.specs.Laws.Nodes.{header_is, same_cell, same_open, same_commits, left_none}
-use Rattle.protocol.specs.Laws.Transactions.{transaction_low, transaction_high, is_transaction_of, empty_set}
+use Rattle.protocol.proofs.Laws.Transactions.{transaction_low, transaction_high, is_transaction_of, empty_set}
 use Rattle.table.specs.Sets.{WithSet, Struck, Gathered}
 
 -- sets as words ------------------------------------------------------------------------

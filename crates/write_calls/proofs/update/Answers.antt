@@ -1,6 +1,6 @@
 use borrow.Author.Rules.{rules}
 use Rattle.traces.specs.Contract.{makes_step}
-use Rattle.traces.specs.Laws.Exports.{none_contract}
+use Rattle.traces.proofs.Laws.Exports.{none_contract}
 use Rattle.write_calls.proofs.update.Goals as goal
 
 pub returns : goal.returns

@@ -18,8 +18,8 @@ use Rattle.table.specs.Layout.{Entry, nodes, no_entry}
 use Rattle.table.specs.Laws.Lists.{modify_none}
 use Rattle.rows.specs.Places.{depth, item, items, below, seen_from, subtree}
 use Rattle.rows.specs.Rows.{granted_modes, granted_along, granted_up}
-use Rattle.rows.specs.Laws.Ends.{prune_map}
-use Rattle.rows.specs.Laws.Lists.{map_modify, map_drop}
+use Rattle.rows.proofs.Laws.Ends.{prune_map}
+use Rattle.rows.proofs.Laws.Lists.{map_modify, map_drop}
 use Rattle.locks.specs.declared.NeedWords.{NeedWords}
 use Rattle.engine.specs.Grants.{GrantedStep}
 use Rattle.engine.specs.Judgement.{Free}

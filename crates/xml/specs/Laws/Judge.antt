@@ -1,10 +1,8 @@
 -- The judgement of an input, a byte a step: the automaton, how many nodes may still come, and of the content that came last its length and
 -- how far its characters are read.
-use Rattle.std.specs.Prelude.{ℕ, zero, suc, ◌-◌, ◌≤◌, ◌≡◌, refl, Bool, true, false, cond, ◌&&◌, List, [], ◌∷◌, leb, ltb, get_or}
-use Rattle.std.proofs.lemmas.Bool.{false≢true}
-use Rattle.std.proofs.Common.{arith}
+use Rattle.std.specs.Prelude.{ℕ, zero, suc, ◌-◌, Bool, true, cond, ◌&&◌, List, [], ◌∷◌, leb, ltb, get_or}
 use Rattle.tree.specs.Content.{content_limit}
-use Rattle.xml.specs.Reading.{input_limit, opener, node_offset}
+use Rattle.xml.specs.Reading.{input_limit, opener}
 use Rattle.xml.specs.Laws.Automaton.{Config, at_start, Move, stuck, move, step}
 use Rattle.xml.specs.Laws.Monitor.{Monitor, Seen, unspelled, seen, monitor, monitoring}
 use Rattle.xml.specs.Laws.Counts.{births, tail}
@@ -42,15 +40,6 @@ judge c x n k b i (a ∷ s) = judge_move (step true c a) x n k b i (λ d y m j. 
 abbrev pub byte_before : List ℕ → ℕ → ℕ
 byte_before s zero = 0
 byte_before s (suc i) = get_or s i 0
-
--- where a node begins that a byte makes certain
-pub offset_before : (s : List ℕ) (i : ℕ) → opener (byte_before s i) ≡ true → (node_offset s i ≡ i - 1) × (1 ≤ i)
-offset_before s zero h = absurd (false≢true h)
-offset_before s (suc i) h = let p : i ≡ suc i - 1 = omega arith in (rw h p, omega arith)
-
-pub offset_at : (s : List ℕ) (i : ℕ) → opener (byte_before s i) ≡ false → node_offset s i ≡ i
-offset_at s zero h = refl
-offset_at s (suc i) h = rw h
 
 -- node 0 is there
 unfoldable pub judgement : ℕ → List ℕ → Verdict

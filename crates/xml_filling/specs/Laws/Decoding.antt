@@ -12,15 +12,19 @@ use Rattle.xml.specs.Bytes.{tab, line_feed, space, less_than, ampersand, blank, 
 use Rattle.xml.specs.Laws.Words.{Words, references}
 use Rattle.xml.specs.Laws.Automaton.{Config, Event, born, byte, step, tell_bytes}
 use Rattle.xml.specs.Laws.Complete.{Accepts}
-use Rattle.xml.specs.Laws.Counts.{births, tail, peak, peak_bytes}
-use Rattle.xml.specs.Laws.Monitor.{off, monitor_off}
+use Rattle.xml.specs.Laws.Counts.{births, tail, peak}
+use Rattle.xml.proofs.Laws.Counts.{peak_bytes}
+use Rattle.xml.specs.Laws.Monitor.{off}
+use Rattle.xml.proofs.Laws.Monitor.{monitor_off}
 use Rattle.xml.specs.Laws.Judge.{bad}
 use Rattle.xml.specs.Laws.Scan.{scan_at}
-use Rattle.xml.specs.Laws.Goes.{scan_full}
+use Rattle.xml.proofs.Laws.Goes.{scan_full}
 use Rattle.xml.specs.Laws.Tokens.{Reach}
-use Rattle.xml.specs.Laws.Fixed.{reference_at, references_at}
-use Rattle.xml.specs.Laws.Tells.{no_step, Tells, tells_then, tells_step, tells_word, no_word_read, tells_born, not_refused_at}
-use Rattle.xml.specs.Laws.Behind.{some_byte}
+use Rattle.xml.specs.Laws.Fixed.{reference_at}
+use Rattle.xml.proofs.Laws.Fixed.{references_at}
+use Rattle.xml.specs.Laws.Tells.{Tells}
+use Rattle.xml.proofs.Laws.Tells.{no_step, tells_then, tells_step, tells_word, no_word_read, tells_born, not_refused_at}
+use Rattle.xml.proofs.Laws.Behind.{some_byte}
 use Rattle.xml_tokens.specs.Classes.{literal, reads_as}
 use Rattle.xml_tokens.specs.declared.Cursor.{Cursor}
 use Rattle.xml_tokens.specs.declared.Reference.TheVariants.{Byte, NoReference}

@@ -15,9 +15,10 @@ use Rattle.xml.specs.Grammar.{Name}
 use Rattle.xml.specs.Laws.Automaton.{behind_part, in_tag, before_equals, attribute_name, tag_name, Event, born, byte, depth, step}
 use Rattle.xml.specs.Laws.Automaton.{tell_bytes}
 use Rattle.xml.specs.Laws.Complete.{Accepts}
-use Rattle.xml.specs.Laws.Tokens.{span, span_behind, name_at}
-use Rattle.xml.specs.Laws.Tells.{tells_step}
-use Rattle.xml.specs.Laws.Behind.{part_fresh, equals_fresh, some_byte, name_told, tag_name_ended, attribute_name_ended}
+use Rattle.xml.specs.Laws.Tokens.{span, name_at}
+use Rattle.xml.proofs.Laws.Tokens.{span_behind}
+use Rattle.xml.proofs.Laws.Tells.{tells_step}
+use Rattle.xml.proofs.Laws.Behind.{part_fresh, equals_fresh, some_byte, name_told, tag_name_ended, attribute_name_ended}
 use Rattle.xml_tokens.specs.Steps.{Run}
 use Rattle.xml_tokens.specs.Laws.Letters.{start_name}
 use Rattle.xml_reader.specs.Laws.Attributes.{naming}

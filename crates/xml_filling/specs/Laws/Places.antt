@@ -15,10 +15,11 @@ use Rattle.xml.specs.Shape.{Shape, document}
 use Rattle.xml.specs.Grammar.{Name}
 use Rattle.xml.specs.Laws.Automaton.{Config, at_start, behind_part, behind_quote, in_value, value_reference, tag_name, content, behind_open}
 use Rattle.xml.specs.Laws.Automaton.{end_name, in_text, text_reference, closed, Event, born, byte, depth, step, tell}
-use Rattle.xml.specs.Laws.Complete.{Accepts, complete}
-use Rattle.xml.specs.Laws.Unique.{Fresh, one_tree}
-use Rattle.xml.specs.Laws.Tells.{tells_step, not_refused}
-use Rattle.xml.specs.Laws.Behind.{part_fresh, open_fresh, nothing_told}
+use Rattle.xml.specs.Laws.Complete.{Accepts}
+use Rattle.xml.proofs.Laws.Complete.{complete}
+use Rattle.xml.proofs.Laws.Unique.{Fresh, one_tree}
+use Rattle.xml.proofs.Laws.Tells.{tells_step, not_refused}
+use Rattle.xml.proofs.Laws.Behind.{part_fresh, open_fresh, nothing_told}
 use Rattle.xml_tokens.specs.declared.Cursor.{Cursor}
 use Rattle.xml_tokens.specs.declared.Equals.TheVariants.{Quoted, NoQuote}
 use Rattle.xml_tokens.specs.declared.Item.TheVariants.{Open, Empty, Attribute, Wrong}

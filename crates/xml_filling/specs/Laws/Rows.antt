@@ -9,8 +9,9 @@ use Rattle.table.specs.Flat.{flat}
 use Rattle.table.specs.Layout.{Entry, nodes}
 use Rattle.xml.specs.Shape.{Label, Shape, size, longest, numbered, document}
 use Rattle.xml.specs.Laws.Automaton.{Event, tell_bytes, tell}
-use Rattle.xml.specs.Laws.Counts.{births, peak, births_bytes, peak_bytes}
-use Rattle.xml.specs.Laws.Unique.{Fresh, fresh_end, fresh_node, same_bytes}
+use Rattle.xml.specs.Laws.Counts.{births, peak}
+use Rattle.xml.proofs.Laws.Counts.{births_bytes, peak_bytes}
+use Rattle.xml.proofs.Laws.Unique.{Fresh, fresh_end, fresh_node, same_bytes}
 use Rattle.xml_filling.specs.Fill.{Row, listed, told, entries, with_rows, Short, Put}
 
 pub entries_append : (i : ℕ) (k l : List Row) → entries i (k ++ l) ≡ entries i k ++ entries (i + length k) l

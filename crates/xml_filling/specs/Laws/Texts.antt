@@ -13,8 +13,8 @@ use Rattle.xml.specs.Laws.Complete.{Accepts}
 use Rattle.xml.specs.Laws.Counts.{births, peak}
 use Rattle.xml.specs.Laws.Judge.{bad}
 use Rattle.xml.specs.Laws.Goes.{Leads}
-use Rattle.xml.specs.Laws.Unique.{Fresh}
-use Rattle.xml.specs.Laws.Tells.{not_refused}
+use Rattle.xml.proofs.Laws.Unique.{Fresh}
+use Rattle.xml.proofs.Laws.Tells.{not_refused}
 use Rattle.xml_tokens.specs.declared.Cursor.{Cursor}
 use Rattle.xml_filling.specs.Fill.{Row, told, with_rows, Put, Same, Decodes, Fits, TextPut, Filling}
 use Rattle.xml_filling.specs.Laws.Decoding.{content_inside, none_told, born_told}

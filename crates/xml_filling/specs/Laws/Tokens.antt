@@ -12,11 +12,11 @@ use Rattle.table.specs.Layout.{nodes, Left, header}
 use Rattle.table.specs.Laws.Kept.{left_as}
 use Rattle.xml.specs.Grammar.{Name}
 use Rattle.xml.specs.Laws.Automaton.{Config, end_name, Event, on}
-use Rattle.xml.specs.Laws.Transitions.{Step, s_end_byte, s_end_blank, s_end_close, step_is, blank_no_name}
+use Rattle.xml.proofs.Laws.Transitions.{Step, s_end_byte, s_end_blank, s_end_close, step_is, blank_no_name}
 use Rattle.xml.specs.Laws.Complete.{Accepts}
 use Rattle.xml.specs.Laws.Counts.{births}
 use Rattle.xml.specs.Laws.Tokens.{span}
-use Rattle.xml.specs.Laws.Tells.{not_refused}
+use Rattle.xml.proofs.Laws.Tells.{not_refused}
 use Rattle.xml_tokens.specs.declared.Cursor.{Cursor}
 use Rattle.xml_tokens.specs.declared.End.TheVariants.{Behind, Mismatch}
 use Rattle.xml_tokens.specs.Steps.{Run, CloseRead, close_behind, close_wrong}

@@ -10,8 +10,9 @@ use Rattle.xml.specs.Laws.Automaton.{epilog, tag_name, closed, step}
 use Rattle.xml.specs.Laws.Monitor.{on}
 use Rattle.xml.specs.Laws.Judge.{Verdict, fine, bad}
 use Rattle.xml.specs.Laws.Scan.{scan_at}
-use Rattle.xml.specs.Laws.Goes.{Leads, Goes, goes_then, goes_same, stops_stuck, over_end}
-use Rattle.xml.specs.Laws.Tokens.{goes_blanks}
+use Rattle.xml.specs.Laws.Goes.{Leads, Goes}
+use Rattle.xml.proofs.Laws.Goes.{goes_then, goes_same, stops_stuck, over_end}
+use Rattle.xml.proofs.Laws.Tokens.{goes_blanks}
 use Rattle.xml_tokens.specs.declared.Cursor.{Cursor}
 use Rattle.xml_tokens.specs.Steps.{Run}
 use Rattle.xml_tokens.specs.Laws.Tags.{no_blank_here}

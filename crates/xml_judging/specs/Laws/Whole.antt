@@ -10,7 +10,8 @@ use Rattle.xml.specs.Reading.{input_limit}
 use Rattle.xml.specs.Laws.Automaton.{at_start, tag_name}
 use Rattle.xml.specs.Laws.Monitor.{on, monitoring}
 use Rattle.xml.specs.Laws.Judge.{Verdict, fine, bad, judgement}
-use Rattle.xml.specs.Laws.Scan.{scan, scan_at, limited, judgement_scan}
+use Rattle.xml.specs.Laws.Scan.{scan, scan_at, limited}
+use Rattle.xml.proofs.Laws.Scan.{judgement_scan}
 use Rattle.xml_tokens.specs.declared.Cursor.{Cursor}
 use Rattle.xml_tokens.specs.Laws.Spelling.{begins_none, begins_some}
 use Rattle.xml_reader.specs.declared.Prolog.TheVariants.{Root, NoRoot}

@@ -5,9 +5,9 @@ use Rattle.protocol.specs.Calls.{node_limit}
 use Rattle.xml.specs.Reading.{input_limit, opener, node_offset, FaultWithin, wrong_byte, too_soon, too_long, long_content, many_nodes}
 use Rattle.xml.specs.Reading.{accepted, refused}
 use Rattle.xml.specs.Laws.Judge.{judgement}
-use Rattle.xml.specs.Laws.Verdicts.{Means, judgement_means}
-use Rattle.xml.specs.Laws.Loadable.{lines_length}
-use Rattle.xml.specs.Laws.Readings.{faultless_loadable, one_reading}
+use Rattle.xml.proofs.Laws.Verdicts.{Means, judgement_means}
+use Rattle.xml.proofs.Laws.Loadable.{lines_length}
+use Rattle.xml.proofs.Laws.Readings.{faultless_loadable, one_reading}
 use Rattle.xml_judging.specs.declared.Judged.{Judged}
 use Rattle.xml_judging.specs.declared.Judged.TheVariants.{Accepted, Rejected}
 use Rattle.xml_judging.specs.Judged.{verdict}

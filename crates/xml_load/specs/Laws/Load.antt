@@ -12,7 +12,7 @@ use Rattle.protocol.specs.Answers.{answer_of, granted_answer}
 use Rattle.protocol.specs.declared.Answer.TheVariants.{Count, Refused, RefusedAt}
 use Rattle.table.specs.Flat.{flat}
 use Rattle.table.specs.Layout.{is_open, header, nodes, Left}
-use Rattle.rows.specs.Laws.Kept.{unique_load}
+use Rattle.rows.proofs.Laws.Kept.{unique_load}
 use Rattle.form.specs.Form.{form, Holds}
 use Rattle.form.specs.Laws.Steps.{valid_load}
 use Rattle.engine.specs.Contract.{Performed}

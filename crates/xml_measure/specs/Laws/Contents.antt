@@ -2,7 +2,7 @@
 use Rattle.std.specs.Prelude.{◌≡◌, refl, ℕ, ◌<◌, true, List, length, take}
 use Rattle.std.proofs.Common.{sym, ne_eqb}
 use Rattle.protocol.specs.State.{writer_of}
-use Rattle.protocol.specs.Laws.Shown.{content_committed}
+use Rattle.protocol.proofs.Laws.Shown.{content_committed}
 use Rattle.table.specs.Layout.{Entry, nodes}
 use Rattle.table.specs.Laws.Texts.{not_written}
 use Rattle.table.specs.Fields.{has_text, text, Begins}

@@ -17,8 +17,10 @@ use Rattle.xml.specs.Laws.Counts.{births, tail, peak}
 use Rattle.xml.specs.Laws.Monitor.{Monitor, on, at_rest, is_on, seen_as, monitor}
 use Rattle.xml.specs.Laws.Monitor as Monitores
 use Rattle.xml.specs.Laws.Judge.{Verdict, bad}
-use Rattle.xml.specs.Laws.Scan.{scan_at, scan_end, scan_stuck, scan_unspelled, scan_alike}
-use Rattle.xml.specs.Laws.Goes.{Leads, Goes, goes_then, scan_born, scan_too_many}
+use Rattle.xml.specs.Laws.Scan.{scan_at}
+use Rattle.xml.proofs.Laws.Scan.{scan_end, scan_stuck, scan_unspelled, scan_alike}
+use Rattle.xml.specs.Laws.Goes.{Leads, Goes}
+use Rattle.xml.proofs.Laws.Goes.{goes_then, scan_born, scan_too_many}
 use Rattle.xml.specs.Laws.Tokens.{name_at, Naming}
 use Rattle.xml_tokens.specs.declared.Cursor.{Cursor}
 use Rattle.xml_tokens.specs.declared.Equals.{Equals}

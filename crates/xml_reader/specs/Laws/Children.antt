@@ -15,9 +15,12 @@ use Rattle.xml.specs.Reading.{opener}
 use Rattle.xml.specs.Laws.Automaton.{Config, content, behind_open, tag_name, end_name, closed, born, byte, depth, move, step}
 use Rattle.xml.specs.Laws.Counts.{births, tail, peak}
 use Rattle.xml.specs.Laws.Monitor.{Monitor, on, seen, at_rest, is_on, seen_as, monitor}
-use Rattle.xml.specs.Laws.Judge.{Verdict, bad, byte_before, offset_before}
-use Rattle.xml.specs.Laws.Scan.{scan_at, scan_unspelled}
-use Rattle.xml.specs.Laws.Goes.{Leads, goes_then, scan_too_many, scan_born}
+use Rattle.xml.specs.Laws.Judge.{Verdict, bad, byte_before}
+use Rattle.xml.proofs.Laws.Judge.{offset_before}
+use Rattle.xml.specs.Laws.Scan.{scan_at}
+use Rattle.xml.proofs.Laws.Scan.{scan_unspelled}
+use Rattle.xml.specs.Laws.Goes.{Leads}
+use Rattle.xml.proofs.Laws.Goes.{goes_then, scan_too_many, scan_born}
 use Rattle.xml_tokens.specs.declared.Cursor.{Cursor}
 use Rattle.xml_tokens.specs.declared.End.TheVariants as end_variants
 use Rattle.xml_tokens.specs.declared.Markup.{Markup}

@@ -16,14 +16,19 @@ use Rattle.xml.specs.Laws.Automaton.{at_start, behind_first, prolog, behind_root
 use Rattle.xml.specs.Laws.Counts.{births, tail, peak}
 use Rattle.xml.specs.Laws.Phases.{phase, pending}
 use Rattle.xml.specs.Laws.Forces.{extent}
-use Rattle.xml.specs.Laws.Monitor.{Monitor, at_rest, monitor_quiet}
+use Rattle.xml.specs.Laws.Monitor.{Monitor, at_rest}
+use Rattle.xml.proofs.Laws.Monitor.{monitor_quiet}
 use Rattle.xml.specs.Laws.Judge.{bad}
-use Rattle.xml.specs.Laws.Scan.{scan_at, scan_alike}
-use Rattle.xml.specs.Laws.Goes.{scan_quiet}
-use Rattle.xml.specs.Laws.Tokens.{Reach, got, lost, one_more, reach, Wording, Landed, landed_more, word_scan}
+use Rattle.xml.specs.Laws.Scan.{scan_at}
+use Rattle.xml.proofs.Laws.Scan.{scan_alike}
+use Rattle.xml.proofs.Laws.Goes.{scan_quiet}
+use Rattle.xml.specs.Laws.Tokens.{Reach, got, lost, one_more, reach, Wording, Landed}
+use Rattle.xml.proofs.Laws.Tokens.{landed_more, word_scan}
 use Rattle.xml.specs.Laws.Complete.{Accepts}
-use Rattle.xml.specs.Laws.Tells.{Tells, tells_then, tells_step, read_alike, tells_word}
-use Rattle.xml.specs.Laws.Fixed.{word_at, agree, declaration_at, declarations_at}
+use Rattle.xml.specs.Laws.Tells.{Tells}
+use Rattle.xml.proofs.Laws.Tells.{tells_then, tells_step, read_alike, tells_word}
+use Rattle.xml.specs.Laws.Fixed.{word_at, agree, declaration_at}
+use Rattle.xml.proofs.Laws.Fixed.{declarations_at}
 use Rattle.xml_reader.specs.declared.Prolog.{Prolog}
 use Rattle.xml_reader.specs.declared.Prolog.TheVariants.{NoRoot}
 use Rattle.byte_strings.specs.Agreement.{Agreement}

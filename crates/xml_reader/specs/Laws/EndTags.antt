@@ -13,7 +13,8 @@ use Rattle.tree.specs.Content.{name_byte}
 use Rattle.xml.specs.Grammar.{Name}
 use Rattle.xml.specs.Laws.Automaton.{end_name, step}
 use Rattle.xml.specs.Laws.Judge.{bad}
-use Rattle.xml.specs.Laws.Goes.{Leads, Goes, goes_then, goes_same, goes_step, stops_end, stops_stuck}
+use Rattle.xml.specs.Laws.Goes.{Leads, Goes}
+use Rattle.xml.proofs.Laws.Goes.{goes_then, goes_same, goes_step, stops_end, stops_stuck}
 use Rattle.xml.specs.Laws.Tokens.{name_at}
 use Rattle.xml.specs.Laws.Fixed.{agree}
 use Rattle.xml_tokens.specs.declared.End.{End}

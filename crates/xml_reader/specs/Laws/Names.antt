@@ -8,7 +8,8 @@ use Rattle.std.proofs.Math.ListN.{get_or-eq_default}
 use Rattle.std.proofs.Math.Seq.{length-take-le, get_or-drop, get_or-take}
 use Rattle.tree.specs.Lists.{every}
 use Rattle.tree.specs.Content.{name_start, name_byte}
-use Rattle.xml.specs.Laws.Tokens.{span, span_length, span_byte, span_behind, name_at}
+use Rattle.xml.specs.Laws.Tokens.{span, name_at}
+use Rattle.xml.proofs.Laws.Tokens.{span_length, span_byte, span_behind}
 use Rattle.xml.specs.Laws.Fixed.{agree}
 use Rattle.byte_strings.specs.declared.Order.TheVariants.{Before, Same, Behind}
 use Rattle.byte_strings.specs.Agreement.{Agreement}

@@ -10,9 +10,10 @@ use Rattle.xml.specs.Bytes.{blank, less_than}
 use Rattle.xml.specs.Laws.Automaton.{prolog, behind_root, tag_name, born, byte, step}
 use Rattle.xml.specs.Laws.Counts.{births, tail, peak}
 use Rattle.xml.specs.Laws.Monitor.{on, seen_as}
-use Rattle.xml.specs.Laws.Scan.{scan_unspelled}
-use Rattle.xml.specs.Laws.Goes.{stops_end, stops_stuck, scan_born}
-use Rattle.xml.specs.Laws.Tells.{tells_then, tells_step, Passes, passes_then, passes_same, passes_step, passes_blanks}
+use Rattle.xml.proofs.Laws.Scan.{scan_unspelled}
+use Rattle.xml.proofs.Laws.Goes.{stops_end, stops_stuck, scan_born}
+use Rattle.xml.specs.Laws.Tells.{Passes}
+use Rattle.xml.proofs.Laws.Tells.{tells_then, tells_step, passes_then, passes_same, passes_step, passes_blanks}
 use Rattle.xml_tokens.specs.declared.Cursor.{Cursor}
 use Rattle.xml_tokens.specs.Steps.{Run}
 use Rattle.xml_tokens.specs.Laws.Spelling.{monitor_name}

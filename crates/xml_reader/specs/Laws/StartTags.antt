@@ -10,8 +10,10 @@ use Rattle.xml.specs.Reading.{input_limit}
 use Rattle.xml.specs.Laws.Automaton.{behind_part, tag_name, tag_step, step}
 use Rattle.xml.specs.Laws.Monitor.{on}
 use Rattle.xml.specs.Laws.Judge.{Verdict}
-use Rattle.xml.specs.Laws.Scan.{scan_at, scan_alike}
-use Rattle.xml.specs.Laws.Goes.{Leads, Goes, goes_then, goes_same}
+use Rattle.xml.specs.Laws.Scan.{scan_at}
+use Rattle.xml.proofs.Laws.Scan.{scan_alike}
+use Rattle.xml.specs.Laws.Goes.{Leads, Goes}
+use Rattle.xml.proofs.Laws.Goes.{goes_then, goes_same}
 use Rattle.xml.specs.Laws.Tokens.{name_at, Naming}
 use Rattle.xml_tokens.specs.declared.Cursor.{Cursor}
 use Rattle.xml_tokens.specs.declared.Item.{Item}

@@ -13,9 +13,11 @@ use Rattle.xml.specs.Bytes.{ampersand, less_than, brackets, blank, normalized}
 use Rattle.xml.specs.Laws.Words.{Words}
 use Rattle.xml.specs.Laws.Automaton.{Config, byte, stuck, move, step}
 use Rattle.xml.specs.Laws.Counts.{births, tail, peak}
-use Rattle.xml.specs.Laws.Monitor.{seen, see_byte, monitor_byte}
-use Rattle.xml.specs.Laws.Scan.{scan_at, scan_end, scan_stuck}
-use Rattle.xml.specs.Laws.Goes.{scan_quiet, scan_byte, scan_full}
+use Rattle.xml.specs.Laws.Monitor.{seen, see_byte}
+use Rattle.xml.proofs.Laws.Monitor.{monitor_byte}
+use Rattle.xml.specs.Laws.Scan.{scan_at}
+use Rattle.xml.proofs.Laws.Scan.{scan_end, scan_stuck}
+use Rattle.xml.proofs.Laws.Goes.{scan_quiet, scan_byte, scan_full}
 use Rattle.xml_tokens.specs.declared.Cursor.{Cursor}
 use Rattle.xml_tokens.specs.declared.Piece.{Piece}
 use Rattle.xml_tokens.specs.declared.Piece.TheVariants.{Taken, Unfit}

@@ -13,9 +13,11 @@ use Rattle.xml.specs.Reading.{node_offset}
 use Rattle.xml.specs.Laws.Words.{Words, references}
 use Rattle.xml.specs.Laws.Automaton.{Config, Event, born, byte, stuck, move, step}
 use Rattle.xml.specs.Laws.Counts.{births, tail, peak}
-use Rattle.xml.specs.Laws.Monitor.{Monitor, on, seen, at_rest, is_on, seen_as, monitor, monitor_quiet, monitor_byte}
-use Rattle.xml.specs.Laws.Scan.{scan_at, scan_unspelled}
-use Rattle.xml.specs.Laws.Goes.{goes_step, stops_end, stops_stuck, scan_plain, scan_born, scan_too_many}
+use Rattle.xml.specs.Laws.Monitor.{Monitor, on, seen, at_rest, is_on, seen_as, monitor}
+use Rattle.xml.proofs.Laws.Monitor.{monitor_quiet, monitor_byte}
+use Rattle.xml.specs.Laws.Scan.{scan_at}
+use Rattle.xml.proofs.Laws.Scan.{scan_unspelled}
+use Rattle.xml.proofs.Laws.Goes.{goes_step, stops_end, stops_stuck, scan_plain, scan_born, scan_too_many}
 use Rattle.xml.specs.Laws.Forces.{extent}
 use Rattle.xml_tokens.specs.declared.Cursor.{Cursor}
 use Rattle.xml_tokens.specs.declared.Read.{Read}

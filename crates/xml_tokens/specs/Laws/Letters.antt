@@ -12,13 +12,16 @@ use Rattle.tree.specs.declared.characters.Reading.TheVariants.{Whole, Broken}
 use Rattle.xml.specs.Grammar.{Name}
 use Rattle.xml.specs.Laws.Automaton.{Config, Move, to, step}
 use Rattle.xml.specs.Laws.Monitor.{Monitor, on, seen, at_rest, is_on, see_bytes, FaultAt, no_fault, at_byte}
-use Rattle.xml.specs.Laws.Monitor.{at_end, fault_seen}
+use Rattle.xml.specs.Laws.Monitor.{at_end}
+use Rattle.xml.proofs.Laws.Monitor.{fault_seen}
 use Rattle.xml.specs.Laws.Phases.{phase, is_over}
 use Rattle.xml.specs.Laws.Judge.{Verdict, bad}
-use Rattle.xml.specs.Laws.Scan.{scan_at, scan_end, scan_stuck}
-use Rattle.xml.specs.Laws.Goes.{scan_cut}
-use Rattle.xml.specs.Laws.Tokens.{span, span_length, span_behind, span_go, name_at}
-use Rattle.xml.specs.Laws.Taken.{Follows, name_follows, taken_all, taken_long, taken_broken}
+use Rattle.xml.specs.Laws.Scan.{scan_at}
+use Rattle.xml.proofs.Laws.Scan.{scan_end, scan_stuck}
+use Rattle.xml.proofs.Laws.Goes.{scan_cut}
+use Rattle.xml.specs.Laws.Tokens.{span, name_at}
+use Rattle.xml.proofs.Laws.Tokens.{span_length, span_behind, span_go}
+use Rattle.xml.proofs.Laws.Taken.{Follows, name_follows, taken_all, taken_long, taken_broken}
 use Rattle.xml_tokens.specs.declared.Cursor.{Cursor}
 use Rattle.xml_tokens.specs.declared.Piece.{Piece}
 use Rattle.xml_tokens.specs.declared.Piece.TheVariants.{Taken, Unfit}

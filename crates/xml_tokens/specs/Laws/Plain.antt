@@ -5,7 +5,8 @@ use Rattle.std.proofs.Common.{◌∙◌, arith, drop-cons, leb-true, leb-false, 
 use Rattle.tree.specs.Content.{content_limit, name_start, name_byte}
 use Rattle.tree.specs.Spelling.{start_of, faultless, fault_in}
 use Rattle.tree.specs.Laws.Tests.{and_left, and_right}
-use Rattle.xml.specs.Laws.Tokens.{span, span_go, span_stop, span_some, span_behind}
+use Rattle.xml.specs.Laws.Tokens.{span}
+use Rattle.xml.proofs.Laws.Tokens.{span_go, span_stop, span_some, span_behind}
 use Rattle.xml_tokens.specs.declared.Cursor.{Cursor}
 use Rattle.xml_tokens.specs.declared.Piece.TheVariants.{Taken, Unfit}
 use Rattle.xml_tokens.specs.Classes.{ascii_name}

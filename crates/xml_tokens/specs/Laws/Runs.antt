@@ -8,7 +8,8 @@ use Rattle.std.proofs.Math.Seq.{get_or-drop}
 use Rattle.tree.specs.Lists.{every}
 use Rattle.xml.specs.Bytes.{amp, apos, gt, lt, quot, tab_reference, line_feed_reference}
 use borrow.Author.Tests.{eq-eqb, ne_eqb}
-use Rattle.xml.specs.Laws.Tokens.{span, span_end, span_stop, span_go}
+use Rattle.xml.specs.Laws.Tokens.{span}
+use Rattle.xml.proofs.Laws.Tokens.{span_end, span_stop, span_go}
 use Rattle.xml.specs.Laws.Fixed.{agree, word_at, reference_at}
 use Rattle.xml_tokens.specs.declared.Cursor.{Cursor}
 use Rattle.xml_tokens.specs.declared.Reference.{Reference}

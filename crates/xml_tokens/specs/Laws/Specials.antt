@@ -18,14 +18,18 @@ use Rattle.xml.specs.Bytes.{quot, tab_reference, line_feed_reference}
 use Rattle.xml.specs.Laws.Words.{Words, references}
 use Rattle.xml.specs.Laws.Automaton.{Config, byte, move, to, step}
 use Rattle.xml.specs.Laws.Counts.{births, tail, peak}
-use Rattle.xml.specs.Laws.Monitor.{Monitor, off, on, unspelled, seen, at_rest, seen_as, see_byte, monitor_byte, monitor_quiet, FaultAt}
-use Rattle.xml.specs.Laws.Monitor.{fault_seen}
+use Rattle.xml.specs.Laws.Monitor.{Monitor, off, on, unspelled, seen, at_rest, seen_as, see_byte, FaultAt}
+use Rattle.xml.proofs.Laws.Monitor.{monitor_byte, monitor_quiet}
+use Rattle.xml.proofs.Laws.Monitor.{fault_seen}
 use Rattle.xml.specs.Laws.Judge.{bad}
-use Rattle.xml.specs.Laws.Scan.{scan_at, scan_end, scan_stuck}
-use Rattle.xml.specs.Laws.Goes.{scan_quiet, scan_full, scan_cut, scan_misspelled}
-use Rattle.xml.specs.Laws.Tokens.{span, span_length, span_go, span_behind, Reach, got, lost, reach, Landed, word_scan}
-use Rattle.xml.specs.Laws.Fixed.{word_at, agree, reference_at, references_at}
-use Rattle.xml.specs.Laws.Taken.{Follows, follows_none, follows_byte}
+use Rattle.xml.specs.Laws.Scan.{scan_at}
+use Rattle.xml.proofs.Laws.Scan.{scan_end, scan_stuck}
+use Rattle.xml.proofs.Laws.Goes.{scan_quiet, scan_full, scan_cut, scan_misspelled}
+use Rattle.xml.specs.Laws.Tokens.{span, Reach, got, lost, reach, Landed}
+use Rattle.xml.proofs.Laws.Tokens.{span_length, span_go, span_behind, word_scan}
+use Rattle.xml.specs.Laws.Fixed.{word_at, agree, reference_at}
+use Rattle.xml.proofs.Laws.Fixed.{references_at}
+use Rattle.xml.proofs.Laws.Taken.{Follows, follows_none, follows_byte}
 use Rattle.xml_tokens.specs.declared.Cursor.{Cursor}
 use Rattle.xml_tokens.specs.declared.Reference.TheVariants.{Byte, NoReference}
 use Rattle.xml_tokens.specs.declared.Piece.{Piece}

@@ -12,7 +12,8 @@ use Rattle.tree.specs.Laws.Tests.{and_left, and_right}
 use Rattle.tree.specs.Laws.Spelling.{spell_ascii, spell_behind, name_start_ascii, name_ascii, text_ascii}
 use Rattle.xml.specs.Laws.Automaton.{Event, born, byte}
 use Rattle.xml.specs.Laws.Monitor.{Monitor, off, on, seen, at_rest, is_on, seen_as, see_byte, content_of, then_see, see, monitor}
-use Rattle.xml.specs.Laws.Monitor.{monitor_quiet, monitor_byte, see_bytes}
+use Rattle.xml.specs.Laws.Monitor.{see_bytes}
+use Rattle.xml.proofs.Laws.Monitor.{monitor_quiet, monitor_byte}
 use Rattle.xml_tokens.specs.Classes.{ascii_name}
 use Rattle.xml_tokens.specs.Steps.{text_monitor}
 

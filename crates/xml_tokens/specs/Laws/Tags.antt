@@ -14,12 +14,14 @@ use Rattle.xml.specs.Reading.{opener, node_offset}
 use Rattle.xml.specs.Laws.Automaton.{Config, behind_part, in_tag, before_equals, behind_equals, behind_slash, behind_quote, content, closed}
 use Rattle.xml.specs.Laws.Automaton.{behind_open, end_name}
 use Rattle.xml.specs.Laws.Automaton.{to, tag_step, step}
-use Rattle.xml.specs.Laws.Transitions.{for_blanks, blank_no_name}
+use Rattle.xml.proofs.Laws.Transitions.{for_blanks, blank_no_name}
 use Rattle.xml.specs.Laws.Phases.{phase, pending}
-use Rattle.xml.specs.Laws.Judge.{offset_before, offset_at}
-use Rattle.xml.specs.Laws.Goes.{stops_end, stops_stuck}
-use Rattle.xml.specs.Laws.Tokens.{span, span_go, span_some, span_byte, span_behind}
-use Rattle.xml.specs.Laws.Tells.{Passes, passes_then, passes_same, passes_step, passes_blanks}
+use Rattle.xml.proofs.Laws.Judge.{offset_before, offset_at}
+use Rattle.xml.proofs.Laws.Goes.{stops_end, stops_stuck}
+use Rattle.xml.specs.Laws.Tokens.{span}
+use Rattle.xml.proofs.Laws.Tokens.{span_go, span_some, span_byte, span_behind}
+use Rattle.xml.specs.Laws.Tells.{Passes}
+use Rattle.xml.proofs.Laws.Tells.{passes_then, passes_same, passes_step, passes_blanks}
 use Rattle.xml_tokens.specs.declared.Cursor.{Cursor}
 use Rattle.xml_tokens.specs.declared.End.TheVariants.{Behind, Mismatch}
 use Rattle.xml_tokens.specs.declared.Markup.TheVariants.{EndTag, NoTag}

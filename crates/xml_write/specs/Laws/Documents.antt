@@ -12,8 +12,8 @@ use Rattle.protocol.specs.State.{Marked, Tree, State, nobody, shown, as_shown, n
 use Rattle.table.specs.Flat.{flat}
 use Rattle.table.specs.Layout.{nodes}
 use Rattle.rows.specs.Places.{depth, is_committed}
-use Rattle.protocol.specs.Laws.Shown.{shown_committed}
-use Rattle.rows.specs.Laws.Ends.{flat_view}
+use Rattle.protocol.proofs.Laws.Shown.{shown_committed}
+use Rattle.rows.proofs.Laws.Ends.{flat_view}
 use Rattle.form.specs.Form.{Holds}
 use Rattle.form.specs.Laws.Valid.{Root, root_of}
 use Rattle.form.specs.Laws.Rows.{between_of, between_low, between_high}

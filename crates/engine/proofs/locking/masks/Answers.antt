@@ -1,5 +1,5 @@
 use borrow.Author.Rules.{rules}
-use Rattle.locks.specs.Laws.Common.{mask_small}
+use Rattle.locks.proofs.Laws.Common.{mask_small}
 use Rattle.engine.proofs.locking.masks.Goals as goal
 
 pub returns : goal.returns

@@ -1,7 +1,7 @@
 use borrow.Author.Rules.{rules}
 use Prim.Native.Nat.{◌≤◌}
 use mathlib.Core.Path.{◌≡◌, sym}
-use Rattle.locks.specs.Laws.Words.{word_none}
+use Rattle.locks.proofs.Laws.Words.{word_none}
 use Rattle.table.specs.Layout.{nodes, is_open}
 use Rattle.engine.specs.Way.{nodes_of}
 use Rattle.engine.specs.Laws.Waits.{set_of, set_below, set_turn, set_whole}

@@ -1,5 +1,5 @@
 use borrow.Author.Rules.{rules}
-use Rattle.protocol.specs.Laws.Transactions.{is_transaction_of}
+use Rattle.protocol.proofs.Laws.Transactions.{is_transaction_of}
 use Rattle.protocol.proofs.sets.has.Goals as goal
 
 pub returns : goal.returns
