@@ -71,7 +71,7 @@ module _ (holds holds' : ℕ → List Lock) (more : (u : ℕ) → Within (holds 
             rw (a.2, si s, sn s, marked_numbers c sn s.above) (⊎_elim
             (λ x. author_more holds holds' u (more u) _ _ (λ e. e) (number_of s) (numbers_of s.above) (cov.authored s a.1 u nu x))
             (λ x. inr (subst (λ (v : ℕ). Within (locks (U (number_of s) []) (numbers_of s.above)) (holds' v) ⊎ Renames holds' v (numbers_of (path s)))
-                (sym x.0) x.1))
+            (sym x.0) x.1))
             (wri s a.1 u nu g))
 
     -- t wrote where a test says so, with the locks for it

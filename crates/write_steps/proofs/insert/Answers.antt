@@ -43,26 +43,26 @@ returns-then-not-verdict c =
 pub fits-requires : goal.fits-requires
 fits-requires c =
     let f = step_free name.I (I c.args.m c.args.kind c.args.b.now c.args.n c.args.k) refl c.admit-at.ensures c.insert_cause-cause.ensures
-        c.needed-need.ensures c.judge-verdict.ensures c.if-not-verdict.false in
+    c.needed-need.ensures c.judge-verdict.ensures c.if-not-verdict.false in
     (f.standing.layout, f.standing.inside)
 
 pub returns-then-not-fits : goal.returns-then-not-fits
 returns-then-not-fits c =
     let f = step_free name.I (I c.args.m c.args.kind c.args.b.now c.args.n c.args.k) refl c.admit-at.ensures c.insert_cause-cause.ensures
-        c.needed-need.ensures c.judge-verdict.ensures c.if-not-verdict.false in
+    c.needed-need.ensures c.judge-verdict.ensures c.if-not-verdict.false in
     (free_refused f no_room 11 (insert_misplaced f c.fits.ensures (not-true _ c.if-not-fits.true-raw)) (λ z. omega arith)).performed
 
 pub count-requires : goal.count-requires
 count-requires c =
     (step_free name.I (I c.args.m c.args.kind c.args.b.now c.args.n c.args.k) refl c.admit-at.ensures c.insert_cause-cause.ensures
-        c.needed-need.ensures c.judge-verdict.ensures c.if-not-verdict.false).standing.layout
+    c.needed-need.ensures c.judge-verdict.ensures c.if-not-verdict.false).standing.layout
 
 pub returns-then-count-ge1024 : goal.returns-then-count-ge1024
 returns-then-count-ge1024 c =
     let at_if2 = c in
     let at_fits2 = at_if2 in
     let f = step_free name.I (I at_fits2.args.m at_fits2.args.kind at_fits2.args.b.now at_fits2.args.n at_fits2.args.k) refl at_fits2.admit-at.ensures at_fits2.insert_cause-cause.ensures
-        at_fits2.needed-need.ensures at_fits2.judge-verdict.ensures at_fits2.if-not-verdict.false in
+    at_fits2.needed-need.ensures at_fits2.judge-verdict.ensures at_fits2.if-not-verdict.false in
     let full = insert_full f at_fits2.fits.ensures (not-false _ at_if2.if-not-fits.false-raw)
     (rw (← c.count.ensures) c.if-count-ge1024.true) in
     (free_refused f no_room 12 full (λ z. omega arith)).performed
@@ -72,19 +72,19 @@ new_place-q-requires c =
     let at_if2 = c in
     let at_fits2 = at_if2 in
     let f = step_free name.I (I at_fits2.args.m at_fits2.args.kind at_fits2.args.b.now at_fits2.args.n at_fits2.args.k) refl at_fits2.admit-at.ensures at_fits2.insert_cause-cause.ensures
-        at_fits2.needed-need.ensures at_fits2.judge-verdict.ensures at_fits2.if-not-verdict.false in
+    at_fits2.needed-need.ensures at_fits2.judge-verdict.ensures at_fits2.if-not-verdict.false in
     (f.standing.layout, f.standing.inside, insert_counted f at_fits2.fits.ensures (not-false _ at_if2.if-not-fits.false-raw))
 
 pub depth-d-requires : goal.depth-d-requires
 depth-d-requires c =
     let f = step_free name.I (I c.args.m c.args.kind c.args.b.now c.args.n c.args.k) refl c.admit-at.ensures c.insert_cause-cause.ensures
-        c.needed-need.ensures c.judge-verdict.ensures c.if-not-verdict.false in
+    c.needed-need.ensures c.judge-verdict.ensures c.if-not-verdict.false in
     (f.standing.layout, f.standing.inside)
 
 pub grant-requires : goal.grant-requires
 grant-requires c =
     let f = step_free name.I (I c.args.m c.args.kind c.args.b.now c.args.n c.args.k) refl c.admit-at.ensures c.insert_cause-cause.ensures
-        c.needed-need.ensures c.judge-verdict.ensures c.if-not-verdict.false in
+    c.needed-need.ensures c.judge-verdict.ensures c.if-not-verdict.false in
     (f.standing.layout, f.standing.low, f.standing.high, f.standing.climbed.inside)
 
 pub overflow_add-d : goal.overflow_add-d
@@ -94,7 +94,7 @@ overflow_add-d c =
       arith,
       at_depth.depth-d.ensures,
       standing_depth (step_free name.I (I at_depth.args.m at_depth.args.kind at_depth.args.b.now at_depth.args.n at_depth.args.k) refl at_depth.admit-at.ensures at_depth.insert_cause-cause.ensures
-        at_depth.needed-need.ensures at_depth.judge-verdict.ensures at_depth.if-not-verdict.false).standing,
+          at_depth.needed-need.ensures at_depth.judge-verdict.ensures at_depth.if-not-verdict.false).standing,
     )
 
 pub overflow_cast-kind : goal.overflow_cast-kind
@@ -103,7 +103,7 @@ overflow_cast-kind c =
       arith,
       kind_small _ _ (not-false _
           (free_fits (step_free name.I (I c.args.m c.args.kind c.args.b.now c.args.n c.args.k) refl c.admit-at.ensures c.insert_cause-cause.ensures
-        c.needed-need.ensures c.judge-verdict.ensures c.if-not-verdict.false)).1),
+          c.needed-need.ensures c.judge-verdict.ensures c.if-not-verdict.false)).1),
     )
 
 pub put-requires : goal.put-requires
@@ -115,7 +115,7 @@ put-requires c =
     let at_count = at_if3 in
     let at_needed = at_count in
     let f = step_free name.I (I at_count.args.m at_count.args.kind at_count.args.b.now at_count.args.n at_count.args.k) refl at_count.admit-at.ensures at_count.insert_cause-cause.ensures
-        at_count.needed-need.ensures at_count.judge-verdict.ensures at_count.if-not-verdict.false in
+    at_count.needed-need.ensures at_count.judge-verdict.ensures at_count.if-not-verdict.false in
     let g = free_locked f at_grant.grant.ensures in (
       g.left.layout,
       omega (arith, g.many, at_count.count.ensures, at_if3.if-count-ge1024.false),
@@ -138,7 +138,7 @@ returns c =
     let at_if2 = at_count in
     let at_fits2 = at_if2 in
     let f = step_free name.I (I at_fits2.args.m at_fits2.args.kind at_fits2.args.b.now at_fits2.args.n at_fits2.args.k) refl at_fits2.admit-at.ensures at_fits2.insert_cause-cause.ensures
-        at_fits2.needed-need.ensures at_fits2.judge-verdict.ensures at_fits2.if-not-verdict.false in
+    at_fits2.needed-need.ensures at_fits2.judge-verdict.ensures at_fits2.if-not-verdict.false in
     let spare = insert_spare f at_fits2.fits.ensures (not-false _ at_if2.if-not-fits.false-raw)
     (rw (← at_count.count.ensures) at_if3.if-count-ge1024.false) in
     let left = insert_left f _ _ at_new_place.new_place-q.ensures.0 at_depth.depth-d.ensures at_grant.grant.ensures

@@ -145,7 +145,7 @@ module _ {kinds : List ℕ} {top : ℕ} {pre : List Line} (t : Tagged kinds top 
             next e z v (inr n) =
                 rw (z, le-ltb d d (omega arith), eq-eqb d d refl, not_first, n)
                 (ap (λ (ns : List (List ℕ)). a.content ∷ ns) (subst (λ (v : ℕ). names_before v pre ≡ tag_names pre) (sym z)
-                  (tagged_names (eqb-true a.kind attribute_kind n))))
+                (tagged_names (eqb-true a.kind attribute_kind n))))
         side e l k i false ex false ey =
             let y : e ≡ d → ⊥ = eqb-false e d ex in
             let z : suc e ≡ d → ⊥ = eqb-false (suc e) d ey in

@@ -7,10 +7,10 @@ markup-requires c = c.requires.0.inside
 
 pub end-requires : goal.end-requires
 end-requires c = (
-      end_there (markup_as c.in-EndTag.is
-          c.markup.ensures),
-      c.requires.1,
-    )
+  end_there (markup_as c.in-EndTag.is
+      c.markup.ensures),
+  c.requires.1,
+)
 
 pub element-requires : goal.element-requires
 element-requires c =

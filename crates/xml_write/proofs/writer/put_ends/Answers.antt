@@ -20,10 +20,10 @@ bounds-path-e c = (ends_on c.requires c.loop-e.invariant.1 (omega arith)).index
 
 pub overflow_cast-p : goal.overflow_cast-p
 overflow_cast-p c = omega (
-      arith,
-      (ends_on c.requires c.loop-e.invariant.1
-          (omega arith)).small_place,
-    )
+  arith,
+  (ends_on c.requires c.loop-e.invariant.1
+      (omega arith)).small_place,
+)
 
 pub bounds-kinds-e : goal.bounds-kinds-e
 bounds-kinds-e c = (ends_on c.requires c.loop-e.invariant.1 (omega arith)).index
