@@ -1,6 +1,7 @@
 pub mod Outcomes
 pub mod WaitSet
 pub mod Rings
+pub mod RingTest
 pub mod OneCall
 pub mod Logs
 pub mod OpenLevels

@@ -21,7 +21,8 @@ use Rattle.serializability.proofs.Laws.Parts.{Entry}
 use Rattle.serializability.proofs.Laws.Tracks.{Tracks}
 use Rattle.serializability.proofs.Laws.Tracking.{calls_track, start_tracks}
 use Rattle.serializability.proofs.Laws.AnyOrder.{reached_tracks}
-use Rattle.serializability.proofs.Laws.Rings.{path_append, last_wait, first_wait, wider_path, found_path, path_found, ring_test}
+use Rattle.serializability.proofs.Laws.Rings.{path_append, last_wait, first_wait, wider_path, found_path, path_found}
+use Rattle.serializability.proofs.Laws.RingTest.{ring_test}
 
 -- the set of t becomes another ---------------------------------------------------------------
 

@@ -9,8 +9,8 @@ use Rattle.tree.specs.Lists.{keep}
 use Rattle.tree.specs.Laws.Tests.{and_left, and_right, or_cases}
 use Rattle.tree.specs.Laws.Lists.{any_at, at_any, keep_in}
 use Rattle.protocol.specs.State.{WaitSets, transactions}
-use Rattle.protocol.specs.Rings.{waits_within, in_ring}
-use Rattle.serializability.specs.Theorem.{WaitPath, waits_for, waits_then, AmongTransactions, RingTest}
+use Rattle.protocol.specs.Rings.{waits_within}
+use Rattle.serializability.specs.Theorem.{WaitPath, waits_for, waits_then, AmongTransactions}
 use Rattle.serializability.proofs.Laws.Tests.{by_test}
 use Rattle.serializability.proofs.Laws.WaitSet.{transaction_in}
 
@@ -116,7 +116,3 @@ module _ (r : WaitSets) (h : AmongTransactions r) (t : ℕ) where
   -- a path goes over at most fifteen others
   pub path_found : {u : ℕ} → WaitPath r t u → waits_within 16 r t u ≡ true
   path_found p = over_within 15 (omega (arith, without_shorter t transactions (waiter_in (first_wait p).1))) (over_others (path_over p))
-
-pub ring_test : RingTest
-unfolding in_ring
-ring_test r h t = (found_path r 16 t t, path_found r h t)
