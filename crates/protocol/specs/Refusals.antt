@@ -1,5 +1,6 @@
 -- The order of causes: document 01, "Refused calls": "Order: 1, 2 or 3, 7, 8, 9, 10, wait, 11, 12, 13. Load: 15, then the earliest offset".
--- Two tables, one theorem; where a line says "before", both causes apply to the call. Load's offsets are in xml/proofs/Laws/Examples.
+-- Two tables, of which `refusals_hold` (proofs/Refusals) is the theorem; where a line says "before", both causes apply to the call. Load's
+-- offsets are in xml/proofs/Laws/Examples.
 use Rattle.std.specs.Prelude.{ℕ, zero, suc, List, [], ◌∷◌, ◌++◌, length}
 use Rattle.tree.specs.Text.{bytes}
 use Rattle.tree.specs.Forest.{nil, node}

@@ -1,4 +1,4 @@
--- What is claimed of every list of calls on one lent state: demands 1, 2 and 3, A.14, A.6 and A.7. `delivered` (Laws/Main.antt) proves it
+-- What is claimed of every list of calls on one lent state: demands 1, 2 and 3, A.14, A.6 and A.7. `delivered` (proofs/Laws/Main.antt) proves it
 -- from the contracts of the exported functions alone.
 use Rattle.std.specs.Prelude.{◌≡◌, ℕ, ◌≤◌, ◌<◌, ◌↔◌, Bool, true, false, cond, length, take, drop, leb}
 use mathlib.Core.List.{List, [], ◌∷◌, ◌++◌, map, Memᴰ}

@@ -1,7 +1,6 @@
 use borrow.Author.Rules.{rules}
-use Prim.Native.Nat.{◌-◌, ◌≤◌}
 use mathlib.Core.Path.{◌∙◌}
-use Rattle.deadlock.specs.Laws.Rounds.{Reached, reached_none, reached_more, ring_found}
+use Rattle.deadlock.specs.Laws.Rounds.{reached_none, reached_more, ring_found}
 use Rattle.deadlock.proofs.ring.Goals as goal
 
 pub loop-n-init : goal.loop-n-init

@@ -1,7 +1,5 @@
-use borrow.Author.Rules.{rules}
 use Prim.Native.Nat.{◌-◌, ◌≤◌}
-use mathlib.Core.Path.{◌∙◌}
-use Rattle.deadlock.specs.Laws.Rounds.{Reached, reached_none, reached_more, ring_found}
+use Rattle.deadlock.specs.Laws.Rounds.{Reached}
 use Rattle.deadlock.proofs.ring.Given as goal
 
 abbrev pub invariant-loop-n : goal.invariant-loop-n

@@ -1,8 +1,7 @@
 use borrow.Author.Rules.{rules}
 use borrow.Author.Tests.{not-true, not-false}
-use Prim.Native.Nat.{◌-◌, ◌≤◌}
 use mathlib.Core.Path.{sym, ◌∙◌}
-use Rattle.deadlock.specs.Laws.Rounds.{Joined, joined_first, joined_passed, joined_more, joined_all}
+use Rattle.deadlock.specs.Laws.Rounds.{joined_first, joined_passed, joined_more, joined_all}
 use Rattle.deadlock.proofs.round.Goals as goal
 
 pub loop-v-init : goal.loop-v-init

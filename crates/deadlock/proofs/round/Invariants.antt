@@ -1,8 +1,5 @@
-use borrow.Author.Rules.{rules}
-use borrow.Author.Tests.{not-true, not-false}
 use Prim.Native.Nat.{◌-◌, ◌≤◌}
-use mathlib.Core.Path.{sym, ◌∙◌}
-use Rattle.deadlock.specs.Laws.Rounds.{Joined, joined_first, joined_passed, joined_more, joined_all}
+use Rattle.deadlock.specs.Laws.Rounds.{Joined}
 use Rattle.deadlock.proofs.round.Given as goal
 
 abbrev pub invariant-loop-v : goal.invariant-loop-v

@@ -1,10 +1,6 @@
-use borrow.Author.Rules.{rules}
-use native.Mathlib.Omega.{arith}
-use Prim.Native.Nat.{ℕ, ◌-◌, ◌≤◌}
-use mathlib.Core.Path.{◌≡◌, sym, ap, ◌∙◌}
-use Rattle.locks.specs.Modes.{clash}
-use Rattle.locks.specs.Words.{clash_table, clash_at, word}
-use Rattle.locks.proofs.Laws.Words.{word_turn, word_none, word_below}
+use Prim.Native.Nat.{◌-◌, ◌≤◌}
+use mathlib.Core.Path.{◌≡◌}
+use Rattle.locks.specs.Words.{clash_at, word}
 use Rattle.locks.proofs.clashing.Given as goal
 
 abbrev pub invariant-loop-a : goal.invariant-loop-a

@@ -1,8 +1,7 @@
 use borrow.Author.Rules.{rules}
 use borrow.Author.Tests.{not-true, not-false}
-use Prim.Native.Nat.{◌≤◌}
-use mathlib.Core.Path.{◌≡◌, sym, ◌∙◌}
-use Rattle.locks.proofs.Laws.Words.{mask_from, mask_none, mask_whole, mask_passed, mask_more}
+use mathlib.Core.Path.{sym, ◌∙◌}
+use Rattle.locks.proofs.Laws.Words.{mask_none, mask_whole, mask_passed, mask_more}
 use Rattle.locks.proofs.mask.Goals as goal
 
 pub loop-b-init : goal.loop-b-init

@@ -1,8 +1,6 @@
-use borrow.Author.Rules.{rules}
-use borrow.Author.Tests.{not-true, not-false}
 use Prim.Native.Nat.{◌≤◌}
-use mathlib.Core.Path.{◌≡◌, sym, ◌∙◌}
-use Rattle.locks.proofs.Laws.Words.{mask_from, mask_none, mask_whole, mask_passed, mask_more}
+use mathlib.Core.Path.{◌≡◌}
+use Rattle.locks.proofs.Laws.Words.{mask_from}
 use Rattle.locks.proofs.mask.Given as goal
 
 abbrev pub invariant-loop-b : goal.invariant-loop-b

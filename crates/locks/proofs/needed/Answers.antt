@@ -1,6 +1,5 @@
 use mathlib.Core.Path.{sym, ap, ◌∙◌}
 use Rattle.locks.specs.Words.{word_of, need_words}
-use borrow.Author.Rules.{rules}
 use Rattle.locks.proofs.needed.Goals as goal
 
 pub returns-in-T : goal.returns-in-T

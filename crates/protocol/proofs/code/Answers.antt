@@ -1,6 +1,5 @@
 use native.Mathlib.Omega.{arith}
 use Rattle.protocol.specs.Answers.{code_of}
-use borrow.Author.Rules.{rules}
 use Rattle.protocol.proofs.code.Goals as goal
 
 pub returns-in-Done : goal.returns-in-Done

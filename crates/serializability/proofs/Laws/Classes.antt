@@ -2,7 +2,7 @@
 use Rattle.std.specs.Prelude.{ℕ, ◌≡◌, refl, Bool, true, false, ◌&&◌, List, [], ◌∷◌}
 use Rattle.std.proofs.lemmas.Bool.{false≢true}
 use Rattle.tree.specs.Lists.{has}
-use Rattle.tree.specs.Document.{Document, Line, is, in_subtree, here, at}
+use Rattle.tree.specs.Document.{Document, Line, is, in_subtree, here}
 use Rattle.tree.specs.Steps.{Step, T, C, R, U, D, I, TT, RR, UU, target, inserts, after, named, rewrite}
 use Rattle.tree.specs.Laws.Tests.{and_left, and_right}
 use Rattle.locks.specs.Modes.{LW, clash}

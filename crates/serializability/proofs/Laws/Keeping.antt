@@ -7,7 +7,7 @@ use mathlib.Core.List.{List, [], ◌∷◌, Memᴰ}
 use Rattle.std.proofs.Math.Logic.{⊎_map}
 use Rattle.tree.specs.Lists.{has}
 use Rattle.tree.specs.Forest.{row, put}
-use Rattle.tree.specs.Document.{Node, here, at}
+use Rattle.tree.specs.Document.{Node, here}
 use Rattle.tree.specs.Steps.{Step, T, C, R, U, D, I, TT, RR, UU, target, inserts}
 use Rattle.tree.specs.Laws.Tests.{or_cases}
 use Rattle.tree.specs.Laws.Rows.{Each, each_above}

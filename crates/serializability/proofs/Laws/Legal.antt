@@ -10,7 +10,7 @@ use Rattle.tree.specs.Steps.{Step, U, D, I, UU, fits, after, placed, named, rewr
 use Rattle.tree.specs.Laws.Tests.{and_left, and_right, refuted}
 use Rattle.tree.specs.Laws.Rows.{self}
 use Rattle.serializability.proofs.Laws.Tests.{by_test}
-use Rattle.serializability.proofs.Laws.Lines.{number, Unique, at_only, rewritten_number, rewritten_kind, insert}
+use Rattle.serializability.proofs.Laws.Lines.{Unique, at_only, rewritten_number, rewritten_kind, insert}
 use Rattle.serializability.proofs.Laws.Classes.{Rewriting, update, rename, Class, reading, rewriting, removing, inserting, class}
 use Rattle.serializability.proofs.Laws.Classes.{touched, written, after_rewriting}
 use Rattle.serializability.proofs.Laws.Kept.{Fit, fit_parts, fits_here}

@@ -57,24 +57,24 @@ pub unique_remove : (x : ℕ) (d : Document) → Unique d → Unique (remove x d
 unique_remove x d u = rw (lines_remove x d) (distinct_keep line_number (λ r. not (in_subtree x r)) (lines d) u)
 
 -- a new node with another number than all that are there
-module _ {A K : Type 0} (number_of_lem : A → ℕ) (key : A → K) (n : ℕ) (counts : A → Bool) (k : ℕ) (new : A) (p : List K) (f : Forest A) where
+module _ {A K : Type 0} (number_of : A → ℕ) (key : A → K) (n : ℕ) (counts : A → Bool) (k : ℕ) (new : A) (p : List K) (f : Forest A) where
   abbrev row_number : Row A K → ℕ
-  row_number r = number_of_lem r.it
+  row_number r = number_of r.it
 
   abbrev after_put : List (Row A K)
-  after_put = rows key p (put (λ a. eqb (number_of_lem a) n) counts k new f)
+  after_put = rows key p (put (λ a. eqb (number_of a) n) counts k new f)
 
   pub put_distinct : distinct (map row_number (rows key p f)) ≡ true
-      → ((r : Row A K) → Memᴰ r (rows key p f) → row_number r ≡ number_of_lem new → ⊥) → distinct (map row_number after_put) ≡ true
-  put_distinct d h = count_distinct row_number after_put (λ x. by_test (eqb (number_of_lem new) x) (added x)
-      (λ e. rw (put_kept (λ a. eqb (number_of_lem a) n) counts k new key (λ r. eqb (row_number r) x) p f (λ s m j. e))
+      → ((r : Row A K) → Memᴰ r (rows key p f) → row_number r ≡ number_of new → ⊥) → distinct (map row_number after_put) ≡ true
+  put_distinct d h = count_distinct row_number after_put (λ x. by_test (eqb (number_of new) x) (added x)
+      (λ e. rw (put_kept (λ a. eqb (number_of a) n) counts k new key (λ r. eqb (row_number r) x) p f (λ s m j. e))
       (distinct_count row_number (rows key p f) d x)))
     where
-      added : (x : ℕ) → eqb (number_of_lem new) x ≡ true → count (λ r. eqb (row_number r) x) after_put ≤ 1
+      added : (x : ℕ) → eqb (number_of new) x ≡ true → count (λ r. eqb (row_number r) x) after_put ≤ 1
       added x e =
           let i : count (λ r. eqb (row_number r) x) after_put ≡ count (λ r. eqb (row_number r) n) (rows key p f)
           + count (λ r. eqb (row_number r) x) (rows key p f) =
-          put_count (λ a. eqb (number_of_lem a) n) counts k new key (λ r. eqb (row_number r) x) p f (λ s m j. e) in
+          put_count (λ a. eqb (number_of a) n) counts k new key (λ r. eqb (row_number r) x) p f (λ s m j. e) in
           let z : count (λ r. eqb (row_number r) x) (rows key p f) ≡ 0 = ap length (keep_none (λ r. eqb (row_number r) x) (rows key p f)
           (λ r m. refuted _ (λ q. h r m (eqb-true _ x q ∙ sym (eqb-true _ x e))))) in
           rw (i, z) (omega (arith, distinct_count row_number (rows key p f) d n))

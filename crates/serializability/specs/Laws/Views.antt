@@ -3,7 +3,7 @@ use Rattle.std.specs.Prelude.{ℕ, ◌≡◌, Bool, true, false}
 use mathlib.Core.List.{[], map}
 use Rattle.tree.specs.Lists.{has}
 use Rattle.tree.specs.Forest.{row}
-use Rattle.tree.specs.Document.{Document, Line, lines, is, child, in_subtree, select, here}
+use Rattle.tree.specs.Document.{Document, Line, is, child, in_subtree, select, here}
 use Rattle.tree.specs.Steps.{Step, T, C, R, U, D, I, TT, RR, UU, target, inserts, fits, answer, with_content}
 use Rattle.tree.specs.Plain.{touches}
 use Rattle.locks.specs.Needs.{needs}

@@ -1,6 +1,5 @@
 use native.Mathlib.Omega.{arith}
 use Rattle.table.specs.Laws.Texts.{size_small, byte_at}
-use borrow.Author.Rules.{rules}
 use Rattle.table.proofs.content.Goals as goal
 
 pub overflow_add-result-4 : goal.overflow_add-result-4

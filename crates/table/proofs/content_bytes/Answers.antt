@@ -5,7 +5,6 @@ use Prim.Native.Nat.{ℕ, ◌+◌, ◌-◌, ◌*◌, ◌≤◌, ◌<◌}
 use lib.ListN.{length, get_or, take, drop, length-drop}
 use lib.Seq.{get_or-take, get_or-drop, ext_get_or, length-take-le}
 use Rattle.table.specs.Laws.Texts.{byte_at}
-use borrow.Author.Rules.{rules}
 use Rattle.table.proofs.content_bytes.Goals as goal
 
 -- the m bytes from `at` on are those of t

@@ -6,7 +6,6 @@ use lib.ListN.{length, get_or, take, drop, length-drop}
 use lib.Seq.{get_or-take, get_or-drop, ext_get_or, length-take-le, take-take}
 use Rattle.table.specs.Fields.{Begins}
 use Rattle.table.specs.Laws.Texts.{byte_at, size_small}
-use borrow.Author.Rules.{rules}
 use Rattle.table.proofs.content_window.Goals as goal
 
 -- 32 bytes from `at` on, the first of which are those of t

@@ -1,10 +1,7 @@
 use borrow.Author.Rules.{rules}
-use mathlib.Core.Path.{◌≡◌, sym, ◌∙◌}
-use Prim.Native.Nat.{◌+◌, ◌-◌, ◌≤◌}
-use lib.ListN.{length, drop}
+use mathlib.Core.Path.{sym, ◌∙◌}
 use borrow.Author.Tests.{eq-eqb, ne_eqb}
-use Rattle.table.specs.Lists.{first}
-use Rattle.table.specs.Layout.{nodes, no_entry}
+use Rattle.table.specs.Layout.{no_entry}
 use Rattle.table.specs.Laws.First.{first_found, first_passed, first_none}
 use lib.Dec.{eqb}
 use Rattle.table.proofs.find.Goals as goal

@@ -1,7 +1,6 @@
 use native.Mathlib.Omega.{arith}
 use Prim.Native.Nat.{◌+◌, ◌*◌}
 use Rattle.table.specs.Laws.Texts.{size_small, size_at}
-use borrow.Author.Rules.{rules}
 use Rattle.table.proofs.size.Goals as goal
 
 pub overflow_cast-result : goal.overflow_cast-result

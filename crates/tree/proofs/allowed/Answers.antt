@@ -1,7 +1,6 @@
 use mathlib.Core.Path.{◌∙◌}
 use borrow.Author.Tests.{eq-eqb, ne_eqb}
 use Rattle.tree.specs.Content.{allowed}
-use borrow.Author.Rules.{rules}
 use Rattle.tree.proofs.allowed.Goals as goal
 
 pub returns-then-kind-eq1 : goal.returns-then-kind-eq1

@@ -1,5 +1,4 @@
 use mathlib.Core.Path.{sym, ◌∙◌}
-use borrow.Author.Rules.{rules}
 use borrow.Author.Tests.{not-true, not-false}
 use Rattle.tree.proofs.Contents.{name_empty, name_long, name_other, name_plain, name_is}
 use Rattle.tree.proofs.is_name.Goals as goal

@@ -1,5 +1,4 @@
 use mathlib.Core.Path.{sym, ◌∙◌}
-use borrow.Author.Rules.{rules}
 use Rattle.tree.proofs.Contents.{text_empty, text_long, text_plain, text_is}
 use Rattle.tree.proofs.is_text.Goals as goal
 

@@ -1,7 +1,6 @@
 use mathlib.Core.Path.{◌∙◌}
 use native.Mathlib.Omega.{arith}
 use Rattle.tree.proofs.Bytes.{start_small, start_above, name_letter, name_digit, name_hyphen, name_below}
-use borrow.Author.Rules.{rules}
 use Rattle.tree.proofs.name_byte.Goals as goal
 
 pub returns-then-x-le122 : goal.returns-then-x-le122

@@ -9,7 +9,6 @@ use Rattle.tree.specs.Spelling.{Spelling, Spelled, broken, spelling, before, who
 use Rattle.tree.specs.Laws.Spelling.{spell_behind, Completable, completable_before, completable_spell}
 use Rattle.xml.specs.Grammar.{Name, Reference, entity_amp, entity_apos, entity_gt, entity_lt, entity_quot, character_tab}
 use Rattle.xml.specs.Grammar.{character_line_feed}
-use Rattle.xml.specs.Laws.Words as words
 use Rattle.xml.specs.Laws.Words.{Words, Word, references}
 use Rattle.xml.proofs.Laws.Words.{word_reference, word_back}
 use Rattle.xml.specs.Laws.Automaton.{Config, at_start, behind_first, prolog, behind_root, epilog, declaration, tag_name, behind_part}

@@ -16,7 +16,7 @@ use Rattle.xml.specs.Shape.{Shape, size, longest}
 use Rattle.xml.specs.Grammar.{Spells}
 use Rattle.xml.specs.Reading.{input_limit, Viable, LongContent, ManyNodes, FirstForced, opener, node_offset, FaultWithin, wrong_byte}
 use Rattle.xml.specs.Reading.{too_soon, too_long, long_content, many_nodes, Earlier}
-use Rattle.xml.specs.Laws.Automaton.{Config, at_start, epilog, Event, Move, stuck, move, step, Reads, on, tell}
+use Rattle.xml.specs.Laws.Automaton.{Config, at_start, epilog, Event, Move, stuck, move, step, Reads, tell}
 use Rattle.xml.proofs.Laws.Transitions.{step_is}
 use Rattle.xml.proofs.Laws.Sound.{sound}
 use Rattle.xml.proofs.Laws.Complete.{complete}

@@ -1,4 +1,3 @@
-use borrow.Author.Rules.{rules}
 use Rattle.protocol.proofs.Laws.Transactions.{is_transaction_of}
 use Rattle.protocol.proofs.sets.has.Goals as goal
 

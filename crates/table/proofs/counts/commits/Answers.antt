@@ -1,6 +1,5 @@
 use mathlib.Core.Path.{◌∙◌}
 use Rattle.table.specs.Laws.Counts.{commits_read}
-use borrow.Author.Rules.{rules}
 use Rattle.table.proofs.counts.commits.Goals as goal
 
 pub returns : goal.returns

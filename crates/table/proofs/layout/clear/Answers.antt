@@ -1,7 +1,6 @@
-use Rattle.table.specs.Laws.Bytes.{filled_done, Filled, filled_none, filled_more}
+use Rattle.table.specs.Laws.Bytes.{filled_done, filled_none, filled_more}
 use borrow.Author.Rules.{rules}
 use mathlib.Core.Path.{refl}
-use Prim.Native.Nat.{◌-◌, ◌≤◌}
 use Rattle.table.proofs.layout.clear.Goals as goal
 
 pub loop-j-init : goal.loop-j-init

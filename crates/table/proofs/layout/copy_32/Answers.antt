@@ -1,8 +1,6 @@
-use Rattle.table.specs.Laws.Bytes.{filled_done, filled_far, Filled, filled_none, filled_more}
+use Rattle.table.specs.Laws.Bytes.{filled_done, filled_far, filled_none, filled_more}
 use borrow.Author.Rules.{rules}
 use native.Mathlib.Omega.{arith}
-use Prim.Native.Nat.{◌+◌, ◌-◌, ◌≤◌}
-use lib.ListN.{get_or}
 use Rattle.table.proofs.layout.copy_32.Goals as goal
 
 pub loop-j-init : goal.loop-j-init

@@ -1,6 +1,4 @@
-use Rattle.table.specs.Laws.Bytes.{filled_done, filled_far, Filled, filled_none, filled_more}
-use borrow.Author.Rules.{rules}
-use native.Mathlib.Omega.{arith}
+use Rattle.table.specs.Laws.Bytes.{Filled}
 use Prim.Native.Nat.{◌+◌, ◌-◌, ◌≤◌}
 use lib.ListN.{get_or}
 use Rattle.table.proofs.layout.copy_32.Given as goal

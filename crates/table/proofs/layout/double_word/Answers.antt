@@ -1,5 +1,4 @@
 use Rattle.table.specs.Layout.{double_word}
-use borrow.Author.Rules.{rules}
 use Rattle.table.proofs.layout.double_word.Goals as goal
 
 pub returns : goal.returns

@@ -1,7 +1,6 @@
 use mathlib.Core.Path.{ap, ◌∙◌}
 use Prim.Native.Nat.{◌+◌, ◌/◌}
 use Rattle.table.specs.Laws.Bytes.{put_word, put_double_word}
-use borrow.Author.Rules.{rules}
 use Rattle.table.proofs.layout.set_double_word.Goals as goal
 
 pub returns : goal.returns

@@ -1,6 +1,4 @@
-use Rattle.table.specs.Laws.Bytes.{filled_done, Filled, filled_none, filled_more}
-use borrow.Author.Rules.{rules}
-use mathlib.Core.Path.{refl}
+use Rattle.table.specs.Laws.Bytes.{Filled}
 use Prim.Native.Nat.{◌-◌, ◌≤◌}
 use lib.ListN.{length, get_or}
 use Rattle.table.proofs.layout.store.Given as goal

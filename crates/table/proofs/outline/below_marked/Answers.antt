@@ -5,7 +5,6 @@ use mathlib.Core.Bool.{not}
 use borrow.Author.Tests.{eq-eqb, ne_eqb}
 use Rattle.table.specs.Outline.{not_marked}
 use Rattle.table.specs.Laws.Removal.{below_out, below_kept}
-use borrow.Author.Rules.{rules}
 use Rattle.table.proofs.outline.below_marked.Goals as goal
 
 pub returns-then-field-t : goal.returns-then-field-t

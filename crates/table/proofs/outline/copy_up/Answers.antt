@@ -1,6 +1,5 @@
 use Rattle.table.specs.Layout.{slot, depth, number}
 use Rattle.table.specs.Laws.Entries.{entered_as}
-use borrow.Author.Rules.{rules}
 use Rattle.table.proofs.outline.copy_up.Goals as goal
 
 pub returns : goal.returns

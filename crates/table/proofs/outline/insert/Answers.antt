@@ -1,6 +1,5 @@
 use native.Mathlib.Omega.{arith}
 use Rattle.table.specs.Laws.Insert.{inserted}
-use borrow.Author.Rules.{rules}
 use Rattle.table.proofs.outline.insert.Goals as goal
 
 pub clear_writer-requires : goal.clear_writer-requires

@@ -4,7 +4,6 @@ use mathlib.Core.Path.{◌∙◌}
 use lib.ListN.{get_or}
 use Rattle.table.specs.Outline.{not_marked}
 use Rattle.table.specs.Laws.Removal.{below_deep, below_past}
-use borrow.Author.Rules.{rules}
 use Rattle.table.proofs.outline.next_below.Goals as goal
 
 pub returns-then-below-eq0 : goal.returns-then-below-eq0

@@ -1,6 +1,5 @@
 use native.Mathlib.Omega.{arith}
 use Rattle.table.specs.Laws.Entries.{entered_of}
-use borrow.Author.Rules.{rules}
 use Rattle.table.proofs.outline.set_entry.Goals as goal
 
 pub returns : goal.returns

@@ -1,8 +1,5 @@
-use borrow.Author.Rules.{rules}
-use native.Mathlib.Omega.{arith}
 use Prim.Native.Nat.{◌≤◌}
 use Rattle.table.specs.Outline.{Shifted}
-use Rattle.table.specs.Laws.Insert.{shift_start, shift_turn, shift_done}
 use Rattle.table.proofs.outline.shift.Given as goal
 
 abbrev pub invariant-loop-k : goal.invariant-loop-k

@@ -1,9 +1,9 @@
 use borrow.Author.Rules.{rules}
 use native.Mathlib.Omega.{arith}
 use borrow.Author.Count.{below_none}
-use mathlib.Core.Path.{◌≡◌, refl}
-use Prim.Native.Nat.{ℕ, ◌+◌, ◌-◌, ◌≤◌, ◌<◌}
-use lib.ListN.{length, get_or, length-set}
+use mathlib.Core.Path.{refl}
+use Prim.Native.Nat.{◌+◌}
+use lib.ListN.{length-set}
 use Rattle.table.specs.Layout.{set_at, word}
 use Rattle.table.specs.Laws.Locks.{loaded_more}
 use Rattle.table.specs.Laws.Sets.{gathered_of}

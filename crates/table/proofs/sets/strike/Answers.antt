@@ -1,7 +1,6 @@
 use borrow.Author.Rules.{rules}
 use native.Mathlib.Omega.{arith}
-use Prim.Native.Nat.{◌-◌, ◌≤◌}
-use Rattle.table.specs.Laws.Sets.{StruckBelow, strike_start, strike_turn, strike_done}
+use Rattle.table.specs.Laws.Sets.{strike_start, strike_turn, strike_done}
 use Rattle.table.proofs.sets.strike.Goals as goal
 
 pub loop-v-init : goal.loop-v-init

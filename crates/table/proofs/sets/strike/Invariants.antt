@@ -1,7 +1,5 @@
-use borrow.Author.Rules.{rules}
-use native.Mathlib.Omega.{arith}
 use Prim.Native.Nat.{◌-◌, ◌≤◌}
-use Rattle.table.specs.Laws.Sets.{StruckBelow, strike_start, strike_turn, strike_done}
+use Rattle.table.specs.Laws.Sets.{StruckBelow}
 use Rattle.table.proofs.sets.strike.Given as goal
 
 abbrev pub invariant-loop-v : goal.invariant-loop-v

@@ -1,6 +1,5 @@
 use mathlib.Core.Path.{◌∙◌}
 use Rattle.table.specs.Layout.{is_open}
-use borrow.Author.Rules.{rules}
 use Rattle.table.proofs.transactions.is_open.Goals as goal
 
 pub returns : goal.returns

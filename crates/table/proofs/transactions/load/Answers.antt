@@ -1,9 +1,8 @@
 use borrow.Author.Rules.{rules}
 use native.Mathlib.Omega.{arith}
 use borrow.Author.Count.{below_none}
-use mathlib.Core.Path.{◌≡◌, refl}
-use Prim.Native.Nat.{ℕ, ◌-◌, ◌≤◌, ◌<◌}
-use lib.ListN.{length, get_or, length-set}
+use mathlib.Core.Path.{refl}
+use lib.ListN.{length-set}
 use Rattle.table.specs.Layout.{word, lock_at}
 use Rattle.table.specs.Laws.Locks.{loaded_of, loaded_more}
 use Rattle.table.proofs.transactions.load.Goals as goal

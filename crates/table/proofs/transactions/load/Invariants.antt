@@ -1,11 +1,7 @@
-use borrow.Author.Rules.{rules}
-use native.Mathlib.Omega.{arith}
-use borrow.Author.Count.{below_none}
-use mathlib.Core.Path.{◌≡◌, refl}
+use mathlib.Core.Path.{◌≡◌}
 use Prim.Native.Nat.{ℕ, ◌-◌, ◌≤◌, ◌<◌}
-use lib.ListN.{length, get_or, length-set}
+use lib.ListN.{length, get_or}
 use Rattle.table.specs.Layout.{word, lock_at}
-use Rattle.table.specs.Laws.Locks.{loaded_of, loaded_more}
 use Rattle.table.proofs.transactions.load.Given as goal
 
 abbrev pub invariant-loop-k : goal.invariant-loop-k

@@ -1,5 +1,4 @@
 use Rattle.table.specs.Laws.Locks.{released_kept}
-use borrow.Author.Rules.{rules}
 use Rattle.table.proofs.transactions.release.Goals as goal
 
 pub returns : goal.returns

@@ -1,11 +1,6 @@
 use borrow.Author.Rules.{rules}
 use native.Mathlib.Omega.{arith}
-use Prim.Native.Nat.{◌-◌, ◌≤◌, ◌<◌}
-use lib.ListN.{length}
-use Rattle.table.specs.Lists.{modify}
-use Rattle.table.specs.Flat.{second}
-use Rattle.table.specs.Layout.{nodes, Kept}
-use Rattle.table.specs.Laws.Locks.{cleared, clear_start, clear_turn, clear_done}
+use Rattle.table.specs.Laws.Locks.{clear_start, clear_turn, clear_done}
 use Rattle.table.proofs.transactions.unlock.Goals as goal
 
 pub loop-t-init : goal.loop-t-init

@@ -1,11 +1,9 @@
-use borrow.Author.Rules.{rules}
-use native.Mathlib.Omega.{arith}
 use Prim.Native.Nat.{◌-◌, ◌≤◌, ◌<◌}
 use lib.ListN.{length}
 use Rattle.table.specs.Lists.{modify}
 use Rattle.table.specs.Flat.{second}
 use Rattle.table.specs.Layout.{nodes, Kept}
-use Rattle.table.specs.Laws.Locks.{cleared, clear_start, clear_turn, clear_done}
+use Rattle.table.specs.Laws.Locks.{cleared}
 use Rattle.table.proofs.transactions.unlock.Given as goal
 
 abbrev pub invariant-loop-t : goal.invariant-loop-t

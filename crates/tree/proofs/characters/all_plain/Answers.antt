@@ -1,10 +1,6 @@
-use Prim.Native.Nat.{◌-◌, ◌≤◌}
-use mathlib.Core.Path.{◌≡◌, sym, ◌∙◌}
+use mathlib.Core.Path.{sym, ◌∙◌}
 use borrow.Author.Rules.{rules}
 use borrow.Author.Tests.{not-true, not-false}
-use lib.ListN.{length, drop}
-use Rattle.tree.specs.Lists.{every}
-use Rattle.tree.specs.Values.{plain}
 use Rattle.tree.proofs.Bytes.{stops, goes_on, ends}
 use Rattle.tree.proofs.characters.all_plain.Goals as goal
 

@@ -1,5 +1,4 @@
 use mathlib.Core.Path.{◌∙◌}
-use borrow.Author.Rules.{rules}
 use Rattle.tree.proofs.Reading.{small_begins, start_possible, text_begins, name_begins}
 use Rattle.tree.proofs.characters.begins.Goals as goal
 

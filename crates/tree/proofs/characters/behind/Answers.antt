@@ -1,5 +1,4 @@
 use borrow.Author.Tests.{eq-eqb, ne_eqb}
-use borrow.Author.Rules.{rules}
 use Rattle.tree.proofs.characters.behind.Goals as goal
 
 pub returns-then-p-eq0 : goal.returns-then-p-eq0

@@ -1,4 +1,3 @@
-use borrow.Author.Rules.{rules}
 use Rattle.tree.specs.Values.{ranges, class}
 use Rattle.tree.proofs.characters.class_meets.Goals as goal
 

@@ -1,5 +1,4 @@
 use mathlib.Core.Path.{sym, ◌∙◌}
-use borrow.Author.Rules.{rules}
 use Rattle.tree.specs.Laws.Utf8.{first_one, first_stray, first_two, first_three, first_four, first_high}
 use Rattle.tree.proofs.characters.first_part.Goals as goal
 

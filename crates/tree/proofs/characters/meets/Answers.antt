@@ -1,9 +1,5 @@
-use Prim.Native.Nat.{◌-◌, ◌≤◌}
-use mathlib.Core.Path.{◌≡◌, refl, sym, ◌∙◌}
+use mathlib.Core.Path.{refl, sym, ◌∙◌}
 use borrow.Author.Rules.{rules}
-use lib.ListN.{length, drop}
-use Rattle.tree.specs.Spelling.{meets}
-use Rattle.tree.specs.Values.{ranges}
 use Rattle.tree.proofs.Reading.{range_meets, range_misses, ranges_end}
 use Rattle.tree.proofs.characters.meets.Goals as goal
 

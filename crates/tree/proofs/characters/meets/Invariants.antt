@@ -1,10 +1,8 @@
 use Prim.Native.Nat.{◌-◌, ◌≤◌}
-use mathlib.Core.Path.{◌≡◌, refl, sym, ◌∙◌}
-use borrow.Author.Rules.{rules}
+use mathlib.Core.Path.{◌≡◌}
 use lib.ListN.{length, drop}
 use Rattle.tree.specs.Spelling.{meets}
 use Rattle.tree.specs.Values.{ranges}
-use Rattle.tree.proofs.Reading.{range_meets, range_misses, ranges_end}
 use Rattle.tree.proofs.characters.meets.Given as goal
 
 abbrev pub invariant-loop-i : goal.invariant-loop-i

@@ -1,13 +1,9 @@
 use Prim.Native.Nat.{◌-◌, ◌≤◌}
-use mathlib.Core.Path.{◌≡◌, sym, ◌∙◌}
-use native.Mathlib.Omega.{arith}
-use borrow.Author.Rules.{rules}
-use borrow.Author.Tests.{not-true, not-false, eq-eqb, ne_eqb}
+use mathlib.Core.Path.{◌≡◌}
 use lib.ListN.{take, drop}
 use Rattle.tree.specs.Spelling.{start_of, fault_in}
 use Rattle.tree.specs.Values.{part_of, Small}
-use Rattle.tree.proofs.Reading.{state, after, start_at, small_none, small_with, small_behind, read_broken, read_on, read_end}
-use Rattle.tree.proofs.Reading.{answer_broken, answer_whole}
+use Rattle.tree.proofs.Reading.{state, after}
 use Rattle.tree.proofs.characters.misspelled.Given as goal
 
 abbrev pub invariant-loop-i : goal.invariant-loop-i

@@ -1,6 +1,5 @@
 use mathlib.Core.Path.{sym, ◌∙◌}
 use native.Mathlib.Omega.{arith}
-use borrow.Author.Rules.{rules}
 use Rattle.tree.specs.Values.{part_of}
 use Rattle.tree.proofs.Reading.{next_low, next_high, next_digit, small_value}
 use Rattle.tree.proofs.characters.next_part.Goals as goal

@@ -1,5 +1,4 @@
 use mathlib.Core.Path.{◌∙◌}
-use borrow.Author.Rules.{rules}
 use Rattle.tree.proofs.Reading.{plain_high, plain_text, plain_above, plain_name}
 use Rattle.tree.proofs.characters.plain.Goals as goal
 

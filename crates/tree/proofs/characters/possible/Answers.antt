@@ -1,6 +1,5 @@
 use mathlib.Core.Path.{◌∙◌}
 use native.Mathlib.Omega.{arith}
-use borrow.Author.Rules.{rules}
 use Rattle.tree.specs.Spelling.{possible}
 use Rattle.tree.specs.Values.{part_of}
 use Rattle.tree.proofs.Reading.{small_room}

@@ -1,4 +1,3 @@
-use borrow.Author.Rules.{rules}
 use Rattle.tree.proofs.Reading.{whole_bytes, broken_bytes}
 use Rattle.tree.proofs.characters.whole.Goals as goal
 

@@ -1,6 +1,5 @@
 use mathlib.Core.Path.{◌∙◌}
 use borrow.Author.Tests.{eq-eqb, ne_eqb}
-use borrow.Author.Rules.{rules}
 use Rattle.tree.specs.Spelling.{with_byte}
 use Rattle.tree.proofs.characters.with_byte.Goals as goal
 

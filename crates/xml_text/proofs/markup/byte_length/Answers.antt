@@ -1,6 +1,5 @@
 use Rattle.xml_text.specs.Laws.Pieces.{terms, byte_counted}
 use native.Mathlib.Omega.{arith}
-use borrow.Author.Rules.{rules}
 use Rattle.xml_text.proofs.markup.byte_length.Goals as goal
 
 pub overflow_mul-result : goal.overflow_mul-result

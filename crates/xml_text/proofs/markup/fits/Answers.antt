@@ -1,7 +1,6 @@
 use borrow.Author.Tests.{not-true, not-false}
 use mathlib.Core.Path.{sym, ◌∙◌}
 use Rattle.xml_text.specs.Laws.Pieces.{fits_not, fits_alone, fits_attribute, fits_text, fits_element}
-use borrow.Author.Rules.{rules}
 use Rattle.xml_text.proofs.markup.fits.Goals as goal
 
 -- src/lib.rt:86:9

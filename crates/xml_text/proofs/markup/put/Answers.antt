@@ -1,11 +1,8 @@
-use mathlib.Core.List.{◌++◌}
 use lib.Seq.{take-length}
 use Rattle.xml_text.specs.Lending.{copy_more}
-use borrow.Author.Rules.{rules}
-use Prim.Native.Nat.{◌-◌, ◌≤◌}
 use mathlib.Core.Path.{◌≡◌, refl, ◌∙◌}
 use native.Mathlib.Omega.{arith}
-use lib.ListN.{length, take, drop, length-set}
+use lib.ListN.{length, length-set}
 use Rattle.xml_text.proofs.markup.put.Goals as goal
 
 pub loop-i-preserved : goal.loop-i-preserved

@@ -1,11 +1,7 @@
 use mathlib.Core.List.{◌++◌}
-use lib.Seq.{take-length}
-use Rattle.xml_text.specs.Lending.{copy_more}
-use borrow.Author.Rules.{rules}
 use Prim.Native.Nat.{◌-◌, ◌≤◌}
-use mathlib.Core.Path.{◌≡◌, refl, ◌∙◌}
-use native.Mathlib.Omega.{arith}
-use lib.ListN.{length, take, drop, length-set}
+use mathlib.Core.Path.{◌≡◌}
+use lib.ListN.{length, take, drop}
 use Rattle.xml_text.proofs.markup.put.Given as goal
 
 abbrev pub invariant-loop-i : goal.invariant-loop-i
