@@ -1,5 +1,6 @@
 -- The order of causes: document 01, "Refused calls": "Order: 1, 2 or 3, 7, 8, 9, 10, wait, 11, 12, 13. Load: 15, then the earliest offset".
--- The theorem of two tables (specs/Refusals); where a line says "before", both causes apply to the call. Load's offsets are in xml/proofs/Laws/Examples.
+-- The theorem of two tables (specs/Refusals); where a line says "before", both causes apply to the call. Load's offsets are in
+-- xml/proofs/Laws/Examples.
 use Rattle.std.specs.Prelude.{◌≡◌, refl, true, ◌&&◌, List, [], ◌∷◌, map, length, leb}
 use Rattle.tree.specs.Lists.{keep}
 use Rattle.tree.specs.Forest.{rows, amend, view, place, put}
