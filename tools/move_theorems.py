@@ -10,7 +10,6 @@ what cites those. A declaration moves word for word, and the others of its file 
 could not be unfolded from outside its file, and a proof that moves needs that, it gets `pub` or `unfoldable`.
 """
 import argparse
-import collections
 import glob
 import os
 import re
@@ -24,6 +23,12 @@ MOVES = {
     "serializability": ("Laws",),
     "traces": ("Laws",),
     "xml": ("Laws",),
+}
+
+# Theorems that go into a file of their own, since they cite one that a must-fail edit changes in the file where they stood: by the old
+# module the new one, its comment, and the names.
+APART = {
+    "Rattle.serializability.specs.Laws.Rings": ("Laws.RingTest", "-- The test for a ring of transactions finds just the rings.", ("ring_test",)),
 }
 
 # Pages that name files as they stand now.
@@ -245,7 +250,7 @@ class Repository:
         return file.module in wanted or "Laws" in wanted and file.under_laws()
 
     def cited(self, block, file):
-        """The declarations of specs/ that a declaration cites, those of the sections that it stands in with it."""
+        """The declarations of specs/ that a declaration cites, and those that its sections cite."""
         tokens = set(block.tokens).union(*(it.tokens for it in file.above[block]))
         text = bare(block.text)
         for name, it in file.names.items():
@@ -317,8 +322,7 @@ class Repository:
                 self.moved |= away - stay
         for file in self.files.values():
             for it in file.leaves:
-                if it in self.moved:
-                    self.need_marks(it, file)
+                self.need_marks(it, file)
         for file in self.files.values():
             if file.crate in MOVES:
                 for it in set(file.leaves) - self.moved:
@@ -347,15 +351,36 @@ class Repository:
                             stay.add(it)
                             grown = True
 
+    def home(self, block):
+        """The module where a declaration stands afterwards."""
+        file = block.file
+        if block not in self.moved:
+            return file.name
+        apart = APART.get(file.name)
+        if apart and block.names[0] in apart[2]:
+            return f"Rattle.{file.crate}.proofs.{apart[0]}"
+        return file.name.replace(".specs.", ".proofs.", 1)
+
+    def homes(self, file):
+        """The modules that a file's declarations go to, in order."""
+        return list(dict.fromkeys(self.home(it) for it in file.leaves))
+
+    @staticmethod
+    def path_of(module):
+        _, crate, place = module.split(".", 2)
+        return f"crates/{crate}/{place.replace('.', '/')}.antt"
+
     def need_marks(self, block, file):
-        """What a declaration that moves cites of its own file must be public, and what it unfolds must be open to that."""
+        """What a declaration cites of its old file and no longer stands in its file must be public, and what it unfolds must be open to that."""
         opened = set()
         for match in re.finditer(r"\bunfold(?:ing)? ([^\n]*(?:\n[^\n=]*$)*)", bare(block.text), re.M):
             opened |= set(TOKEN.findall(match[1]))
         for name, it in file.names.items():
-            if it is block or it in self.moved or not cites(block.tokens | opened, name):
+            if self.home(it) == self.home(block) or not cites(block.tokens | opened, name):
                 continue
-            want = set(self.marked.get(it, ()))
+            if set(file.above[it]) & set(file.above[block]):
+                sys.exit(f"{file.path}: {block.names[0]} and {name} part, and stand in one section")
+            want = self.marked.get(it, set())
             if "pub" not in it.marks:
                 want.add("pub")
             if it.kind == "theorem" and cites(opened, name):
@@ -399,7 +424,7 @@ class Repository:
 
     def with_marks(self, block):
         want = self.marked.get(block)
-        if not want or block in self.moved:
+        if not want:
             return block.lines
         at = block.mark_line
         line, pad = block.lines[at][block.indent :], " " * block.indent
@@ -409,26 +434,22 @@ class Repository:
         return [*block.lines[:at], f"{pad}{' '.join(new)} {rest}", *block.lines[at + 1 :]]
 
     def split(self, use, tokens=None):
-        """A use line turned: what it brings of specs/ or of proofs/. With words, only what is among them."""
+        """A use line turned to where its names now are. With words, only what is among them."""
         there = self.files.get(use.path)
         if use.items is None:
             if tokens is not None and use.local not in tokens:
                 return []
-            if there and all(it in self.moved for it in there.leaves):
-                return [use.line.replace(use.path, self.new_name(there))]
+            if there and len(self.homes(there)) == 1:
+                return [use.line.replace(use.path, self.homes(there)[0])]
             return [use.line]
-        items = [it for it in use.items if tokens is None or cites(tokens, it.local)]
-        gone = [it for it in items if there and there.names.get(it.name) in self.moved]
-        if tokens is None and not gone:
+        by_home = {use.path: []}
+        for item in use.items:
+            if tokens is None or cites(tokens, item.local):
+                block = there and there.names.get(item.name)
+                by_home.setdefault(self.home(block) if block else use.path, []).append(item)
+        if len(by_home[use.path]) == len(use.items):
             return [use.line]
-        if len(items) == len(use.items) and not gone:
-            return [use.line]
-        kept = [it for it in items if it not in gone]
-        return [*(use.show(use.path, kept) if kept else []), *(use.show(self.new_name(there), gone) if gone else [])]
-
-    @staticmethod
-    def new_name(file):
-        return file.name.replace(".specs.", ".proofs.", 1)
+        return [line for path, items in by_home.items() if items for line in use.show(path, items)]
 
     def all_tokens(self, file, lines):
         text = "\n".join(lines)
@@ -438,54 +459,51 @@ class Repository:
         return found
 
     def qualified(self, file, lines):
-        """The lines with names behind a module's alias led to where they now are."""
-        text = "\n".join(lines)
-        extra = []
+        """The lines with names behind a module's alias led to where they now are, and the lines that bring those modules."""
+        text, extra = "\n".join(lines), []
         for use in file.uses:
             there = self.files.get(use.path)
-            if use.items is not None or not there or all(it in self.moved for it in there.leaves):
+            if use.items is not None or not there or len(self.homes(there)) == 1:
                 continue
-            gone = {name for name, it in there.names.items() if it in self.moved}
             found = set(re.findall(rf"(?<![^\s(\[{{,;]){re.escape(use.local)}\.([^\s(){{}}\[\],;.]+)", bare(text)))
-            if found & gone:
-                new = use.local + "_proofs"
-                for name in sorted(found & gone):
+            for i, home in enumerate(it for it in self.homes(there) if it != there.name):
+                gone = sorted(name for name in found if name in there.names and self.home(there.names[name]) == home)
+                new = f"{use.local}_proofs{i or ''}"
+                for name in gone:
                     text = re.sub(rf"(?<![^\s(\[{{,;]){re.escape(use.local)}\.{re.escape(name)}(?![^\s(){{}}\[\],;.])", f"{new}.{name}", text)
-                extra.append(f"use {self.new_name(there)} as {new}")
+                if gone:
+                    extra.append(f"use {home} as {new}")
         return text.split("\n"), extra
 
     def texts(self):
         """The new text of each file that changes; None for one that goes."""
         out = {}
         for file in self.files.values():
-            gone = [it for it in file.leaves if it in self.moved]
-            if not gone:
+            homes = self.homes(file)
+            if homes in ([], [file.name]):
                 lines, extra = self.qualified(file, read(file.path).split("\n"))
-                new, placed = [], False
+                new = []
                 for line in lines:
-                    if USE.match(line):
-                        new += self.split(Use(line))
-                    elif extra and not placed and new and USE.match(new[-1]):
-                        new, placed = [*new, *extra, line], True
-                    else:
-                        new.append(line)
+                    if extra and not USE.match(line) and new and USE.match(new[-1]):
+                        new += extra
+                        extra = []
+                    new += self.split(Use(line)) if USE.match(line) else [line]
                 if new != read(file.path).split("\n"):
                     out[file.path] = "\n".join(new)
                 continue
-            stays = len(gone) < len(file.leaves)
-            for away in (True, False):
-                path = file.path.replace("/specs/", "/proofs/", 1) if away else file.path
-                if not away and not stays:
-                    out[path] = None
-                    continue
-                lines, extra = self.qualified(file, self.part(file, lambda it: (it in self.moved) == away))
+            if file.name not in homes:
+                out[file.path] = None
+            for home in homes:
+                lines, extra = self.qualified(file, self.part(file, lambda it, home=home: self.home(it) == home))
                 tokens = self.all_tokens(file, lines)
-                uses = [new for use in file.uses for new in self.split(use, tokens if stays else None)] + extra
-                if away and stays:
-                    own = [Item(name) for name, it in file.names.items() if it not in self.moved and cites(tokens, name)]
+                uses = [new for use in file.uses for new in self.split(use, tokens if len(homes) > 1 else None)] + extra
+                for other in homes:
+                    own = [Item(name) for name, it in file.names.items() if self.home(it) == other != home and cites(tokens, name)]
                     if own:
-                        uses += Use(f"use {file.name}.{{}}").show(file.name, own)
-                out[path] = "\n".join([*file.head, *uses, "", *lines]).rstrip("\n") + "\n"
+                        uses += Use(f"use {other}.{{}}").show(other, own)
+                apart = APART.get(file.name)
+                head = [apart[1]] if apart and home.endswith(f".proofs.{apart[0]}") else file.head
+                out[self.path_of(home)] = "\n".join([*head, *uses, "", *lines]).rstrip("\n") + "\n"
         for crate in self.crates:
             for path in sorted(glob.glob(f"crates/{crate}/proofs/**/*.antt", recursive=True)):
                 text = read(path)
@@ -500,23 +518,23 @@ class Repository:
     def lists(self, out):
         """The files that name others by `pub mod`."""
         for crate in MOVES:
-            files = [it for it in self.moving if it.crate == crate and any(leaf in self.moved for leaf in it.leaves)]
-            if not files:
-                continue
-            away = {it.module for it in files if all(leaf in self.moved for leaf in it.leaves)}
+            files = {it.module: self.homes(it) for it in self.moving if it.crate == crate and self.moved & set(it.leaves)}
             for prefix in ("Laws.", ""):
                 path = f"crates/{crate}/specs/{'Laws' if prefix else 'Lib'}.antt"
-                if not os.path.exists(path):
+                if not files or not os.path.exists(path):
                     continue
-                lines = read(path).rstrip("\n").split("\n")
-                named = [it.split()[-1] for it in lines if re.match(r"(?:pub )?mod ", it)]
-                left = [it for it in lines if not (re.match(r"(?:pub )?mod ", it) and prefix + it.split()[-1] in away)]
-                if not prefix and out.get(f"crates/{crate}/specs/Laws.antt", "") is None:
-                    left = [it for it in left if it != "pub mod Laws"]
-                out[path] = "\n".join(left) + "\n" if left else None
-                new = [f"pub mod {it}" for it in named if prefix + it in {file.module for file in files}]
+                left, new = [], []
+                for line in read(path).rstrip("\n").split("\n"):
+                    name = prefix + line.split()[-1] if re.match(r"(?:pub )?mod ", line) else ""
+                    homes = files.get(name, ())
+                    if not homes or any(".specs." in it for it in homes):
+                        left.append(line)
+                    new += [f"pub mod {it.split('.')[-1]}" for it in homes if ".proofs." in it]
                 if not prefix and f"crates/{crate}/proofs/Laws.antt" in out:
                     new.append("pub mod Laws")
+                    if out.get(f"crates/{crate}/specs/Laws.antt", "") is None:
+                        left.remove("pub mod Laws")
+                out[path] = "\n".join(left) + "\n" if left else None
                 if new:
                     there = f"crates/{crate}/proofs/{'Laws' if prefix else 'Lib'}.antt"
                     old = read(there).rstrip("\n").split("\n") if os.path.exists(there) else []
@@ -525,29 +543,31 @@ class Repository:
     def edits(self, out):
         """Edits of what moves name the new file."""
         for path in sorted(glob.glob("crates/*/must-fail/*.edit")):
-            crate, text, name = path.split("/")[1], read(path), ""
-            lines = text.split("\n")
+            crate, lines, at = path.split("/")[1], read(path).split("\n"), None
             for i, line in enumerate(lines):
-                if line.startswith("file: specs/"):
-                    name, at = line.removeprefix("file: "), i
-                elif line.startswith("old: ") and name and (file := self.files.get(f"Rattle.{crate}." + name.removesuffix(".antt").replace("/", "."))):
-                    hit = [it for it in file.leaves if line.removeprefix("old: ").strip() in it.text]
-                    if hit and all(it in self.moved for it in hit):
-                        lines[at] = "file: " + name.replace("specs/", "proofs/", 1)
-            if "\n".join(lines) != text:
+                if line.startswith("file: "):
+                    at = i
+                elif line.startswith("old: ") and at is not None:
+                    file = self.files.get(f"Rattle.{crate}." + lines[at].removeprefix("file: ").removesuffix(".antt").replace("/", "."))
+                    homes = {self.home(it) for it in file.leaves if line.removeprefix("old: ").strip() in it.text} if file else ()
+                    if len(homes) == 1 and homes != {file.name}:
+                        lines[at] = f"file: {self.path_of(*homes).split('/', 2)[2]}"
+            if "\n".join(lines) != read(path):
                 out[path] = "\n".join(lines)
 
     def pages(self, out):
         """Comments and pages that name a file which moves as a whole."""
-        whole = {f"{it.crate}/specs/{it.place}" for it in self.moving if all(leaf in self.moved for leaf in it.leaves)}
-        named = re.compile(r"\b(\w+)/specs/(Laws/\w+)")
+        whole = {}
+        for it in self.moving:
+            if len(self.homes(it)) == 1 and it.name not in self.homes(it):
+                whole[f"{it.crate}/specs/{it.place}"] = f"{it.crate}/proofs/{it.place}"
+        named = re.compile(r"\b\w+/specs/Laws/\w+")
         for path in [*PAGES, *self.sources, *(it.path for it in self.files.values()), *list(out)]:
-            if path in out and out[path] is None or not os.path.exists(path) and path not in out:
-                continue
-            text = out[path] if path in out else read(path)
-            new = named.sub(lambda it: f"{it[1]}/proofs/{it[2]}" if it[0] in whole else it[0], text)
-            if new != text:
-                out[path] = new
+            text = out[path] if path in out else read(path) if os.path.exists(path) else None
+            if text is not None:
+                new = named.sub(lambda it: whole.get(it[0], it[0]), text)
+                if new != text:
+                    out[path] = new
 
     # what is said ---------------------------------------------------------------------------------------------
 
@@ -555,12 +575,14 @@ class Repository:
         """What moves, for docs/PORT.md."""
         out = []
         for crate in self.crates:
-            files = [it for it in self.moving if it.crate == crate and any(leaf in self.moved for leaf in it.leaves)]
+            files = [it for it in self.moving if it.crate == crate and self.moved & set(it.leaves)]
             if not files:
                 continue
-            count = sum(leaf.kind == "theorem" for it in files for leaf in it.leaves if leaf in self.moved)
-            out += [f"## {crate}", "", f"{count} theorems, of {len(files)} files."]
-            split = [it for it in files if not all(leaf in self.moved for leaf in it.leaves)]
+            moved = [leaf for it in files for leaf in it.leaves if leaf in self.moved]
+            theorems = sum(it.kind == "theorem" for it in moved)
+            rest = len(moved) - theorems
+            out += [f"## {crate}", "", f"{theorems} theorems of {len(files)} files, and {rest} definition{'s' * (rest != 1)} that only theorems cite."]
+            split = [it for it in files if it.name in self.homes(it)]
             if split:
                 out += ["", "Split, since a clause, a definition that stays or a must-fail edit cites some of their definitions:", ""]
                 for it in split:
@@ -568,24 +590,30 @@ class Repository:
                     out.append(f"- {it.path.split('/', 2)[2]}: there stay {names}")
             marks = [(leaf, want) for leaf, want in self.marked.items() if leaf.file.crate == crate]
             if marks:
-                out += ["", "Marks that definitions got, since proofs now stand in another file:", ""]
+                out += ["", "Marks that declarations got, since what cites them stands in another file now:", ""]
                 for leaf, want in marks:
                     out.append(f"- `{leaf.names[0]}` ({leaf.file.path.split('/', 2)[2]}): {', '.join(f'`{it}`' for it in sorted(want))}")
             for file in files:
-                out += ["", f"### {file.path.split('/', 1)[1]} → {crate}/proofs/{file.place}.antt", "", "```antt"]
-                shown = ()
-                for leaf in file.leaves:
-                    if leaf not in self.moved:
-                        continue
-                    above = file.above[leaf]
-                    for i, it in enumerate(above):
-                        if i >= len(shown) or shown[i] is not it:
-                            out += it.head
-                    shown = above
-                    out += [" " * leaf.indent + it for it in leaf.statement()]
-                out += ["```"]
+                for home in self.homes(file):
+                    if home != file.name:
+                        out += ["", f"### {file.path.removeprefix('crates/')} → {self.path_of(home).removeprefix('crates/')}", "", "```antt"]
+                        out += [*self.statements(file, home), "```"]
             out.append("")
         return "\n".join(out)
+
+    def statements(self, file, home):
+        """The statements that go from a file to another, under the heads of their sections."""
+        out, shown = [], ()
+        for leaf in file.leaves:
+            if self.home(leaf) == home:
+                above = file.above[leaf]
+                for i, it in enumerate(above):
+                    if shown[i : i + 1] != (it,):
+                        out += it.head
+                        shown = ()
+                shown = above
+                out += [" " * leaf.indent + it for it in leaf.statement()]
+        return out
 
 
 def main():
@@ -600,6 +628,8 @@ def main():
     for path, text in texts.items():
         if text is None:
             os.remove(path)
+            if not os.listdir(os.path.dirname(path)):
+                os.rmdir(os.path.dirname(path))
         else:
             write(path, text)
     print(f"{len(here.moved)} declarations moved, {len(texts)} files written or removed")
