@@ -1,9 +1,6 @@
 use borrow.Author.Rules.{rules}
 use native.Mathlib.Omega.{arith}
-use Prim.Native.Nat.{◌-◌, ◌≤◌, min}
-use mathlib.Core.Path.{◌≡◌}
-use lib.ListN.{length}
-use Rattle.byte_strings.specs.Laws.Agreeing.{Agreeing, agree_start, agree_turn, agree_differ, agree_end}
+use Rattle.byte_strings.specs.Laws.Agreeing.{agree_start, agree_turn, agree_differ, agree_end}
 use Rattle.byte_strings.proofs.agreement.Goals as goal
 
 pub loop-n-init : goal.loop-n-init

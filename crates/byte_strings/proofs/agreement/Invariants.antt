@@ -1,9 +1,7 @@
-use borrow.Author.Rules.{rules}
-use native.Mathlib.Omega.{arith}
 use Prim.Native.Nat.{◌-◌, ◌≤◌, min}
 use mathlib.Core.Path.{◌≡◌}
 use lib.ListN.{length}
-use Rattle.byte_strings.specs.Laws.Agreeing.{Agreeing, agree_start, agree_turn, agree_differ, agree_end}
+use Rattle.byte_strings.specs.Laws.Agreeing.{Agreeing}
 use Rattle.byte_strings.proofs.agreement.Given as goal
 
 abbrev pub invariant-loop-n : goal.invariant-loop-n

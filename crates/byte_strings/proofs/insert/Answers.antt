@@ -1,7 +1,6 @@
 use borrow.Author.Rules.{rules}
 use native.Mathlib.Omega.{arith}
-use Prim.Native.Nat.{◌≤◌}
-use Rattle.byte_strings.specs.Laws.Entries.{Shifting, shift_start, shift_turn, shift_end}
+use Rattle.byte_strings.specs.Laws.Entries.{shift_start, shift_turn, shift_end}
 use Rattle.byte_strings.proofs.insert.Goals as goal
 
 pub loop-i-init : goal.loop-i-init
@@ -11,14 +10,12 @@ pub bounds-list-i-in-loop-i : goal.bounds-list-i-in-loop-i
 bounds-list-i-in-loop-i c = omega (arith, c.requires.1, c.requires.2, c.loop-i.invariant.2.as_long)
 
 pub loop-i-preserved : goal.loop-i-preserved
-loop-i-preserved c =
-    let c2 = c in
-    let c3 = c2 in (
-      search rules,
-      search rules,
-      shift_turn c2.loop-i.invariant.2 (search rules) (omega (arith, c3.requires.1, c3.requires.2, c2.loop-i.invariant.2.as_long)),
-    )
+loop-i-preserved c = (
+  search rules,
+  search rules,
+  shift_turn c.loop-i.invariant.2 (search rules) (omega (arith, c.requires.1, c.requires.2, c.loop-i.invariant.2.as_long)),
+)
 
 pub returns : goal.returns
-returns c = let c2 = c in shift_end c.loop-i.invariant.2 _ (omega arith) c2.requires.0
-    (omega (arith, c2.requires.1, c2.requires.2))
+returns c = shift_end c.loop-i.invariant.2 _ (omega arith) c.requires.0
+    (omega (arith, c.requires.1, c.requires.2))

@@ -1,7 +1,5 @@
-use borrow.Author.Rules.{rules}
-use native.Mathlib.Omega.{arith}
 use Prim.Native.Nat.{◌≤◌}
-use Rattle.byte_strings.specs.Laws.Entries.{Shifting, shift_start, shift_turn, shift_end}
+use Rattle.byte_strings.specs.Laws.Entries.{Shifting}
 use Rattle.byte_strings.proofs.insert.Given as goal
 
 abbrev pub invariant-loop-i : goal.invariant-loop-i

@@ -9,26 +9,20 @@ returns-then-inserter-ne0 c = climbing_none _ _ _ c.inserter.ensures c.if-insert
 
 pub loop-k-init : goal.loop-k-init
 loop-k-init c =
-    let at_inserter = c in
-    climbing_start _ _ _ at_inserter.inserter.ensures _ (search rules) c.depth-e.ensures
+    climbing_start _ _ _ c.inserter.ensures _ (search rules) c.depth-e.ensures
 
 pub loop-k-preserved-then-e-d : goal.loop-k-preserved-then-e-d
 loop-k-preserved-then-e-d c =
-    let at_loop = c in
-    climbing_passed at_loop.loop-k.invariant (search rules) c.depth-d.ensures c.if-e-d.true
+    climbing_passed c.loop-k.invariant (search rules) c.depth-d.ensures c.if-e-d.true
 
 pub returns-then-inserter-ne0-2 : goal.returns-then-inserter-ne0-2
 returns-then-inserter-ne0-2 c =
-    let at_depth2 = c in
-    let at_loop = at_depth2 in
-    climbing_inserted at_loop.loop-k.invariant (search rules) at_depth2.depth-d.ensures (search rules) _ c.inserter-in-loop-k.ensures
+    climbing_inserted c.loop-k.invariant (search rules) c.depth-d.ensures (search rules) _ c.inserter-in-loop-k.ensures
     c.if-inserter-ne0-2.true
 
 pub loop-k-preserved : goal.loop-k-preserved
 loop-k-preserved c =
-    let at_depth2 = c in
-    let at_loop = at_depth2 in
-    climbing_found at_loop.loop-k.invariant (search rules) at_depth2.depth-d.ensures (search rules) _ c.inserter-in-loop-k.ensures
+    climbing_found c.loop-k.invariant (search rules) c.depth-d.ensures (search rules) _ c.inserter-in-loop-k.ensures
     (search rules)
 
 pub returns : goal.returns

@@ -1,7 +1,5 @@
 use borrow.Author.Rules.{rules}
-use Prim.Native.Nat.{◌-◌, ◌≤◌}
-use Rattle.table.specs.Laws.Bytes.{Filled, filled_none, filled_done}
-use Rattle.form.specs.Start.{start_byte}
+use Rattle.table.specs.Laws.Bytes.{filled_none, filled_done}
 use Rattle.form.specs.Laws.Start.{filled_next}
 use Rattle.form.proofs.begin.Goals as goal
 

@@ -1,8 +1,6 @@
-use borrow.Author.Rules.{rules}
 use Prim.Native.Nat.{◌-◌, ◌≤◌}
-use Rattle.table.specs.Laws.Bytes.{Filled, filled_none, filled_done}
+use Rattle.table.specs.Laws.Bytes.{Filled}
 use Rattle.form.specs.Start.{start_byte}
-use Rattle.form.specs.Laws.Start.{filled_next}
 use Rattle.form.proofs.begin.Given as goal
 
 abbrev pub invariant-loop-j : goal.invariant-loop-j

@@ -1,10 +1,5 @@
 use borrow.Author.Rules.{rules}
-use Prim.Native.Nat.{◌-◌, ◌≤◌}
-use mathlib.Core.Path.{◌≡◌}
-use lib.ListN.{length}
-use Rattle.tree.specs.Lists.{same}
-use Rattle.table.specs.Layout.{part}
-use Rattle.form.specs.Laws.Begins.{same_from, begins_start, begins_differs, begins_next, begins_end}
+use Rattle.form.specs.Laws.Begins.{begins_start, begins_differs, begins_next, begins_end}
 use Rattle.form.proofs.begins.Goals as goal
 
 pub loop-i-init : goal.loop-i-init

@@ -1,10 +1,9 @@
-use borrow.Author.Rules.{rules}
 use Prim.Native.Nat.{◌-◌, ◌≤◌}
 use mathlib.Core.Path.{◌≡◌}
 use lib.ListN.{length}
 use Rattle.tree.specs.Lists.{same}
 use Rattle.table.specs.Layout.{part}
-use Rattle.form.specs.Laws.Begins.{same_from, begins_start, begins_differs, begins_next, begins_end}
+use Rattle.form.specs.Laws.Begins.{same_from}
 use Rattle.form.proofs.begins.Given as goal
 
 abbrev pub invariant-loop-i : goal.invariant-loop-i

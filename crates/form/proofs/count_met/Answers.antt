@@ -1,9 +1,5 @@
 use borrow.Author.Rules.{rules}
 use native.Mathlib.Omega.{arith}
-use mathlib.Core.Path.{◌≡◌}
-use Prim.Native.Nat.{◌+◌, ◌-◌, ◌≤◌}
-use lib.ListN.{drop}
-use Rattle.form.specs.Check.{sum}
 use Rattle.form.specs.Laws.Slots.{sum_fits, sum_next, sum_end}
 use Rattle.form.proofs.count_met.Goals as goal
 
@@ -13,16 +9,14 @@ loop-i-init c = (search rules, omega arith)
 pub overflow_cast-n : goal.overflow_cast-n
 overflow_cast-n c =
     let l = c.loop-i in
-    let start = c in
-    let sum = sum_fits start.args.met.now l.n l.i l.invariant.1 (omega (arith, start.requires.0)) in
-    record { fits = omega (arith, start.requires.1, sum) }
+    let sum = sum_fits c.args.met.now l.n l.i l.invariant.1 (omega (arith, c.requires.0)) in
+    record { fits = omega (arith, c.requires.1, sum) }
 
 pub overflow_add-n : goal.overflow_add-n
 overflow_add-n c =
     let l = c.loop-i in
-    let start = c in
-    let sum = sum_fits start.args.met.now l.n l.i l.invariant.1 (omega (arith, start.requires.0)) in
-    record { fits = omega (arith, start.requires.1, sum) }
+    let sum = sum_fits c.args.met.now l.n l.i l.invariant.1 (omega (arith, c.requires.0)) in
+    record { fits = omega (arith, c.requires.1, sum) }
 
 pub loop-i-preserved : goal.loop-i-preserved
 loop-i-preserved c =

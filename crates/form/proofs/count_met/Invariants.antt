@@ -1,10 +1,7 @@
-use borrow.Author.Rules.{rules}
-use native.Mathlib.Omega.{arith}
 use mathlib.Core.Path.{◌≡◌}
 use Prim.Native.Nat.{◌+◌, ◌-◌, ◌≤◌}
 use lib.ListN.{drop}
 use Rattle.form.specs.Check.{sum}
-use Rattle.form.specs.Laws.Slots.{sum_fits, sum_next, sum_end}
 use Rattle.form.proofs.count_met.Given as goal
 
 abbrev pub invariant-loop-i : goal.invariant-loop-i

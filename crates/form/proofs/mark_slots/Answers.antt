@@ -1,13 +1,5 @@
 use borrow.Author.Rules.{rules}
-use mathlib.Core.Path.{◌≡◌, refl}
-use mathlib.Core.Bool.{◌&&◌}
-use Prim.Native.Nat.{◌-◌, ◌≤◌}
-use lib.ListN.{drop}
-use lib.Dec.{ltb}
-use Rattle.tree.specs.Lists.{every}
-use Rattle.protocol.specs.Calls.{node_limit}
-use Rattle.form.specs.Form.{slots}
-use Rattle.form.specs.Check.{marked}
+use mathlib.Core.Path.{refl}
 use Rattle.form.specs.Laws.Slots.{marked_next, marked_end, low_next, low_end}
 use Rattle.form.proofs.mark_slots.Goals as goal
 

@@ -1,5 +1,4 @@
-use borrow.Author.Rules.{rules}
-use mathlib.Core.Path.{◌≡◌, refl}
+use mathlib.Core.Path.{◌≡◌}
 use mathlib.Core.Bool.{◌&&◌}
 use Prim.Native.Nat.{◌-◌, ◌≤◌}
 use lib.ListN.{drop}
@@ -8,7 +7,6 @@ use Rattle.tree.specs.Lists.{every}
 use Rattle.protocol.specs.Calls.{node_limit}
 use Rattle.form.specs.Form.{slots}
 use Rattle.form.specs.Check.{marked}
-use Rattle.form.specs.Laws.Slots.{marked_next, marked_end, low_next, low_end}
 use Rattle.form.proofs.mark_slots.Given as goal
 
 abbrev pub invariant-loop-i : goal.invariant-loop-i

@@ -1,12 +1,7 @@
-use mathlib.Core.Path.{sym, ◌∙◌, ◌≡◌}
+use mathlib.Core.Path.{sym, ◌∙◌}
 use borrow.Author.Rules.{rules}
-use Prim.Native.Nat.{◌-◌, ◌≤◌}
 use borrow.Author.Tests.{not-true, not-false}
-use lib.ListN.{drop}
-use Rattle.table.specs.Layout as layout
-use Rattle.form.specs.Form.{cells}
-use Rattle.form.specs.Check.{valid_nodes}
-use Rattle.form.specs.Laws.Check.{valid_from, slot_small, first_bad, first_good, rows_low, rows_high, rows_bad, rows_next, rows_end}
+use Rattle.form.specs.Laws.Check.{slot_small, first_bad, first_good, rows_low, rows_high, rows_bad, rows_next, rows_end}
 use Rattle.form.proofs.nodes.Goals as goal
 
 pub returns-then-not-document : goal.returns-then-not-document

@@ -1,12 +1,10 @@
-use mathlib.Core.Path.{sym, ◌∙◌, ◌≡◌}
-use borrow.Author.Rules.{rules}
+use mathlib.Core.Path.{◌≡◌}
 use Prim.Native.Nat.{◌-◌, ◌≤◌}
-use borrow.Author.Tests.{not-true, not-false}
 use lib.ListN.{drop}
 use Rattle.table.specs.Layout as layout
 use Rattle.form.specs.Form.{cells}
 use Rattle.form.specs.Check.{valid_nodes}
-use Rattle.form.specs.Laws.Check.{valid_from, slot_small, first_bad, first_good, rows_low, rows_high, rows_bad, rows_next, rows_end}
+use Rattle.form.specs.Laws.Check.{valid_from}
 use Rattle.form.proofs.nodes.Given as goal
 
 abbrev pub invariant-loop-i : goal.invariant-loop-i

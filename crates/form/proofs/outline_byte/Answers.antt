@@ -1,6 +1,5 @@
 use mathlib.Core.Path.{sym}
 use Rattle.form.specs.Laws.Start.{outline_low, outline_high, outline_zero}
-use borrow.Author.Rules.{rules}
 use Rattle.form.proofs.outline_byte.Goals as goal
 
 pub returns-then-j-eq0 : goal.returns-then-j-eq0

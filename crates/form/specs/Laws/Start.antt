@@ -19,7 +19,6 @@ use Rattle.table.specs.Laws.Nodes.{length_nodes, header_is}
 use Rattle.table.specs.Laws.Fields.{cell_byte}
 use Rattle.table.specs.Laws.Locks.{no_modes}
 use Rattle.protocol.proofs.Laws.Transactions.{transaction_low, transaction_high, empty_set}
-use Rattle.rows.specs.Places.{unique}
 use Rattle.form.specs.Form.{Holds}
 use Rattle.form.specs.Start.{outline_byte, start_byte, Started}
 use Rattle.form.specs.Laws.Steps.{valid_start}

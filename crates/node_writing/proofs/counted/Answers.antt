@@ -1,6 +1,5 @@
 use mathlib.Core.Path.{◌∙◌}
 use Rattle.node_writing.specs.Laws.Tallies.{counted_kind, counted_attribute}
-use borrow.Author.Rules.{rules}
 use Rattle.node_writing.proofs.counted.Goals as goal
 
 pub returns-then-kind-ne3 : goal.returns-then-kind-ne3

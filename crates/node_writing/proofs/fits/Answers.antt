@@ -1,7 +1,6 @@
 use native.Mathlib.Omega.{arith}
 use mathlib.Core.Path.{◌∙◌}
 use Rattle.node_writing.specs.Laws.Tallies.{placed_counted}
-use borrow.Author.Rules.{rules}
 use Rattle.node_writing.proofs.fits.Goals as goal
 
 pub fits_among-requires : goal.fits_among-requires

@@ -46,8 +46,7 @@ returns-then-not-c c =
 
 pub returns-then-kind-ne3 : goal.returns-then-kind-ne3
 returns-then-kind-ne3 c =
-    let c8 = c in
-    let if1 = c8.if-k-eq0 in
+    let if1 = c.if-k-eq0 in
     let takes = c.takes in
     let both = c.both in
     let if3 = c.if-not-both in
@@ -59,8 +58,7 @@ returns-then-kind-ne3 c =
 
 pub returns : goal.returns
 returns c =
-    let c8 = c in
-    let if1 = c8.if-k-eq0 in
+    let if1 = c.if-k-eq0 in
     let takes = c.takes in
     let both = c.both in
     let if3 = c.if-not-both in

@@ -1,9 +1,6 @@
 use borrow.Author.Rules.{rules}
 use native.Mathlib.Omega.{arith}
-use Prim.Native.Nat.{◌-◌}
-use mathlib.Core.Path.{◌≡◌, refl, sym, ◌∙◌}
-use lib.ListN.{length, drop}
-use Rattle.tree.specs.Lists.{same}
+use mathlib.Core.Path.{refl, sym, ◌∙◌}
 use Rattle.table.specs.Layout.{nodes}
 use Rattle.rows.specs.Places.{item}
 use Rattle.tree.specs.Laws.Compare.{same_long, same_differs, same_turn, same_end}
@@ -21,9 +18,7 @@ loop-j-init c = refl
 
 pub content-requires : goal.content-requires
 content-requires c =
-    let at_if1 = c in
-    let at_size = at_if1 in
-    (search rules, search rules, search rules, refl, omega (arith, at_size.size.ensures.0, at_if1.if-size-n.false))
+    (search rules, search rules, search rules, refl, omega (arith, c.size.ensures.0, c.if-size-n.false))
 
 pub returns-then-content-a : goal.returns-then-content-a
 returns-then-content-a c =

@@ -1,12 +1,9 @@
-use borrow.Author.Rules.{rules}
-use native.Mathlib.Omega.{arith}
 use Prim.Native.Nat.{◌-◌}
-use mathlib.Core.Path.{◌≡◌, refl, sym, ◌∙◌}
+use mathlib.Core.Path.{◌≡◌}
 use lib.ListN.{length, drop}
 use Rattle.tree.specs.Lists.{same}
 use Rattle.table.specs.Layout.{nodes}
 use Rattle.rows.specs.Places.{item}
-use Rattle.tree.specs.Laws.Compare.{same_long, same_differs, same_turn, same_end}
 use Rattle.node_writing.proofs.has_content.Given as goal
 
 abbrev pub invariant-loop-j : goal.invariant-loop-j

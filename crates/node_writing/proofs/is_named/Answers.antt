@@ -2,7 +2,6 @@ use mathlib.Core.Path.{sym, ◌∙◌}
 use Rattle.table.specs.Layout.{nodes}
 use Rattle.rows.specs.Places.{item}
 use Rattle.node_writing.specs.Laws.Names.{named_other, named_element}
-use borrow.Author.Rules.{rules}
 use Rattle.node_writing.proofs.is_named.Goals as goal
 
 pub returns-then-kind-ne2 : goal.returns-then-kind-ne2

@@ -1,14 +1,10 @@
-use borrow.Author.Rules.{rules}
-use native.Mathlib.Omega.{arith}
 use Prim.Native.Nat.{◌-◌, ◌≤◌}
-use mathlib.Core.Path.{sym, ◌∙◌}
 use lib.ListN.{length}
-use borrow.Author.Tests.{eq-eqb, ne_eqb}
 use Rattle.protocol.specs.State.{seen_by}
-use Rattle.table.specs.Layout.{nodes, no_entry}
+use Rattle.table.specs.Layout.{nodes}
 use Rattle.rows.specs.Places.{depth}
 use Rattle.rows.specs.Rows.{new_place}
-use Rattle.rows.proofs.Laws.Loops.{Placing, placed_start, placed_end, placed_out, placed_here, placed_deeper, placed_counted, placed_other}
+use Rattle.rows.proofs.Laws.Loops.{Placing}
 use Rattle.node_writing.proofs.new_place.Given as goal
 
 abbrev pub invariant-loop-i : goal.invariant-loop-i

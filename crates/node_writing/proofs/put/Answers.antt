@@ -8,20 +8,17 @@ use borrow.Author.Rules.{rules}
 use Rattle.node_writing.proofs.put.Goals as goal
 
 pub set_lock-requires : goal.set_lock-requires
-set_lock-requires c =
-    let at_insert = c in
-    let start = at_insert in (
-      at_insert.insert.ensures.layout,
-      search rules,
-      search rules,
-      omega (arith, put_long _ _ at_insert.insert.ensures, start.requires.2),
-    )
+set_lock-requires c = (
+  c.insert.ensures.layout,
+  search rules,
+  search rules,
+  omega (arith, put_long _ _ c.insert.ensures, c.requires.2),
+)
 
 pub returns : goal.returns
 unfolding need_words
 returns c =
-    let c8 = c in
-    let pre = c8.requires in
+    let pre = c.requires in
     let insert = c.insert in
     let set_lock = c.set_lock in
     put_left _ _ _ _ _ (need_sets (I 0 0 [] 0 0)).new _ pre.6 pre.2 insert.ensures set_lock.ensures

@@ -1,13 +1,11 @@
 use mathlib.Core.Path.{sym, ◌∙◌}
 use borrow.Author.Tests.{not-true, not-false}
 use Rattle.node_writing.specs.Laws.Names.{renamed_none, renamed_one}
-use borrow.Author.Rules.{rules}
 use Rattle.node_writing.proofs.rename.Goals as goal
 
 pub returns-then-not-is_named : goal.returns-then-not-is_named
 returns-then-not-is_named c =
-    let start = c in
-    renamed_none _ _ _ _ start.requires.0 (sym c.is_named.ensures ∙ not-true _ c.if-not-is_named.true-raw)
+    renamed_none _ _ _ _ c.requires.0 (sym c.is_named.ensures ∙ not-true _ c.if-not-is_named.true-raw)
 
 pub returns : goal.returns
 returns c =

@@ -1,11 +1,9 @@
 use Rattle.node_writing.specs.Laws.Renaming.{renamed_whole}
-use borrow.Author.Rules.{rules}
 use Rattle.node_writing.proofs.rename_below.Goals as goal
 
 pub returns : goal.returns
 returns c =
-    let c8 = c in
-    let pre = c8.requires in
+    let pre = c.requires in
     let rename = c.rename-first in
     let rename_rest = c.rename_rest-rest in
     renamed_whole pre.1 rename.ensures rename_rest.ensures

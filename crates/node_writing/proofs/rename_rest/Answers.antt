@@ -1,11 +1,9 @@
-use borrow.Author.Rules.{rules}
 use native.Mathlib.Omega.{arith}
-use Prim.Native.Nat.{◌-◌, ◌≤◌, ◌<◌}
+use Prim.Native.Nat.{◌<◌}
 use mathlib.Core.Path.{sym, ◌∙◌}
 use lib.ListN.{length}
 use Rattle.table.specs.Layout.{nodes}
-use Rattle.rows.specs.Places.{depth}
-use Rattle.node_writing.specs.Laws.Renaming.{Renaming, renaming_start, renaming_end, renaming_out, renaming_hidden}
+use Rattle.node_writing.specs.Laws.Renaming.{renaming_start, renaming_end, renaming_out, renaming_hidden}
 use Rattle.node_writing.specs.Laws.Renaming.{renaming_unseen, renaming_seen}
 use Rattle.node_writing.proofs.rename_rest.Goals as goal
 
@@ -48,19 +46,17 @@ loop-i-preserved-then-left_out c =
 
 pub deleter-requires : goal.deleter-requires
 deleter-requires c =
-    let c8 = c in
-    let count = c8.count-m in
+    let count = c.count-m in
     let l = c.loop-i in
     let test = c.loop-i-test in
     (l.invariant.1.kept.layout, omega (arith, test.true, count.ensures, l.invariant.1.kept.many))
 
 pub loop-i-preserved-then-deleter-t : goal.loop-i-preserved-then-deleter-t
 loop-i-preserved-then-deleter-t c =
-    let c8 = c in
-    let count = c8.count-m in
-    let depth = c8.depth-top in
-    let l = c8.loop-i in
-    let test = c8.loop-i-test in
+    let count = c.count-m in
+    let depth = c.depth-top in
+    let l = c.loop-i in
+    let test = c.loop-i-test in
     let depth2 = c.depth-d in
     let if1 = c.if-d-top in
     let left_out = c.left_out in
@@ -75,36 +71,30 @@ loop-i-preserved-then-deleter-t c =
 
 pub rename-hits-requires : goal.rename-hits-requires
 rename-hits-requires c =
-    let c8 = c in
-    let c16 = c8 in
-    let pre = c16.requires in
-    let count = c8.count-m in
-    let l = c8.loop-i in
-    let test = c8.loop-i-test in
+    let pre = c.requires in
+    let count = c.count-m in
+    let l = c.loop-i in
+    let test = c.loop-i-test in
     (l.invariant.1.kept.layout, omega (arith, test.true, count.ensures, l.invariant.1.kept.many), pre.2, pre.3)
 
 pub overflow_add-hits : goal.overflow_add-hits
 overflow_add-hits c =
-    let c8 = c in
-    let c16 = c8 in
-    let pre = c16.requires in
-    let count = c16.count-m in
-    let l = c8.loop-i in
-    let test = c8.loop-i-test in
+    let pre = c.requires in
+    let count = c.count-m in
+    let l = c.loop-i in
+    let test = c.loop-i-test in
     let rename = c.rename-hits in
     omega (arith, l.invariant.1.few, rename.ensures.few, test.true, count.ensures, pre.0.room, pre.0.many)
 
 pub loop-i-preserved : goal.loop-i-preserved
 loop-i-preserved c =
-    let c8 = c in
-    let c16 = c8 in
-    let count = c16.count-m in
-    let depth = c8.depth-top in
-    let l = c8.loop-i in
-    let test = c8.loop-i-test in
-    let depth2 = c8.depth-d in
-    let if1 = c8.if-d-top in
-    let left_out = c8.left_out in
+    let count = c.count-m in
+    let depth = c.depth-top in
+    let l = c.loop-i in
+    let test = c.loop-i-test in
+    let depth2 = c.depth-d in
+    let if1 = c.if-d-top in
+    let left_out = c.left_out in
     let if2 = c.if-left_out in
     let deleter = c.deleter in
     let if3 = c.if-deleter-t in

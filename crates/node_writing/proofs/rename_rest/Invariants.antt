@@ -1,12 +1,7 @@
-use borrow.Author.Rules.{rules}
-use native.Mathlib.Omega.{arith}
-use Prim.Native.Nat.{◌-◌, ◌≤◌, ◌<◌}
-use mathlib.Core.Path.{sym, ◌∙◌}
+use Prim.Native.Nat.{◌-◌, ◌≤◌}
 use lib.ListN.{length}
 use Rattle.table.specs.Layout.{nodes}
-use Rattle.rows.specs.Places.{depth}
-use Rattle.node_writing.specs.Laws.Renaming.{Renaming, renaming_start, renaming_end, renaming_out, renaming_hidden}
-use Rattle.node_writing.specs.Laws.Renaming.{renaming_unseen, renaming_seen}
+use Rattle.node_writing.specs.Laws.Renaming.{Renaming}
 use Rattle.node_writing.proofs.rename_rest.Given as goal
 
 abbrev pub invariant-loop-i : goal.invariant-loop-i

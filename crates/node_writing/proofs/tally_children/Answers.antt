@@ -1,10 +1,7 @@
 use borrow.Author.Rules.{rules}
 use native.Mathlib.Omega.{arith}
-use Prim.Native.Nat.{◌-◌, ◌≤◌}
 use mathlib.Core.Path.{sym, ◌∙◌}
-use lib.ListN.{length}
-use Rattle.table.specs.Layout.{nodes}
-use Rattle.node_writing.specs.Laws.Tallies.{Passing, passing_start, passing_end, passing_out, passing_deeper}
+use Rattle.node_writing.specs.Laws.Tallies.{passing_start, passing_end, passing_out, passing_deeper}
 use Rattle.node_writing.specs.Laws.Tallies.{passing_deleted, passing_child, counted_count}
 use Rattle.node_writing.proofs.tally_children.Goals as goal
 
@@ -56,17 +53,15 @@ loop-i-preserved-then-deleter-t c =
 
 pub kind-requires : goal.kind-requires
 kind-requires c =
-    let c8 = c in
-    let pre = c8.requires in
-    let count = c8.count-m in
+    let pre = c.requires in
+    let count = c.count-m in
     let test = c.loop-i-test in
     (pre.0, omega (arith, test.true, count.ensures))
 
 pub counted-c-requires : goal.counted-c-requires
 counted-c-requires c =
-    let c8 = c in
-    let pre = c8.requires in
-    let count = c8.count-m in
+    let pre = c.requires in
+    let count = c.count-m in
     let l = c.loop-i in
     let test = c.loop-i-test in (
       omega (arith, l.invariant.1, test.true, count.ensures, pre.0.room, pre.0.many),

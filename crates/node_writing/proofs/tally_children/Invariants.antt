@@ -1,11 +1,7 @@
-use borrow.Author.Rules.{rules}
-use native.Mathlib.Omega.{arith}
 use Prim.Native.Nat.{◌-◌, ◌≤◌}
-use mathlib.Core.Path.{sym, ◌∙◌}
 use lib.ListN.{length}
 use Rattle.table.specs.Layout.{nodes}
-use Rattle.node_writing.specs.Laws.Tallies.{Passing, passing_start, passing_end, passing_out, passing_deeper}
-use Rattle.node_writing.specs.Laws.Tallies.{passing_deleted, passing_child, counted_count}
+use Rattle.node_writing.specs.Laws.Tallies.{Passing}
 use Rattle.node_writing.proofs.tally_children.Given as goal
 
 abbrev pub invariant-loop-i : goal.invariant-loop-i

@@ -1,5 +1,4 @@
 use Rattle.node_writing.specs.Laws.Written.{written}
-use borrow.Author.Rules.{rules}
 use Rattle.node_writing.proofs.write.Goals as goal
 
 pub returns : goal.returns

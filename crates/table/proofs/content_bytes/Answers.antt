@@ -19,9 +19,8 @@ pub returns : goal.returns
 returns c =
     let k = c.slot in
     let n = c.size-n in
-    let a = c in
-    let at = 8208 + 74 * k.result + 6 + 32 * a.args.o in
+    let at = 8208 + 74 * k.result + 6 + 32 * c.args.o in
     let z : at + n.result - at ≡ n.result = omega arith in
     rw z
-    (part_is _ _ at n.result n.ensures.0 (omega (arith, n.ensures.1, k.ensures.1, a.requires.0.size, a.requires.2))
-    (byte_at _ a.args.i a.args.o _ k.ensures.0 a.requires.0 a.requires.1 a.requires.3))
+    (part_is _ _ at n.result n.ensures.0 (omega (arith, n.ensures.1, k.ensures.1, c.requires.0.size, c.requires.2))
+    (byte_at _ c.args.i c.args.o _ k.ensures.0 c.requires.0 c.requires.1 c.requires.3))

@@ -25,10 +25,9 @@ begins s t at few room same =
 pub returns : goal.returns
 returns c =
     let k = c.slot in
-    let a = c in
-    let at = 8208 + 74 * k.result + 6 + 32 * a.args.o in
+    let at = 8208 + 74 * k.result + 6 + 32 * c.args.o in
     let z : at + 32 - at ≡ 32 = omega arith in
     rw z
-    (begins a.args.s.now _ at (size_small _ a.args.i a.args.o _ k.ensures.0 a.requires.0 a.requires.1 a.requires.3)
-    (omega (arith, k.ensures.1, a.requires.0.size, a.requires.2))
-    (byte_at _ a.args.i a.args.o _ k.ensures.0 a.requires.0 a.requires.1 a.requires.3))
+    (begins c.args.s.now _ at (size_small _ c.args.i c.args.o _ k.ensures.0 c.requires.0 c.requires.1 c.requires.3)
+    (omega (arith, k.ensures.1, c.requires.0.size, c.requires.2))
+    (byte_at _ c.args.i c.args.o _ k.ensures.0 c.requires.0 c.requires.1 c.requires.3))

@@ -8,19 +8,16 @@ use Rattle.table.proofs.mark_written.Goals as goal
 pub set_writer-requires : goal.set_writer-requires
 set_writer-requires c =
     let writer = c.writer in
-    let begin = c in
-    let size = over_size begin.args.s.now begin.args.i begin.args.t _ writer.ensures begin.requires.1 begin.requires.0
+    let size = over_size c.args.s.now c.args.i c.args.t _ writer.ensures c.requires.1 c.requires.0
     c.if-writer-ne0.true in
-    (begin.requires.0, begin.requires.1, begin.requires.2, size)
+    (c.requires.0, c.requires.1, c.requires.2, size)
 
 pub returns-then-writer-ne0 : goal.returns-then-writer-ne0
 returns-then-writer-ne0 c =
-    let c4 = c in
-    let writer = c4.writer in
-    let begin = c4 in
+    let writer = c.writer in
     let set_writer = c.set_writer in
-    written_over begin.args.s.now begin.args.i begin.args.t _ writer.ensures begin.requires.1 begin.requires.0
-    c4.if-writer-ne0.true
+    written_over c.args.s.now c.args.i c.args.t _ writer.ensures c.requires.1 c.requires.0
+    c.if-writer-ne0.true
     set_writer.ensures
 
 pub copy_content-requires : goal.copy_content-requires
@@ -32,11 +29,9 @@ set_writer-requires-2 c = search rules
 
 pub returns : goal.returns
 returns c =
-    let c8 = c in
-    let writer = c8.writer in
-    let begin = c8 in
+    let writer = c.writer in
     let copy_content = c.copy_content in
     let set_writer = c.set_writer-2 in
-    written_first begin.args.s.now begin.args.i begin.args.t _ writer.ensures begin.requires.1 c8.if-writer-ne0.false
+    written_first c.args.s.now c.args.i c.args.t _ writer.ensures c.requires.1 c.if-writer-ne0.false
     copy_content.ensures
     set_writer.ensures

@@ -8,7 +8,6 @@ overflow_cast-result c = omega (arith, c.shared_slice_known-2-1.given (8208 + 74
 
 pub returns : goal.returns
 returns c =
-    let a = c in
     let slot = c.slot in
-    let e = size_at _ a.args.i a.args.o _ slot.ensures.0 a.requires.0 a.requires.1 a.requires.3 in
-    (e, rw e (size_small _ a.args.i a.args.o _ slot.ensures.0 a.requires.0 a.requires.1 a.requires.3))
+    let e = size_at _ c.args.i c.args.o _ slot.ensures.0 c.requires.0 c.requires.1 c.requires.3 in
+    (e, rw e (size_small _ c.args.i c.args.o _ slot.ensures.0 c.requires.0 c.requires.1 c.requires.3))

@@ -1,6 +1,5 @@
 use mathlib.Core.Path.{sym}
 use lib.ListN.{get_or-eq_default}
-use borrow.Author.Rules.{rules}
 use Rattle.xml_tokens.proofs.peek.Goals as goal
 
 pub returns-else-at-s : goal.returns-else-at-s

@@ -1,9 +1,7 @@
 use borrow.Author.Rules.{rules}
 use native.Mathlib.Omega.{arith}
-use Prim.Native.Nat.{◌-◌, ◌≤◌}
-use mathlib.Core.Path.{◌≡◌, refl}
-use Rattle.table.specs.Layout.{number}
-use Rattle.form.specs.Check.{chained}
+use Prim.Native.Nat.{◌-◌}
+use mathlib.Core.Path.{refl}
 use Rattle.form.specs.Laws.Numbers.{chain_met, chain_next, chain_end}
 use Rattle.form.proofs.numbers.chained.Goals as goal
 

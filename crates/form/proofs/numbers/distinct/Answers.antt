@@ -1,11 +1,7 @@
 use borrow.Author.Rules.{rules}
 use native.Mathlib.Omega.{arith}
-use Prim.Native.Nat.{◌-◌, ◌≤◌}
-use mathlib.Core.Path.{◌≡◌, refl}
-use Rattle.tree.specs.Lists.{distinct}
-use Rattle.table.specs.Layout.{number, tabulate}
-use Rattle.form.specs.Check.{Chains}
-use Rattle.form.specs.Laws.Numbers.{chains_begin, chains_next, numbers_from, numbers_begin, numbers_met, numbers_next, numbers_end}
+use mathlib.Core.Path.{refl}
+use Rattle.form.specs.Laws.Numbers.{chains_begin, chains_next, numbers_begin, numbers_met, numbers_next, numbers_end}
 use Rattle.form.proofs.numbers.distinct.Goals as goal
 
 pub loop-i-init : goal.loop-i-init

@@ -1,11 +1,9 @@
-use borrow.Author.Rules.{rules}
-use native.Mathlib.Omega.{arith}
 use Prim.Native.Nat.{◌-◌, ◌≤◌}
-use mathlib.Core.Path.{◌≡◌, refl}
+use mathlib.Core.Path.{◌≡◌}
 use Rattle.tree.specs.Lists.{distinct}
 use Rattle.table.specs.Layout.{number, tabulate}
 use Rattle.form.specs.Check.{Chains}
-use Rattle.form.specs.Laws.Numbers.{chains_begin, chains_next, numbers_from, numbers_begin, numbers_met, numbers_next, numbers_end}
+use Rattle.form.specs.Laws.Numbers.{numbers_from}
 use Rattle.form.proofs.numbers.distinct.Given as goal
 
 abbrev pub invariant-loop-i : goal.invariant-loop-i

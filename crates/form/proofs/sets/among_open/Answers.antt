@@ -1,8 +1,8 @@
 use borrow.Author.Rules.{rules}
 use borrow.Author.Tests.{not-true, not-false}
-use Prim.Native.Nat.{◌+◌, ◌-◌, ◌≤◌}
+use Prim.Native.Nat.{◌+◌}
 use mathlib.Core.Path.{sym, ◌∙◌}
-use Rattle.form.specs.Laws.Sets.{Passed, passed_none, passed_more, passed_all, one_fails}
+use Rattle.form.specs.Laws.Sets.{passed_none, passed_more, passed_all, one_fails}
 use Rattle.form.proofs.sets.among_open.Goals as goal
 
 pub loop-t-init : goal.loop-t-init

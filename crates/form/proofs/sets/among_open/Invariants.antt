@@ -1,8 +1,5 @@
-use borrow.Author.Rules.{rules}
-use borrow.Author.Tests.{not-true, not-false}
-use Prim.Native.Nat.{◌+◌, ◌-◌, ◌≤◌}
-use mathlib.Core.Path.{sym, ◌∙◌}
-use Rattle.form.specs.Laws.Sets.{Passed, passed_none, passed_more, passed_all, one_fails}
+use Prim.Native.Nat.{◌-◌, ◌≤◌}
+use Rattle.form.specs.Laws.Sets.{Passed}
 use Rattle.form.proofs.sets.among_open.Given as goal
 
 abbrev pub invariant-loop-t : goal.invariant-loop-t

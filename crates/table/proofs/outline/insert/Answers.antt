@@ -4,17 +4,15 @@ use Rattle.table.proofs.outline.insert.Goals as goal
 
 pub clear_writer-requires : goal.clear_writer-requires
 clear_writer-requires c =
-    let c8 = c in
-    let pre = c8.requires in
+    let pre = c.requires in
     let open_place = c.open_place in
     let set_kind = c.set_kind in
     (set_kind.ensures.layout, omega (arith, open_place.ensures.many, set_kind.ensures.many, pre.2))
 
 pub set_inserter-requires : goal.set_inserter-requires
 set_inserter-requires c =
-    let c8 = c in
-    let pre = c8.requires in
-    let open_place = c8.open_place in
+    let pre = c.requires in
+    let open_place = c.open_place in
     let set_kind = c.set_kind in
     let clear_writer = c.clear_writer in (
       clear_writer.ensures.layout,
@@ -23,11 +21,9 @@ set_inserter-requires c =
 
 pub set_deleter-requires : goal.set_deleter-requires
 set_deleter-requires c =
-    let c8 = c in
-    let c16 = c8 in
-    let pre = c16.requires in
-    let open_place = c8.open_place in
-    let set_kind = c8.set_kind in
+    let pre = c.requires in
+    let open_place = c.open_place in
+    let set_kind = c.set_kind in
     let clear_writer = c.clear_writer in
     let set_inserter = c.set_inserter in (
       set_inserter.ensures.layout,
@@ -43,12 +39,10 @@ set_deleter-requires c =
 
 pub set_content-requires : goal.set_content-requires
 set_content-requires c =
-    let c8 = c in
-    let c16 = c8 in
-    let pre = c16.requires in
-    let open_place = c16.open_place in
-    let set_kind = c8.set_kind in
-    let clear_writer = c8.clear_writer in
+    let pre = c.requires in
+    let open_place = c.open_place in
+    let set_kind = c.set_kind in
+    let clear_writer = c.clear_writer in
     let set_inserter = c.set_inserter in
     let set_deleter = c.set_deleter in (
       set_deleter.ensures.layout,
@@ -66,14 +60,11 @@ set_content-requires c =
 
 pub set_count-requires : goal.set_count-requires
 set_count-requires c =
-    let c8 = c in
-    let c16 = c8 in
-    let c24 = c16 in
-    let pre = c24.requires in
-    let open_place = c16.open_place in
-    let set_kind = c16.set_kind in
-    let clear_writer = c8.clear_writer in
-    let set_inserter = c8.set_inserter in
+    let pre = c.requires in
+    let open_place = c.open_place in
+    let set_kind = c.set_kind in
+    let clear_writer = c.clear_writer in
+    let set_inserter = c.set_inserter in
     let set_deleter = c.set_deleter in
     let set_content = c.set_content in (
       set_content.ensures.layout,
@@ -91,15 +82,12 @@ set_count-requires c =
 
 pub unlock-requires : goal.unlock-requires
 unlock-requires c =
-    let c8 = c in
-    let c16 = c8 in
-    let c24 = c16 in
-    let pre = c24.requires in
-    let open_place = c24.open_place in
-    let set_kind = c16.set_kind in
-    let clear_writer = c16.clear_writer in
-    let set_inserter = c8.set_inserter in
-    let set_deleter = c8.set_deleter in
+    let pre = c.requires in
+    let open_place = c.open_place in
+    let set_kind = c.set_kind in
+    let clear_writer = c.clear_writer in
+    let set_inserter = c.set_inserter in
+    let set_deleter = c.set_deleter in
     let set_content = c.set_content in
     let set_count = c.set_count in (
       set_count.ensures.layout,
@@ -118,17 +106,13 @@ unlock-requires c =
 
 pub returns : goal.returns
 returns c =
-    let c8 = c in
-    let c16 = c8 in
-    let c24 = c16 in
-    let c32 = c24 in
-    let pre = c32.requires in
-    let open_place = c24.open_place in
-    let set_kind = c24.set_kind in
-    let clear_writer = c16.clear_writer in
-    let set_inserter = c16.set_inserter in
-    let set_deleter = c8.set_deleter in
-    let set_content = c8.set_content in
+    let pre = c.requires in
+    let open_place = c.open_place in
+    let set_kind = c.set_kind in
+    let clear_writer = c.clear_writer in
+    let set_inserter = c.set_inserter in
+    let set_deleter = c.set_deleter in
+    let set_content = c.set_content in
     let set_count = c.set_count in
     let unlock = c.unlock in
     inserted _ _ _ _ _ _ open_place.ensures set_kind.ensures clear_writer.ensures set_inserter.ensures

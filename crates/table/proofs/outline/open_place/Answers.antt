@@ -6,12 +6,10 @@ use Rattle.table.proofs.outline.open_place.Goals as goal
 
 pub returns : goal.returns
 returns c =
-    let c8 = c in
-    let c16 = c8 in
-    let count = c16.count-m in
-    let slot = c16.slot-k in
-    let clear = c8.clear in
-    let shift = c8.shift in
+    let count = c.count-m in
+    let slot = c.slot-k in
+    let clear = c.clear in
+    let shift = c.shift in
     let set_entry = c.set_entry in
     let set_word = c.set_word in
     opened _ _ _ _ _ _ _ _ _ _ (search rules) (sym (length_nodes _) ∙ sym count.ensures) (search rules) (search rules)

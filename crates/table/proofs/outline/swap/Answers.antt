@@ -11,16 +11,14 @@ returns-then-i-j c = rw c.if-i-j.true (exchanged_none _ _ (search rules))
 pub returns : goal.returns
 unfolding slot depth number
 returns c =
-    let c8 = c in
-    let c16 = c8 in
-    let pre = c16.requires in
-    let if1 = c16.if-i-j in
-    let word = c16.word-ki in
-    let word2 = c16.word-di in
-    let double_word = c8.double_word-ni in
-    let word3 = c8.word-kj in
-    let word4 = c8.word-dj in
-    let double_word2 = c8.double_word-nj in
+    let pre = c.requires in
+    let if1 = c.if-i-j in
+    let word = c.word-ki in
+    let word2 = c.word-di in
+    let double_word = c.double_word-ni in
+    let word3 = c.word-kj in
+    let word4 = c.word-dj in
+    let double_word2 = c.double_word-nj in
     let set_entry = c.set_entry in
     let set_entry2 = c.set_entry-2 in
     let first = entered_as set_entry.ensures word.ensures word2.ensures double_word.ensures in

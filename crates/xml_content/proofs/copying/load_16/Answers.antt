@@ -1,9 +1,6 @@
-use mathlib.Core.List.{◌++◌, append-nil}
-use borrow.Author.Rules.{rules}
-use Prim.Native.Nat.{◌-◌, ◌≤◌}
+use mathlib.Core.List.{append-nil}
 use mathlib.Core.Path.{◌≡◌, refl, ◌∙◌}
 use native.Mathlib.Omega.{arith}
-use lib.ListN.{length, take, drop}
 use Rattle.xml_text.specs.Lending.{copy_more}
 use Rattle.xml_content.proofs.copying.load_16.Goals as goal
 

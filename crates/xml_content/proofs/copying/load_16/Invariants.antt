@@ -1,10 +1,7 @@
-use mathlib.Core.List.{◌++◌, append-nil}
-use borrow.Author.Rules.{rules}
+use mathlib.Core.List.{◌++◌}
 use Prim.Native.Nat.{◌-◌, ◌≤◌}
-use mathlib.Core.Path.{◌≡◌, refl, ◌∙◌}
-use native.Mathlib.Omega.{arith}
+use mathlib.Core.Path.{◌≡◌}
 use lib.ListN.{length, take, drop}
-use Rattle.xml_text.specs.Lending.{copy_more}
 use Rattle.xml_content.proofs.copying.load_16.Given as goal
 
 abbrev pub invariant-loop-i : goal.invariant-loop-i

@@ -1,9 +1,7 @@
-use borrow.Author.Rules.{rules}
 use native.Mathlib.Omega.{arith}
-use Prim.Native.Nat.{◌-◌, ◌≤◌}
-use lib.ListN.{take, drop, length-drop}
+use lib.ListN.{length-drop}
 use lib.Seq.{length-take-le}
-use Rattle.xml_content.specs.Laws.Escaping.{Counting, counting_start, counting_taken, counting_dropped, counting_end}
+use Rattle.xml_content.specs.Laws.Escaping.{counting_start, counting_taken, counting_dropped, counting_end}
 use Rattle.xml_content.proofs.escaping.half_lengths.Goals as goal
 
 pub loop-i-init : goal.loop-i-init
@@ -17,21 +15,17 @@ overflow_add-last c = omega (arith, c.loop-i.invariant.2.small)
 
 pub loop-i-preserved : goal.loop-i-preserved
 loop-i-preserved c =
-    let l = c in
-    let a = l in
     let f = c.byte_length-first.ensures in
     let b = c.byte_length-last.ensures in (
       omega arith,
-      counting_taken a.args.w.now 16 _ l.loop-i.invariant.1 (omega arith) (omega (arith, a.requires)) f.0 f.1,
-      counting_dropped a.args.w.now 16 _ l.loop-i.invariant.2 (omega (arith, a.requires)) b.0 b.1,
+      counting_taken c.args.w.now 16 _ c.loop-i.invariant.1 (omega arith) (omega (arith, c.requires)) f.0 f.1,
+      counting_dropped c.args.w.now 16 _ c.loop-i.invariant.2 (omega (arith, c.requires)) b.0 b.1,
     )
 
 pub returns : goal.returns
-returns c =
-    let l = c in
-    let a = l in (
-      counting_end l.loop-i.invariant.1 (omega (arith, length-take-le 16 a.args.w.now (omega (arith, a.requires)))),
-      omega (arith, l.loop-i.invariant.1.small),
-      counting_end l.loop-i.invariant.2 (simp length-drop (omega (arith, a.requires))),
-      omega (arith, l.loop-i.invariant.2.small),
-    )
+returns c = (
+  counting_end c.loop-i.invariant.1 (omega (arith, length-take-le 16 c.args.w.now (omega (arith, c.requires)))),
+  omega (arith, c.loop-i.invariant.1.small),
+  counting_end c.loop-i.invariant.2 (simp length-drop (omega (arith, c.requires))),
+  omega (arith, c.loop-i.invariant.2.small),
+)

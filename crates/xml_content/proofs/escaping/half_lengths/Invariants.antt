@@ -1,9 +1,6 @@
-use borrow.Author.Rules.{rules}
-use native.Mathlib.Omega.{arith}
 use Prim.Native.Nat.{◌-◌, ◌≤◌}
-use lib.ListN.{take, drop, length-drop}
-use lib.Seq.{length-take-le}
-use Rattle.xml_content.specs.Laws.Escaping.{Counting, counting_start, counting_taken, counting_dropped, counting_end}
+use lib.ListN.{take, drop}
+use Rattle.xml_content.specs.Laws.Escaping.{Counting}
 use Rattle.xml_content.proofs.escaping.half_lengths.Given as goal
 
 abbrev pub invariant-loop-i : goal.invariant-loop-i

@@ -1,11 +1,8 @@
 use borrow.Author.Rules.{rules}
 use native.Mathlib.Omega.{arith}
 use Rattle.xml_content.specs.Laws.Escaping.{next_byte, no_byte}
-use Rattle.xml_text.specs.Lending.{Partly, partly_start}
-use Rattle.xml.specs.Writing.{escaped}
-use lib.ListN.{length, drop}
-use mathlib.Core.Path.{◌≡◌, refl}
-use Prim.Native.Nat.{◌-◌, ◌≤◌}
+use Rattle.xml_text.specs.Lending.{partly_start}
+use mathlib.Core.Path.{refl}
 use Rattle.xml_content.proofs.escaping.put_each.Goals as goal
 
 pub loop-j-init : goal.loop-j-init
@@ -13,36 +10,26 @@ loop-j-init c = (omega arith, refl, refl, partly_start _ _)
 
 pub slice_bounds-put_byte-count : goal.slice_bounds-put_byte-count
 slice_bounds-put_byte-count c =
-    let l = c in
-    let a = l in
-    (next_byte _ a.args.p.now l.loop-j.j l.loop-j.invariant.3 a.requires _ (omega (arith, l.loop-j.invariant.1)) refl).inside
+    (next_byte _ c.args.p.now c.loop-j.j c.loop-j.invariant.3 c.requires _ (omega (arith, c.loop-j.invariant.1)) refl).inside
 
 pub slice_bounds-put_byte-start : goal.slice_bounds-put_byte-start
 slice_bounds-put_byte-start c =
-    let l = c in
-    let a = l in
-    (next_byte _ a.args.p.now l.loop-j.j l.loop-j.invariant.3 a.requires _ (omega (arith, l.loop-j.invariant.1)) refl).inside
+    (next_byte _ c.args.p.now c.loop-j.j c.loop-j.invariant.3 c.requires _ (omega (arith, c.loop-j.invariant.1)) refl).inside
 
 pub put_byte-at-requires : goal.put_byte-at-requires
 put_byte-at-requires c =
-    let l = c in
-    let a = l in
-    (next_byte _ a.args.p.now l.loop-j.j l.loop-j.invariant.3 a.requires _ (omega (arith, l.loop-j.invariant.1)) refl).room
+    (next_byte _ c.args.p.now c.loop-j.j c.loop-j.invariant.3 c.requires _ (omega (arith, c.loop-j.invariant.1)) refl).room
 
 pub overflow_add-at : goal.overflow_add-at
 overflow_add-at c =
-    let l = c in
-    let a = l in
-    let x = next_byte _ a.args.p.now l.loop-j.j l.loop-j.invariant.3 a.requires _ (omega (arith, l.loop-j.invariant.1)) refl in
+    let x = next_byte _ c.args.p.now c.loop-j.j c.loop-j.invariant.3 c.requires _ (omega (arith, c.loop-j.invariant.1)) refl in
     omega (arith, x.small, c.put_byte-at.ensures.count)
 
 pub loop-j-preserved : goal.loop-j-preserved
 loop-j-preserved c =
-    let l = c in
-    let a = l in
-    let n = next_byte _ a.args.p.now l.loop-j.j l.loop-j.invariant.3 a.requires _ (omega (arith, l.loop-j.invariant.1)) refl in (
+    let n = next_byte _ c.args.p.now c.loop-j.j c.loop-j.invariant.3 c.requires _ (omega (arith, c.loop-j.invariant.1)) refl in (
       omega arith,
-      l.loop-j.invariant.1,
+      c.loop-j.invariant.1,
       search rules,
       n.on _ _ c.put_byte-at.ensures,
     )
@@ -52,5 +39,4 @@ shape_of-out c = c.loop-j.invariant.2
 
 pub returns : goal.returns
 returns c =
-    let l = c in
-    no_byte _ l.args.p.now l.loop-j.j l.loop-j.invariant.3 (omega (arith, l.loop-j.invariant.1))
+    no_byte _ c.args.p.now c.loop-j.j c.loop-j.invariant.3 (omega (arith, c.loop-j.invariant.1))

@@ -1,10 +1,7 @@
-use borrow.Author.Rules.{rules}
-use native.Mathlib.Omega.{arith}
-use Rattle.xml_content.specs.Laws.Escaping.{next_byte, no_byte}
-use Rattle.xml_text.specs.Lending.{Partly, partly_start}
+use Rattle.xml_text.specs.Lending.{Partly}
 use Rattle.xml.specs.Writing.{escaped}
 use lib.ListN.{length, drop}
-use mathlib.Core.Path.{◌≡◌, refl}
+use mathlib.Core.Path.{◌≡◌}
 use Prim.Native.Nat.{◌-◌, ◌≤◌}
 use Rattle.xml_content.proofs.escaping.put_each.Given as goal
 

@@ -1,7 +1,5 @@
-use borrow.Author.Rules.{rules}
-use native.Mathlib.Omega.{arith}
 use Prim.Native.Nat.{◌-◌, ◌≤◌}
-use Rattle.xml_content.specs.Laws.Escaping.{Counting, counting_start, counting_byte, counting_end}
+use Rattle.xml_content.specs.Laws.Escaping.{Counting}
 use Rattle.xml_content.proofs.escaping.window_length.Given as goal
 
 abbrev pub invariant-loop-i : goal.invariant-loop-i

@@ -1,10 +1,7 @@
-use borrow.Author.Rules.{rules}
 use Prim.Native.Nat.{◌-◌}
-use mathlib.Core.Path.{refl, sym, ◌∙◌}
-use lib.ListN.{length, replicate}
+use lib.ListN.{length}
 use Rattle.table.specs.Layout.{nodes}
-use Rattle.xml_measure.specs.Laws.Selection.{Selecting, selecting_start, selecting_end, selecting_hidden, selecting_inserted}
-use Rattle.xml_measure.specs.Laws.Selection.{selecting_found}
+use Rattle.xml_measure.specs.Laws.Selection.{Selecting}
 use Rattle.xml_measure.proofs.committed.select.Given as goal
 
 abbrev pub invariant-loop-i : goal.invariant-loop-i

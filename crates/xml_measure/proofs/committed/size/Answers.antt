@@ -1,6 +1,5 @@
 use mathlib.Core.Path.{ap, ◌∙◌}
 use lib.ListN.{length}
-use borrow.Author.Rules.{rules}
 use Rattle.xml_measure.proofs.committed.size.Goals as goal
 
 pub returns : goal.returns

@@ -1,5 +1,4 @@
 use Rattle.xml_measure.specs.Laws.Contents.{begins_as}
-use borrow.Author.Rules.{rules}
 use Rattle.xml_measure.proofs.committed.window.Goals as goal
 
 pub returns : goal.returns

@@ -1,6 +1,5 @@
 use Rattle.xml_measure.specs.Laws.Walk.{first_child, later_child}
 use native.Mathlib.Omega.{arith}
-use borrow.Author.Rules.{rules}
 use Rattle.xml_measure.proofs.measuring.previous.Goals as goal
 
 pub returns-then-top-d : goal.returns-then-top-d

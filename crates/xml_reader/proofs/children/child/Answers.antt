@@ -3,7 +3,6 @@ use Rattle.xml_tokens.specs.declared.Read.{Read}
 use Rattle.xml_reader.specs.Laws.Children.{child_refused, child_past, behind_text}
 use Rattle.xml.specs.Bytes.{less_than}
 use mathlib.Core.Path.{subst}
-use borrow.Author.Rules.{rules}
 use Rattle.xml_reader.proofs.children.child.Goals as goal
 
 pub tag-requires : goal.tag-requires

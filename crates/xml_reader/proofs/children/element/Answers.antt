@@ -7,14 +7,12 @@ use Rattle.xml_tokens.specs.Laws.Spelling.{begins_none, begins_some}
 use Rattle.xml_reader.specs.declared.Tag.{Tag}
 use Rattle.xml_reader.specs.Elements.{ElementRead}
 use Rattle.xml_reader.specs.Laws.Children.{start_wrong, start_many, start_opened, start_emptied, start_broken}
-use borrow.Author.Rules.{rules}
 use Rattle.xml_reader.proofs.children.element.Goals as goal
 
 pub returns-then-not-begins : goal.returns-then-not-begins
 returns-then-not-begins c =
-    let c4 = c in
-    let a = c4.args in
-    let p = c4.requires in
+    let a = c.args in
+    let p = c.requires in
     start_wrong a.s.now a.names.now a.depth a.spare a.cursor.at p.3 p.1 p.2
     (begins_none false _ (sym c.begins.ensures ∙ not-true _ c.if-not-begins.true-raw))
 
@@ -23,11 +21,9 @@ overflow_sub-result c = c.requires.0.not_first
 
 pub returns-then-spare-eq0 : goal.returns-then-spare-eq0
 returns-then-spare-eq0 c =
-    let c2 = c in
-    let c5 = c2 in
-    let a = c5.args in
-    let p = c5.requires in
-    let first = begins_some false _ (sym c2.begins.ensures ∙ not-false _ c.if-not-begins.false-raw) in
+    let a = c.args in
+    let p = c.requires in
+    let first = begins_some false _ (sym c.begins.ensures ∙ not-false _ c.if-not-begins.false-raw) in
     start_many a.s.now a.names.now a.depth a.spare a.cursor.at p.3 p.1 p.2 first.1 p.0 c.if-spare-eq0.true
 
 pub start_tag-requires : goal.start_tag-requires
@@ -45,39 +41,30 @@ overflow_add-result c = omega (arith, c.requires.3.room)
 
 pub returns-in-Opened : goal.returns-in-Opened
 returns-in-Opened c =
-    let t = c in
-    let f = t in
-    let g = f in
-    let a = g.args in
-    let p = g.requires in
-    let e = t.start_tag.ensures in
-    let first = begins_some false _ (sym g.begins.ensures ∙ not-false _ f.if-not-begins.false-raw) in
+    let a = c.args in
+    let p = c.requires in
+    let e = c.start_tag.ensures in
+    let first = begins_some false _ (sym c.begins.ensures ∙ not-false _ c.if-not-begins.false-raw) in
     start_opened a.s.now a.names.now a.depth a.spare a.cursor.at p.3 p.1 p.2 first.1
-    (omega (arith, f.if-spare-eq0.false)) _ e.1 e.2
+    (omega (arith, c.if-spare-eq0.false)) _ e.1 e.2
     (subst (λ (r : Tag). ElementRead a.s.now a.cursor.at (a.spare - 1) r) c.in-Opened.is e.0)
 
 pub returns-in-Emptied : goal.returns-in-Emptied
 returns-in-Emptied c =
-    let t = c in
-    let f = t in
-    let g = f in
-    let a = g.args in
-    let p = g.requires in
-    let e = t.start_tag.ensures in
-    let first = begins_some false _ (sym g.begins.ensures ∙ not-false _ f.if-not-begins.false-raw) in
+    let a = c.args in
+    let p = c.requires in
+    let e = c.start_tag.ensures in
+    let first = begins_some false _ (sym c.begins.ensures ∙ not-false _ c.if-not-begins.false-raw) in
     start_emptied a.s.now a.names.now a.depth a.spare a.cursor.at p.3 p.1 p.2 first.1
-    (omega (arith, f.if-spare-eq0.false)) _ e.1
+    (omega (arith, c.if-spare-eq0.false)) _ e.1
     (subst (λ (r : Tag). ElementRead a.s.now a.cursor.at (a.spare - 1) r) c.in-Emptied.is e.0)
 
 pub returns-in-Broken : goal.returns-in-Broken
 returns-in-Broken c =
-    let t = c in
-    let f = t in
-    let g = f in
-    let a = g.args in
-    let p = g.requires in
-    let e = t.start_tag.ensures in
-    let first = begins_some false _ (sym g.begins.ensures ∙ not-false _ f.if-not-begins.false-raw) in
+    let a = c.args in
+    let p = c.requires in
+    let e = c.start_tag.ensures in
+    let first = begins_some false _ (sym c.begins.ensures ∙ not-false _ c.if-not-begins.false-raw) in
     start_broken a.s.now a.names.now a.depth a.spare a.cursor.at p.3 p.1 p.2 first.1
-    (omega (arith, f.if-spare-eq0.false)) _ e.1
+    (omega (arith, c.if-spare-eq0.false)) _ e.1
     (subst (λ (r : Tag). ElementRead a.s.now a.cursor.at (a.spare - 1) r) c.in-Broken.is e.0)

@@ -11,13 +11,11 @@ use Rattle.xml_reader.proofs.children.end.Goals as goal
 
 pub overflow_cast-from : goal.overflow_cast-from
 overflow_cast-from c =
-    let c2 = c in
-    omega (arith, placed_short c2.requires.1.names (c2.args.depth - 1) (omega (arith, c2.requires.1.some)))
+    omega (arith, placed_short c.requires.1.names (c.args.depth - 1) (omega (arith, c.requires.1.some)))
 
 pub overflow_add-from : goal.overflow_add-from
 overflow_add-from c =
-    let c2 = c in
-    omega (arith, placed_short c2.requires.1.names (c2.args.depth - 1) (omega (arith, c2.requires.1.some)))
+    omega (arith, placed_short c.requires.1.names (c.args.depth - 1) (omega (arith, c.requires.1.some)))
 
 pub end_tag-requires : goal.end_tag-requires
 end_tag-requires c =

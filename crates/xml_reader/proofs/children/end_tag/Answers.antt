@@ -1,5 +1,4 @@
 use Rattle.xml_reader.specs.Laws.EndTags.{end_differs, end_rest}
-use borrow.Author.Rules.{rules}
 use Rattle.xml_reader.proofs.children.end_tag.Goals as goal
 
 pub returns-then-n-to : goal.returns-then-n-to

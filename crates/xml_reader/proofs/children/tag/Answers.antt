@@ -1,5 +1,4 @@
 use Rattle.xml_reader.specs.Laws.Children.{markup_as, tag_none, tag_ended, start_there, end_there}
-use borrow.Author.Rules.{rules}
 use Rattle.xml_reader.proofs.children.tag.Goals as goal
 
 pub markup-requires : goal.markup-requires
@@ -14,30 +13,26 @@ end-requires c = (
 
 pub element-requires : goal.element-requires
 element-requires c =
-    let m = c in
-    let a = m.args in
-    let p = m.requires in
-    let k = markup_as c.in-StartTag.is m.markup.ensures in
+    let a = c.args in
+    let p = c.requires in
+    let k = markup_as c.in-StartTag.is c.markup.ensures in
     let y = start_there p.0 k in
     (y.0, y.1, y.2, p.1)
 
 pub returns-in-NoTag : goal.returns-in-NoTag
 returns-in-NoTag c =
-    let m = c in
-    let a = m.args in
-    let k = markup_as c.in-NoTag.is m.markup.ensures in
-    tag_none a.s.now a.names.now a.depth a.spare a.cursor.at m.requires.1 k
+    let a = c.args in
+    let k = markup_as c.in-NoTag.is c.markup.ensures in
+    tag_none a.s.now a.names.now a.depth a.spare a.cursor.at c.requires.1 k
 
 pub returns-in-EndTag : goal.returns-in-EndTag
 returns-in-EndTag c =
-    let m = c in
-    let a = m.args in
-    let k = markup_as c.in-EndTag.is m.markup.ensures in
-    tag_ended a.s.now a.names.now a.depth a.spare a.cursor.at m.requires.1 k c.end.ensures
+    let a = c.args in
+    let k = markup_as c.in-EndTag.is c.markup.ensures in
+    tag_ended a.s.now a.names.now a.depth a.spare a.cursor.at c.requires.1 k c.end.ensures
 
 pub returns-in-StartTag : goal.returns-in-StartTag
 returns-in-StartTag c =
-    let m = c in
-    let a = m.args in
-    let k = markup_as c.in-StartTag.is m.markup.ensures in
-    rw (start_there m.requires.0 k).3 at c.element.ensures
+    let a = c.args in
+    let k = markup_as c.in-StartTag.is c.markup.ensures in
+    rw (start_there c.requires.0 k).3 at c.element.ensures

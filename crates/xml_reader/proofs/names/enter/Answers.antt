@@ -8,30 +8,21 @@ use Rattle.xml_reader.proofs.names.enter.Goals as goal
 
 pub overflow_add-lo : goal.overflow_add-lo
 overflow_add-lo c =
-    let c2 = c in
-    let c4 = c2 in
-    let c7 = c4 in
-    omega (arith, (free_of c4.place.ensures c2.in-Free.is).0, c7.requires.2)
+    omega (arith, (free_of c.place.ensures c.in-Free.is).0, c.requires.2)
 
 pub overflow_cast-from : goal.overflow_cast-from
 overflow_cast-from c =
-    let c7 = c in
-    omega (arith, c7.requires.0.inside, c7.requires.3.short)
+    omega (arith, c.requires.0.inside, c.requires.3.short)
 
 pub insert-requires : goal.insert-requires
 insert-requires c =
-    let c2 = c in
-    let c4 = c2 in
-    (omega (arith, (free_of c4.place.ensures c2.in-Free.is).0), search rules, search rules)
+    (omega (arith, (free_of c.place.ensures c.in-Free.is).0), search rules, search rules)
 
 pub returns-in-Taken : goal.returns-in-Taken
 returns-in-Taken c = (is_repeated (taken_of c.place.ensures c.in-Taken.is), kept_same _ _)
 
 pub returns-in-Free : goal.returns-in-Free
 returns-in-Free c =
-    let c3 = c in
-    let c5 = c3 in
-    let c8 = c5 in
-    let f = free_of c5.place.ensures c3.in-Free.is in
+    let f = free_of c.place.ensures c.in-Free.is in
     let x = c.insert.ensures in
-    (enter_new x c8.requires.4 f.1 c8.requires.3 c8.requires.0, enter_kept (omega arith) x)
+    (enter_new x c.requires.4 f.1 c.requires.3 c.requires.0, enter_kept (omega arith) x)

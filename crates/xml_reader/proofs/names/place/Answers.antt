@@ -1,11 +1,9 @@
 use borrow.Author.Rules.{rules}
 use native.Mathlib.Omega.{arith}
 use mathlib.Core.Path.{◌≡◌}
-use Prim.Native.Nat.{◌+◌, ◌-◌, ◌/◌, ◌≤◌}
-use Rattle.xml.specs.Laws.Tokens.{name_at}
-use Rattle.byte_strings.specs.Sorted.{entries, Between, is_free}
+use Prim.Native.Nat.{◌+◌, ◌/◌}
+use Rattle.byte_strings.specs.Sorted.{entries, is_free}
 use Rattle.byte_strings.specs.Laws.Sorted.{between_start, turn_before, turn_behind, turn_same}
-use Rattle.xml_reader.specs.Elements.{attribute_names}
 use Rattle.xml_reader.specs.Laws.StartTags.{placed_short}
 use Rattle.xml_reader.proofs.names.place.Goals as goal
 
@@ -14,15 +12,13 @@ loop-low-init c = (search rules, search rules, between_start _ _ _)
 
 pub overflow_cast-other : goal.overflow_cast-other
 overflow_cast-other c =
-    let c4 = c in
     let l = c.loop-low in
-    omega (arith, placed_short c4.requires.3 (c4.args.lo + (l.low + l.high) / 2) (search rules))
+    omega (arith, placed_short c.requires.3 (c.args.lo + (l.low + l.high) / 2) (search rules))
 
 pub overflow_add-other-in-loop-low : goal.overflow_add-other-in-loop-low
 overflow_add-other-in-loop-low c =
-    let c4 = c in
     let l = c.loop-low in
-    omega (arith, placed_short c4.requires.3 (c4.args.lo + (l.low + l.high) / 2) (search rules))
+    omega (arith, placed_short c.requires.3 (c.args.lo + (l.low + l.high) / 2) (search rules))
 
 pub order-requires : goal.order-requires
 order-requires c = (search rules, c.requires.3.placed _ (search rules), search rules)
@@ -30,38 +26,29 @@ order-requires c = (search rules, c.requires.3.placed _ (search rules), search r
 pub returns-in-Same : goal.returns-in-Same
 unfolding entries
 returns-in-Same c =
-    let c2 = c in
-    let c5 = c2 in
-    let c7 = c5 in
-    turn_same c7.requires.4 c5.loop-low.invariant.2 (search rules) c2.order.ensures c.in-Same.is
+    turn_same c.requires.4 c.loop-low.invariant.2 (search rules) c.order.ensures c.in-Same.is
 
 pub loop-low-smaller-in-Before : goal.loop-low-smaller-in-Before
 loop-low-smaller-in-Before c = omega arith
 
 pub loop-low-preserved-in-Before : goal.loop-low-preserved-in-Before
 unfolding entries
-loop-low-preserved-in-Before c =
-    let c2 = c in
-    let c5 = c2 in
-    let c7 = c5 in (
-      search rules,
-      search rules,
-      turn_before c7.requires.4 c5.loop-low.invariant.2 (search rules) c2.order.ensures c.in-Before.is,
-    )
+loop-low-preserved-in-Before c = (
+  search rules,
+  search rules,
+  turn_before c.requires.4 c.loop-low.invariant.2 (search rules) c.order.ensures c.in-Before.is,
+)
 
 pub loop-low-smaller : goal.loop-low-smaller
 loop-low-smaller c = omega arith
 
 pub loop-low-preserved : goal.loop-low-preserved
 unfolding entries
-loop-low-preserved c =
-    let c2 = c in
-    let c5 = c2 in
-    let c7 = c5 in (
-      search rules,
-      search rules,
-      turn_behind c7.requires.4 c5.loop-low.invariant.2 (search rules) c2.order.ensures c.in-Behind.is,
-    )
+loop-low-preserved c = (
+  search rules,
+  search rules,
+  turn_behind c.requires.4 c.loop-low.invariant.2 (search rules) c.order.ensures c.in-Behind.is,
+)
 
 pub returns : goal.returns
 returns c =

@@ -1,12 +1,7 @@
-use borrow.Author.Rules.{rules}
-use native.Mathlib.Omega.{arith}
-use mathlib.Core.Path.{◌≡◌}
-use Prim.Native.Nat.{◌+◌, ◌-◌, ◌/◌, ◌≤◌}
+use Prim.Native.Nat.{◌-◌, ◌≤◌}
 use Rattle.xml.specs.Laws.Tokens.{name_at}
-use Rattle.byte_strings.specs.Sorted.{entries, Between, is_free}
-use Rattle.byte_strings.specs.Laws.Sorted.{between_start, turn_before, turn_behind, turn_same}
+use Rattle.byte_strings.specs.Sorted.{Between}
 use Rattle.xml_reader.specs.Elements.{attribute_names}
-use Rattle.xml_reader.specs.Laws.StartTags.{placed_short}
 use Rattle.xml_reader.proofs.names.place.Given as goal
 
 abbrev pub invariant-loop-low : goal.invariant-loop-low

@@ -1,5 +1,4 @@
 use Rattle.xml_reader.specs.Laws.Declaration.{declared_whole, declared_part}
-use borrow.Author.Rules.{rules}
 use Rattle.xml_reader.proofs.start.declared.Goals as goal
 
 pub returns-then-n-word : goal.returns-then-n-word

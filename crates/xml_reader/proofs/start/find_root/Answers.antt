@@ -1,6 +1,5 @@
 use mathlib.Core.Path.{sym, ◌∙◌}
 use Rattle.xml_reader.specs.Laws.Declaration.{start_plain, start_short, start_long}
-use borrow.Author.Rules.{rules}
 use Rattle.xml_reader.proofs.start.find_root.Goals as goal
 
 pub returns-then-first-ne60 : goal.returns-then-first-ne60

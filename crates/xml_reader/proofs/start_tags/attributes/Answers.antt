@@ -1,17 +1,13 @@
 use Rattle.xml_tokens.specs.declared.Item.{Item}
 use Rattle.xml_tokens.specs.Steps.{TagRead}
-use Rattle.xml_reader.specs.Laws.StartTags.{placed_at, AttributesTo, attributes_start, attributes_wrong, attributes_open}
+use Rattle.xml_reader.specs.Laws.StartTags.{placed_at, attributes_start, attributes_wrong, attributes_open}
 use Rattle.xml_reader.specs.Laws.StartTags.{attributes_empty, attributes_bad, attributes_turn, attribute_here, attribute_behind}
 use Rattle.xml_reader.specs.Laws.StartTags.{attribute_entered, kept_same, kept_less}
-use Prim.Native.Nat.{◌+◌, ◌-◌, ◌≤◌}
-use mathlib.Core.Path.{◌≡◌, ◌∙◌, subst}
+use mathlib.Core.Path.{◌∙◌, subst}
 use native.Mathlib.Omega.{arith}
 use borrow.Author.Rules.{rules}
-use lib.ListN.{length}
 use Rattle.xml.specs.Laws.Automaton.{behind_part}
-use Rattle.byte_strings.specs.Sorted.{Increasing}
 use Rattle.byte_strings.specs.Laws.Sorted.{increasing_none}
-use Rattle.xml_reader.specs.Elements.{Placed, Kept, attribute_names}
 use Rattle.xml_reader.proofs.start_tags.attributes.Goals as goal
 
 pub loop-j-init : goal.loop-j-init
@@ -60,8 +56,7 @@ returns-in-Empty c =
 
 pub attribute-requires : goal.attribute-requires
 attribute-requires c =
-    let c5 = c in
-    let loop = c5.loop-j in (
+    let loop = c.loop-j in (
       (attribute_here c.item.ensures c.in-Attribute.is).0,
       search rules,
       loop.invariant.4,
@@ -74,23 +69,17 @@ returns-in-Refused c = search (attributes_bad, kept_less, rules)
 
 pub loop-j-smaller : goal.loop-j-smaller
 loop-j-smaller c =
-    let c3 = c in
-    let c6 = c3 in
-    let c8 = c6 in
-    let inv = c8.loop-j.invariant in
-    let a = attribute_behind _ _ _ _ _ _ _ _ inv.6 inv.0 inv.2 c8.item.ensures c6.in-Attribute.is
-    c3.attribute.ensures c.in-Past.is in
+    let inv = c.loop-j.invariant in
+    let a = attribute_behind _ _ _ _ _ _ _ _ inv.6 inv.0 inv.2 c.item.ensures c.in-Attribute.is
+    c.attribute.ensures c.in-Past.is in
     omega (arith, a.0, a.1, a.2)
 
 pub loop-j-preserved : goal.loop-j-preserved
 loop-j-preserved c =
-    let c3 = c in
-    let c6 = c3 in
-    let c8 = c6 in
-    let inv = c8.loop-j.invariant in
-    let item = c8.item.ensures in
-    let read = c3.attribute.ensures in
-    let here = c6.in-Attribute.is in
+    let inv = c.loop-j.invariant in
+    let item = c.item.ensures in
+    let read = c.attribute.ensures in
+    let here = c.in-Attribute.is in
     let next = c.in-Past.is in
     let a = attribute_behind _ _ _ _ _ _ _ _ inv.6 inv.0 inv.2 item here read next in
     let e = attribute_entered _ _ _ _ _ _ _ _ inv.6 inv.0 inv.2 item here read next in (

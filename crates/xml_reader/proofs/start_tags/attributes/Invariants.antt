@@ -1,16 +1,8 @@
-use Rattle.xml_tokens.specs.declared.Item.{Item}
-use Rattle.xml_tokens.specs.Steps.{TagRead}
-use Rattle.xml_reader.specs.Laws.StartTags.{placed_at, AttributesTo, attributes_start, attributes_wrong, attributes_open}
-use Rattle.xml_reader.specs.Laws.StartTags.{attributes_empty, attributes_bad, attributes_turn, attribute_here, attribute_behind}
-use Rattle.xml_reader.specs.Laws.StartTags.{attribute_entered, kept_same, kept_less}
+use Rattle.xml_reader.specs.Laws.StartTags.{AttributesTo}
 use Prim.Native.Nat.{◌+◌, ◌-◌, ◌≤◌}
-use mathlib.Core.Path.{◌≡◌, ◌∙◌, subst}
-use native.Mathlib.Omega.{arith}
-use borrow.Author.Rules.{rules}
+use mathlib.Core.Path.{◌≡◌}
 use lib.ListN.{length}
-use Rattle.xml.specs.Laws.Automaton.{behind_part}
 use Rattle.byte_strings.specs.Sorted.{Increasing}
-use Rattle.byte_strings.specs.Laws.Sorted.{increasing_none}
 use Rattle.xml_reader.specs.Elements.{Placed, Kept, attribute_names}
 use Rattle.xml_reader.proofs.start_tags.attributes.Given as goal
 

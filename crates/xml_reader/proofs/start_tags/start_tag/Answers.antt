@@ -16,10 +16,8 @@ spelled_name-requires c = let pre = c.requires in (pre.0.inside, pre.0.starts)
 
 pub attributes-requires : goal.attributes-requires
 attributes-requires c =
-    let c2 = c in
-    let c4 = c2 in
-    let pre = c4.requires in
-    let f = name_as c2.in-Taken.is c4.spelled_name.ensures in (
+    let pre = c.requires in
+    let f = name_as c.in-Taken.is c.spelled_name.ensures in (
       (name_run f).0.inside,
       search rules,
       placed_push _ _ _ _ pre.2 (omega (arith, pre.0.inside)) (omega (arith, pre.3)),
@@ -28,21 +26,18 @@ attributes-requires c =
 
 pub returns-in-Unfit : goal.returns-in-Unfit
 returns-in-Unfit c =
-    let c3 = c in
-    let a = c3.args in
-    let pre = c3.requires in (
-      element_unfit _ _ _ (name_as c.in-Unfit.is c3.spelled_name.ensures),
+    let a = c.args in
+    let pre = c.requires in (
+      element_unfit _ _ _ (name_as c.in-Unfit.is c.spelled_name.ensures),
       kept_set _ _ _ _ _ (kept_same _ _) (search rules),
       omega (arith, pre.0.not_first, get_or-set_same a.names.now a.depth (a.cursor.at - 1) 0 (omega (arith, pre.3))),
     )
 
 pub returns-in-Taken : goal.returns-in-Taken
 returns-in-Taken c =
-    let c3 = c in
-    let c5 = c3 in
-    let a = c5.args in
-    let pre = c5.requires in (
-      element_rest _ _ _ (name_as c3.in-Taken.is c5.spelled_name.ensures) c.attributes.ensures.0,
+    let a = c.args in
+    let pre = c.requires in (
+      element_rest _ _ _ (name_as c.in-Taken.is c.spelled_name.ensures) c.attributes.ensures.0,
       kept_less _ _ _ _ _ (kept_set _ _ _ a.depth (a.cursor.at - 1) (kept_same _ _) (search rules)) c.attributes.ensures.1
           (omega arith),
       omega (

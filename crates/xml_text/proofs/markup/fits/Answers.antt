@@ -14,11 +14,8 @@ returns-then-parent-ne2 c = fits_alone _ _ _ (sym c.takes.ensures ∙ not-false 
 -- src/lib.rt:92:9
 pub returns-then-kind-eq3 : goal.returns-then-kind-eq3
 returns-then-kind-eq3 c =
-    let c2 = c in
-    let c3 = c2 in
-    let c4 = c3 in
     c.in_start_tag.ensures
-    ∙ fits_attribute _ _ _ (sym c4.takes.ensures ∙ not-false _ c3.if-not-takes.false-raw) c2.if-parent-ne2.false c.if-kind-eq3.true
+    ∙ fits_attribute _ _ _ (sym c.takes.ensures ∙ not-false _ c.if-not-takes.false-raw) c.if-parent-ne2.false c.if-kind-eq3.true
 
 -- src/lib.rt:95:9
 pub returns-then-kind-eq4 : goal.returns-then-kind-eq4
@@ -29,7 +26,4 @@ returns-then-kind-eq4 c =
 -- src/lib.rt:82:1
 pub returns : goal.returns
 returns c =
-    let c2 = c in
-    let c3 = c2 in
-    let c4 = c3 in
-    fits_element _ _ _ (sym c4.takes.ensures ∙ not-false _ c3.if-not-takes.false-raw) c2.if-parent-ne2.false c.if-kind-eq3.false c.if-kind-eq4.false
+    fits_element _ _ _ (sym c.takes.ensures ∙ not-false _ c.if-not-takes.false-raw) c.if-parent-ne2.false c.if-kind-eq3.false c.if-kind-eq4.false

@@ -7,8 +7,7 @@ use Rattle.xml_text.proofs.markup.put.Goals as goal
 
 pub loop-i-preserved : goal.loop-i-preserved
 loop-i-preserved c =
-    let l = c in
-    (refl, (omega arith, (simp length-set l.loop-i.invariant.1.1.0, copy_more _ _ _ _ (omega arith) (omega arith) l.loop-i.invariant.1.1.1)))
+    (refl, (omega arith, (simp length-set c.loop-i.invariant.1.1.0, copy_more _ _ _ _ (omega arith) (omega arith) c.loop-i.invariant.1.1.1)))
 
 pub returns : goal.returns
 returns c =

@@ -14,90 +14,66 @@ put-requires c = omega (arith, rw c.if-b-eq38.true at c.requires)
 
 pub returns-then-b-eq38 : goal.returns-then-b-eq38
 returns-then-b-eq38 c =
-    let c5 = c in
-    wrote_as (ap (escape c5.args.value) (sym c5.if-b-eq38.true)) c.put.ensures
+    wrote_as (ap (escape c.args.value) (sym c.if-b-eq38.true)) c.put.ensures
 
 pub put-requires-then-b-eq60 : goal.put-requires-then-b-eq60
 put-requires-then-b-eq60 c = omega (arith, rw c.if-b-eq60.true at c.requires)
 
 pub returns-then-b-eq60 : goal.returns-then-b-eq60
 returns-then-b-eq60 c =
-    let c5 = c in
-    wrote_as (ap (escape c5.args.value) (sym c5.if-b-eq60.true)) c.put-then-b-eq60.ensures
+    wrote_as (ap (escape c.args.value) (sym c.if-b-eq60.true)) c.put-then-b-eq60.ensures
 
 pub put-requires-then-b-eq62 : goal.put-requires-then-b-eq62
 put-requires-then-b-eq62 c = omega (arith, rw c.if-b-eq62.true at c.requires)
 
 pub returns-then-b-eq62 : goal.returns-then-b-eq62
 returns-then-b-eq62 c =
-    let c5 = c in
-    wrote_as (ap (escape c5.args.value) (sym c5.if-b-eq62.true)) c.put-then-b-eq62.ensures
+    wrote_as (ap (escape c.args.value) (sym c.if-b-eq62.true)) c.put-then-b-eq62.ensures
 
 pub put-requires-then-b-eq34 : goal.put-requires-then-b-eq34
 put-requires-then-b-eq34 c = omega (arith, rw c.if-b-eq34.true at c.requires)
 
 pub returns-then-b-eq34 : goal.returns-then-b-eq34
 returns-then-b-eq34 c =
-    let c5 = c in
-    wrote_as (ap (escape c5.args.value) (sym c5.if-b-eq34.true))
+    wrote_as (ap (escape c.args.value) (sym c.if-b-eq34.true))
     c.put-then-b-eq34.ensures
 
 pub bounds-out-0 : goal.bounds-out-0
 bounds-out-0 c =
-    let c2 = c in
-    let c4 = c2 in
-    let c6 = c4 in
-    let h : 1 ≤ length c6.args.out.now = rw (escape_in_text _ _ c4.if-b-eq38.false c2.if-b-eq60.false c2.if-b-eq62.false
-    c.if-b-eq34.false (not-true _ c.if-not-value.true-raw)) at c6.requires in search rules
+    let h : 1 ≤ length c.args.out.now = rw (escape_in_text _ _ c.if-b-eq38.false c.if-b-eq60.false c.if-b-eq62.false
+    c.if-b-eq34.false (not-true _ c.if-not-value.true-raw)) at c.requires in search rules
 
 pub returns-then-not-value : goal.returns-then-not-value
 returns-then-not-value c =
-    let c2 = c in
-    let c4 = c2 in
-    let c6 = c4 in
-    let e = escape_in_text c6.args.value c6.args.b c4.if-b-eq38.false c2.if-b-eq60.false c2.if-b-eq62.false c.if-b-eq34.false
+    let e = escape_in_text c.args.value c.args.b c.if-b-eq38.false c.if-b-eq60.false c.if-b-eq62.false c.if-b-eq34.false
     (not-true _ c.if-not-value.true-raw) in
-    wrote_as (sym e) (wrote_byte _ _ (rw e at c6.requires))
+    wrote_as (sym e) (wrote_byte _ _ (rw e at c.requires))
 
 pub put-requires-then-b-eq9 : goal.put-requires-then-b-eq9
 put-requires-then-b-eq9 c =
-    let c3 = c in
-    let c9 = c3 in
-    omega (arith, rw (escape_tab _ _ (not-false _ c3.if-not-value.false-raw) c.if-b-eq9.true) at c9.requires)
+    omega (arith, rw (escape_tab _ _ (not-false _ c.if-not-value.false-raw) c.if-b-eq9.true) at c.requires)
 
 pub returns-then-b-eq9 : goal.returns-then-b-eq9
 returns-then-b-eq9 c =
-    let c5 = c in
-    let c12 = c5 in
-    wrote_as (sym (escape_tab c12.args.value _ (not-false _ c5.if-not-value.false-raw) c5.if-b-eq9.true))
+    wrote_as (sym (escape_tab c.args.value _ (not-false _ c.if-not-value.false-raw) c.if-b-eq9.true))
     c.put-then-b-eq9.ensures
 
 pub put-requires-then-b-eq10 : goal.put-requires-then-b-eq10
 put-requires-then-b-eq10 c =
-    let c4 = c in
-    let c10 = c4 in
-    omega (arith, rw (escape_line_feed _ _ (not-false _ c4.if-not-value.false-raw) c.if-b-eq10.true) at c10.requires)
+    omega (arith, rw (escape_line_feed _ _ (not-false _ c.if-not-value.false-raw) c.if-b-eq10.true) at c.requires)
 
 pub returns-then-b-eq10 : goal.returns-then-b-eq10
 returns-then-b-eq10 c =
-    let c5 = c in
-    let c13 = c5 in
-    wrote_as (sym (escape_line_feed c13.args.value _ (not-false _ c5.if-not-value.false-raw) c5.if-b-eq10.true))
+    wrote_as (sym (escape_line_feed c.args.value _ (not-false _ c.if-not-value.false-raw) c.if-b-eq10.true))
     c.put-then-b-eq10.ensures
 
 pub bounds-out-0-2 : goal.bounds-out-0-2
 bounds-out-0-2 c =
-    let c3 = c in
-    let c5 = c3 in
-    let c8 = c5 in
-    let h : 1 ≤ length c8.args.out.now = rw (escape_in_value _ _ c5.if-b-eq38.false c5.if-b-eq60.false c3.if-b-eq62.false
-    c3.if-b-eq34.false c.if-b-eq9.false c.if-b-eq10.false) at c8.requires in search rules
+    let h : 1 ≤ length c.args.out.now = rw (escape_in_value _ _ c.if-b-eq38.false c.if-b-eq60.false c.if-b-eq62.false
+    c.if-b-eq34.false c.if-b-eq9.false c.if-b-eq10.false) at c.requires in search rules
 
 pub returns : goal.returns
 returns c =
-    let c3 = c in
-    let c5 = c3 in
-    let c8 = c5 in
-    let e = escape_in_value c8.args.value c8.args.b c5.if-b-eq38.false c5.if-b-eq60.false c3.if-b-eq62.false c3.if-b-eq34.false
+    let e = escape_in_value c.args.value c.args.b c.if-b-eq38.false c.if-b-eq60.false c.if-b-eq62.false c.if-b-eq34.false
     c.if-b-eq9.false c.if-b-eq10.false in
-    wrote_as (sym e) (wrote_byte _ _ (rw e at c8.requires))
+    wrote_as (sym e) (wrote_byte _ _ (rw e at c.requires))

@@ -1,10 +1,7 @@
 use borrow.Author.Rules.{rules}
-use Prim.Native.Nat.{◌-◌, ◌≤◌}
 use mathlib.Core.Path.{sym, ◌∙◌}
 use borrow.Author.Tests.{not-true, not-false}
-use lib.ListN.{length}
-use Rattle.xml.specs.Bytes.{blank}
-use Rattle.xml_tokens.specs.Laws.Runs.{Running, run_start, run_turn, run_stop, run_end}
+use Rattle.xml_tokens.specs.Laws.Runs.{run_start, run_turn, run_stop, run_end}
 use Rattle.xml_tokens.proofs.Cursor.blanks.Goals as goal
 
 pub loop-i-init : goal.loop-i-init

@@ -1,10 +1,8 @@
 use native.Mathlib.Omega.{arith}
-use Prim.Native.Nat.{◌-◌, ◌≤◌}
 use mathlib.Core.Path.{sym, ◌∙◌}
 use borrow.Author.Rules.{rules}
 use borrow.Author.Tests.{not-true, not-false}
-use lib.ListN.{length}
-use Rattle.xml_tokens.specs.Laws.Characters.{CharactersTo, characters_start, characters_end, characters_stop, characters_wrong}
+use Rattle.xml_tokens.specs.Laws.Characters.{characters_start, characters_end, characters_stop, characters_wrong}
 use Rattle.xml_tokens.specs.Laws.Characters.{characters_full, characters_byte, characters_unfit, characters_special, special_as}
 use Rattle.xml_tokens.specs.Laws.Characters.{special_inside}
 use Rattle.xml_tokens.proofs.Cursor.characters.Goals as goal
@@ -24,23 +22,19 @@ returns-then-not-may_stand c =
 
 pub returns-then-count-eq32 : goal.returns-then-count-eq32
 returns-then-count-eq32 c =
-    let c2 = c in
-    let c4 = c2 in
-    let loop = c4.loop-i in
-    characters_full _ _ _ _ _ _ _ loop.invariant.3 (search rules) c4.if-b-stop.false
-    (sym c4.may_stand.ensures ∙ not-false _ c2.if-not-may_stand.false-raw) (sym c2.alone.ensures ∙ c.if-alone.true) c.if-count-eq32.true
+    let loop = c.loop-i in
+    characters_full _ _ _ _ _ _ _ loop.invariant.3 (search rules) c.if-b-stop.false
+    (sym c.may_stand.ensures ∙ not-false _ c.if-not-may_stand.false-raw) (sym c.alone.ensures ∙ c.if-alone.true) c.if-count-eq32.true
 
 pub loop-i-preserved-then-alone : goal.loop-i-preserved-then-alone
 loop-i-preserved-then-alone c =
-    let c3 = c in
-    let c5 = c3 in
-    let loop = c5.loop-i in (
+    let loop = c.loop-i in (
       search rules,
       search rules,
       search rules,
       rw c.brackets_after-k.ensures
-          (characters_byte _ _ _ _ _ _ _ loop.invariant.3 (search rules) c5.if-b-stop.false
-          (sym c5.may_stand.ensures ∙ not-false _ c3.if-not-may_stand.false-raw) (sym c3.alone.ensures ∙ c.if-alone.true)
+          (characters_byte _ _ _ _ _ _ _ loop.invariant.3 (search rules) c.if-b-stop.false
+          (sym c.may_stand.ensures ∙ not-false _ c.if-not-may_stand.false-raw) (sym c.alone.ensures ∙ c.if-alone.true)
           (search rules)),
     )
 
@@ -49,9 +43,8 @@ special-requires c = (search rules, search rules, sym c.alone.ensures ∙ c.if-a
 
 pub returns-in-Unfit : goal.returns-in-Unfit
 returns-in-Unfit c =
-    let c3 = c in
-    let loop = c3.loop-i in
-    characters_unfit _ _ _ _ _ _ _ loop.invariant.3 (special_as c.in-Unfit.is c3.special.ensures)
+    let loop = c.loop-i in
+    characters_unfit _ _ _ _ _ _ _ loop.invariant.3 (special_as c.in-Unfit.is c.special.ensures)
 
 pub loop-i-smaller : goal.loop-i-smaller
 loop-i-smaller c =
@@ -60,9 +53,8 @@ loop-i-smaller c =
 
 pub loop-i-preserved : goal.loop-i-preserved
 loop-i-preserved c =
-    let c3 = c in
-    let loop = c3.loop-i in
-    let r = special_as c.in-Taken.is c3.special.ensures in
+    let loop = c.loop-i in
+    let r = special_as c.in-Taken.is c.special.ensures in
     let y = special_inside r in
     (omega (arith, y.0), y.1, y.2, characters_special _ _ _ _ _ _ _ loop.invariant.3 r)
 

@@ -1,12 +1,6 @@
-use native.Mathlib.Omega.{arith}
 use Prim.Native.Nat.{◌-◌, ◌≤◌}
-use mathlib.Core.Path.{sym, ◌∙◌}
-use borrow.Author.Rules.{rules}
-use borrow.Author.Tests.{not-true, not-false}
 use lib.ListN.{length}
-use Rattle.xml_tokens.specs.Laws.Characters.{CharactersTo, characters_start, characters_end, characters_stop, characters_wrong}
-use Rattle.xml_tokens.specs.Laws.Characters.{characters_full, characters_byte, characters_unfit, characters_special, special_as}
-use Rattle.xml_tokens.specs.Laws.Characters.{special_inside}
+use Rattle.xml_tokens.specs.Laws.Characters.{CharactersTo}
 use Rattle.xml_tokens.proofs.Cursor.characters.Given as goal
 
 abbrev pub invariant-loop-i : goal.invariant-loop-i

@@ -1,25 +1,19 @@
 use Rattle.xml_tokens.specs.Laws.Letters.{fit_all, fit_long, fit_late, fit_broken}
 use mathlib.Core.Path.{refl}
-use borrow.Author.Rules.{rules}
 use Rattle.xml_tokens.proofs.Cursor.fit.Goals as goal
 
 pub returns-then-to-at : goal.returns-then-to-at
 returns-then-to-at c =
-    let c3 = c in
-    fit_long _ _ _ c3.misspelled.ensures c.in-Whole.is c.if-to-at.true
+    fit_long _ _ _ c.misspelled.ensures c.in-Whole.is c.if-to-at.true
 
 pub returns-then-n-room : goal.returns-then-n-room
 returns-then-n-room c =
-    let c2 = c in
-    fit_late _ _ _ c2.misspelled.ensures _ c2.in-Broken.is c.if-n-room.true
+    fit_late _ _ _ c.misspelled.ensures _ c.in-Broken.is c.if-n-room.true
 
 pub returns-else-to-at : goal.returns-else-to-at
 returns-else-to-at c =
-    let c3 = c in
-    fit_all _ _ _ c3.misspelled.ensures c.in-Whole.is c3.requires.2 c.if-to-at.false _ refl
+    fit_all _ _ _ c.misspelled.ensures c.in-Whole.is c.requires.2 c.if-to-at.false _ refl
 
 pub returns-else-n-room : goal.returns-else-n-room
 returns-else-n-room c =
-    let c2 = c in
-    let c4 = c2 in
-    fit_broken _ _ _ c4.misspelled.ensures _ c2.in-Broken.is c4.requires.2 c.if-n-room.false
+    fit_broken _ _ _ c.misspelled.ensures _ c.in-Broken.is c.requires.2 c.if-n-room.false

@@ -1,9 +1,6 @@
 use borrow.Author.Rules.{rules}
-use Prim.Native.Nat.{◌-◌, ◌≤◌}
 use borrow.Author.Tests.{lt-leb, le-leb}
-use lib.Dec.{leb}
-use lib.ListN.{length}
-use Rattle.xml_tokens.specs.Laws.Runs.{Running, run_start, run_turn, run_stop, run_end}
+use Rattle.xml_tokens.specs.Laws.Runs.{run_start, run_turn, run_stop, run_end}
 use Rattle.xml_tokens.proofs.Cursor.letters.Goals as goal
 
 pub loop-i-init : goal.loop-i-init

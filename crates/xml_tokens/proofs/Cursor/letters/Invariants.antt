@@ -1,9 +1,7 @@
-use borrow.Author.Rules.{rules}
 use Prim.Native.Nat.{◌-◌, ◌≤◌}
-use borrow.Author.Tests.{lt-leb, le-leb}
 use lib.Dec.{leb}
 use lib.ListN.{length}
-use Rattle.xml_tokens.specs.Laws.Runs.{Running, run_start, run_turn, run_stop, run_end}
+use Rattle.xml_tokens.specs.Laws.Runs.{Running}
 use Rattle.xml_tokens.proofs.Cursor.letters.Given as goal
 
 abbrev pub invariant-loop-i : goal.invariant-loop-i

@@ -1,7 +1,6 @@
 use mathlib.Core.Path.{refl, sym, ◌∙◌}
 use Rattle.xml_tokens.specs.Steps.{markup_start}
 use Rattle.xml_tokens.specs.Laws.Tags.{markup_over, markup_slash, markup_other}
-use borrow.Author.Rules.{rules}
 use Rattle.xml_tokens.proofs.Cursor.markup.Goals as goal
 
 pub returns-then-at-s : goal.returns-then-at-s

@@ -43,8 +43,7 @@ returns-then-first-eq35 c = c.character_reference.ensures
 
 pub returns : goal.returns
 returns c =
-    let d = c in
-    let a = d.args in
-    let p = d.peek-first.ensures in
-    is_quot a.s.now a.self.at _ (λ e. d.if-first-eq97.false (p ∙ e)) (λ e. d.if-first-eq103.false (p ∙ e))
-    (λ e. d.if-first-eq108.false (p ∙ e)) (λ e. d.if-first-eq35.false (p ∙ e)) c.word-2.ensures
+    let a = c.args in
+    let p = c.peek-first.ensures in
+    is_quot a.s.now a.self.at _ (λ e. c.if-first-eq97.false (p ∙ e)) (λ e. c.if-first-eq103.false (p ∙ e))
+    (λ e. c.if-first-eq108.false (p ∙ e)) (λ e. c.if-first-eq35.false (p ∙ e)) c.word-2.ensures

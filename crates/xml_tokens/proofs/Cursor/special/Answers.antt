@@ -10,9 +10,8 @@ use Rattle.xml_tokens.proofs.Cursor.special.Goals as goal
 
 pub returns-then-s-at-ge128 : goal.returns-then-s-at-ge128
 returns-then-s-at-ge128 c =
-    let c2 = c in
-    let p = c2.requires in
-    special_fits _ _ _ _ p.0 c2.if-s-at-ge128.true c.letters-end.ensures p.1 _ refl c.fit.ensures
+    let p = c.requires in
+    special_fits _ _ _ _ p.0 c.if-s-at-ge128.true c.letters-end.ensures p.1 _ refl c.fit.ensures
 
 pub returns-then-count-eq32 : goal.returns-then-count-eq32
 returns-then-count-eq32 c =
@@ -21,20 +20,14 @@ returns-then-count-eq32 c =
 
 pub returns-in-NoReference : goal.returns-in-NoReference
 returns-in-NoReference c =
-    let c3 = c in
-    let c5 = c3 in
-    let c8 = c5 in
-    let s = c8.args.s.now in
-    let i = c8.args.self.at in
-    special_lost _ _ _ c8.requires.0 c8.requires.2 c5.if-s-at-ge128.false (search rules)
-    (subst (λ (r : Reference). Refers s (i + 1) (reference_at (drop (i + 1) s)) r) c.in-NoReference.is c3.reference.ensures)
+    let s = c.args.s.now in
+    let i = c.args.self.at in
+    special_lost _ _ _ c.requires.0 c.requires.2 c.if-s-at-ge128.false (search rules)
+    (subst (λ (r : Reference). Refers s (i + 1) (reference_at (drop (i + 1) s)) r) c.in-NoReference.is c.reference.ensures)
 
 pub returns-in-Byte : goal.returns-in-Byte
 returns-in-Byte c =
-    let c3 = c in
-    let c5 = c3 in
-    let c8 = c5 in
-    let s = c8.args.s.now in
-    let i = c8.args.self.at in
-    special_reference _ _ _ c8.requires.0 c8.requires.2 c5.if-s-at-ge128.false (search rules)
-    (subst (λ (r : Reference). Refers s (i + 1) (reference_at (drop (i + 1) s)) r) c.in-Byte.is c3.reference.ensures)
+    let s = c.args.s.now in
+    let i = c.args.self.at in
+    special_reference _ _ _ c.requires.0 c.requires.2 c.if-s-at-ge128.false (search rules)
+    (subst (λ (r : Reference). Refers s (i + 1) (reference_at (drop (i + 1) s)) r) c.in-Byte.is c.reference.ensures)

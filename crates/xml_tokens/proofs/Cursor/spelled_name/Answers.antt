@@ -2,25 +2,21 @@ use Rattle.xml_tokens.specs.Laws.Letters.{name_fits}
 use Rattle.xml_tokens.specs.Laws.Plain.{name_further, plain_long, plain_short}
 use mathlib.Core.Path.{refl}
 use native.Mathlib.Omega.{arith}
-use borrow.Author.Rules.{rules}
 use Rattle.xml_tokens.proofs.Cursor.spelled_name.Goals as goal
 
 pub returns-then-peek-ge128 : goal.returns-then-peek-ge128
 returns-then-peek-ge128 c =
-    let c4 = c in
-    let p = c4.requires in
-    name_fits _ _ p.0 p.1 _ (name_further _ _ _ c4.plain_name-plain.ensures c.name-end.ensures) _ refl c.fit.ensures
+    let p = c.requires in
+    name_fits _ _ p.0 p.1 _ (name_further _ _ _ c.plain_name-plain.ensures c.name-end.ensures) _ refl c.fit.ensures
 
 pub returns-then-i-at-gt32 : goal.returns-then-i-at-gt32
 returns-then-i-at-gt32 c =
-    let c2 = c in
-    let p = c2.requires in
-    plain_long _ _ _ c2.plain_name-plain.ensures p.0 p.1 (omega (arith, c2.peek.ensures, c.if-peek-ge128.false))
+    let p = c.requires in
+    plain_long _ _ _ c.plain_name-plain.ensures p.0 p.1 (omega (arith, c.peek.ensures, c.if-peek-ge128.false))
     c.if-i-at-gt32.true
 
 pub returns : goal.returns
 returns c =
-    let c2 = c in
-    let p = c2.requires in
-    plain_short _ _ _ c2.plain_name-plain.ensures p.0 p.1 (omega (arith, c2.peek.ensures, c.if-peek-ge128.false))
+    let p = c.requires in
+    plain_short _ _ _ c.plain_name-plain.ensures p.0 p.1 (omega (arith, c.peek.ensures, c.if-peek-ge128.false))
     c.if-i-at-gt32.false _ refl

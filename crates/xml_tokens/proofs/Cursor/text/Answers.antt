@@ -20,22 +20,17 @@ returns-then-not-may_stand c =
 
 pub returns-then-not-begins : goal.returns-then-not-begins
 returns-then-not-begins c =
-    let c3 = c in
-    text_broken _ _ _ _ (search rules) c3.if-b-stop.false (sym c3.may_stand.ensures ∙ not-false _ c.if-not-may_stand.false-raw)
+    text_broken _ _ _ _ (search rules) c.if-b-stop.false (sym c.may_stand.ensures ∙ not-false _ c.if-not-may_stand.false-raw)
     (begins_none true _ (sym c.begins.ensures ∙ not-true _ c.if-not-begins.true-raw))
 
 pub returns-then-spare-eq0 : goal.returns-then-spare-eq0
 returns-then-spare-eq0 c =
-    let c2 = c in
-    let c4 = c2 in
-    let first = begins_some true _ (sym c2.begins.ensures ∙ not-false _ c.if-not-begins.false-raw) in
-    text_many _ _ _ _ (search rules) c4.if-b-stop.false (sym c4.may_stand.ensures ∙ not-false _ c2.if-not-may_stand.false-raw)
+    let first = begins_some true _ (sym c.begins.ensures ∙ not-false _ c.if-not-begins.false-raw) in
+    text_many _ _ _ _ (search rules) c.if-b-stop.false (sym c.may_stand.ensures ∙ not-false _ c.if-not-may_stand.false-raw)
     first.1 c.if-spare-eq0.true _ (search rules)
 
 pub returns : goal.returns
 returns c =
-    let c3 = c in
-    let c5 = c3 in
-    let first = begins_some true _ (sym c3.begins.ensures ∙ not-false _ c.if-not-begins.false-raw) in
-    text_rest _ _ _ _ (search rules) c5.if-b-stop.false (sym c5.may_stand.ensures ∙ not-false _ c3.if-not-may_stand.false-raw)
+    let first = begins_some true _ (sym c.begins.ensures ∙ not-false _ c.if-not-begins.false-raw) in
+    text_rest _ _ _ _ (search rules) c.if-b-stop.false (sym c.may_stand.ensures ∙ not-false _ c.if-not-may_stand.false-raw)
     first.1 (search rules) c.characters.ensures

@@ -1,7 +1,6 @@
 use mathlib.Core.Path.{◌∙◌}
 use native.Mathlib.Omega.{arith}
 use Rattle.xml_tokens.specs.Laws.Classes.{ascii_small, name_ascii_byte}
-use borrow.Author.Rules.{rules}
 use Rattle.xml_tokens.proofs.classes.ascii_name.Goals as goal
 
 pub returns-then-b-ge97 : goal.returns-then-b-ge97

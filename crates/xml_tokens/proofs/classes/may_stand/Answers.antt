@@ -1,7 +1,6 @@
 use Rattle.xml_tokens.specs.Laws.Classes.{begins_reference, begins_markup, begins_literal, begins_value, begins_text}
 use native.Mathlib.Omega.{arith}
 use mathlib.Core.Path.{◌∙◌}
-use borrow.Author.Rules.{rules}
 use Rattle.xml_tokens.proofs.classes.may_stand.Goals as goal
 
 pub returns-then-b-gt62 : goal.returns-then-b-gt62

@@ -1,6 +1,5 @@
 use mathlib.Core.Path.{sym, ◌∙◌}
 use Rattle.xml_measure.specs.Laws.Names.{follow_attribute, follow_text, follow_other}
-use borrow.Author.Rules.{rules}
 use Rattle.xml_measure.proofs.measuring.names.follow.Goals as goal
 
 pub returns-then-kind-eq3 : goal.returns-then-kind-eq3
@@ -8,10 +7,8 @@ returns-then-kind-eq3 c = follow_attribute (sym c.requires.5 ∙ c.if-kind-eq3.t
 
 pub returns-then-kind-eq4 : goal.returns-then-kind-eq4
 returns-then-kind-eq4 c =
-    let c3 = c in
-    follow_text c3.requires.3 c3.requires.4 (sym c3.requires.5 ∙ c.if-kind-eq4.true)
+    follow_text c.requires.3 c.requires.4 (sym c.requires.5 ∙ c.if-kind-eq4.true)
 
 pub returns : goal.returns
 returns c =
-    let c3 = c in
-    follow_other c3.requires.3 c3.requires.4 (λ e. c.if-kind-eq3.false (c3.requires.5 ∙ e)) (λ e. c.if-kind-eq4.false (c3.requires.5 ∙ e))
+    follow_other c.requires.3 c.requires.4 (λ e. c.if-kind-eq3.false (c.requires.5 ∙ e)) (λ e. c.if-kind-eq4.false (c.requires.5 ∙ e))

@@ -1,12 +1,9 @@
 use borrow.Author.Rules.{rules}
 use native.Mathlib.Omega.{arith}
 use mathlib.Core.Path.{◌≡◌}
-use Prim.Native.Nat.{◌+◌, ◌-◌, ◌/◌, ◌≤◌}
-use Rattle.table.specs.Layout.{nodes}
-use Rattle.byte_strings.specs.Sorted.{Between, is_free}
+use Prim.Native.Nat.{◌+◌, ◌/◌}
+use Rattle.byte_strings.specs.Sorted.{is_free}
 use Rattle.byte_strings.specs.Laws.Sorted.{between_start, turn_before, turn_behind, turn_same}
-use Rattle.xml_measure.specs.Lines.{label_at}
-use Rattle.xml_measure.specs.Names.{names_at}
 use Rattle.xml_measure.specs.Laws.Names.{ordered_at}
 use Rattle.xml_measure.proofs.measuring.names.place.Goals as goal
 
@@ -21,47 +18,36 @@ bounds-names-middle c = omega (arith, c.requires.2.room)
 
 pub overflow_cast-other : goal.overflow_cast-other
 overflow_cast-other c =
-    let c4 = c in
     let l = c.loop-low in
-    omega (arith, c4.requires.2.inside ((l.low + l.high) / 2) (search rules), c4.requires.0.many, c4.requires.0.room)
+    omega (arith, c.requires.2.inside ((l.low + l.high) / 2) (search rules), c.requires.0.many, c.requires.0.room)
 
 pub order-requires : goal.order-requires
 order-requires c =
-    let c4 = c in
-    (c4.requires.0, c4.requires.1, c4.requires.2.inside _ (search rules))
+    (c.requires.0, c.requires.1, c.requires.2.inside _ (search rules))
 
 pub returns-in-Same : goal.returns-in-Same
 returns-in-Same c =
-    let c2 = c in
-    let c5 = c2 in
-    let c7 = c5 in
-    turn_same c7.requires.3 c5.loop-low.invariant.2 (search rules) (ordered_at _ _ _ c2.order.ensures) c.in-Same.is
+    turn_same c.requires.3 c.loop-low.invariant.2 (search rules) (ordered_at _ _ _ c.order.ensures) c.in-Same.is
 
 pub loop-low-smaller-in-Before : goal.loop-low-smaller-in-Before
 loop-low-smaller-in-Before c = omega arith
 
 pub loop-low-preserved-in-Before : goal.loop-low-preserved-in-Before
-loop-low-preserved-in-Before c =
-    let c2 = c in
-    let c5 = c2 in
-    let c7 = c5 in (
-      search rules,
-      search rules,
-      turn_before c7.requires.3 c5.loop-low.invariant.2 (search rules) (ordered_at _ _ _ c2.order.ensures) c.in-Before.is,
-    )
+loop-low-preserved-in-Before c = (
+  search rules,
+  search rules,
+  turn_before c.requires.3 c.loop-low.invariant.2 (search rules) (ordered_at _ _ _ c.order.ensures) c.in-Before.is,
+)
 
 pub loop-low-smaller : goal.loop-low-smaller
 loop-low-smaller c = omega arith
 
 pub loop-low-preserved : goal.loop-low-preserved
-loop-low-preserved c =
-    let c2 = c in
-    let c5 = c2 in
-    let c7 = c5 in (
-      search rules,
-      search rules,
-      turn_behind c7.requires.3 c5.loop-low.invariant.2 (search rules) (ordered_at _ _ _ c2.order.ensures) c.in-Behind.is,
-    )
+loop-low-preserved c = (
+  search rules,
+  search rules,
+  turn_behind c.requires.3 c.loop-low.invariant.2 (search rules) (ordered_at _ _ _ c.order.ensures) c.in-Behind.is,
+)
 
 pub returns : goal.returns
 returns c =
