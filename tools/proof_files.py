@@ -113,7 +113,17 @@ def term(text, steps, arms):
             for a, b in facts.items() if new == step else ():
                 text = re.sub(rf"(?<![\w.'-]){re.escape(name)}\.{a}(?![\w-])", f"{name}.{b}", text)
     text = re.sub(rf"(?<![\w.'-])({any_of})(?:\.before)+(?![\w-])", r"\1", text)
-    return re.sub(r"(?<![\w.])tie\.", "goal.", text)
+    return without_names_of_context(re.sub(r"(?<![\w.])tie\.", "goal.", text))
+
+
+def without_names_of_context(text):
+    """A proof's term without `let x = c in`, which named the context at a step."""
+    while m := re.search(r"let ([A-Za-z_][\w']*) = c in( *\n\s*| )", text):
+        rest = text[m.end() :]
+        if re.search(rf"λ \(?{re.escape(m[1])}[ .:]|let {re.escape(m[1])} =", rest):
+            break
+        text = text[: m.start()] + re.sub(rf"(?<![\w.'-]){re.escape(m[1])}(?![\w'-])", "c", rest)
+    return text
 
 
 def with_record(body, variables):
