@@ -1,6 +1,5 @@
 use borrow.Author.Rules.{rules}
-use Rattle.table.specs.Layout.{nodes}
-use Rattle.counts.specs.Laws.Committed.{Climbing, climbing_none, climbing_start, climbing_passed, climbing_inserted}
+use Rattle.counts.specs.Laws.Committed.{climbing_none, climbing_start, climbing_passed, climbing_inserted}
 use Rattle.counts.specs.Laws.Committed.{climbing_found, climbing_done}
 use Rattle.counts.proofs.committed.Goals as goal
 

@@ -1,4 +1,3 @@
-use borrow.Author.Rules.{rules}
 use Rattle.ends.specs.Laws.Calls.{abort_barred, abort_done}
 use Rattle.ends.proofs.abort.Goals as goal
 
@@ -10,5 +9,4 @@ end-requires c = c.caller-cause.ensures.opened c.if-cause-ne0.false
 
 pub returns : goal.returns
 returns c =
-    let at_if1 = c in
-    abort_done (at_if1.caller-cause.ensures.opened at_if1.if-cause-ne0.false) c.end.ensures
+    abort_done (c.caller-cause.ensures.opened c.if-cause-ne0.false) c.end.ensures

@@ -48,10 +48,9 @@ open-requires c =
 
 pub returns : goal.returns
 returns c =
-    let c8 = c in
-    let formed = c8.formed in
-    let if1 = c8.if-not-formed in
-    let if2 = c8.if-t-eq0 in
+    let formed = c.formed in
+    let if1 = c.if-not-formed in
+    let if2 = c.if-t-eq0 in
     let is_open = c.is_open in
     let if4 = c.if-is_open in
     let opening = c.open in

@@ -1,4 +1,3 @@
-use borrow.Author.Rules.{rules}
 use Rattle.ends.specs.Laws.Calls.{commit_barred, commit_full, commit_done}
 use Rattle.ends.proofs.commit.Goals as goal
 
@@ -18,7 +17,5 @@ end-requires c = c.caller-cause.ensures.opened c.if-cause-ne0.false
 
 pub returns : goal.returns
 returns c =
-    let at_if2 = c in
-    let at_if1 = at_if2 in
-    let opened = at_if1.caller-cause.ensures.opened at_if1.if-cause-ne0.false in
-    commit_done opened _ at_if2.commits-before.ensures at_if2.if-before-ge-MOST_COMMITS.false c.end.ensures c.set_commits.ensures
+    let opened = c.caller-cause.ensures.opened c.if-cause-ne0.false in
+    commit_done opened _ c.commits-before.ensures c.if-before-ge-MOST_COMMITS.false c.end.ensures c.set_commits.ensures

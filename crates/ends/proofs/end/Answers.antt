@@ -1,4 +1,3 @@
-use borrow.Author.Rules.{rules}
 use native.Mathlib.Omega.{arith}
 use Rattle.ends.specs.Laws.Calls.{document_stays}
 use Rattle.ends.specs.Laws.Marks.{left_open, end_left}

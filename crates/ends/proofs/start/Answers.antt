@@ -1,4 +1,3 @@
-use borrow.Author.Rules.{rules}
 use Rattle.ends.specs.Laws.Calls.{start_done, start_short}
 use Rattle.ends.proofs.start.Goals as goal
 

@@ -1,4 +1,3 @@
-use borrow.Author.Rules.{rules}
 use native.Mathlib.Omega.{arith}
 use Rattle.engine.specs.Laws.Admission.{admit_barred, admit_missing, admit_deleted, admit_found}
 use Rattle.engine.proofs.admit.Goals as goal
@@ -14,44 +13,24 @@ count-requires c = (c.caller-cause.ensures.opened c.if-cause-ne0.false).layout
 
 pub returns-then-count-place : goal.returns-then-count-place
 returns-then-count-place c =
-    let at_count = c in
-    let at_find = at_count in
-    let at_if1 = at_find in
-    let at_caller = at_if1 in
-    admit_missing (at_caller.caller-cause.ensures.opened at_if1.if-cause-ne0.false) _ at_find.find-place.ensures c.rejected-then-count-place.ensures
-    (omega (arith, at_count.count.ensures))
+    admit_missing (c.caller-cause.ensures.opened c.if-cause-ne0.false) _ c.find-place.ensures c.rejected-then-count-place.ensures
+    (omega (arith, c.count.ensures))
 
 pub overflow_cast-u : goal.overflow_cast-u
 overflow_cast-u c =
-    let at_if1 = c in
-    let at_caller = at_if1 in
-    record { fits = omega (arith, (at_caller.caller-cause.ensures.opened at_if1.if-cause-ne0.false).high) }
+    record { fits = omega (arith, (c.caller-cause.ensures.opened c.if-cause-ne0.false).high) }
 
 pub way_up-count-requires : goal.way_up-count-requires
 way_up-count-requires c =
-    let at_count = c in
-    let at_if1 = at_count in
-    let at_caller = at_if1 in
-    let start = at_caller in
-    ((at_caller.caller-cause.ensures.opened at_if1.if-cause-ne0.false).layout, omega (arith, at_count.count.ensures), start.requires)
+    ((c.caller-cause.ensures.opened c.if-cause-ne0.false).layout, omega (arith, c.count.ensures), c.requires)
 
 pub returns-then-count-eq0 : goal.returns-then-count-eq0
 returns-then-count-eq0 c =
-    let at_way_up = c in
-    let at_count = at_way_up in
-    let at_find = at_count in
-    let at_if1 = at_find in
-    let at_caller = at_if1 in
-    admit_deleted (at_caller.caller-cause.ensures.opened at_if1.if-cause-ne0.false) _ at_find.find-place.ensures c.rejected-then-count-eq0.ensures _
-    (omega (arith, at_count.count.ensures)) at_way_up.way_up-count.ensures c.if-count-eq0.true
+    admit_deleted (c.caller-cause.ensures.opened c.if-cause-ne0.false) _ c.find-place.ensures c.rejected-then-count-eq0.ensures _
+    (omega (arith, c.count.ensures)) c.way_up-count.ensures c.if-count-eq0.true
 
 pub returns : goal.returns
 returns c =
-    let at_way_up = c in
-    let at_count = at_way_up in
-    let at_find = at_count in
-    let at_if1 = at_find in
-    let at_caller = at_if1 in
-    admit_found (at_caller.caller-cause.ensures.opened at_if1.if-cause-ne0.false) _ at_find.find-place.ensures _
-    (omega (arith, at_count.count.ensures))
-    at_way_up.way_up-count.ensures c.if-count-eq0.false
+    admit_found (c.caller-cause.ensures.opened c.if-cause-ne0.false) _ c.find-place.ensures _
+    (omega (arith, c.count.ensures))
+    c.way_up-count.ensures c.if-count-eq0.false

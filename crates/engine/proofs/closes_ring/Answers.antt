@@ -7,7 +7,6 @@ use Rattle.engine.proofs.closes_ring.Goals as goal
 
 pub returns : goal.returns
 returns c =
-    let start = c in
-    c.ring.ensures ∙ ap (λ (r : WaitSets). in_ring r start.args.t)
-    (replaced_sets start.args.t start.args.set c.gather.ensures (search rules) (search rules)
+    c.ring.ensures ∙ ap (λ (r : WaitSets). in_ring r c.args.t)
+    (replaced_sets c.args.t c.args.set c.gather.ensures (search rules) (search rules)
     (search rules))

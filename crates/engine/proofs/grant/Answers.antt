@@ -1,4 +1,3 @@
-use borrow.Author.Rules.{rules}
 use Rattle.engine.specs.Laws.Grants.{forgotten_inside, granted_step}
 use Rattle.engine.proofs.grant.Goals as goal
 

@@ -1,4 +1,3 @@
-use borrow.Author.Rules.{rules}
 use Rattle.engine.specs.Laws.Judgement.{judged_refused, judged_free, judged_ring, judged_waits}
 use Rattle.engine.proofs.judge.Goals as goal
 
@@ -17,14 +16,10 @@ closes_ring-requires c =
 
 pub returns-then-closes_ring : goal.returns-then-closes_ring
 returns-then-closes_ring c =
-    let at_ring = c in
-    let at_waits = at_ring in
-    judged_ring at_waits.if-cause-ne0.false _ at_waits.waits-set.ensures at_ring.if-set-eq0.false _
-    at_ring.closes_ring.ensures c.if-closes_ring.true _ c.refusal-then-closes_ring.ensures
+    judged_ring c.if-cause-ne0.false _ c.waits-set.ensures c.if-set-eq0.false _
+    c.closes_ring.ensures c.if-closes_ring.true _ c.refusal-then-closes_ring.ensures
 
 pub returns : goal.returns
 returns c =
-    let at_ring = c in
-    let at_waits = at_ring in
-    judged_waits at_waits.if-cause-ne0.false _ at_waits.waits-set.ensures at_ring.if-set-eq0.false _
-    at_ring.closes_ring.ensures c.if-closes_ring.false
+    judged_waits c.if-cause-ne0.false _ c.waits-set.ensures c.if-set-eq0.false _
+    c.closes_ring.ensures c.if-closes_ring.false

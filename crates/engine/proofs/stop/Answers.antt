@@ -1,4 +1,3 @@
-use borrow.Author.Rules.{rules}
 use mathlib.Core.Path.{refl}
 use borrow.Author.Tests.{ne_eqb, eq-eqb}
 use Rattle.engine.specs.Judgement.{with_wait}

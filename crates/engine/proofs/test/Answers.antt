@@ -1,4 +1,3 @@
-use borrow.Author.Rules.{rules}
 use mathlib.Core.Path.{refl}
 use Rattle.tree.specs.Steps.{T}
 use Rattle.locks.specs.declared.StepName.TheVariants as name
@@ -15,61 +14,36 @@ judge-verdict-requires c = ready c.admit-at.ensures (none_first _)
 
 pub stop-requires : goal.stop-requires
 stop-requires c =
-    let at_judge = c in
-    let at_needed = at_judge in
-    let at_admit = at_needed in
-    stop_ready at_admit.admit-at.ensures (none_first _) at_judge.judge-verdict.ensures
+    stop_ready c.admit-at.ensures (none_first _) c.judge-verdict.ensures
 
 pub returns-then-not-verdict : goal.returns-then-not-verdict
 returns-then-not-verdict c =
-    let at_if1 = c in
-    let at_judge = at_if1 in
-    let at_needed = at_judge in
-    let at_admit = at_needed in
-    (step_stopped name.T (T _) refl at_admit.admit-at.ensures (none_first _) at_needed.needed-need.ensures at_judge.judge-verdict.ensures
-    at_if1.if-not-verdict.true no_room c.stop.ensures
+    (step_stopped name.T (T _) refl c.admit-at.ensures (none_first _) c.needed-need.ensures c.judge-verdict.ensures
+    c.if-not-verdict.true no_room c.stop.ensures
     ).performed
 
 pub kind-kind-requires : goal.kind-kind-requires
 kind-kind-requires c =
-    let at_judge = c in
-    let at_needed = at_judge in
-    let at_admit = at_needed in
-    let f = step_free name.T (T _) refl at_admit.admit-at.ensures (none_first _) at_needed.needed-need.ensures at_judge.judge-verdict.ensures
+    let f = step_free name.T (T _) refl c.admit-at.ensures (none_first _) c.needed-need.ensures c.judge-verdict.ensures
     c.if-not-verdict.false in
     (f.standing.layout, f.standing.inside)
 
 pub parent-parent-requires : goal.parent-parent-requires
 parent-parent-requires c =
-    let at_if1 = c in
-    let at_judge = at_if1 in
-    let at_needed = at_judge in
-    let at_admit = at_needed in
-    let f = step_free name.T (T _) refl at_admit.admit-at.ensures (none_first _) at_needed.needed-need.ensures at_judge.judge-verdict.ensures
-    at_if1.if-not-verdict.false in
+    let f = step_free name.T (T _) refl c.admit-at.ensures (none_first _) c.needed-need.ensures c.judge-verdict.ensures
+    c.if-not-verdict.false in
     (f.standing.layout, f.standing.climbed)
 
 pub grant-requires : goal.grant-requires
 grant-requires c =
-    let at_if1 = c in
-    let at_judge = at_if1 in
-    let at_needed = at_judge in
-    let at_admit = at_needed in
-    let f = step_free name.T (T _) refl at_admit.admit-at.ensures (none_first _) at_needed.needed-need.ensures at_judge.judge-verdict.ensures
-    at_if1.if-not-verdict.false in
+    let f = step_free name.T (T _) refl c.admit-at.ensures (none_first _) c.needed-need.ensures c.judge-verdict.ensures
+    c.if-not-verdict.false in
     (f.standing.layout, f.standing.low, f.standing.high, f.standing.climbed.inside)
 
 pub returns : goal.returns
 unfolding granted_answer first_lent second_lent stepped
 returns c =
-    let at_grant = c in
-    let at_parent = at_grant in
-    let at_kind = at_parent in
-    let at_if1 = at_kind in
-    let at_judge = at_if1 in
-    let at_needed = at_judge in
-    let at_admit = at_needed in
-    let f = step_free name.T (T _) refl at_admit.admit-at.ensures (none_first _) at_needed.needed-need.ensures at_judge.judge-verdict.ensures
-    at_if1.if-not-verdict.false in
-    performed_grants (free_granted f no_room refl (free_locked f at_grant.grant.ensures).left) _
-    (rw (at_kind.kind-kind.ensures, at_parent.parent-parent.ensures))
+    let f = step_free name.T (T _) refl c.admit-at.ensures (none_first _) c.needed-need.ensures c.judge-verdict.ensures
+    c.if-not-verdict.false in
+    performed_grants (free_granted f no_room refl (free_locked f c.grant.ensures).left) _
+    (rw (c.kind-kind.ensures, c.parent-parent.ensures))

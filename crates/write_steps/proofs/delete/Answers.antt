@@ -1,4 +1,3 @@
-use borrow.Author.Rules.{rules}
 use mathlib.Core.Path.{refl}
 use Rattle.locks.specs.declared.StepName.TheVariants as name
 use Rattle.engine.specs.Contract.{no_room}
@@ -23,57 +22,31 @@ judge-verdict-requires c = ready c.admit-at.ensures c.document_cause-cause.ensur
 
 pub stop-requires : goal.stop-requires
 stop-requires c =
-    let at_judge = c in
-    let at_needed = at_judge in
-    let at_document_cause = at_needed in
-    let at_admit = at_document_cause in
-    stop_ready at_admit.admit-at.ensures at_document_cause.document_cause-cause.ensures at_judge.judge-verdict.ensures
+    stop_ready c.admit-at.ensures c.document_cause-cause.ensures c.judge-verdict.ensures
 
 pub returns-then-not-verdict : goal.returns-then-not-verdict
 returns-then-not-verdict c =
-    let at_if1 = c in
-    let at_judge = at_if1 in
-    let at_needed = at_judge in
-    let at_document_cause = at_needed in
-    let at_admit = at_document_cause in
-    (step_stopped name.D (D _) refl at_admit.admit-at.ensures at_document_cause.document_cause-cause.ensures at_needed.needed-need.ensures
-    at_judge.judge-verdict.ensures at_if1.if-not-verdict.true no_room c.stop.ensures).performed
+    (step_stopped name.D (D _) refl c.admit-at.ensures c.document_cause-cause.ensures c.needed-need.ensures
+    c.judge-verdict.ensures c.if-not-verdict.true no_room c.stop.ensures).performed
 
 pub grant-requires : goal.grant-requires
 grant-requires c =
-    let at_judge = c in
-    let at_needed = at_judge in
-    let at_document_cause = at_needed in
-    let at_admit = at_document_cause in
-    let f = step_free name.D (D _) refl at_admit.admit-at.ensures at_document_cause.document_cause-cause.ensures
-    at_needed.needed-need.ensures at_judge.judge-verdict.ensures c.if-not-verdict.false in
+    let f = step_free name.D (D _) refl c.admit-at.ensures c.document_cause-cause.ensures
+    c.needed-need.ensures c.judge-verdict.ensures c.if-not-verdict.false in
     (f.standing.layout, f.standing.low, f.standing.high, f.standing.climbed.inside)
 
 pub set_deleter-requires : goal.set_deleter-requires
 set_deleter-requires c =
-    let at_grant = c in
-    let at_if1 = at_grant in
-    let at_judge = at_if1 in
-    let at_needed = at_judge in
-    let at_document_cause = at_needed in
-    let at_admit = at_document_cause in
-    let f = step_free name.D (D _) refl at_admit.admit-at.ensures at_document_cause.document_cause-cause.ensures
-    at_needed.needed-need.ensures at_judge.judge-verdict.ensures at_if1.if-not-verdict.false in
-    let g = free_locked f at_grant.grant.ensures in
+    let f = step_free name.D (D _) refl c.admit-at.ensures c.document_cause-cause.ensures
+    c.needed-need.ensures c.judge-verdict.ensures c.if-not-verdict.false in
+    let g = free_locked f c.grant.ensures in
     (g.left.layout, omega (arith, g.many, f.standing.inside))
 
 pub returns : goal.returns
 unfolding granted_answer first_lent second_lent stepped
 returns c =
-    let at_set_deleter = c in
-    let at_grant = at_set_deleter in
-    let at_if1 = at_grant in
-    let at_judge = at_if1 in
-    let at_needed = at_judge in
-    let at_document_cause = at_needed in
-    let at_admit = at_document_cause in
-    let f = step_free name.D (D _) refl at_admit.admit-at.ensures at_document_cause.document_cause-cause.ensures
-    at_needed.needed-need.ensures at_judge.judge-verdict.ensures at_if1.if-not-verdict.false in
-    let marked = left_then _ (modify _ (second (deleted_by _ _))) (free_locked f at_grant.grant.ensures).left
-    at_set_deleter.set_deleter.ensures in
+    let f = step_free name.D (D _) refl c.admit-at.ensures c.document_cause-cause.ensures
+    c.needed-need.ensures c.judge-verdict.ensures c.if-not-verdict.false in
+    let marked = left_then _ (modify _ (second (deleted_by _ _))) (free_locked f c.grant.ensures).left
+    c.set_deleter.ensures in
     performed_grants (free_granted f no_room refl marked) _ refl

@@ -1,4 +1,3 @@
-use borrow.Author.Rules.{rules}
 use mathlib.Core.Path.{refl}
 use Rattle.locks.specs.declared.StepName.TheVariants as name
 use Rattle.engine.specs.Contract.{no_room}
@@ -25,60 +24,31 @@ judge-verdict-requires c = ready c.admit-at.ensures c.update_cause-cause.ensures
 
 pub stop-requires : goal.stop-requires
 stop-requires c =
-    let at_judge = c in
-    let at_needed = at_judge in
-    let at_update_cause = at_needed in
-    let at_admit = at_update_cause in
-    stop_ready at_admit.admit-at.ensures at_update_cause.update_cause-cause.ensures at_judge.judge-verdict.ensures
+    stop_ready c.admit-at.ensures c.update_cause-cause.ensures c.judge-verdict.ensures
 
 pub returns-then-not-verdict : goal.returns-then-not-verdict
 returns-then-not-verdict c =
-    let at_if1 = c in
-    let at_judge = at_if1 in
-    let at_needed = at_judge in
-    let at_update_cause = at_needed in
-    let at_admit = at_update_cause in
-    (step_stopped name.U (U _ _) refl at_admit.admit-at.ensures at_update_cause.update_cause-cause.ensures at_needed.needed-need.ensures
-    at_judge.judge-verdict.ensures at_if1.if-not-verdict.true no_room c.stop.ensures).performed
+    (step_stopped name.U (U _ _) refl c.admit-at.ensures c.update_cause-cause.ensures c.needed-need.ensures
+    c.judge-verdict.ensures c.if-not-verdict.true no_room c.stop.ensures).performed
 
 pub grant-requires : goal.grant-requires
 grant-requires c =
-    let at_judge = c in
-    let at_needed = at_judge in
-    let at_update_cause = at_needed in
-    let at_admit = at_update_cause in
-    let start = at_admit in
-    let f = step_free name.U (U _ start.args.b.now) refl at_admit.admit-at.ensures at_update_cause.update_cause-cause.ensures
-    at_needed.needed-need.ensures at_judge.judge-verdict.ensures c.if-not-verdict.false in
+    let f = step_free name.U (U _ c.args.b.now) refl c.admit-at.ensures c.update_cause-cause.ensures
+    c.needed-need.ensures c.judge-verdict.ensures c.if-not-verdict.false in
     (f.standing.layout, f.standing.low, f.standing.high, f.standing.climbed.inside)
 
 pub write-requires : goal.write-requires
 write-requires c =
-    let at_grant = c in
-    let at_if1 = at_grant in
-    let at_judge = at_if1 in
-    let at_needed = at_judge in
-    let at_update_cause = at_needed in
-    let at_admit = at_update_cause in
-    let start = at_admit in
-    let f = step_free name.U (U _ start.args.b.now) refl at_admit.admit-at.ensures at_update_cause.update_cause-cause.ensures
-    at_needed.needed-need.ensures at_judge.judge-verdict.ensures at_if1.if-not-verdict.false in
-    let g = free_locked f at_grant.grant.ensures in
+    let f = step_free name.U (U _ c.args.b.now) refl c.admit-at.ensures c.update_cause-cause.ensures
+    c.needed-need.ensures c.judge-verdict.ensures c.if-not-verdict.false in
+    let g = free_locked f c.grant.ensures in
     (g.left.layout, omega (arith, g.many, f.standing.inside), allowed_short _ _ (not-false _ (free_fits f).1), f.standing.low)
 
 pub returns : goal.returns
 unfolding granted_answer first_lent second_lent stepped
 returns c =
-    let at_write = c in
-    let at_grant = at_write in
-    let at_if1 = at_grant in
-    let at_judge = at_if1 in
-    let at_needed = at_judge in
-    let at_update_cause = at_needed in
-    let at_admit = at_update_cause in
-    let start = at_admit in
-    let f = step_free name.U (U _ start.args.b.now) refl at_admit.admit-at.ensures at_update_cause.update_cause-cause.ensures
-    at_needed.needed-need.ensures at_judge.judge-verdict.ensures at_if1.if-not-verdict.false in
-    let written = left_then _ (modify _ (second (written_by _ _ _))) (free_locked f at_grant.grant.ensures).left
-    at_write.write.ensures in
+    let f = step_free name.U (U _ c.args.b.now) refl c.admit-at.ensures c.update_cause-cause.ensures
+    c.needed-need.ensures c.judge-verdict.ensures c.if-not-verdict.false in
+    let written = left_then _ (modify _ (second (written_by _ _ _))) (free_locked f c.grant.ensures).left
+    c.write.ensures in
     performed_grants (free_granted f no_room refl written) _ refl

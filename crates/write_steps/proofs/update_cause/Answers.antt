@@ -1,4 +1,3 @@
-use borrow.Author.Rules.{rules}
 use mathlib.Core.Path.{sym, ◌∙◌}
 use Rattle.engine.specs.Laws.Judgement.{found_first, found_later}
 use borrow.Author.Tests.{eq-eqb, ne_eqb}
@@ -15,24 +14,18 @@ returns-then-kind-eq1 c = found_later c.if-found-ne0.false (rw (← c.kind-kind.
 
 pub returns-then-allowed : goal.returns-then-allowed
 returns-then-allowed c =
-    let at_if2 = c in
-    let at_kind = at_if2 in
-    let at_if1 = at_kind in
-    found_later at_if1.if-found-ne0.false (rw (
-      ← at_kind.kind-kind.ensures,
-      ne_eqb _ 1 at_if2.if-kind-eq1.false,
+    found_later c.if-found-ne0.false (rw (
+      ← c.kind-kind.ensures,
+      ne_eqb _ 1 c.if-kind-eq1.false,
       sym c.allowed.ensures
           ∙ c.if-allowed.true,
     ))
 
 pub returns : goal.returns
 returns c =
-    let at_if2 = c in
-    let at_kind = at_if2 in
-    let at_if1 = at_kind in
-    found_later at_if1.if-found-ne0.false (rw (
-      ← at_kind.kind-kind.ensures,
-      ne_eqb _ 1 at_if2.if-kind-eq1.false,
+    found_later c.if-found-ne0.false (rw (
+      ← c.kind-kind.ensures,
+      ne_eqb _ 1 c.if-kind-eq1.false,
       sym c.allowed.ensures
           ∙ c.if-allowed.false,
     ))

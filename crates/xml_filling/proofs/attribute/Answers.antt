@@ -6,7 +6,6 @@ use Rattle.xml_reader.specs.Laws.Attributes.{quoted_inside}
 use Rattle.xml_filling.specs.Laws.Texts.{put_same, same_then}
 use Rattle.xml_filling.specs.Laws.Names.{attribute_room, attribute_short, attribute_put}
 use Rattle.xml_filling.specs.Laws.Places.{unquoted, value_fits, value_put}
-use borrow.Author.Rules.{rules}
 use Rattle.xml_filling.proofs.attribute.Goals as goal
 
 pub put-requires : goal.put-requires
@@ -17,35 +16,26 @@ put-requires c =
 
 pub text-requires : goal.text-requires
 text-requires c =
-    let d = c in
-    let p = d in
-    let n = p in
-    let a = n.args in
-    let G = attribute_put n.requires _ n.name-end.ensures p.put.ensures in
-    let q = subst (λ (r : Equals). EqualsRead a.x.now n.name-end.result.at r) c.in-Quoted.is
-    d.equals.ensures in
+    let a = c.args in
+    let G = attribute_put c.requires _ c.name-end.ensures c.put.ensures in
+    let q = subst (λ (r : Equals). EqualsRead a.x.now c.name-end.result.at r) c.in-Quoted.is
+    c.equals.ensures in
     let y = quoted_inside q in
     (y.1, G.layout, value_fits G q)
 
 pub returns-in-NoQuote : goal.returns-in-NoQuote
 returns-in-NoQuote c =
-    let d = c in
-    let p = d in
-    let n = p in
-    let a = n.args in
-    let G = attribute_put n.requires _ n.name-end.ensures p.put.ensures in
-    absurd (unquoted G (subst (λ (r : Equals). EqualsRead a.x.now n.name-end.result.at r) c.in-NoQuote.is
-    d.equals.ensures))
+    let a = c.args in
+    let G = attribute_put c.requires _ c.name-end.ensures c.put.ensures in
+    absurd (unquoted G (subst (λ (r : Equals). EqualsRead a.x.now c.name-end.result.at r) c.in-NoQuote.is
+    c.equals.ensures))
 
 pub returns-in-Quoted : goal.returns-in-Quoted
 returns-in-Quoted c =
-    let d = c in
-    let p = d in
-    let n = p in
-    let a = n.args in
-    let r = n.name-end.ensures in
-    let G = attribute_put n.requires _ r p.put.ensures in
-    let q = subst (λ (r : Equals). EqualsRead a.x.now n.name-end.result.at r)
-    c.in-Quoted.is d.equals.ensures in
+    let a = c.args in
+    let r = c.name-end.ensures in
+    let G = attribute_put c.requires _ r c.put.ensures in
+    let q = subst (λ (r : Equals). EqualsRead a.x.now c.name-end.result.at r)
+    c.in-Quoted.is c.equals.ensures in
     let y = value_put G q c.text.ensures in
-    (y.0.0, same_then (put_same _ p.put.ensures) y.0.1, omega (arith, r.ends, y.1))
+    (y.0.0, same_then (put_same _ c.put.ensures) y.0.1, omega (arith, r.ends, y.1))

@@ -1,10 +1,7 @@
 use native.Mathlib.Omega.{arith}
-use Prim.Native.Nat.{◌-◌, ◌≤◌}
 use mathlib.Core.Path.{subst}
-use lib.ListN.{length}
 use Rattle.xml_tokens.specs.declared.Item.{Item}
 use Rattle.xml_tokens.specs.Steps.{ItemRead}
-use Rattle.xml_filling.specs.Fill.{InTag, Filling, Same}
 use Rattle.xml_filling.specs.Laws.Texts.{same_then, same_same}
 use Rattle.xml_filling.specs.Laws.Places.{no_item, tag_opened, tag_emptied, tag_deep, tag_attributed}
 use borrow.Author.Rules.{rules}
@@ -21,20 +18,18 @@ shape_of-s-in-Wrong c = c.loop-j.invariant.1.long
 
 pub returns-in-Wrong : goal.returns-in-Wrong
 returns-in-Wrong c =
-    let d = c in
-    let l = d.loop-j in
-    let a = d.args in
-    absurd (no_item l.invariant.2 (subst (λ (r : Item). ItemRead a.x.now l.i r) c.in-Wrong.is d.item.ensures))
+    let l = c.loop-j in
+    let a = c.args in
+    absurd (no_item l.invariant.2 (subst (λ (r : Item). ItemRead a.x.now l.i r) c.in-Wrong.is c.item.ensures))
 
 pub shape_of-s-in-Open : goal.shape_of-s-in-Open
 shape_of-s-in-Open c = c.loop-j.invariant.1.long
 
 pub returns-in-Open : goal.returns-in-Open
 returns-in-Open c =
-    let d = c in
-    let l = d.loop-j in
-    let a = d.args in
-    let y = tag_opened l.invariant.2 (subst (λ (r : Item). ItemRead a.x.now l.i r) c.in-Open.is d.item.ensures) in
+    let l = c.loop-j in
+    let a = c.args in
+    let y = tag_opened l.invariant.2 (subst (λ (r : Item). ItemRead a.x.now l.i r) c.in-Open.is c.item.ensures) in
     (y.0, l.invariant.1, omega (arith, l.invariant.0, y.1))
 
 pub overflow_sub-result : goal.overflow_sub-result
@@ -45,36 +40,32 @@ shape_of-s-in-Empty c = c.loop-j.invariant.1.long
 
 pub returns-in-Empty : goal.returns-in-Empty
 returns-in-Empty c =
-    let d = c in
-    let l = d.loop-j in
-    let a = d.args in
-    let y = tag_emptied l.invariant.2 (subst (λ (r : Item). ItemRead a.x.now l.i r) c.in-Empty.is d.item.ensures) in
+    let l = c.loop-j in
+    let a = c.args in
+    let y = tag_emptied l.invariant.2 (subst (λ (r : Item). ItemRead a.x.now l.i r) c.in-Empty.is c.item.ensures) in
     (y.0, l.invariant.1, omega (arith, l.invariant.0, y.1))
 
 pub attribute-behind-requires : goal.attribute-behind-requires
 attribute-behind-requires c =
-    let d = c in
-    let l = d.loop-j in
-    let a = d.args in
-    (tag_attributed l.invariant.2 (subst (λ (r : Item). ItemRead a.x.now l.i r) c.in-Attribute.is d.item.ensures)
+    let l = c.loop-j in
+    let a = c.args in
+    (tag_attributed l.invariant.2 (subst (λ (r : Item). ItemRead a.x.now l.i r) c.in-Attribute.is c.item.ensures)
     ).0
 
 pub loop-j-smaller : goal.loop-j-smaller
 loop-j-smaller c =
-    let d = c in
-    let l = d.loop-j in
-    let a = d.args in
+    let l = c.loop-j in
+    let a = c.args in
     let k = subst (λ (r : Item). ItemRead a.x.now l.i r) c.in-Attribute.is
-    d.item.ensures in
+    c.item.ensures in
     let e = c.attribute-behind.ensures in
     omega (arith, (tag_attributed l.invariant.2 k).1, e.2, e.0.inside)
 
 pub loop-j-preserved : goal.loop-j-preserved
 loop-j-preserved c =
-    let d = c in
-    let l = d.loop-j in
-    let a = d.args in
+    let l = c.loop-j in
+    let a = c.args in
     let k = subst (λ (r : Item). ItemRead a.x.now l.i r) c.in-Attribute.is
-    d.item.ensures in
+    c.item.ensures in
     let e = c.attribute-behind.ensures in
     (omega (arith, l.invariant.0, (tag_attributed l.invariant.2 k).1, e.2), same_then l.invariant.1 e.1, e.0)

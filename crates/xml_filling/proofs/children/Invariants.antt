@@ -1,10 +1,6 @@
-use borrow.Author.Rules.{rules}
-use native.Mathlib.Omega.{arith}
 use Prim.Native.Nat.{◌-◌}
 use lib.ListN.{length}
 use Rattle.xml_filling.specs.Fill.{Behind, Filling, Same}
-use Rattle.xml_filling.specs.Laws.Texts.{same_then, same_same}
-use Rattle.xml_filling.specs.Laws.Places.{filled_done}
 use Rattle.xml_filling.proofs.children.Given as goal
 
 abbrev pub invariant-loop-depth : goal.invariant-loop-depth

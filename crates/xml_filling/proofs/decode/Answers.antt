@@ -1,13 +1,13 @@
 use borrow.Author.Rules.{rules}
 use native.Mathlib.Omega.{arith}
-use Prim.Native.Nat.{◌+◌, ◌-◌, ◌≤◌, max}
-use mathlib.Core.Path.{◌≡◌, refl, ap, subst, ◌∙◌}
-use lib.ListN.{length, take, drop, length-set}
+use Prim.Native.Nat.{◌+◌, max}
+use mathlib.Core.Path.{refl, ap, subst, ◌∙◌}
+use lib.ListN.{drop, length-set}
 use Rattle.xml.specs.Laws.Fixed.{reference_at}
 use Rattle.xml_tokens.specs.declared.Reference.{Reference}
 use Rattle.xml_tokens.specs.Steps.{Refers}
 use Rattle.xml_tokens.specs.Laws.Specials.{reference_inside}
-use Rattle.xml_filling.specs.Laws.Decoding.{Decoding, decode_start, decode_end, decode_stop, decode_full, decode_lost, decode_byte}
+use Rattle.xml_filling.specs.Laws.Decoding.{decode_start, decode_end, decode_stop, decode_full, decode_lost, decode_byte}
 use Rattle.xml_filling.specs.Laws.Decoding.{decode_reference}
 use Rattle.xml_filling.proofs.decode.Goals as goal
 
@@ -34,12 +34,10 @@ loop-i-preserved-then-b-ne38 c =
 
 pub loop-i-smaller : goal.loop-i-smaller
 loop-i-smaller c =
-    let c₆ = c in
     let if3 = c.if-b-ne38 in
     let reference = c.reference in
-    let m = c₆ in
-    let l = m.loop-i in
-    let x = m.args.x.now in
+    let l = c.loop-i in
+    let x = c.args.x.now in
     let name = reference_at (drop (l.i + 1) x) in
     let r = subst (λ (r : Reference). Refers x (l.i + 1) name r) c.in-Byte.is reference.ensures in
     let y = reference_inside r in
@@ -47,12 +45,10 @@ loop-i-smaller c =
 
 pub loop-i-preserved : goal.loop-i-preserved
 loop-i-preserved c =
-    let c₆ = c in
     let if3 = c.if-b-ne38 in
     let reference = c.reference in
-    let m = c₆ in
-    let l = m.loop-i in
-    let x = m.args.x.now in
+    let l = c.loop-i in
+    let x = c.args.x.now in
     let name = reference_at (drop (l.i + 1) x) in
     let r = subst (λ (r : Reference). Refers x (l.i + 1) name r) c.in-Byte.is reference.ensures in
     let y = reference_inside r in (
@@ -60,7 +56,7 @@ loop-i-preserved c =
       y.1,
       search rules,
       simp length-set l.invariant.3,
-      decode_reference _ _ _ _ _ _ l.invariant.4 l.invariant.0 l.invariant.2 l.invariant.3 (search rules) c₆.if-b-stop.false (search rules)
+      decode_reference _ _ _ _ _ _ l.invariant.4 l.invariant.0 l.invariant.2 l.invariant.3 (search rules) c.if-b-stop.false (search rules)
           if3.false r,
     )
 
@@ -76,12 +72,11 @@ returns-then-n-eq32 c = let l = c.loop-i in (
 
 pub returns-in-NoReference : goal.returns-in-NoReference
 returns-in-NoReference c =
-    let c₅ = c in
-    let l = c₅.loop-i in
-    let x = c₅.args.x.now in
+    let l = c.loop-i in
+    let x = c.args.x.now in
     let name = reference_at (drop (l.i + 1) x) in
     let r = subst (λ (r : Reference). Refers x (l.i + 1) name r) c.in-NoReference.is c.reference.ensures in (
       l.invariant.3,
-      decode_lost _ _ _ _ _ _ l.invariant.4 l.invariant.0 l.invariant.2 l.invariant.3 (search rules) c₅.if-b-stop.false _
+      decode_lost _ _ _ _ _ _ l.invariant.4 l.invariant.0 l.invariant.2 l.invariant.3 (search rules) c.if-b-stop.false _
           c.if-b-ne38.false r,
     )

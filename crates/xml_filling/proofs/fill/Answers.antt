@@ -3,22 +3,17 @@ use Rattle.xml.specs.Laws.Automaton.{at_start}
 use Rattle.xml_reader.specs.declared.Prolog.{Prolog}
 use Rattle.xml_reader.specs.Prolog.{RootRead}
 use Rattle.xml_filling.specs.Laws.Places.{no_root_never, begin_filling, filled_then}
-use borrow.Author.Rules.{rules}
 use Rattle.xml_filling.proofs.fill.Goals as goal
 
 pub start_tag-first-requires : goal.start_tag-first-requires
 start_tag-first-requires c =
-    let d = c in
-    let b = d in
-    begin_filling b.requires (subst (λ (r : Prolog). RootRead b.args.x.now at_start 0 r) c.in-Root.is
-    d.find_root.ensures)
+    begin_filling c.requires (subst (λ (r : Prolog). RootRead c.args.x.now at_start 0 r) c.in-Root.is
+    c.find_root.ensures)
 
 pub returns-in-NoRoot : goal.returns-in-NoRoot
 returns-in-NoRoot c =
-    let d = c in
-    let b = d in
-    absurd (no_root_never b.requires (subst (λ (r : Prolog). RootRead b.args.x.now at_start 0 r) c.in-NoRoot.is
-    d.find_root.ensures))
+    absurd (no_root_never c.requires (subst (λ (r : Prolog). RootRead c.args.x.now at_start 0 r) c.in-NoRoot.is
+    c.find_root.ensures))
 
 pub returns-in-Root : goal.returns-in-Root
 returns-in-Root c = filled_then c.start_tag-first.ensures.1 c.children.ensures

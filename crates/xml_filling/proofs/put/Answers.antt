@@ -1,5 +1,4 @@
 use Rattle.xml_filling.specs.Laws.Tokens.{put_last}
-use borrow.Author.Rules.{rules}
 use Rattle.xml_filling.proofs.put.Goals as goal
 
 pub returns : goal.returns

@@ -1,7 +1,6 @@
 use native.Mathlib.Omega.{arith}
 use mathlib.Core.Path.{refl, sym, ◌∙◌}
 use Rattle.xml_filling.specs.Laws.Texts.{text_none, text_inside, text_room, text_some, taken_length, taken_short}
-use borrow.Author.Rules.{rules}
 use Rattle.xml_filling.proofs.text.Goals as goal
 
 pub overflow_add-result : goal.overflow_add-result
@@ -18,13 +17,11 @@ slice_bounds-bytes-end c = let e = c.decode-content.ensures in taken_length _ _ 
 
 pub put-requires : goal.put-requires
 put-requires c =
-    let f = c in
     let e = c.decode-content.ensures in
-    let p = f.requires in
-    (p.1, text_room (λ z. f.if-peek-stop.false (f.peek.ensures ∙ z)) p.2, taken_short _ _ e.1.few e.0)
+    let p = c.requires in
+    (p.1, text_room (λ z. c.if-peek-stop.false (c.peek.ensures ∙ z)) p.2, taken_short _ _ e.1.few e.0)
 
 pub returns : goal.returns
 returns c =
-    let f = c in
     let e = c.decode-content.ensures in
-    text_some (λ z. f.if-peek-stop.false (f.peek.ensures ∙ z)) e.1 c.put.ensures
+    text_some (λ z. c.if-peek-stop.false (c.peek.ensures ∙ z)) e.1 c.put.ensures

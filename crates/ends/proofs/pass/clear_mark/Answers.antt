@@ -1,11 +1,9 @@
-use borrow.Author.Rules.{rules}
 use Rattle.ends.specs.Laws.Marks.{nobody_storable, cleared, not_cleared}
 use Rattle.ends.proofs.pass.clear_mark.Goals as goal
 
 pub set_field-requires : goal.set_field-requires
 set_field-requires c =
-    let begin = c in
-    (begin.requires.0, begin.requires.1, begin.requires.2, nobody_storable begin.args.o)
+    (c.requires.0, c.requires.1, c.requires.2, nobody_storable c.args.o)
 
 pub returns-then-field-t : goal.returns-then-field-t
 returns-then-field-t c =

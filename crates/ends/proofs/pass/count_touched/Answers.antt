@@ -1,4 +1,3 @@
-use borrow.Author.Rules.{rules}
 use Rattle.ends.specs.Laws.Marks.{counted_own, not_counted}
 use Rattle.ends.proofs.pass.count_touched.Goals as goal
 

@@ -1,4 +1,3 @@
-use borrow.Author.Rules.{rules}
 use native.Mathlib.Omega.{arith}
 use Rattle.ends.specs.Laws.Pass.{unmarked_stays}
 use Rattle.ends.proofs.pass.end_marks.Goals as goal

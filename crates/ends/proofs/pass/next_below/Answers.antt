@@ -1,4 +1,3 @@
-use borrow.Author.Rules.{rules}
 use Rattle.ends.proofs.pass.next_below.Goals as goal
 
 pub returns-then-commits : goal.returns-then-commits

@@ -1,23 +1,22 @@
 use borrow.Author.Rules.{rules}
 use native.Mathlib.Omega.{arith}
-use Prim.Native.Nat.{◌-◌, ◌≤◌, ◌<◌}
-use mathlib.Core.Path.{◌≡◌, sym, ◌∙◌}
+use Prim.Native.Nat.{◌≤◌, ◌<◌}
+use mathlib.Core.Path.{sym, ◌∙◌}
 use lib.ListN.{length}
-use Rattle.table.specs.Layout.{nodes, Kept}
+use Rattle.table.specs.Layout.{nodes}
 use Rattle.table.specs.Laws.Kept.{kept_same, kept_on}
-use Rattle.ends.specs.Laws.Pass.{Passed, passed_start, passed_next, passed_some, passed_left, moved_most}
+use Rattle.ends.specs.Laws.Pass.{passed_start, passed_next, passed_some, passed_left, moved_most}
 use Rattle.ends.proofs.pass.one_pass.Goals as goal
 
 pub loop-j-init : goal.loop-j-init
 loop-j-init c =
-    let start = c in
-    let rows = nodes start.args.s.now in (
+    let rows = nodes c.args.s.now in (
       search rules,
       search rules,
       search rules,
       sym c.count-m.ensures,
-      kept_same _ start.requires.0,
-      passed_start start.args.commits start.args.n start.args.t rows,
+      kept_same _ c.requires.0,
+      passed_start c.args.commits c.args.n c.args.t rows,
     )
 
 pub release-requires : goal.release-requires
@@ -34,9 +33,8 @@ release-requires c =
 
 pub keep-kept-requires : goal.keep-kept-requires
 keep-kept-requires c =
-    let c8 = c in
-    let l = c8.loop-j in
-    let test = c8.loop-j-test in
+    let l = c.loop-j in
+    let test = c.loop-j-test in
     let ends = c.end_marks-below in
     let lock = c.release in (
       lock.ensures.layout,
@@ -46,11 +44,10 @@ keep-kept-requires c =
 
 pub loop-j-preserved : goal.loop-j-preserved
 loop-j-preserved c =
-    let c8 = c in
-    let args = c8.args in
-    let l = c8.loop-j in
-    let test = c8.loop-j-test in
-    let ends = c8.end_marks-below in
+    let args = c.args in
+    let l = c.loop-j in
+    let test = c.loop-j-test in
+    let ends = c.end_marks-below in
     let lock = c.release in
     let moved = c.keep-kept in
     let inside : l.j < length (nodes l.s) = omega (arith, test.true, l.invariant.3) in (
@@ -65,22 +62,20 @@ loop-j-preserved c =
 
 pub cut-requires : goal.cut-requires
 cut-requires c =
-    let start = c in
-    let pre = start.requires in
-    let rows = nodes start.args.s.now in
+    let pre = c.requires in
+    let rows = nodes c.args.s.now in
     let l = c.loop-j in
     let past : length (nodes l.s) ≤ l.j = omega (arith, c.loop-j-test.false, l.invariant.3) in
     let some : 1 ≤ length rows = omega (arith, pre.0.some, pre.0.many) in (
       l.invariant.4.layout,
-      passed_some start.args.commits start.args.n start.args.t rows l.kept l.below l.j (nodes l.s)
+      passed_some c.args.commits c.args.n c.args.t rows l.kept l.below l.j (nodes l.s)
           l.invariant.5 past some pre.3,
       omega (arith, l.invariant.0, l.invariant.1, l.invariant.3),
     )
 
 pub returns : goal.returns
 returns c =
-    let start = c in
-    let pre = start.requires in
+    let pre = c.requires in
     let count = c.count-m in
     let l = c.loop-j in
     let test = c.loop-j-test in
@@ -88,6 +83,6 @@ returns c =
     record {
       count = omega (arith, l.invariant.1, l.invariant.2, test.false, count.ensures);
       bound = omega (arith, l.invariant.1, l.invariant.2, count.ensures, pre.0.room, pre.0.many);
-      left = passed_left start.args.commits start.args.n start.args.t l.kept l.below l.j l.invariant.4 l.invariant.5 past
+      left = passed_left c.args.commits c.args.n c.args.t l.kept l.below l.j l.invariant.4 l.invariant.5 past
           c.cut.ensures;
     }

@@ -1,11 +1,8 @@
-use borrow.Author.Rules.{rules}
-use native.Mathlib.Omega.{arith}
-use Prim.Native.Nat.{◌-◌, ◌≤◌, ◌<◌}
-use mathlib.Core.Path.{◌≡◌, sym, ◌∙◌}
+use Prim.Native.Nat.{◌-◌, ◌≤◌}
+use mathlib.Core.Path.{◌≡◌}
 use lib.ListN.{length}
 use Rattle.table.specs.Layout.{nodes, Kept}
-use Rattle.table.specs.Laws.Kept.{kept_same, kept_on}
-use Rattle.ends.specs.Laws.Pass.{Passed, passed_start, passed_next, passed_some, passed_left, moved_most}
+use Rattle.ends.specs.Laws.Pass.{Passed}
 use Rattle.ends.proofs.pass.one_pass.Given as goal
 
 abbrev pub invariant-loop-j : goal.invariant-loop-j

@@ -5,8 +5,7 @@ use Rattle.ends.proofs.pass.rewrite.Goals as goal
 pub restore_content-requires : goal.restore_content-requires
 restore_content-requires c =
     let writer = c.writer in
-    let begin = c in
-    let saved = own_saved begin.args.s.now begin.args.i _ _ writer.ensures c.if-writer-t.true begin.requires.2 in
+    let saved = own_saved c.args.s.now c.args.i _ _ writer.ensures c.if-writer-t.true c.requires.2 in
     (search rules, search rules, saved)
 
 pub returns-then-writer-t : goal.returns-then-writer-t

@@ -1,5 +1,4 @@
 use Rattle.engine.specs.Laws.Grants.{add_kept}
-use borrow.Author.Rules.{rules}
 use Rattle.engine.proofs.locking.add.Goals as goal
 
 pub returns : goal.returns

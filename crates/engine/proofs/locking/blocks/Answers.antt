@@ -1,4 +1,3 @@
-use borrow.Author.Rules.{rules}
 use mathlib.Core.Path.{sym, ◌∙◌}
 use borrow.Author.Tests.{not-true, not-false}
 use Rattle.engine.specs.Laws.Waits.{blocks_shut, blocks_self, blocks_other}
@@ -12,7 +11,5 @@ returns-then-u-t c = blocks_self _ _ _ _ _ c.if-u-t.true
 
 pub returns : goal.returns
 returns c =
-    let at_if1 = c in
-    let at_is_open = at_if1 in
-    c.touches.ensures ∙ blocks_other _ _ _ _ _ (sym at_is_open.is_open.ensures
-    ∙ not-false _ at_if1.if-not-is_open.false-raw) c.if-u-t.false
+    c.touches.ensures ∙ blocks_other _ _ _ _ _ (sym c.is_open.ensures
+    ∙ not-false _ c.if-not-is_open.false-raw) c.if-u-t.false

@@ -1,7 +1,6 @@
 use borrow.Author.Rules.{rules}
 use native.Mathlib.Omega.{arith}
-use Prim.Native.Nat.{◌-◌, ◌≤◌}
-use Rattle.engine.specs.Laws.Grants.{Granting, granting_start, granting_inside, granting_turn, granting_done}
+use Rattle.engine.specs.Laws.Grants.{granting_start, granting_inside, granting_turn, granting_done}
 use Rattle.engine.proofs.locking.grant.Goals as goal
 
 pub loop-j-init : goal.loop-j-init
@@ -22,19 +21,13 @@ overflow_cast-places c =
 
 pub add-requires : goal.add-requires
 add-requires c =
-    let at_loop = c in
-    let start = at_loop in
-    let l = at_loop.loop-j in
-    (l.invariant.1.kept.layout, search rules, search rules, granting_inside start.requires.3 l.invariant.1 (search rules))
+    let l = c.loop-j in
+    (l.invariant.1.kept.layout, search rules, search rules, granting_inside c.requires.3 l.invariant.1 (search rules))
 
 pub loop-j-preserved : goal.loop-j-preserved
 loop-j-preserved c =
-    let at_add = c in
-    let at_word_at = at_add in
-    let at_loop = at_word_at in
-    let start = at_loop in
-    let l = at_loop.loop-j in
-    (search rules, granting_turn start.requires.3 l.invariant.1 _ (search rules) at_word_at.word_at.ensures at_add.add.ensures)
+    let l = c.loop-j in
+    (search rules, granting_turn c.requires.3 l.invariant.1 _ (search rules) c.word_at.ensures c.add.ensures)
 
 pub returns : goal.returns
 returns c = record { kept = granting_done c.requires.3 c.loop-j.invariant.1 (search rules) }

@@ -1,7 +1,5 @@
-use borrow.Author.Rules.{rules}
-use native.Mathlib.Omega.{arith}
 use Prim.Native.Nat.{◌-◌, ◌≤◌}
-use Rattle.engine.specs.Laws.Grants.{Granting, granting_start, granting_inside, granting_turn, granting_done}
+use Rattle.engine.specs.Laws.Grants.{Granting}
 use Rattle.engine.proofs.locking.grant.Given as goal
 
 abbrev pub invariant-loop-j : goal.invariant-loop-j

@@ -1,4 +1,3 @@
-use borrow.Author.Rules.{rules}
 use Rattle.locks.proofs.Laws.Common.{mask_small}
 use Rattle.engine.proofs.locking.masks.Goals as goal
 

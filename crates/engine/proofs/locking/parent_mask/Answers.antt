@@ -1,4 +1,3 @@
-use borrow.Author.Rules.{rules}
 use mathlib.Core.Path.{sym, ap, ◌∙◌}
 use Rattle.locks.specs.Words.{mask_of}
 use Rattle.engine.proofs.locking.parent_mask.Goals as goal

@@ -1,12 +1,9 @@
-use borrow.Author.Rules.{rules}
-use native.Mathlib.Omega.{arith}
 use Prim.Native.Nat.{◌-◌}
-use mathlib.Core.Path.{◌≡◌, refl, ◌∙◌}
+use mathlib.Core.Path.{◌≡◌}
 use lib.ListN.{drop}
 use Rattle.table.specs.Layout.{nodes}
 use Rattle.engine.specs.Way.{nodes_of}
 use Rattle.engine.specs.Waits.{touches_from}
-use Rattle.engine.specs.Laws.Waits.{touch_found, touch_passed, touch_none, touches_word, words_small}
 use Rattle.engine.proofs.locking.touches.Given as goal
 
 abbrev pub invariant-loop-j : goal.invariant-loop-j

@@ -1,10 +1,8 @@
-use borrow.Author.Rules.{rules}
 use Prim.Native.Nat.{◌≤◌}
-use mathlib.Core.Path.{◌≡◌, sym}
-use Rattle.locks.proofs.Laws.Words.{word_none}
+use mathlib.Core.Path.{◌≡◌}
 use Rattle.table.specs.Layout.{nodes, is_open}
 use Rattle.engine.specs.Way.{nodes_of}
-use Rattle.engine.specs.Laws.Waits.{set_of, set_below, set_turn, set_whole}
+use Rattle.engine.specs.Laws.Waits.{set_of}
 use Rattle.engine.proofs.locking.waits.Given as goal
 
 abbrev pub invariant-loop-u : goal.invariant-loop-u

@@ -1,6 +1,5 @@
 use borrow.Author.Rules.{rules}
-use Rattle.table.specs.Layout.{nodes}
-use Rattle.engine.specs.Laws.Way.{Climbing, climbing_hidden, climbing_start, climbing_passed, climbing_deleted}
+use Rattle.engine.specs.Laws.Way.{climbing_hidden, climbing_start, climbing_passed, climbing_deleted}
 use Rattle.engine.specs.Laws.Way.{climbing_found, climbing_done}
 use Rattle.engine.proofs.locking.way_up.Goals as goal
 
@@ -9,28 +8,21 @@ returns-then-deleter-t c = climbing_hidden (search rules) _ c.deleter.ensures _ 
 
 pub loop-k-init : goal.loop-k-init
 loop-k-init c =
-    let at_deleter = c in
-    let start = at_deleter in
-    climbing_start (search rules) _ at_deleter.deleter.ensures _ start.args.places.now c.if-deleter-t.false c.depth-e.ensures
-    start.requires.2
+    climbing_start (search rules) _ c.deleter.ensures _ c.args.places.now c.if-deleter-t.false c.depth-e.ensures
+    c.requires.2
 
 pub loop-k-preserved-then-e-d : goal.loop-k-preserved-then-e-d
 loop-k-preserved-then-e-d c =
-    let at_loop = c in
-    climbing_passed (search rules) at_loop.loop-k.invariant (search rules) c.depth-d.ensures c.if-e-d.true
+    climbing_passed (search rules) c.loop-k.invariant (search rules) c.depth-d.ensures c.if-e-d.true
 
 pub returns-then-deleter-t-2 : goal.returns-then-deleter-t-2
 returns-then-deleter-t-2 c =
-    let at_depth2 = c in
-    let at_loop = at_depth2 in
-    climbing_deleted (search rules) at_loop.loop-k.invariant (search rules) at_depth2.depth-d.ensures (search rules) _
+    climbing_deleted (search rules) c.loop-k.invariant (search rules) c.depth-d.ensures (search rules) _
     c.deleter-in-loop-k.ensures c.if-deleter-t-2.true
 
 pub loop-k-preserved : goal.loop-k-preserved
 loop-k-preserved c =
-    let at_depth2 = c in
-    let at_loop = at_depth2 in
-    climbing_found (search rules) at_loop.loop-k.invariant (search rules) at_depth2.depth-d.ensures (search rules) _
+    climbing_found (search rules) c.loop-k.invariant (search rules) c.depth-d.ensures (search rules) _
     c.deleter-in-loop-k.ensures
     (search rules) c.if-deleter-t-2.false
 

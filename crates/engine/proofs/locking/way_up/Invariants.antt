@@ -1,7 +1,5 @@
-use borrow.Author.Rules.{rules}
 use Rattle.table.specs.Layout.{nodes}
-use Rattle.engine.specs.Laws.Way.{Climbing, climbing_hidden, climbing_start, climbing_passed, climbing_deleted}
-use Rattle.engine.specs.Laws.Way.{climbing_found, climbing_done}
+use Rattle.engine.specs.Laws.Way.{Climbing}
 use Rattle.engine.proofs.locking.way_up.Given as goal
 
 abbrev pub invariant-loop-k : goal.invariant-loop-k

@@ -1,5 +1,4 @@
 use Rattle.engine.specs.Laws.Waits.{word_above}
-use borrow.Author.Rules.{rules}
 use Rattle.engine.proofs.locking.word_at.Goals as goal
 
 pub returns : goal.returns

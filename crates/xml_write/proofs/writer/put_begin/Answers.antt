@@ -9,16 +9,13 @@ use Rattle.xml_write.proofs.writer.put_begin.Goals as goal
 
 pub put_between-requires : goal.put_between-requires
 put_between-requires c =
-    let c3 = c in
-    let c6 = c3 in
-    let e = begin_attribute (of_kind c6.args.above) c6.args.previous (label_at (nodes c6.args.s.now) c6.args.p)
-    (sym c6.requires.2 ∙ c3.if-kind-eq3.true) in
-    (c6.requires.0, c6.requires.1, rw e at c6.requires.3)
+    let e = begin_attribute (of_kind c.args.above) c.args.previous (label_at (nodes c.args.s.now) c.args.p)
+    (sym c.requires.2 ∙ c.if-kind-eq3.true) in
+    (c.requires.0, c.requires.1, rw e at c.requires.3)
 
 pub returns-then-kind-eq3 : goal.returns-then-kind-eq3
 returns-then-kind-eq3 c =
-    let c6 = c in
-    wrote_as (sym (begin_attribute _ _ _ (sym c6.requires.2 ∙ c6.if-kind-eq3.true)))
+    wrote_as (sym (begin_attribute _ _ _ (sym c.requires.2 ∙ c.if-kind-eq3.true)))
     c.put_between.ensures
 
 pub put_tag_end-at-requires : goal.put_tag_end-at-requires

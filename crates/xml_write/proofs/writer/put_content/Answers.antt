@@ -1,5 +1,4 @@
 use Rattle.xml_text.specs.Lending.{wrote_as}
-use borrow.Author.Rules.{rules}
 use Rattle.xml_write.proofs.writer.put_content.Goals as goal
 
 pub put_content-requires : goal.put_content-requires

@@ -1,7 +1,5 @@
-use Rattle.xml_write.specs.Laws.Rows.{EndsTo, ends_start, ends_on, ends_turn, ends_over}
-use Rattle.table.specs.Layout.{nodes}
-use lib.ListN.{length}
-use mathlib.Core.Path.{◌≡◌, refl}
+use Rattle.xml_write.specs.Laws.Rows.{ends_start, ends_on, ends_turn, ends_over}
+use mathlib.Core.Path.{refl}
 use native.Mathlib.Omega.{arith}
 use borrow.Author.Rules.{rules}
 use Rattle.xml_write.proofs.writer.put_ends.Goals as goal
@@ -38,15 +36,12 @@ slice_bounds-put_end-start c = (ends_on c.requires c.loop-e.invariant.1
 
 pub put_end-at-requires : goal.put_end-at-requires
 put_end-at-requires c =
-    let c4 = c in
-    let c7 = c4 in
-    let x = ends_on c7.requires c4.loop-e.invariant.1 (omega arith) in
-    (c7.requires.0, x.place, x.kind, x.piece.room)
+    let x = ends_on c.requires c.loop-e.invariant.1 (omega arith) in
+    (c.requires.0, x.place, x.kind, x.piece.room)
 
 pub overflow_add-at : goal.overflow_add-at
 overflow_add-at c =
-    let c7 = c in
-    let x = ends_on c7.requires c7.loop-e.invariant.1 (omega arith) in
+    let x = ends_on c.requires c.loop-e.invariant.1 (omega arith) in
     omega (arith, x.piece.small, c.put_end-at.ensures.count)
 
 pub loop-e-smaller : goal.loop-e-smaller
@@ -54,8 +49,7 @@ loop-e-smaller c = omega arith
 
 pub loop-e-preserved : goal.loop-e-preserved
 loop-e-preserved c =
-    let c7 = c in
-    (search rules, ends_turn c7.requires c7.loop-e.invariant.1 (omega arith) _ _ c.put_end-at.ensures)
+    (search rules, ends_turn c.requires c.loop-e.invariant.1 (omega arith) _ _ c.put_end-at.ensures)
 
 pub shape_of-out : goal.shape_of-out
 shape_of-out c = c.loop-e.invariant.0

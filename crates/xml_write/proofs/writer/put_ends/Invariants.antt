@@ -1,9 +1,7 @@
-use Rattle.xml_write.specs.Laws.Rows.{EndsTo, ends_start, ends_on, ends_turn, ends_over}
+use Rattle.xml_write.specs.Laws.Rows.{EndsTo}
 use Rattle.table.specs.Layout.{nodes}
 use lib.ListN.{length}
-use mathlib.Core.Path.{◌≡◌, refl}
-use native.Mathlib.Omega.{arith}
-use borrow.Author.Rules.{rules}
+use mathlib.Core.Path.{◌≡◌}
 use Rattle.xml_write.proofs.writer.put_ends.Given as goal
 
 abbrev pub invariant-loop-e : goal.invariant-loop-e

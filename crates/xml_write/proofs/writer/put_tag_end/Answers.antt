@@ -4,7 +4,6 @@ use Rattle.xml_text.specs.Lending.{wrote_as, wrote_none}
 use borrow.Author.Tests.{not-true, not-false}
 use mathlib.Core.Path.{sym, ◌∙◌}
 use native.Mathlib.Omega.{arith}
-use borrow.Author.Rules.{rules}
 use Rattle.xml_write.proofs.writer.put_tag_end.Goals as goal
 
 pub returns-then-above-ne2 : goal.returns-then-above-ne2
@@ -15,18 +14,10 @@ returns-then-not-in_start_tag c = wrote_as (sym (tag_end_later _ _ (sym c.in_sta
 
 pub put-requires : goal.put-requires
 put-requires c =
-    let c2 = c in
-    let c3 = c2 in
-    let c4 = c3 in
-    let c6 = c4 in
-    let e = tag_end_first (of_kind c6.args.above) c6.args.previous c4.if-above-ne2.false
-    (sym c3.in_start_tag.ensures ∙ not-false _ c2.if-not-in_start_tag.false-raw) in
-    omega (arith, rw e at c6.requires)
+    let e = tag_end_first (of_kind c.args.above) c.args.previous c.if-above-ne2.false
+    (sym c.in_start_tag.ensures ∙ not-false _ c.if-not-in_start_tag.false-raw) in
+    omega (arith, rw e at c.requires)
 
 pub returns : goal.returns
 returns c =
-    let c2 = c in
-    let c5 = c2 in
-    let c6 = c5 in
-    let c7 = c6 in
-    wrote_as (sym (tag_end_first _ _ c7.if-above-ne2.false (sym c6.in_start_tag.ensures ∙ not-false _ c5.if-not-in_start_tag.false-raw))) c2.put.ensures
+    wrote_as (sym (tag_end_first _ _ c.if-above-ne2.false (sym c.in_start_tag.ensures ∙ not-false _ c.if-not-in_start_tag.false-raw))) c.put.ensures

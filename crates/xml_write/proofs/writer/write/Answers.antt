@@ -14,54 +14,33 @@ pub select-rows-requires : goal.select-rows-requires
 select-rows-requires c = form_layout (sym c.formed.ensures ∙ not-false _ c.if-not-formed.false-raw)
 
 pub measure-n-requires : goal.measure-n-requires
-measure-n-requires c =
-    let c2 = c in
-    let c3 = c2 in
-    let c4 = c3 in (
-      form_layout (sym c4.formed.ensures ∙ not-false _ c3.if-not-formed.false-raw),
-      listed
-          (form_holds _ (sym c4.formed.ensures ∙ not-false _ c3.if-not-formed.false-raw)).1 c2.select-rows.ensures,
-    )
+measure-n-requires c = (
+  form_layout (sym c.formed.ensures ∙ not-false _ c.if-not-formed.false-raw),
+  listed
+      (form_holds _ (sym c.formed.ensures ∙ not-false _ c.if-not-formed.false-raw)).1 c.select-rows.ensures,
+)
 
 pub returns-then-n-eq0 : goal.returns-then-n-eq0
 returns-then-n-eq0 c =
-    let c4 = c in
-    let c5 = c4 in
-    let c6 = c5 in
-    write_14 (sym c6.formed.ensures ∙ not-false _ c5.if-not-formed.false-raw) c4.select-rows.ensures c.measure-n.ensures.0 _
+    write_14 (sym c.formed.ensures ∙ not-false _ c.if-not-formed.false-raw) c.select-rows.ensures c.measure-n.ensures.0 _
     c.if-n-eq0.true
 
 pub returns-then-out-n : goal.returns-then-out-n
 returns-then-out-n c =
-    let c2 = c in
-    let c5 = c2 in
-    let c6 = c5 in
-    let c7 = c6 in
-    write_13 (sym c7.formed.ensures ∙ not-false _ c6.if-not-formed.false-raw) c5.select-rows.ensures c2.measure-n.ensures.0
+    write_13 (sym c.formed.ensures ∙ not-false _ c.if-not-formed.false-raw) c.select-rows.ensures c.measure-n.ensures.0
     c.if-n-eq0.false _ (omega arith)
 
 pub put_document-requires : goal.put_document-requires
-put_document-requires c =
-    let c3 = c in
-    let c4 = c3 in
-    let c7 = c4 in
-    let c8 = c7 in
-    let c9 = c8 in (
-      form_layout (sym c9.formed.ensures ∙ not-false _ c8.if-not-formed.false-raw),
-      listed (form_holds _ (sym c9.formed.ensures ∙ not-false _ c8.if-not-formed.false-raw)).1
-          c7.select-rows.ensures,
-      enough (sym c9.formed.ensures ∙ not-false _ c8.if-not-formed.false-raw) c7.select-rows.ensures c4.measure-n.ensures.0 c3.if-n-eq0.false _
-          (form_holds _ (sym c9.formed.ensures ∙ not-false _ c8.if-not-formed.false-raw)).1 _ (omega arith),
-    )
+put_document-requires c = (
+  form_layout (sym c.formed.ensures ∙ not-false _ c.if-not-formed.false-raw),
+  listed (form_holds _ (sym c.formed.ensures ∙ not-false _ c.if-not-formed.false-raw)).1
+      c.select-rows.ensures,
+  enough (sym c.formed.ensures ∙ not-false _ c.if-not-formed.false-raw) c.select-rows.ensures c.measure-n.ensures.0 c.if-n-eq0.false _
+      (form_holds _ (sym c.formed.ensures ∙ not-false _ c.if-not-formed.false-raw)).1 _ (omega arith),
+)
 
 pub returns : goal.returns
 returns c =
-    let c2 = c in
-    let c6 = c2 in
-    let c7 = c6 in
-    let c10 = c7 in
-    let c11 = c10 in
-    let c12 = c11 in
-    write_granted (sym c12.formed.ensures ∙ not-false _ c11.if-not-formed.false-raw) c10.select-rows.ensures c7.measure-n.ensures.0
-    c6.if-n-eq0.false _ _ (omega arith)
-    c2.put_document.ensures (search rules)
+    write_granted (sym c.formed.ensures ∙ not-false _ c.if-not-formed.false-raw) c.select-rows.ensures c.measure-n.ensures.0
+    c.if-n-eq0.false _ _ (omega arith)
+    c.put_document.ensures (search rules)
