@@ -1,9 +1,7 @@
 use borrow.Author.Rules.{rules}
 use native.Mathlib.Omega.{arith}
 use mathlib.Core.Path.{refl}
-use Prim.Native.Nat.{◌-◌, ◌≤◌}
-use Rattle.table.specs.Layout.{nodes}
-use Rattle.node_reading.specs.Laws.Buffers.{cell_piece, Written, written_start, written_more, cells_done}
+use Rattle.node_reading.specs.Laws.Buffers.{written_start, written_more, cells_done}
 use Rattle.node_reading.proofs.cells.Goals as goal
 
 pub loop-j-init : goal.loop-j-init

@@ -1,9 +1,6 @@
-use borrow.Author.Rules.{rules}
-use native.Mathlib.Omega.{arith}
-use mathlib.Core.Path.{refl}
 use Prim.Native.Nat.{◌-◌, ◌≤◌}
 use Rattle.table.specs.Layout.{nodes}
-use Rattle.node_reading.specs.Laws.Buffers.{cell_piece, Written, written_start, written_more, cells_done}
+use Rattle.node_reading.specs.Laws.Buffers.{cell_piece, Written}
 use Rattle.node_reading.proofs.cells.Given as goal
 
 abbrev pub invariant-loop-j : goal.invariant-loop-j

@@ -1,8 +1,5 @@
 use borrow.Author.Rules.{rules}
-use Prim.Native.Nat.{◌-◌}
-use lib.ListN.{length}
-use Rattle.table.specs.Layout.{nodes}
-use Rattle.node_reading.specs.Laws.Child.{Counting, counting_start, none_of_zero, counting_end, counting_left, counting_passed}
+use Rattle.node_reading.specs.Laws.Child.{counting_start, none_of_zero, counting_end, counting_left, counting_passed}
 use Rattle.node_reading.specs.Laws.Child.{counting_deleted, counting_found, counting_later}
 use Rattle.node_reading.proofs.kth_child.Goals as goal
 
@@ -17,9 +14,7 @@ returns-then-d-e c = counting_left c.loop-i.invariant (search rules) c.depth-d.e
 
 pub loop-i-preserved-then-d-e-gt1 : goal.loop-i-preserved-then-d-e-gt1
 loop-i-preserved-then-d-e-gt1 c =
-    let at_depth2 = c in
-    let at_loop = at_depth2 in
-    counting_passed at_loop.loop-i.invariant (search rules) at_depth2.depth-d.ensures c.if-d-e-gt1.true
+    counting_passed c.loop-i.invariant (search rules) c.depth-d.ensures c.if-d-e-gt1.true
 
 pub deleter-requires : goal.deleter-requires
 deleter-requires c = (c.requires.0, search rules)
@@ -33,13 +28,11 @@ loop-i-preserved-then-deleter-t c =
 
 pub kind-kind-requires : goal.kind-kind-requires
 kind-kind-requires c =
-    let start = c in
-    (start.requires.0, search rules)
+    (c.requires.0, search rules)
 
 pub number-number-requires : goal.number-number-requires
 number-number-requires c =
-    let start = c in
-    (start.requires.0, search rules)
+    (c.requires.0, search rules)
 
 pub returns-then-left-eq1 : goal.returns-then-left-eq1
 returns-then-left-eq1 c =

@@ -1,9 +1,7 @@
-use borrow.Author.Rules.{rules}
 use Prim.Native.Nat.{◌-◌}
 use lib.ListN.{length}
 use Rattle.table.specs.Layout.{nodes}
-use Rattle.node_reading.specs.Laws.Child.{Counting, counting_start, none_of_zero, counting_end, counting_left, counting_passed}
-use Rattle.node_reading.specs.Laws.Child.{counting_deleted, counting_found, counting_later}
+use Rattle.node_reading.specs.Laws.Child.{Counting}
 use Rattle.node_reading.proofs.kth_child.Given as goal
 
 abbrev pub invariant-loop-i : goal.invariant-loop-i

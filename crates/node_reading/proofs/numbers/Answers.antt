@@ -1,9 +1,7 @@
 use mathlib.Core.Path.{refl}
 use borrow.Author.Rules.{rules}
 use native.Mathlib.Omega.{arith}
-use Prim.Native.Nat.{◌-◌, ◌≤◌}
-use Rattle.table.specs.Layout.{nodes}
-use Rattle.node_reading.specs.Laws.Buffers.{number_piece, Written, written_start, written_number, numbers_done}
+use Rattle.node_reading.specs.Laws.Buffers.{written_start, written_number, numbers_done}
 use Rattle.node_reading.proofs.numbers.Goals as goal
 
 pub loop-j-init : goal.loop-j-init

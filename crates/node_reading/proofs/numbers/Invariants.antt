@@ -1,9 +1,6 @@
-use mathlib.Core.Path.{refl}
-use borrow.Author.Rules.{rules}
-use native.Mathlib.Omega.{arith}
 use Prim.Native.Nat.{◌-◌, ◌≤◌}
 use Rattle.table.specs.Layout.{nodes}
-use Rattle.node_reading.specs.Laws.Buffers.{number_piece, Written, written_start, written_number, numbers_done}
+use Rattle.node_reading.specs.Laws.Buffers.{number_piece, Written}
 use Rattle.node_reading.proofs.numbers.Given as goal
 
 abbrev pub invariant-loop-j : goal.invariant-loop-j

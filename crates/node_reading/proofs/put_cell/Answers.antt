@@ -19,9 +19,8 @@ clear-requires c =
 
 pub shape_of-out : goal.shape_of-out
 shape_of-out c =
-    let c8 = c in
-    let args = c8.args in
-    let size = c8.size-n in
+    let args = c.args in
+    let size = c.size-n in
     let copy = c.copy in
     let clear = c.clear in
     omega (arith, clear.ensures.only.long, copy.ensures.long, length-set args.out.now args.k size.result)

@@ -1,16 +1,12 @@
 use borrow.Author.Rules.{rules}
-use Prim.Native.Nat.{◌-◌}
 use mathlib.Core.Path.{sym, ◌∙◌}
-use lib.ListN.{length}
-use Rattle.table.specs.Layout.{nodes}
-use Rattle.node_reading.specs.Laws.Subtree.{Selecting, selecting_start, selecting_end, selecting_left}
+use Rattle.node_reading.specs.Laws.Subtree.{selecting_start, selecting_end, selecting_left}
 use Rattle.node_reading.specs.Laws.Subtree.{selecting_hidden, selecting_deleted, selecting_found}
 use Rattle.node_reading.proofs.select.Goals as goal
 
 pub loop-i-init : goal.loop-i-init
 loop-i-init c =
-    let start = c in
-    selecting_start _ start.args.places.now (search rules) c.depth-e.ensures start.requires.2
+    selecting_start _ c.args.places.now (search rules) c.depth-e.ensures c.requires.2
 
 pub depth-d-requires : goal.depth-d-requires
 depth-d-requires c = (c.requires.0, search rules)

@@ -1,10 +1,7 @@
-use borrow.Author.Rules.{rules}
 use Prim.Native.Nat.{◌-◌}
-use mathlib.Core.Path.{sym, ◌∙◌}
 use lib.ListN.{length}
 use Rattle.table.specs.Layout.{nodes}
-use Rattle.node_reading.specs.Laws.Subtree.{Selecting, selecting_start, selecting_end, selecting_left}
-use Rattle.node_reading.specs.Laws.Subtree.{selecting_hidden, selecting_deleted, selecting_found}
+use Rattle.node_reading.specs.Laws.Subtree.{Selecting}
 use Rattle.node_reading.proofs.select.Given as goal
 
 abbrev pub invariant-loop-i : goal.invariant-loop-i

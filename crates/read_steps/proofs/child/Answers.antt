@@ -1,4 +1,3 @@
-use borrow.Author.Rules.{rules}
 use mathlib.Core.Path.{refl}
 use Rattle.locks.specs.declared.StepName.TheVariants as name
 use Rattle.rows.specs.Rows.{stepped}
@@ -14,49 +13,29 @@ judge-verdict-requires c = ready c.admit-at.ensures (none_first _)
 
 pub stop-requires : goal.stop-requires
 stop-requires c =
-    let at_judge = c in
-    let at_needed = at_judge in
-    let at_admit = at_needed in
-    stop_ready at_admit.admit-at.ensures (none_first _) at_judge.judge-verdict.ensures
+    stop_ready c.admit-at.ensures (none_first _) c.judge-verdict.ensures
 
 pub returns-then-not-verdict : goal.returns-then-not-verdict
 returns-then-not-verdict c =
-    let at_if1 = c in
-    let at_judge = at_if1 in
-    let at_needed = at_judge in
-    let at_admit = at_needed in
-    (step_stopped name.C (C _ _) refl at_admit.admit-at.ensures (none_first _) at_needed.needed-need.ensures at_judge.judge-verdict.ensures
-    at_if1.if-not-verdict.true no_room c.stop.ensures).performed
+    (step_stopped name.C (C _ _) refl c.admit-at.ensures (none_first _) c.needed-need.ensures c.judge-verdict.ensures
+    c.if-not-verdict.true no_room c.stop.ensures).performed
 
 pub kth_child-answer-requires : goal.kth_child-answer-requires
 kth_child-answer-requires c =
-    let at_judge = c in
-    let at_needed = at_judge in
-    let at_admit = at_needed in
-    let f = step_free name.C (C _ 0) refl at_admit.admit-at.ensures (none_first _) at_needed.needed-need.ensures
-    at_judge.judge-verdict.ensures c.if-not-verdict.false in
+    let f = step_free name.C (C _ 0) refl c.admit-at.ensures (none_first _) c.needed-need.ensures
+    c.judge-verdict.ensures c.if-not-verdict.false in
     (f.standing.layout, f.standing.inside)
 
 pub grant-requires : goal.grant-requires
 grant-requires c =
-    let at_if1 = c in
-    let at_judge = at_if1 in
-    let at_needed = at_judge in
-    let at_admit = at_needed in
-    let f = step_free name.C (C _ 0) refl at_admit.admit-at.ensures (none_first _) at_needed.needed-need.ensures
-    at_judge.judge-verdict.ensures at_if1.if-not-verdict.false in
+    let f = step_free name.C (C _ 0) refl c.admit-at.ensures (none_first _) c.needed-need.ensures
+    c.judge-verdict.ensures c.if-not-verdict.false in
     (f.standing.layout, f.standing.low, f.standing.high, f.standing.climbed.inside)
 
 pub returns : goal.returns
 unfolding stepped
 returns c =
-    let at_grant = c in
-    let at_kth_child = at_grant in
-    let at_if1 = at_kth_child in
-    let at_judge = at_if1 in
-    let at_needed = at_judge in
-    let at_admit = at_needed in
-    let f = step_free name.C (C _ _) refl at_admit.admit-at.ensures (none_first _) at_needed.needed-need.ensures
-    at_judge.judge-verdict.ensures at_if1.if-not-verdict.false in
-    let left = (free_locked f at_grant.grant.ensures).left in
-    performed_grants (free_granted f no_room (room_left _ no_room (child_fits _ _)) left) _ at_kth_child.kth_child-answer.ensures
+    let f = step_free name.C (C _ _) refl c.admit-at.ensures (none_first _) c.needed-need.ensures
+    c.judge-verdict.ensures c.if-not-verdict.false in
+    let left = (free_locked f c.grant.ensures).left in
+    performed_grants (free_granted f no_room (room_left _ no_room (child_fits _ _)) left) _ c.kth_child-answer.ensures

@@ -17,87 +17,46 @@ judge-verdict-requires c = ready c.admit-at.ensures c.document_cause-cause.ensur
 
 pub stop-requires : goal.stop-requires
 stop-requires c =
-    let at_judge = c in
-    let at_needed = at_judge in
-    let at_document_cause = at_needed in
-    let at_admit = at_document_cause in
-    stop_ready at_admit.admit-at.ensures at_document_cause.document_cause-cause.ensures at_judge.judge-verdict.ensures
+    stop_ready c.admit-at.ensures c.document_cause-cause.ensures c.judge-verdict.ensures
 
 pub returns-then-not-verdict : goal.returns-then-not-verdict
 returns-then-not-verdict c =
-    let at_if1 = c in
-    let at_judge = at_if1 in
-    let at_needed = at_judge in
-    let at_document_cause = at_needed in
-    let at_admit = at_document_cause in
-    let start = at_admit in
-    stopped_one (step_stopped name.R (R _) refl at_admit.admit-at.ensures at_document_cause.document_cause-cause.ensures
-    at_needed.needed-need.ensures at_judge.judge-verdict.ensures at_if1.if-not-verdict.true (room_of start.args.out.now)
+    stopped_one (step_stopped name.R (R _) refl c.admit-at.ensures c.document_cause-cause.ensures
+    c.needed-need.ensures c.judge-verdict.ensures c.if-not-verdict.true (room_of c.args.out.now)
     c.stop.ensures) _
 
 pub size-size-requires : goal.size-size-requires
 size-size-requires c =
-    let at_judge = c in
-    let at_needed = at_judge in
-    let at_document_cause = at_needed in
-    let at_admit = at_document_cause in
-    let f = step_free name.R (R _) refl at_admit.admit-at.ensures at_document_cause.document_cause-cause.ensures
-    at_needed.needed-need.ensures at_judge.judge-verdict.ensures c.if-not-verdict.false in
+    let f = step_free name.R (R _) refl c.admit-at.ensures c.document_cause-cause.ensures
+    c.needed-need.ensures c.judge-verdict.ensures c.if-not-verdict.false in
     (f.standing.layout, f.standing.inside, search rules, search rules)
 
 pub returns-then-out-size : goal.returns-then-out-size
 returns-then-out-size c =
-    let at_if1 = c in
-    let at_judge = at_if1 in
-    let at_needed = at_judge in
-    let at_document_cause = at_needed in
-    let at_admit = at_document_cause in
-    let start = at_admit in
-    let out = start.args.out.now in
-    let f = step_free name.R (R _) refl at_admit.admit-at.ensures at_document_cause.document_cause-cause.ensures
-    at_needed.needed-need.ensures at_judge.judge-verdict.ensures at_if1.if-not-verdict.false in
+    let out = c.args.out.now in
+    let f = step_free name.R (R _) refl c.admit-at.ensures c.document_cause-cause.ensures
+    c.needed-need.ensures c.judge-verdict.ensures c.if-not-verdict.false in
     stopped_one (free_refused f (room_of out) 13 (room_short _ (room_of out)
     (content_short _ out c.size-size.ensures.0 c.if-out-size.true)) not_none) _
 
 pub content-requires : goal.content-requires
 content-requires c =
-    let at_size = c in
-    let at_if1 = at_size in
-    let at_judge = at_if1 in
-    let at_needed = at_judge in
-    let at_document_cause = at_needed in
-    let at_admit = at_document_cause in
-    let f = step_free name.R (R _) refl at_admit.admit-at.ensures at_document_cause.document_cause-cause.ensures
-    at_needed.needed-need.ensures at_judge.judge-verdict.ensures at_if1.if-not-verdict.false in
-    (f.standing.layout, f.standing.inside, omega (arith, at_size.size-size.ensures.0))
+    let f = step_free name.R (R _) refl c.admit-at.ensures c.document_cause-cause.ensures
+    c.needed-need.ensures c.judge-verdict.ensures c.if-not-verdict.false in
+    (f.standing.layout, f.standing.inside, omega (arith, c.size-size.ensures.0))
 
 pub grant-requires : goal.grant-requires
 grant-requires c =
-    let at_if1 = c in
-    let at_judge = at_if1 in
-    let at_needed = at_judge in
-    let at_document_cause = at_needed in
-    let at_admit = at_document_cause in
-    let f = step_free name.R (R _) refl at_admit.admit-at.ensures at_document_cause.document_cause-cause.ensures
-    at_needed.needed-need.ensures at_judge.judge-verdict.ensures at_if1.if-not-verdict.false in
+    let f = step_free name.R (R _) refl c.admit-at.ensures c.document_cause-cause.ensures
+    c.needed-need.ensures c.judge-verdict.ensures c.if-not-verdict.false in
     (f.standing.layout, f.standing.low, f.standing.high, f.standing.climbed.inside)
 
 pub returns : goal.returns
 unfolding stepped
 returns c =
-    let at_grant = c in
-    let at_content = at_grant in
-    let at_if2 = at_content in
-    let at_size = at_if2 in
-    let at_if1 = at_size in
-    let at_judge = at_if1 in
-    let at_needed = at_judge in
-    let at_document_cause = at_needed in
-    let at_admit = at_document_cause in
-    let start = at_admit in
-    let out = start.args.out.now in
-    let f = step_free name.R (R _) refl at_admit.admit-at.ensures at_document_cause.document_cause-cause.ensures
-    at_needed.needed-need.ensures at_judge.judge-verdict.ensures at_if1.if-not-verdict.false in
-    let fits = room_left _ (room_of out) (content_fits _ out at_size.size-size.ensures.0 at_if2.if-out-size.false) in
-    let granted = free_granted f (room_of out) fits (free_locked f at_grant.grant.ensures).left in
-    content_granted granted at_size.size-size.ensures.0 at_content.content.ensures
+    let out = c.args.out.now in
+    let f = step_free name.R (R _) refl c.admit-at.ensures c.document_cause-cause.ensures
+    c.needed-need.ensures c.judge-verdict.ensures c.if-not-verdict.false in
+    let fits = room_left _ (room_of out) (content_fits _ out c.size-size.ensures.0 c.if-out-size.false) in
+    let granted = free_granted f (room_of out) fits (free_locked f c.grant.ensures).left in
+    content_granted granted c.size-size.ensures.0 c.content.ensures

@@ -1,4 +1,3 @@
-use borrow.Author.Rules.{rules}
 use mathlib.Core.Path.{refl}
 use Rattle.locks.specs.declared.StepName.TheVariants as name
 use Rattle.rows.specs.Rows.{stepped}
@@ -14,114 +13,64 @@ judge-verdict-requires c = ready c.admit-at.ensures (none_first _)
 
 pub stop-requires : goal.stop-requires
 stop-requires c =
-    let at_judge = c in
-    let at_needed = at_judge in
-    let at_admit = at_needed in
-    stop_ready at_admit.admit-at.ensures (none_first _) at_judge.judge-verdict.ensures
+    stop_ready c.admit-at.ensures (none_first _) c.judge-verdict.ensures
 
 pub returns-then-not-verdict : goal.returns-then-not-verdict
 returns-then-not-verdict c =
-    let at_if1 = c in
-    let at_judge = at_if1 in
-    let at_needed = at_judge in
-    let at_admit = at_needed in
-    let start = at_admit in
-    stopped_two (step_stopped name.RR (RR _) refl at_admit.admit-at.ensures (none_first _) at_needed.needed-need.ensures
-    at_judge.judge-verdict.ensures at_if1.if-not-verdict.true (rooms_of start.args.out.now start.args.cells.now)
+    stopped_two (step_stopped name.RR (RR _) refl c.admit-at.ensures (none_first _) c.needed-need.ensures
+    c.judge-verdict.ensures c.if-not-verdict.true (rooms_of c.args.out.now c.args.cells.now)
     c.stop.ensures) _ _
 
 pub select-count-requires : goal.select-count-requires
 select-count-requires c =
-    let at_judge = c in
-    let at_needed = at_judge in
-    let at_admit = at_needed in
-    let f = step_free name.RR (RR _) refl at_admit.admit-at.ensures (none_first _) at_needed.needed-need.ensures
-    at_judge.judge-verdict.ensures c.if-not-verdict.false in
+    let f = step_free name.RR (RR _) refl c.admit-at.ensures (none_first _) c.needed-need.ensures
+    c.judge-verdict.ensures c.if-not-verdict.false in
     (f.standing.layout, f.standing.inside, refl)
 
 pub returns-then-out-count : goal.returns-then-out-count
 returns-then-out-count c =
-    let at_select = c in
-    let at_if1 = at_select in
-    let at_judge = at_if1 in
-    let at_needed = at_judge in
-    let at_admit = at_needed in
-    let start = at_admit in
-    let out = start.args.out.now in
-    let cells = start.args.cells.now in
-    let f = step_free name.RR (RR _) refl at_admit.admit-at.ensures (none_first _) at_needed.needed-need.ensures
-    at_judge.judge-verdict.ensures at_if1.if-not-verdict.false in
-    let short = cells_short_first _ at_select.select-count.ensures f.standing.layout out cells c.if-out-count.true in
+    let out = c.args.out.now in
+    let cells = c.args.cells.now in
+    let f = step_free name.RR (RR _) refl c.admit-at.ensures (none_first _) c.needed-need.ensures
+    c.judge-verdict.ensures c.if-not-verdict.false in
+    let short = cells_short_first _ c.select-count.ensures f.standing.layout out cells c.if-out-count.true in
     stopped_two (free_refused f (rooms_of out cells) 13 (room_short _ (rooms_of out cells) short) not_none) _ _
 
 pub returns-then-cells-count : goal.returns-then-cells-count
 returns-then-cells-count c =
-    let at_select = c in
-    let at_if1 = at_select in
-    let at_judge = at_if1 in
-    let at_needed = at_judge in
-    let at_admit = at_needed in
-    let start = at_admit in
-    let out = start.args.out.now in
-    let cells = start.args.cells.now in
-    let f = step_free name.RR (RR _) refl at_admit.admit-at.ensures (none_first _) at_needed.needed-need.ensures
-    at_judge.judge-verdict.ensures at_if1.if-not-verdict.false in
-    let short = cells_short_second _ at_select.select-count.ensures f.standing.layout out cells c.if-cells-count.true in
+    let out = c.args.out.now in
+    let cells = c.args.cells.now in
+    let f = step_free name.RR (RR _) refl c.admit-at.ensures (none_first _) c.needed-need.ensures
+    c.judge-verdict.ensures c.if-not-verdict.false in
+    let short = cells_short_second _ c.select-count.ensures f.standing.layout out cells c.if-cells-count.true in
     stopped_two (free_refused f (rooms_of out cells) 13 (room_short _ (rooms_of out cells) short) not_none) _ _
 
 pub numbers-requires : goal.numbers-requires
 numbers-requires c =
-    let at_select = c in
-    let at_if1 = at_select in
-    let at_judge = at_if1 in
-    let at_needed = at_judge in
-    let at_admit = at_needed in
-    let f = step_free name.RR (RR _) refl at_admit.admit-at.ensures (none_first _) at_needed.needed-need.ensures
-    at_judge.judge-verdict.ensures at_if1.if-not-verdict.false in
-    (f.standing.layout, at_select.select-count.ensures.inside, c.if-out-count.false)
+    let f = step_free name.RR (RR _) refl c.admit-at.ensures (none_first _) c.needed-need.ensures
+    c.judge-verdict.ensures c.if-not-verdict.false in
+    (f.standing.layout, c.select-count.ensures.inside, c.if-out-count.false)
 
 pub cells-requires : goal.cells-requires
 cells-requires c =
-    let at_if3 = c in
-    let at_select = at_if3 in
-    let at_if1 = at_select in
-    let at_judge = at_if1 in
-    let at_needed = at_judge in
-    let at_admit = at_needed in
-    let f = step_free name.RR (RR _) refl at_admit.admit-at.ensures (none_first _) at_needed.needed-need.ensures
-    at_judge.judge-verdict.ensures at_if1.if-not-verdict.false in
-    (f.standing.layout, at_select.select-count.ensures.inside, at_if3.if-cells-count.false)
+    let f = step_free name.RR (RR _) refl c.admit-at.ensures (none_first _) c.needed-need.ensures
+    c.judge-verdict.ensures c.if-not-verdict.false in
+    (f.standing.layout, c.select-count.ensures.inside, c.if-cells-count.false)
 
 pub grant-requires : goal.grant-requires
 grant-requires c =
-    let at_if3 = c in
-    let at_if1 = at_if3 in
-    let at_judge = at_if1 in
-    let at_needed = at_judge in
-    let at_admit = at_needed in
-    let f = step_free name.RR (RR _) refl at_admit.admit-at.ensures (none_first _) at_needed.needed-need.ensures
-    at_judge.judge-verdict.ensures at_if1.if-not-verdict.false in
+    let f = step_free name.RR (RR _) refl c.admit-at.ensures (none_first _) c.needed-need.ensures
+    c.judge-verdict.ensures c.if-not-verdict.false in
     (f.standing.layout, f.standing.low, f.standing.high, f.standing.climbed.inside)
 
 pub returns : goal.returns
 unfolding stepped
 returns c =
-    let at_grant = c in
-    let at_cells = at_grant in
-    let at_numbers = at_cells in
-    let at_if3 = at_numbers in
-    let at_if2 = at_if3 in
-    let at_select = at_if2 in
-    let at_if1 = at_select in
-    let at_judge = at_if1 in
-    let at_needed = at_judge in
-    let at_admit = at_needed in
-    let start = at_admit in
-    let out = start.args.out.now in
-    let cells = start.args.cells.now in
-    let f = step_free name.RR (RR _) refl at_admit.admit-at.ensures (none_first _) at_needed.needed-need.ensures
-    at_judge.judge-verdict.ensures at_if1.if-not-verdict.false in
-    let fits = cells_fit _ at_select.select-count.ensures f.standing.layout out cells at_if2.if-out-count.false at_if3.if-cells-count.false in
-    let left = (free_locked f at_grant.grant.ensures).left in
+    let out = c.args.out.now in
+    let cells = c.args.cells.now in
+    let f = step_free name.RR (RR _) refl c.admit-at.ensures (none_first _) c.needed-need.ensures
+    c.judge-verdict.ensures c.if-not-verdict.false in
+    let fits = cells_fit _ c.select-count.ensures f.standing.layout out cells c.if-out-count.false c.if-cells-count.false in
+    let left = (free_locked f c.grant.ensures).left in
     let granted = free_granted f (rooms_of out cells) (room_left _ (rooms_of out cells) fits) left in
-    cells_granted _ at_select.select-count.ensures at_numbers.numbers.ensures at_cells.cells.ensures granted
+    cells_granted _ c.select-count.ensures c.numbers.ensures c.cells.ensures granted

@@ -1,4 +1,3 @@
-use borrow.Author.Rules.{rules}
 use mathlib.Core.Path.{refl}
 use Rattle.locks.specs.declared.StepName.TheVariants as name
 use Rattle.rows.specs.Rows.{stepped}
@@ -13,80 +12,45 @@ judge-verdict-requires c = ready c.admit-at.ensures (none_first _)
 
 pub stop-requires : goal.stop-requires
 stop-requires c =
-    let at_judge = c in
-    let at_needed = at_judge in
-    let at_admit = at_needed in
-    stop_ready at_admit.admit-at.ensures (none_first _) at_judge.judge-verdict.ensures
+    stop_ready c.admit-at.ensures (none_first _) c.judge-verdict.ensures
 
 pub returns-then-not-verdict : goal.returns-then-not-verdict
 returns-then-not-verdict c =
-    let at_if1 = c in
-    let at_judge = at_if1 in
-    let at_needed = at_judge in
-    let at_admit = at_needed in
-    let start = at_admit in
-    stopped_one (step_stopped name.TT (TT _) refl at_admit.admit-at.ensures (none_first _) at_needed.needed-need.ensures
-    at_judge.judge-verdict.ensures at_if1.if-not-verdict.true (room_of start.args.out.now) c.stop.ensures) _
+    stopped_one (step_stopped name.TT (TT _) refl c.admit-at.ensures (none_first _) c.needed-need.ensures
+    c.judge-verdict.ensures c.if-not-verdict.true (room_of c.args.out.now) c.stop.ensures) _
 
 pub select-count-requires : goal.select-count-requires
 select-count-requires c =
-    let at_judge = c in
-    let at_needed = at_judge in
-    let at_admit = at_needed in
-    let f = step_free name.TT (TT _) refl at_admit.admit-at.ensures (none_first _) at_needed.needed-need.ensures
-    at_judge.judge-verdict.ensures c.if-not-verdict.false in
+    let f = step_free name.TT (TT _) refl c.admit-at.ensures (none_first _) c.needed-need.ensures
+    c.judge-verdict.ensures c.if-not-verdict.false in
     (f.standing.layout, f.standing.inside, refl)
 
 pub returns-then-out-count : goal.returns-then-out-count
 returns-then-out-count c =
-    let at_select = c in
-    let at_if1 = at_select in
-    let at_judge = at_if1 in
-    let at_needed = at_judge in
-    let at_admit = at_needed in
-    let start = at_admit in
-    let out = start.args.out.now in
-    let f = step_free name.TT (TT _) refl at_admit.admit-at.ensures (none_first _) at_needed.needed-need.ensures
-    at_judge.judge-verdict.ensures at_if1.if-not-verdict.false in
+    let out = c.args.out.now in
+    let f = step_free name.TT (TT _) refl c.admit-at.ensures (none_first _) c.needed-need.ensures
+    c.judge-verdict.ensures c.if-not-verdict.false in
     stopped_one (free_refused f (room_of out) 13 (room_short _ (room_of out)
-    (numbers_short _ at_select.select-count.ensures out c.if-out-count.true)) not_none) _
+    (numbers_short _ c.select-count.ensures out c.if-out-count.true)) not_none) _
 
 pub numbers-requires : goal.numbers-requires
 numbers-requires c =
-    let at_select = c in
-    let at_if1 = at_select in
-    let at_judge = at_if1 in
-    let at_needed = at_judge in
-    let at_admit = at_needed in
-    let f = step_free name.TT (TT _) refl at_admit.admit-at.ensures (none_first _) at_needed.needed-need.ensures
-    at_judge.judge-verdict.ensures at_if1.if-not-verdict.false in
-    (f.standing.layout, at_select.select-count.ensures.inside, c.if-out-count.false)
+    let f = step_free name.TT (TT _) refl c.admit-at.ensures (none_first _) c.needed-need.ensures
+    c.judge-verdict.ensures c.if-not-verdict.false in
+    (f.standing.layout, c.select-count.ensures.inside, c.if-out-count.false)
 
 pub grant-requires : goal.grant-requires
 grant-requires c =
-    let at_if1 = c in
-    let at_judge = at_if1 in
-    let at_needed = at_judge in
-    let at_admit = at_needed in
-    let f = step_free name.TT (TT _) refl at_admit.admit-at.ensures (none_first _) at_needed.needed-need.ensures
-    at_judge.judge-verdict.ensures at_if1.if-not-verdict.false in
+    let f = step_free name.TT (TT _) refl c.admit-at.ensures (none_first _) c.needed-need.ensures
+    c.judge-verdict.ensures c.if-not-verdict.false in
     (f.standing.layout, f.standing.low, f.standing.high, f.standing.climbed.inside)
 
 pub returns : goal.returns
 unfolding stepped
 returns c =
-    let at_grant = c in
-    let at_numbers = at_grant in
-    let at_if2 = at_numbers in
-    let at_select = at_if2 in
-    let at_if1 = at_select in
-    let at_judge = at_if1 in
-    let at_needed = at_judge in
-    let at_admit = at_needed in
-    let start = at_admit in
-    let out = start.args.out.now in
-    let f = step_free name.TT (TT _) refl at_admit.admit-at.ensures (none_first _) at_needed.needed-need.ensures
-    at_judge.judge-verdict.ensures at_if1.if-not-verdict.false in
-    let fits = room_left _ (room_of out) (numbers_fit _ at_select.select-count.ensures out at_if2.if-out-count.false) in
-    let granted = free_granted f (room_of out) fits (free_locked f at_grant.grant.ensures).left in
-    numbers_granted _ at_select.select-count.ensures at_numbers.numbers.ensures granted
+    let out = c.args.out.now in
+    let f = step_free name.TT (TT _) refl c.admit-at.ensures (none_first _) c.needed-need.ensures
+    c.judge-verdict.ensures c.if-not-verdict.false in
+    let fits = room_left _ (room_of out) (numbers_fit _ c.select-count.ensures out c.if-out-count.false) in
+    let granted = free_granted f (room_of out) fits (free_locked f c.grant.ensures).left in
+    numbers_granted _ c.select-count.ensures c.numbers.ensures granted

@@ -1,5 +1,4 @@
 use Rattle.xml_judging.specs.Laws.Element.{epilog_wrong, epilog_over}
-use borrow.Author.Rules.{rules}
 use Rattle.xml_judging.proofs.behind_root.Goals as goal
 
 pub returns-then-at-s : goal.returns-then-at-s

@@ -1,13 +1,10 @@
-use borrow.Author.Rules.{rules}
-use Prim.Native.Nat.{◌-◌, ◌≤◌}
 use mathlib.Core.Path.{subst}
 use native.Mathlib.Omega.{arith}
-use lib.ListN.{length}
 use Rattle.xml.specs.Laws.Automaton.{closed}
 use Rattle.xml_reader.specs.declared.Child.{Child}
 use Rattle.xml_reader.specs.Elements.{stack}
 use Rattle.xml_reader.specs.Children.{ChildRead}
-use Rattle.xml_judging.specs.Laws.Element.{ContentTo, content_start, content_deep, content_stopped, content_turn, content_over}
+use Rattle.xml_judging.specs.Laws.Element.{content_start, content_deep, content_stopped, content_turn, content_over}
 use Rattle.xml_judging.proofs.root_content.Goals as goal
 
 pub loop-depth-init : goal.loop-depth-init

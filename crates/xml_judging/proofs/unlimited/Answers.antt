@@ -9,36 +9,28 @@ use Rattle.xml_judging.proofs.unlimited.Goals as goal
 
 pub bounds-s-at : goal.bounds-s-at
 bounds-s-at c =
-    let c4 = c in
-    (root_named (subst (λ (r : Prolog). RootRead c4.args.s.now at_start 0 r) c.in-Root.is
-    c4.find_root.ensures)).inside
+    (root_named (subst (λ (r : Prolog). RootRead c.args.s.now at_start 0 r) c.in-Root.is
+    c.find_root.ensures)).inside
 
 pub returns-then-not-begins : goal.returns-then-not-begins
 returns-then-not-begins c =
-    let c4 = c in
-    let c6 = c4 in
-    root_unspelled _ _ (subst (λ (r : Prolog). RootRead c6.args.s.now at_start 0 r) c4.in-Root.is
-    c6.find_root.ensures) (sym c.begins.ensures ∙ not-true _ c.if-not-begins.true-raw)
+    root_unspelled _ _ (subst (λ (r : Prolog). RootRead c.args.s.now at_start 0 r) c.in-Root.is
+    c.find_root.ensures) (sym c.begins.ensures ∙ not-true _ c.if-not-begins.true-raw)
 
 pub root_element-requires : goal.root_element-requires
-root_element-requires c =
-    let c4 = c in
-    let c6 = c4 in (
-      root_named (subst (λ (r : Prolog). RootRead c6.args.s.now at_start 0 r) c4.in-Root.is
-          c6.find_root.ensures),
-      search rules,
-      search rules,
-    )
+root_element-requires c = (
+  root_named (subst (λ (r : Prolog). RootRead c.args.s.now at_start 0 r) c.in-Root.is
+      c.find_root.ensures),
+  search rules,
+  search rules,
+)
 
 pub returns-in-NoRoot : goal.returns-in-NoRoot
 returns-in-NoRoot c =
-    let c3 = c in
-    no_root_is _ _ (subst (λ (r : Prolog). RootRead c3.args.s.now at_start 0 r) c.in-NoRoot.is
-    c3.find_root.ensures)
+    no_root_is _ _ (subst (λ (r : Prolog). RootRead c.args.s.now at_start 0 r) c.in-NoRoot.is
+    c.find_root.ensures)
 
 pub returns-else-not-begins : goal.returns-else-not-begins
 returns-else-not-begins c =
-    let c5 = c in
-    let c7 = c5 in
-    root_is _ _ _ (search rules) (subst (λ (r : Prolog). RootRead c7.args.s.now at_start 0 r) c5.in-Root.is
-    c7.find_root.ensures) (sym c.begins.ensures ∙ not-false _ c.if-not-begins.false-raw) c.root_element.ensures
+    root_is _ _ _ (search rules) (subst (λ (r : Prolog). RootRead c.args.s.now at_start 0 r) c.in-Root.is
+    c.find_root.ensures) (sym c.begins.ensures ∙ not-false _ c.if-not-begins.false-raw) c.root_element.ensures

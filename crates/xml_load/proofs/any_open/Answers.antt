@@ -1,8 +1,6 @@
 use borrow.Author.Rules.{rules}
-use Prim.Native.Nat.{◌-◌, ◌≤◌}
 use mathlib.Core.Path.{sym, ◌∙◌}
-use Rattle.table.specs.Layout.{is_open}
-use Rattle.xml_load.specs.Laws.Opens.{Asking, ask_start, ask_open, ask_turn, ask_none}
+use Rattle.xml_load.specs.Laws.Opens.{ask_start, ask_open, ask_turn, ask_none}
 use Rattle.xml_load.proofs.any_open.Goals as goal
 
 pub loop-t-init : goal.loop-t-init

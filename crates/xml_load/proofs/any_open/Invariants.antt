@@ -1,8 +1,6 @@
-use borrow.Author.Rules.{rules}
 use Prim.Native.Nat.{◌-◌, ◌≤◌}
-use mathlib.Core.Path.{sym, ◌∙◌}
 use Rattle.table.specs.Layout.{is_open}
-use Rattle.xml_load.specs.Laws.Opens.{Asking, ask_start, ask_open, ask_turn, ask_none}
+use Rattle.xml_load.specs.Laws.Opens.{Asking}
 use Rattle.xml_load.proofs.any_open.Given as goal
 
 abbrev pub invariant-loop-t : goal.invariant-loop-t

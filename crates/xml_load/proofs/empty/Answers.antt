@@ -1,7 +1,6 @@
 use native.Mathlib.Omega.{arith}
 use Rattle.form.specs.Laws.Holds.{form_layout}
 use Rattle.xml_load.specs.Laws.Empty.{emptied}
-use borrow.Author.Rules.{rules}
 use Rattle.xml_load.proofs.empty.Goals as goal
 
 pub cut-requires : goal.cut-requires

@@ -5,7 +5,6 @@ use Rattle.form.specs.Laws.Holds.{form_layout}
 use Rattle.engine.specs.Laws.Outcomes.{performed_unformed}
 use Rattle.xml_load.specs.Laws.Judgement.{stands, fails}
 use Rattle.xml_load.specs.Laws.Load.{load_open, load_failed, load_granted}
-use borrow.Author.Rules.{rules}
 use Rattle.xml_load.proofs.load.Goals as goal
 
 pub returns-then-not-formed : goal.returns-then-not-formed
@@ -24,10 +23,8 @@ overflow_cast-result c = omega (arith, (fails _ (omega arith) _ _ _ _ c.in-Rejec
 
 pub replace-requires : goal.replace-requires
 replace-requires c =
-    let o = c in
-    let judge = c.judge in
-    let f = o in (
-      sym f.formed.ensures ∙ not-false _ f.if-not-formed.false-raw,
+    let judge = c.judge in (
+      sym c.formed.ensures ∙ not-false _ c.if-not-formed.false-raw,
       (_, stands _ (omega arith) (omega arith) _ _ _ c.in-Accepted.is judge.ensures),
     )
 
@@ -37,19 +34,15 @@ overflow_sub-result c =
     omega (arith, (stands _ (omega arith) (omega arith) _ _ _ c.in-Accepted.is judge.ensures).nodes)
 
 pub returns-in-Rejected : goal.returns-in-Rejected
-returns-in-Rejected c = let o = c in
-    let f = o in
-    λ i r. load_failed (sym f.formed.ensures ∙ not-false _ f.if-not-formed.false-raw) (sym o.any_open.ensures ∙ o.if-any_open.false) _
+returns-in-Rejected c = λ i r. load_failed (sym c.formed.ensures ∙ not-false _ c.if-not-formed.false-raw) (sym c.any_open.ensures ∙ c.if-any_open.false) _
     _
     (fails _ (omega arith) _ _ _ _ c.in-Rejected.is c.judge.ensures) i r
 
 pub returns-in-Accepted : goal.returns-in-Accepted
 returns-in-Accepted c =
-    let o = c in
     let judge = c.judge in
     let replace = c.replace in
-    let f = o in
-    let good = sym f.formed.ensures ∙ not-false _ f.if-not-formed.false-raw in
-    let none_open = sym o.any_open.ensures ∙ o.if-any_open.false in
+    let good = sym c.formed.ensures ∙ not-false _ c.if-not-formed.false-raw in
+    let none_open = sym c.any_open.ensures ∙ c.if-any_open.false in
     λ i r. load_granted good none_open _ (stands _ (omega arith) (omega arith) _ _ _ c.in-Accepted.is judge.ensures) replace.ensures
     i r

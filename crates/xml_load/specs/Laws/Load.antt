@@ -11,7 +11,7 @@ use Rattle.protocol.specs.Calls.{node_limit, loadable, Input, unreadable, stands
 use Rattle.protocol.specs.Answers.{answer_of, granted_answer}
 use Rattle.protocol.specs.declared.Answer.TheVariants.{Count, Refused, RefusedAt}
 use Rattle.table.specs.Flat.{flat}
-use Rattle.table.specs.Layout.{is_open, header, nodes, Left}
+use Rattle.table.specs.Layout.{is_open, header, Left}
 use Rattle.rows.proofs.Laws.Kept.{unique_load}
 use Rattle.form.specs.Form.{form, Holds}
 use Rattle.form.specs.Laws.Steps.{valid_load}
