@@ -1,5 +1,4 @@
 use mathlib.Core.Path.{refl}
-use borrow.Author.Rules.{rules}
 use Rattle.traces.proofs.Laws.Exports.{count_contract}
 use Rattle.document_calls.proofs.count_of.Goals as goal
 

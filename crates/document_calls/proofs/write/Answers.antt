@@ -1,4 +1,3 @@
-use borrow.Author.Rules.{rules}
 use Rattle.traces.proofs.Laws.Exports.{write_contract}
 use Rattle.document_calls.proofs.write.Goals as goal
 

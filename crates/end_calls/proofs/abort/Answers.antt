@@ -1,4 +1,3 @@
-use borrow.Author.Rules.{rules}
 use Rattle.traces.proofs.Laws.Exports.{abort_contract}
 use Rattle.end_calls.proofs.abort.Goals as goal
 

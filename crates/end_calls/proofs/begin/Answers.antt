@@ -1,4 +1,3 @@
-use borrow.Author.Rules.{rules}
 use Rattle.traces.proofs.Laws.Exports.{begin_contract}
 use Rattle.end_calls.proofs.begin.Goals as goal
 

@@ -1,4 +1,3 @@
-use borrow.Author.Rules.{rules}
 use Rattle.traces.proofs.Laws.Exports.{start_contract}
 use Rattle.end_calls.proofs.start.Goals as goal
 

@@ -1,4 +1,3 @@
-use borrow.Author.Rules.{rules}
 use Rattle.traces.specs.Contract.{makes_step}
 use Rattle.traces.proofs.Laws.Exports.{one_contract}
 use Rattle.read_calls.proofs.test_tree.Goals as goal

@@ -1,4 +1,3 @@
-use borrow.Author.Rules.{rules}
 use Rattle.traces.specs.Contract.{makes_step}
 use Rattle.traces.proofs.Laws.Exports.{none_contract}
 use Rattle.write_calls.proofs.insert.Goals as goal
