@@ -1,7 +1,7 @@
 -- The order of byte strings.
 use Rattle.std.specs.Prelude.{ℕ, ◌<◌, ◌≡◌, List, [], ◌∷◌}
-use Rattle.byte_strings.specs.declared.Order.{Order}
-use Rattle.byte_strings.specs.declared.Order.TheVariants.{Before, Same, Behind}
+use Rattle.std.specs.declared.cmp.Ordering.{Ordering}
+use Rattle.std.specs.declared.cmp.Ordering.TheVariants.{Less, Equal, Greater}
 
 -- by the first byte that differs; one that begins the other comes first
 pub data Precedes : List ℕ → List ℕ → Type 0 where
@@ -10,7 +10,7 @@ pub data Precedes : List ℕ → List ℕ → Type 0 where
   later : {x : ℕ} {xs ys : List ℕ} → Precedes xs ys → Precedes (x ∷ xs) (x ∷ ys)
 
 -- how a lies to b
-pub data Ordered (a b : List ℕ) : Order → Type 0 where
-  is_before : Precedes a b → Ordered a b Before
-  is_same : a ≡ b → Ordered a b Same
-  is_behind : Precedes b a → Ordered a b Behind
+pub data Ordered (a b : List ℕ) : Ordering → Type 0 where
+  is_before : Precedes a b → Ordered a b Less
+  is_same : a ≡ b → Ordered a b Equal
+  is_behind : Precedes b a → Ordered a b Greater

@@ -1,9 +1,8 @@
 -- Names in their order, each once, for those that were seen.
-use Rattle.std.specs.Prelude.{ℕ, suc, ◌+◌, ◌≤◌, ◌<◌, ◌≡◌, true, false, List, ◌∷◌, length, get_or}
+use Rattle.std.specs.Prelude.{ℕ, suc, ◌+◌, ◌≤◌, ◌<◌, ◌≡◌, true, false, List, ◌∷◌, Result, Ok, Err, length, get_or}
+use Rattle.std.specs.declared.cmp.Ordering.{Ordering}
 use Rattle.xml.specs.Bytes.{used}
-use Rattle.byte_strings.specs.Order.{Precedes}
-use Rattle.byte_strings.specs.declared.Place.{Place}
-use Rattle.byte_strings.specs.declared.Place.TheVariants.{Taken, Free}
+use Rattle.byte_strings.specs.Order.{Precedes, Ordered}
 
 -- the name of the i-th entry from place lo on; f is the name that an entry stands for
 unfoldable pub entries : (ℕ → List ℕ) → List ℕ → ℕ → ℕ → List ℕ
@@ -29,10 +28,14 @@ pub record Between (name : ℕ → List ℕ) (n low high : ℕ) (w : List ℕ) :
   pub below : (i : ℕ) → i < low → Precedes (name i) w
   pub above : (i : ℕ) → high ≤ i → i < n → Precedes w (name i)
 
--- where w belongs among the first n names
-pub data Belongs (name : ℕ → List ℕ) (n : ℕ) (w : List ℕ) : Place → Type 0 where
-  is_taken : Among name n w → Belongs name n w Taken
-  is_free : {k : ℕ} → k ≤ n → Between name n k k w → Belongs name n w (Free k)
+-- how the name of each entry lies to w, as far as `says` tells
+pub record Orders (says : ℕ → Ordering → Type 0) (os : List ℕ) (name : ℕ → List ℕ) (w : List ℕ) : Type 0 where
+  pub lies : (i : ℕ) {r : Ordering} → i < length os → says (get_or os i 0) r → Ordered (name i) w r
+
+-- where w belongs among the first n names: the one that it is, or the place that it can be put at
+pub data Belongs (name : ℕ → List ℕ) (n : ℕ) (w : List ℕ) : Result ℕ ℕ → Type 0 where
+  is_taken : {k : ℕ} → k < n → name k ≡ w → Belongs name n w (Ok k)
+  is_free : {k : ℕ} → k ≤ n → Between name n k k w → Belongs name n w (Err k)
 
 -- v is put at place `at`, the entries from there on, up to `end`, one place further
 pub record Inserted (os os' : List ℕ) (at end v : ℕ) : Type 0 where

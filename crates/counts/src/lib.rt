@@ -5,9 +5,9 @@ ghost use Rattle.std.specs.Prelude.{◌≡◌, ◌<◌, length};
 ghost use Rattle.protocol.specs.Calls.{count_of};
 ghost use Rattle.table.specs.Layout.{nodes, Layout};
 ghost use Rattle.engine.specs.Contract.{Performed};
-ghost use Rattle.counts.specs.Committed.{committed_at};
+ghost use Rattle.counts.specs.Committed.{committed_at, answered};
 
-use protocol::{Answer, causes};
+use protocol::{Answer, Cause};
 use table::counts;
 
 // Whether the node at p is one of the committed document. Bytes of the form may have nodes with no mark below an inserted one, so the way
@@ -20,9 +20,7 @@ fn committed(s: &[u8], p: usize) -> bool
         return false;
     }
     let mut e = table::depth(s, p);
-    let mut k = p;
-    while 0 < k {
-        k -= 1;
+    for k in (0..p).rev() {
         let d = table::depth(s, k);
         if e <= d {
             continue;
@@ -39,15 +37,18 @@ fn committed(s: &[u8], p: usize) -> bool
 pub fn count_of(s: &[u8], n: u32) -> Answer
     ensures { Performed s.now s.now result (count_of n) }
 {
+    try_count_of(s, n).unwrap_or_else(Answer::from)
+}
+
+fn try_count_of(s: &[u8], n: u32) -> Result<Answer, Cause>
+    ensures { Performed s.now s.now (answered result) (count_of n) }
+{
     if !form::formed(s) {
-        return Answer::Refused(causes::SHORT_BUFFER);
+        return Err(Cause::ShortBuffer);
     }
-    let p = table::find(s, n);
-    if table::count(s) <= p {
-        return Answer::Refused(causes::NO_SUCH_NODE);
-    }
+    let p = table::find(s, n).ok_or(Cause::NoSuchNode)?;
     if !committed(s, p) {
-        return Answer::Refused(causes::NO_SUCH_NODE);
+        return Err(Cause::NoSuchNode);
     }
-    Answer::Count(counts::count(s, p))
+    Ok(Answer::Count(counts::count(s, p)))
 }

@@ -12,13 +12,10 @@ fn round(sets: &[u16; 16], t: usize, reach: u16) -> u16
     ensures { (u : ℕ) → in_set result u ≡ onward (sets_of sets.now) t (in_set reach) u }
 {
     let mut next = sets[t - 1];
-    let mut v: usize = 0;
-    while v < 16 {
-        v += 1;
-        if !protocol::sets::has(reach, v) {
-            continue;
+    for (v, set) in sets.iter().enumerate() {
+        if protocol::sets::has(reach, v + 1) {
+            next |= *set;
         }
-        next = next | sets[v - 1];
     }
     next
 }
@@ -28,11 +25,9 @@ pub fn ring(sets: &[u16; 16], t: usize) -> bool
     requires { (length sets.now ≡ 16) × (1 ≤ t) × (t ≤ 16) }
     ensures { result ≡ in_ring (sets_of sets.now) t }
 {
-    let mut reach: u16 = 0;
-    let mut n: usize = 0;
-    while n < 16 {
+    let mut reach = 0;
+    for _ in 0..sets.len() {
         reach = round(sets, t, reach);
-        n += 1;
     }
     protocol::sets::has(reach, t)
 }

@@ -1,4 +1,5 @@
 // Load, write and count_of, answered by the number of 64 bits. Every contract is `Contract` of traces/specs/Contract.antt.
+// The parameters are those of the C interface.
 #![tactic(auto)]
 
 ghost use Rattle.traces.specs.Exchange.{Request, with_none, with_one};

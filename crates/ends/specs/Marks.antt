@@ -1,24 +1,25 @@
--- What a commit (true), the n-th, or an abort (false), where n plays no part, does to the marks of a node; the locks of the transaction are
--- released on their own.
-use Rattle.std.specs.Prelude.{ℕ, ◌+◌, Bool, true, false, cond, List, eqb}
+-- What a commit, the n-th, or an abort does to the marks of a node; the locks of the transaction are released on their own.
+use Rattle.std.specs.Prelude.{ℕ, ◌+◌, Bool, cond, List, eqb}
 use Rattle.protocol.specs.State.{nobody, writer_of, saved_of, Marked, Tree, seen_by, count_touched, lasting, undone, commit_tree}
 use Rattle.protocol.specs.State.{abort_tree, ended}
 use Rattle.table.specs.Fields.{field, with_field, with_bytes}
 use Rattle.table.specs.Layout.{Entry, Left, header}
 use Rattle.rows.specs.Rows.{not_inserted_by}
+use Rattle.ends.specs.declared.pass.Ending.{Ending}
+use Rattle.ends.specs.declared.pass.Ending.TheVariants.{Lasting, Undone}
 
 -- what an end keeps, what it leaves of that, and the tree
-abbrev pub stays : Bool → ℕ → Marked → Bool
-stays true t = seen_by t
-stays false t = not_inserted_by t
+abbrev pub stays : Ending → ℕ → Marked → Bool
+stays (Lasting n) t = seen_by t
+stays Undone t = not_inserted_by t
 
-abbrev pub at_end : Bool → ℕ → ℕ → Marked → Marked
-at_end true n t = lasting n t
-at_end false n t = undone t
+abbrev pub at_end : Ending → ℕ → Marked → Marked
+at_end (Lasting n) t = lasting n t
+at_end Undone t = undone t
 
-abbrev pub end_tree : Bool → ℕ → ℕ → Tree → Tree
-end_tree true n t f = commit_tree n t f
-end_tree false n t f = abort_tree t f
+abbrev pub end_tree : Ending → ℕ → Tree → Tree
+end_tree (Lasting n) t f = commit_tree n t f
+end_tree Undone t f = abort_tree t f
 
 -- mark o (1 writer, 2 inserter, 3 deleter) of t is nobody's
 abbrev pub without_mark : ℕ → ℕ → Marked → Marked
@@ -29,9 +30,9 @@ abbrev pub rewritten : ℕ → Marked → Marked
 rewritten t a = with_bytes (cond (eqb (writer_of a.update) t) (saved_of a.update) a.now.content) a
 
 -- what t wrote and inserted is everybody's and bears the count; what t wrote and deleted is as before
-abbrev pub ended_marks : Bool → ℕ → ℕ → Marked → Marked
-ended_marks true n t a = without_mark 2 t (without_mark 1 t (count_touched n t a))
-ended_marks false n t a = without_mark 3 t (without_mark 1 t (rewritten t a))
+abbrev pub ended_marks : Ending → ℕ → Marked → Marked
+ended_marks (Lasting n) t a = without_mark 2 t (without_mark 1 t (count_touched n t a))
+ended_marks Undone t a = without_mark 3 t (without_mark 1 t (rewritten t a))
 
 -- the three marks added: 0 where nobody has one
 abbrev pub marks_sum : Marked → ℕ

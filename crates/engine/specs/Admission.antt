@@ -1,13 +1,15 @@
 -- What is judged before a step's own causes: 13 for the state, 1, 3 and 7.
-use Rattle.std.specs.Prelude.{◌≡◌, ℕ, ◌≤◌, ◌<◌, true, false, List, length}
+use Rattle.std.specs.Prelude.{◌≡◌, ℕ, ◌≤◌, ◌<◌, true, false, List, length, Result, MatchResult}
 use Rattle.tree.specs.Steps.{Step, target}
+use Rattle.protocol.specs.declared.causes.Cause.{Cause}
+use Rattle.protocol.specs.CauseNumbers.{number_of as number_of_cause}
 use Rattle.protocol.specs.State.{State}
 use Rattle.protocol.specs.Lent.{Room}
 use Rattle.protocol.specs.Calls.{step, Next, unchanged, refused, if_open, next}
 use Rattle.table.specs.Layout.{nodes, is_open, Layout}
 use Rattle.rows.specs.Places.{item, number_of, seen_at}
 use Rattle.rows.specs.Found.{judged_at}
-use Rattle.engine.specs.Way.{Places, Climbed}
+use Rattle.engine.specs.Way.{Climbed}
 use Rattle.form.specs.Form.{form, Holds}
 use Rattle.engine.specs.declared.Admission.{Admission}
 
@@ -33,15 +35,14 @@ pub record Caller (s : List ℕ) (t cause : ℕ) : Type 0 where
 
 -- the node -----------------------------------------------------------------------------
 
--- what is found of a step: the admission, with the places of the way up, which are lent beside it
+-- where a step stands: its transaction, the place of its node, and the places of the way up from there
 pub record Site : Type 0 where
-  pub cause : ℕ
   pub t : ℕ
   pub place : ℕ
-  pub way : Places
+  pub way : List ℕ
 
-abbrev pub site : Admission → List ℕ → Site
-site a places = record { cause = a.cause; t = a.t; place = a.place; way = record { places = places; count = a.count } }
+abbrev pub site : Admission → Site
+site a = record { t = a.t; place = a.place; way = a.way.now }
 
 -- every step of t on n is refused by this cause: 13, 1, 3 or 7
 pub record Rejected (s : List ℕ) (t n cause : ℕ) : Type 0 where
@@ -63,7 +64,6 @@ pub record Standing (s : List ℕ) (t n : ℕ) (a : Site) : Type 0 where
   pub next : (M : State) → Holds s M → (st : Step) → target st ≡ n → (room : Room)
       → next (step t st room) M ≡ judged_at a.t st room M (nodes s) a.place
 
--- which of the two, by the cause, 0 for none
-pub record Admitted (s : List ℕ) (t n : ℕ) (a : Site) : Type 0 where
-  pub rejected : (a.cause ≡ 0 → ⊥) → Rejected s t n a.cause
-  pub standing : a.cause ≡ 0 → Standing s t n a
+-- which of the two
+abbrev pub Admitted : List ℕ → ℕ → ℕ → Result Admission Cause → Type 0
+Admitted s t n r = MatchResult r (λ a. Standing s t n (site a)) (λ c. Rejected s t n (number_of_cause c))

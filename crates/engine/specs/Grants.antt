@@ -10,7 +10,6 @@ use Rattle.table.specs.Lists.{modify}
 use Rattle.table.specs.Flat.{second}
 use Rattle.table.specs.Layout.{Entry, nodes, header, Left, Kept}
 use Rattle.rows.specs.Rows.{granted_along}
-use Rattle.engine.specs.Way.{Places, places_of}
 use Rattle.engine.specs.Waits.{word_at}
 
 -- t is granted the modes of a word on a node
@@ -27,8 +26,8 @@ unfoldable pub granted_on : ℕ → Need → List ℕ → List Entry → List En
 granted_on t w is l = granted_along t w.node w.parent w.above is l
 
 -- t was granted on the way what a step needs, whichever step needs these sets
-pub record Granted (s s' : List ℕ) (t : ℕ) (w : NeedWords) (way : Places) : Type 0 where
-  pub kept : (st : Step) → w ≡ words (need st) → Kept s s' (granted_on t (need st) (places_of way) (nodes s))
+pub record Granted (s s' : List ℕ) (t : ℕ) (w : NeedWords) (way : List ℕ) : Type 0 where
+  pub kept : (st : Step) → w ≡ words (need st) → Kept s s' (granted_on t (need st) way (nodes s))
 
 -- these nodes, as many as before, and t waits for nobody
 pub record Settled (s s' : List ℕ) (t : ℕ) (ns : List Entry) : Type 0 where
@@ -36,5 +35,5 @@ pub record Settled (s s' : List ℕ) (t : ℕ) (ns : List Entry) : Type 0 where
   pub many : length (nodes s') ≡ length (nodes s)
 
 -- what a step that is granted leaves beside what it does itself: its locks on the way, and no wait
-pub record GrantedStep (s s' : List ℕ) (t : ℕ) (w : NeedWords) (way : Places) : Type 0 where
-  pub settled : (st : Step) → w ≡ words (need st) → Settled s s' t (granted_on t (need st) (places_of way) (nodes s))
+pub record GrantedStep (s s' : List ℕ) (t : ℕ) (w : NeedWords) (way : List ℕ) : Type 0 where
+  pub settled : (st : Step) → w ≡ words (need st) → Settled s s' t (granted_on t (need st) way (nodes s))

@@ -1,3 +1,4 @@
+pub mod Causes
 pub mod Outcomes
 pub mod Admission
 pub mod Waiting

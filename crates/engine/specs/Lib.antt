@@ -1,3 +1,4 @@
+pub mod Causes
 pub mod Contract
 pub mod Admission
 pub mod Judgement

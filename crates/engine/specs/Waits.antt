@@ -9,7 +9,7 @@ use Rattle.locks.specs.declared.NeedWords.{NeedWords}
 use Rattle.protocol.specs.State.{Marked}
 use Rattle.table.specs.Layout.{nodes, is_open}
 use Rattle.rows.specs.Found.{wait_word}
-use Rattle.engine.specs.Way.{Places, nodes_of}
+use Rattle.engine.specs.Way.{nodes_at}
 
 -- the set for the j-th node of the way
 abbrev pub word_at : NeedWords → ℕ → ℕ
@@ -41,5 +41,5 @@ unfoldable pub blocks_by : ℕ → NeedWords → (ℕ → Bool) → List Marked 
 blocks_by t w is_open way u = is_open u && not (eqb u t) && touches_from w 0 u way
 
 -- what a step of t waits for on the way, whichever step needs these sets
-pub record WaitsFor (s : List ℕ) (t : ℕ) (w : NeedWords) (way : Places) (set : ℕ) : Type 0 where
-  pub is : (st : Step) → w ≡ words (need st) → set ≡ wait_word t (need st) (is_open s) (nodes_of (nodes s) way)
+pub record WaitsFor (s : List ℕ) (t : ℕ) (w : NeedWords) (way : List ℕ) (set : ℕ) : Type 0 where
+  pub is : (st : Step) → w ≡ words (need st) → set ≡ wait_word t (need st) (is_open s) (nodes_at (nodes s) way)

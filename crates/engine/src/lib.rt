@@ -4,125 +4,113 @@
 
 pub mod locking;
 
-ghost use Rattle.std.specs.Prelude.{◌≡◌, false, cond, ◌<◌, ◌≤◌, length, eqb};
+ghost use Rattle.std.specs.Prelude.{◌≡◌, ℕ, List, cond, ◌<◌, ◌≤◌, MatchResult, ⊤, length, eqb};
 ghost use Rattle.tree.specs.Content.{document_kind};
 ghost use Rattle.tree.specs.Steps.{T, parent};
 ghost use Rattle.protocol.specs.Causes.{kind_not_allowed};
 ghost use Rattle.protocol.specs.State.{in_set, with_set};
 ghost use Rattle.protocol.specs.Rings.{in_ring};
-ghost use Rattle.protocol.specs.Calls.{step};
-ghost use Rattle.protocol.specs.declared.Answer.TheVariants.{Refused};
+ghost use Rattle.protocol.specs.Calls.{Call, step};
 ghost use Rattle.table.specs.Layout.{remembered, nodes, Layout};
 ghost use Rattle.rows.specs.Places.{item, numbers_above};
-ghost use Rattle.engine.specs.Way.{Climbed, Inside};
+ghost use Rattle.engine.specs.declared.Stop.TheVariants.{Refused};
+ghost use Rattle.engine.specs.Way.{Climbed, AllInside};
 ghost use Rattle.engine.specs.Grants.{GrantedStep};
 ghost use Rattle.engine.specs.Contract.{Performed, no_room};
+ghost use Rattle.engine.specs.Causes.{cause_of};
 ghost use Rattle.engine.specs.Admission.{Caller, site, Admitted};
-ghost use Rattle.engine.specs.Judgement.{FirstOf, Judged, with_wait};
+ghost use Rattle.engine.specs.Judgement.{Judged, Tried, CanStop, told, left_by};
 
 use locks::{NeedWords, StepName};
-use protocol::{Answer, causes};
+use protocol::{Answer, Cause};
+use table::layout::NODES;
 use table::{sets, transactions};
 
-// The cause 13, 1 or 3 of a call of transaction t, or 0.
-pub fn caller(s: &[u8], t: u32) -> u8
-    ensures { Caller s.now t result }
+// The cause 13, 1 or 3 of a call of transaction t, if there is one.
+pub fn caller(s: &[u8], t: u32) -> Result<(), Cause>
+    ensures { Caller s.now t (cause_of result) }
 {
     if !form::formed(s) {
-        return causes::SHORT_BUFFER;
+        return Err(Cause::ShortBuffer);
     }
-    if t == 0 {
-        return causes::NOT_A_TRANSACTION;
-    }
-    if 16 < t {
-        return causes::NOT_A_TRANSACTION;
+    if t == 0 || 16 < t {
+        return Err(Cause::NotATransaction);
     }
     if !transactions::is_open(s, t as usize) {
-        return causes::NOT_OPEN;
+        return Err(Cause::NotOpen);
     }
-    0
+    Ok(())
 }
 
-// A step before its own causes: why it is refused, or 0; then its transaction, the place of its node, and how many nodes the way up from
-// there has. Their places, 2 KB, are lent beside it and not copied.
+// Where a step stands that was admitted: its transaction, the place of its node, and the places of the way up from there. They are lent,
+// since there may be 2 KB of them.
 #[derive(Clone, Copy)]
-pub struct Admission {
-    pub cause: u8,
+pub struct Admission<'a> {
     pub t: u8,
     pub place: usize,
-    pub count: usize,
+    pub way: &'a [u16],
 }
 
-// Refused by this cause.
-fn rejected(cause: u8) -> Admission
-    ensures { result.cause ≡ cause }
+// A step of transaction t on node n: the cause 13, 1, 3 or 7, or where it stands. The way is put into `places`.
+pub fn admit<'a>(
+    s: &[u8],
+    t: u32,
+    n: u32,
+    places: &'a mut [u16; NODES],
+) -> Result<Admission<'a>, Cause>
+    requires { length places.old ≡ 1024 }
+    ensures { Admitted s.now t n result }
 {
-    Admission {
-        cause,
-        t: 0,
-        place: 0,
-        count: 0,
-    }
+    caller(s, t)?;
+    let place = table::find(s, n).ok_or(Cause::NoSuchNode)?;
+    let t = t as u8;
+    let way = locking::way_up(s, t, place, places).ok_or(Cause::NoSuchNode)?;
+    Ok(Admission { t, place, way })
 }
 
-// A step of transaction t on node n: the cause 13, 1, 3 or 7, or where it stands, with the way up from there. Of `way` only the first
-// `count` places are meant; the others, and all where the step is refused, may hold anything.
-pub fn admit(s: &[u8], t: u32, n: u32, way: &mut [u16; 1024]) -> Admission
-    requires { length way.old ≡ 1024 }
-    ensures { Admitted s.now t n (site result way.new) }
+// The kind of the document.
+const DOCUMENT: u8 = 1;
+
+// Cause 8 of R, U and D, for the document.
+pub fn document_cause(s: &[u8], place: usize) -> Result<(), Cause>
+    requires { (Layout s.now) × (place < length (nodes s.now)) }
+    ensures { cause_of result ≡ cond (eqb (item (nodes s.now) place).now.kind document_kind) kind_not_allowed 0 }
 {
-    let cause = caller(s, t);
-    if cause != 0 {
-        return rejected(cause);
+    if table::kind(s, place) == DOCUMENT {
+        return Err(Cause::KindNotAllowed);
     }
-    let place = table::find(s, n);
-    if table::count(s) <= place {
-        return rejected(causes::NO_SUCH_NODE);
-    }
-    let u = t as u8;
-    let count = locking::way_up(s, u, place, way);
-    if count == 0 {
-        return rejected(causes::NO_SUCH_NODE);
-    }
-    Admission {
-        cause: 0,
-        t: u,
-        place,
-        count,
+    Ok(())
+}
+
+// Why a step is not granted: a refusal, or a wait for the transactions of a set.
+#[derive(Clone, Copy, Debug, PartialEq, Eq)]
+pub enum Stop {
+    Refused(Cause),
+    Waits(u16),
+}
+
+impl From<Cause> for Stop {
+    ghost from_gives = { λ cause stop. stop ≡ Refused cause };
+
+    fn from(cause: Cause) -> Stop {
+        Stop::Refused(cause)
     }
 }
 
-// A cause found already, or else cause 8 of R, U and D, for the document, or 0.
-pub fn document_cause(s: &[u8], found: u8, place: usize) -> u8
-    requires { found ≡ 0 → ((Layout s.now) × (place < length (nodes s.now))) }
-    ensures { FirstOf found (cond (eqb (item (nodes s.now) place).now.kind document_kind) kind_not_allowed 0) result }
+// What a step answers that was tried: a wait is remembered here, and a refusal changes nothing.
+pub fn answer(s: &mut [u8], t: u32, outcome: Result<Answer, Stop>) -> Answer
+    requires { MatchResult outcome (λ x. ⊤) (CanStop s.old t) }
+    ensures told { result ≡ told outcome }
+    ensures left { s.new ≡ left_by t outcome s.old }
+    ensures performed { (first : List ℕ) (call : Call) → Tried first s.old t outcome call → Performed first s.new result call }
 {
-    if found != 0 {
-        return found;
-    }
-    if table::kind(s, place) == 1 {
-        return causes::KIND_NOT_ALLOWED;
-    }
-    0
-}
-
-// Whether nothing keeps a step from being granted, so far; else the refusal or the wait. The set is 0 unless the step waits.
-#[derive(Clone, Copy)]
-pub struct Verdict {
-    pub free: bool,
-    pub set: u16,
-    pub answer: Answer,
-}
-
-// Refused by this cause.
-fn refusal(cause: u8) -> Verdict
-    ensures { result ≡ record { free = false; set = 0; answer = Refused cause } }
-{
-    let answer = Answer::Refused(cause);
-    Verdict {
-        free: false,
-        set: 0,
-        answer,
+    match outcome {
+        Ok(answer) => answer,
+        Err(Stop::Refused(cause)) => Answer::from(cause),
+        Err(Stop::Waits(set)) => {
+            sets::remember(s, t as usize, set);
+            Answer::Waits(set)
+        }
     }
 }
 
@@ -131,83 +119,67 @@ fn closes_ring(s: &[u8], t: usize, set: u16) -> bool
     requires { (Layout s.now) × (1 ≤ t) × (t ≤ 16) }
     ensures { result ≡ in_ring (with_set t (in_set set) (remembered s.now)) t }
 {
-    let mut words = sets::gather(s).words;
+    let mut words = sets::gather(s);
     words[t - 1] = set;
     deadlock::ring(&words, t)
 }
 
-// A step that was admitted, with the first cause before the wait, or 0, and what it needs: refused, or waiting, or free.
-pub fn judge(s: &[u8], at: Admission, way: &[u16; 1024], cause: u8, w: NeedWords) -> Verdict
-    requires { cause ≡ 0 → ((Layout s.now) × (Inside (nodes s.now) (site at way.now).way) × (1 ≤ at.t) × (at.t ≤ 16)) }
-    ensures { Judged s.now (site at way.now) cause w result }
+// A step that was admitted, with no cause before the wait, and what it needs: refused, or waiting, or free.
+pub fn judge(s: &[u8], at: Admission, w: NeedWords) -> Result<(), Stop>
+    requires { (Layout s.now) × AllInside (nodes s.now) at.way.now × (1 ≤ at.t) × (at.t ≤ 16) }
+    ensures { Judged s.now (site at.entry) w result }
 {
-    if cause != 0 {
-        return refusal(cause);
-    }
-    let set = locking::waits(s, at.t as usize, w, way, at.count);
+    let t = usize::from(at.t);
+    let set = locking::waits(s, t, w, at.way);
     if set == 0 {
-        let answer = Answer::Done;
-        return Verdict {
-            free: true,
-            set,
-            answer,
-        };
+        return Ok(());
     }
-    if closes_ring(s, at.t as usize, set) {
-        return refusal(causes::DEADLOCK);
+    if closes_ring(s, t, set) {
+        return Err(Stop::Refused(Cause::Deadlock));
     }
-    let answer = Answer::Waits(set);
-    Verdict {
-        free: false,
-        set,
-        answer,
-    }
-}
-
-// A step that is not granted: a wait is remembered, and a refusal changes nothing.
-pub fn stop(s: &mut [u8], at: Admission, verdict: Verdict) -> Answer
-    requires { (verdict.set ≡ 0 → ⊥) → ((Layout s.old) × (1 ≤ at.t) × (at.t ≤ 16)) }
-    ensures { (result ≡ verdict.answer) × (s.new ≡ with_wait at.t verdict.set s.old) }
-{
-    if verdict.set != 0 {
-        sets::remember(s, at.t as usize, verdict.set);
-    }
-    verdict.answer
+    Err(Stop::Waits(set))
 }
 
 // Grants the locks of a step, and empties the wait set of its transaction.
-pub fn grant(s: &mut [u8], at: Admission, way: &[u16; 1024], w: NeedWords)
-    requires { (Layout s.old) × (1 ≤ at.t) × (at.t ≤ 16) × Inside (nodes s.old) (site at way.now).way }
-    ensures { GrantedStep s.old s.new at.t w (site at way.now).way }
+pub fn grant(s: &mut [u8], at: Admission, w: NeedWords)
+    requires { (Layout s.old) × (1 ≤ at.t) × (at.t ≤ 16) × AllInside (nodes s.old) at.way.now }
+    ensures { GrantedStep s.old s.new at.entry.t w at.entry.way.now }
 {
-    sets::remember(s, at.t as usize, 0);
-    locking::grant(s, at.t as usize, w, way, at.count);
+    let t = usize::from(at.t);
+    sets::remember(s, t, 0);
+    locking::grant(s, t, w, at.way);
 }
 
 // The number of the node's parent, the second on the way up, or 0 for the document.
-fn parent(s: &[u8], at: Admission, way: &[u16; 1024]) -> u32
-    requires { (Layout s.now) × Climbed (nodes s.now) at.place (site at way.now).way }
-    ensures { result ≡ parent (numbers_above (nodes s.now) at.place) }
+// T answers 0 where there is no parent (parent in tree/specs/Steps.antt), so this is no Option.
+fn parent(s: &[u8], at: Admission) -> u32
+    requires { (Layout s.now) × Climbed (nodes s.now) at.place at.way.now }
+    ensures { result ≡ parent (numbers_above (nodes s.now) at.entry.place) }
 {
-    if at.count < 2 {
-        return 0;
+    match at.way.get(1) {
+        Some(place) => table::number(s, usize::from(*place)),
+        None => 0,
     }
-    table::number(s, way[1] as usize)
 }
 
 // T(n): the kind and the parent of node n.
 pub fn test(s: &mut [u8], t: u32, n: u32) -> Answer
     ensures { Performed s.old s.new result (step t (T n) no_room) }
 {
-    let mut way = [0u16; 1024];
-    let at = admit(s, t, n, &mut way);
+    let outcome = try_test(s, t, n);
+    answer(s, t, outcome)
+}
+
+// T tried: what it answers if it is granted, or what stops it.
+fn try_test(s: &mut [u8], t: u32, n: u32) -> Result<Answer, Stop>
+    ensures { Tried s.old s.new t result (step t (T n) no_room) }
+{
+    let mut places = [0u16; NODES];
+    let at = admit(s, t, n, &mut places)?;
     let need = locks::needed(StepName::T);
-    let verdict = judge(s, at, &way, at.cause, need);
-    if !verdict.free {
-        return stop(s, at, verdict);
-    }
+    judge(s, at, need)?;
     let kind = table::kind(s, at.place);
-    let parent = parent(s, at, &way);
-    grant(s, at, &way, need);
-    Answer::Node { kind, parent }
+    let parent = parent(s, at);
+    grant(s, at, need);
+    Ok(Answer::Node { kind, parent })
 }

@@ -1,55 +1,54 @@
 // The way up from a node, the transactions that a step waits for there, and the locks that it is granted.
-ghost use Rattle.std.specs.Prelude.{◌≡◌, ◌<◌, ◌≤◌, length};
+ghost use Rattle.std.specs.Prelude.{◌≡◌, false, ◌<◌, ◌≤◌, length, MatchOption};
 ghost use Rattle.locks.specs.Words.{mask_of};
 ghost use Rattle.table.specs.Lists.{modify};
 ghost use Rattle.table.specs.Flat.{second};
 ghost use Rattle.table.specs.Layout.{nodes, is_open, Layout, Kept};
-ghost use Rattle.engine.specs.Way.{nodes_of, Inside, Climb};
+ghost use Rattle.rows.specs.Places.{seen_at};
+ghost use Rattle.engine.specs.Way.{nodes_at, AllInside, Seen};
 ghost use Rattle.engine.specs.Waits.{word_at, masks_of, SmallWords, touches_from, blocks_by, WaitsFor};
 ghost use Rattle.engine.specs.Grants.{with_more, Granted};
 
 use locks::NeedWords;
+use table::layout::NODES;
 use table::transactions;
 
-// The places of the node at p and of its proper ancestors, the parent first; how many, and 0 where t deleted one of these nodes.
-pub fn way_up(s: &[u8], t: u8, p: usize, places: &mut [u16; 1024]) -> usize
+// The places of the node at p and of its proper ancestors, the parent first, if t deleted none of these nodes.
+// The caller lends the array, since there is no heap; by value it takes 2 KB more of the stack.
+pub fn way_up<'a>(s: &[u8], t: u8, p: usize, places: &'a mut [u16; NODES]) -> Option<&'a [u16]>
     requires { (Layout s.now) × (p < length (nodes s.now)) × (length places.old ≡ 1024) }
-    ensures { Climb (nodes s.now) t p (record { places = places.exit.now; count = result }) }
+    ensures { MatchOption result (seen_at t (nodes s.now) p ≡ false) (λ way. Seen (nodes s.now) t p way.now) }
 {
     if table::deleter(s, p) == t {
-        return 0;
+        return None;
     }
     places[0] = p as u16;
     let mut count: usize = 1;
     let mut e = table::depth(s, p);
-    let mut k = p;
-    while 0 < k {
-        k -= 1;
+    for k in (0..p).rev() {
         let d = table::depth(s, k);
         if e <= d {
             continue;
         }
         if table::deleter(s, k) == t {
-            return 0;
+            return None;
         }
         places[count] = k as u16;
         count += 1;
         e = d;
     }
-    count
+    Some(&places[..count])
 }
 
 // The set for the j-th node of the way.
 fn word_at(w: NeedWords, j: usize) -> u16
     ensures { result ≡ word_at w j }
 {
-    if j == 0 {
-        return w.node;
+    match j {
+        0 => w.node,
+        1 => w.parent,
+        _ => w.above,
     }
-    if j == 1 {
-        return w.parent;
-    }
-    w.above
 }
 
 // The modes that clash with one of the parent's set, by those above it where both sets are the same, as for most steps.
@@ -80,59 +79,39 @@ fn masks(w: NeedWords) -> NeedWords
 
 // Whether transaction u holds a mode of the masks on the way. The places are lent, since a copy for each transaction would take as long as
 // the transaction's own modes.
-fn touches(s: &[u8], u: usize, masks: NeedWords, places: &[u16; 1024], count: usize) -> bool
-    requires { (Layout s.now) × (1 ≤ u) × (u ≤ 16) × SmallWords masks
-        × Inside (nodes s.now) (record { places = places.now; count = count }) }
-    ensures { result ≡ touches_from masks 0 u
-        (nodes_of (nodes s.now) (record { places = places.entry.now; count = count })) }
+fn touches(s: &[u8], u: usize, masks: NeedWords, way: &[u16]) -> bool
+    requires { (Layout s.now) × (1 ≤ u) × (u ≤ 16) × SmallWords masks × AllInside (nodes s.now) way.now }
+    ensures { result ≡ touches_from masks 0 u (nodes_at (nodes s.now) way.now) }
 {
     let held = transactions::load(s, u);
-    let mut j: usize = 0;
-    while j < count {
-        let k = table::slot(s, places[j] as usize);
+    for (j, place) in way.iter().enumerate() {
+        let k = table::slot(s, usize::from(*place));
         if locks::share(held.modes[k], word_at(masks, j)) {
             return true;
         }
-        j += 1;
     }
     false
 }
 
 // Whether a step of t waits for u.
-fn blocks(
-    s: &[u8],
-    t: usize,
-    u: usize,
-    masks: NeedWords,
-    places: &[u16; 1024],
-    count: usize,
-) -> bool
-    requires { (Layout s.now) × (1 ≤ u) × (u ≤ 16) × SmallWords masks
-        × Inside (nodes s.now) (record { places = places.now; count = count }) }
-    ensures { result ≡ blocks_by t masks (is_open s.now)
-        (nodes_of (nodes s.now) (record { places = places.entry.now; count = count })) u }
+#[tactic(auto, unfolding(crate::specs::Waits::blocks_by))]
+fn blocks(s: &[u8], t: usize, u: usize, masks: NeedWords, way: &[u16]) -> bool
+    requires { (Layout s.now) × (1 ≤ u) × (u ≤ 16) × SmallWords masks × AllInside (nodes s.now) way.now }
+    ensures { result ≡ blocks_by t masks (is_open s.now) (nodes_at (nodes s.now) way.now) u }
 {
-    if !transactions::is_open(s, u) {
-        return false;
-    }
-    if u == t {
-        return false;
-    }
-    touches(s, u, masks, places, count)
+    transactions::is_open(s, u) && u != t && touches(s, u, masks, way)
 }
 
 // The set of the transactions that a step of t waits for, by what the step needs: bit u-1 for u.
-pub fn waits(s: &[u8], t: usize, w: NeedWords, places: &[u16; 1024], count: usize) -> u16
-    requires { (Layout s.now) × Inside (nodes s.now) (record { places = places.now; count = count }) }
-    ensures { WaitsFor s.now t w (record { places = places.entry.now; count = count }) result }
+pub fn waits(s: &[u8], t: usize, w: NeedWords, way: &[u16]) -> u16
+    requires { (Layout s.now) × AllInside (nodes s.now) way.now }
+    ensures { WaitsFor s.now t w way.now result }
 {
     let masks = masks(w);
     let mut set: u16 = 0;
-    let mut u: usize = 16;
-    while 0 < u {
-        let b = blocks(s, t, u, masks, places, count);
+    for u in (1..17).rev() {
+        let b = blocks(s, t, u, masks, way);
         set = locks::bit_below(set, b);
-        u -= 1;
     }
     set
 }
@@ -147,13 +126,11 @@ fn add(s: &mut [u8], t: usize, i: usize, w: u16)
 }
 
 // Transaction t is granted what a step needs on the way.
-pub fn grant(s: &mut [u8], t: usize, w: NeedWords, places: &[u16; 1024], count: usize)
-    requires { (Layout s.old) × (1 ≤ t) × (t ≤ 16) × Inside (nodes s.old) (record { places = places.now; count = count }) }
-    ensures { Granted s.old s.new t w (record { places = places.entry.now; count = count }) }
+pub fn grant(s: &mut [u8], t: usize, w: NeedWords, way: &[u16])
+    requires { (Layout s.old) × (1 ≤ t) × (t ≤ 16) × AllInside (nodes s.old) way.now }
+    ensures { Granted s.old s.new t w way.now }
 {
-    let mut j: usize = 0;
-    while j < count {
-        add(s, t, places[j] as usize, word_at(w, j));
-        j += 1;
+    for (j, place) in way.iter().enumerate() {
+        add(s, t, usize::from(*place), word_at(w, j));
     }
 }

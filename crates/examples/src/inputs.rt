@@ -1,49 +1,16 @@
 // Inputs that are too long to be written out.
 
-// A byte, where it has room.
-fn byte(x: &mut [u8], at: usize, b: u8) {
-    if at < x.len() {
-        x[at] = b;
-    }
-}
+const MOST_CHILDREN: usize = 1023;
 
-// The start tag.
-fn open(x: &mut [u8]) {
-    byte(x, 0, b'<');
-    byte(x, 1, b'a');
-    byte(x, 2, b'>');
-}
-
-// The i-th child, from 0.
-fn child(x: &mut [u8], i: usize) {
-    if 1023 < i {
-        return;
+// An element with so many empty elements in it, or nothing where it has no room. The end tag has as many bytes as one of these.
+pub fn element(input: &mut [u8; 4099], children: usize) -> &[u8] {
+    if MOST_CHILDREN < children {
+        return &[];
     }
-    let at = 3 + 4 * i;
-    byte(x, at, b'<');
-    byte(x, at + 1, b'b');
-    byte(x, at + 2, b'/');
-    byte(x, at + 3, b'>');
-}
-
-// The end tag, behind n children.
-fn close(x: &mut [u8], n: usize) -> usize {
-    if 1023 < n {
-        return 0;
+    let (start, rest) = input.split_at_mut(3);
+    start.copy_from_slice(b"<a>");
+    for (i, piece) in rest.chunks_exact_mut(4).enumerate() {
+        piece.copy_from_slice(if i < children { b"<b/>" } else { b"</a>" });
     }
-    let at = 3 + 4 * n;
-    byte(x, at, b'<');
-    byte(x, at + 1, b'/');
-    byte(x, at + 2, b'a');
-    byte(x, at + 3, b'>');
-    at + 4
-}
-
-// An element with n empty elements in it; its length.
-pub fn element(x: &mut [u8], n: usize) -> usize {
-    open(x);
-    for i in 0..n {
-        child(x, i);
-    }
-    close(x, n)
+    &input[..7 + 4 * children]
 }

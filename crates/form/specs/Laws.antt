@@ -12,5 +12,6 @@ pub mod Sets
 pub mod Numbers
 pub mod Check
 pub mod Start
+pub mod Begun
 pub mod Free
 pub mod FreeLocks

@@ -11,24 +11,17 @@ fn set_open(opens: u16, t: usize, w: u16) -> bool
     requires { (1 ≤ t) × (t ≤ 16) }
     ensures { result ≡ set_open opens t w }
 {
-    if w == 0 {
-        return true;
-    }
-    if !protocol::sets::has(opens, t) {
-        return false;
-    }
-    w | opens == opens
+    w == 0 || (protocol::sets::has(opens, t) && w | opens == opens)
 }
 
 // The same of all sixteen transactions.
+// A loop: in a closure of all it is not known that t is at most 16, which set_open asks for.
 pub fn among_open(s: &[u8]) -> bool
     requires { state_size ≤ length s.now }
     ensures { result ≡ sets_open (header s.now) }
 {
     let opens = layout::word(s, layout::OPEN);
-    let mut t: usize = 0;
-    while t < 16 {
-        t += 1;
+    for t in 1..=16 {
         if !set_open(opens, t, table::sets::set(s, t)) {
             return false;
         }

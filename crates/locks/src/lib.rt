@@ -62,10 +62,7 @@ pub fn bit_below(m: u16, b: bool) -> u16
     requires { m < 32768 }
     ensures { result ≡ cond b 1 0 + 2 * m }
 {
-    if b {
-        return 1 + 2 * m;
-    }
-    2 * m
+    u16::from(b) + 2 * m
 }
 
 // The modes that clash with the mode at a place. The table is a local, so that it is laid out once and not at each lookup.
@@ -74,10 +71,8 @@ fn clashing(b: usize) -> u16
     ensures { result ≡ word (λ a. clash_at a b) 12 0 }
 {
     let table = CLASH;
-    let mut m: u16 = 0;
-    let mut a: usize = 12;
-    while a > 0 {
-        a -= 1;
+    let mut m = 0;
+    for a in (0..12).rev() {
         m = bit_below(m, table[a][b]);
     }
     m
@@ -87,14 +82,11 @@ fn clashing(b: usize) -> u16
 pub fn mask(w: u16) -> u16
     ensures { result ≡ mask_of w }
 {
-    let mut m: u16 = 0;
-    let mut b: u16 = 12;
-    while b > 0 {
-        b -= 1;
-        if !has(w, b) {
-            continue;
+    let mut m = 0;
+    for b in (0..12).rev() {
+        if has(w, b) {
+            m = union(clashing(usize::from(b)), m);
         }
-        m = union(clashing(b as usize), m);
     }
     m
 }
@@ -122,29 +114,31 @@ pub struct NeedWords {
     pub fresh: u16,
 }
 
-const LT: u16 = 1;
+// The sets of one mode: a bit each, in the order of the table.
+// Sets, and no enum: the lent bytes and the needs of a step are words of modes (in_word, need_words).
+const LT: u16 = 1 << 0;
 
-const LC: u16 = 2;
+const LC: u16 = 1 << 1;
 
-const LR: u16 = 4;
+const LR: u16 = 1 << 2;
 
-const LU: u16 = 8;
+const LU: u16 = 1 << 3;
 
-const LW: u16 = 16;
+const LW: u16 = 1 << 4;
 
-const LTT: u16 = 32;
+const LTT: u16 = 1 << 5;
 
-const LRR: u16 = 64;
+const LRR: u16 = 1 << 6;
 
-const LUU: u16 = 128;
+const LUU: u16 = 1 << 7;
 
-const LIR: u16 = 256;
+const LIR: u16 = 1 << 8;
 
-const LIU: u16 = 512;
+const LIU: u16 = 1 << 9;
 
-const LIW: u16 = 1024;
+const LIW: u16 = 1 << 10;
 
-const LICW: u16 = 2048;
+const LICW: u16 = 1 << 11;
 
 fn on_above(node: u16, above: u16) -> NeedWords
     ensures { result ≡ record { node = node; parent = above; above = above; fresh = 0 } }
@@ -157,6 +151,7 @@ fn on_above(node: u16, above: u16) -> NeedWords
     }
 }
 
+#[tactic(auto, unfolding(crate::specs::Words::need_words, crate::specs::Words::word_of))]
 pub fn needed(step: StepName) -> NeedWords
     ensures { result ≡ need_words step }
 {
@@ -172,9 +167,9 @@ pub fn needed(step: StepName) -> NeedWords
             fresh: 0,
         },
         StepName::I => NeedWords {
-            node: LC + LICW,
-            parent: LT + LIW,
-            above: LT + LIW,
+            node: LC | LICW,
+            parent: LT | LIW,
+            above: LT | LIW,
             fresh: LW,
         },
         StepName::TT => on_above(LTT, LT),

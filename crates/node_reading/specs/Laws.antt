@@ -1,4 +1,3 @@
-pub mod Child
-pub mod Subtree
 pub mod Stores
+pub mod Subtree
 pub mod Buffers

@@ -1,5 +1,5 @@
 -- What the functions that change nodes leave, and what the pass over children counts.
-use Rattle.std.specs.Prelude.{◌≡◌, ℕ, ◌+◌, ◌≤◌, cond, ◌&&◌, List, ◌++◌, length, take, drop, eqb}
+use Rattle.std.specs.Prelude.{◌≡◌, ℕ, ◌+◌, ◌≤◌, Bool, cond, ◌&&◌, List, ◌++◌, length, take, drop, eqb}
 use Rattle.tree.specs.Lists.{every, keep}
 use Rattle.tree.specs.Content.{attribute_kind, takes, attributes_first}
 use Rattle.tree.specs.Steps.{is_named}
@@ -15,11 +15,10 @@ use Rattle.rows.specs.Placing.{attributes}
 use Rattle.rows.specs.Rows.{changed_below, granted_modes, renamed_by, renamed_rows}
 use Rattle.node_writing.specs.declared.Tally.{Tally}
 
--- one node, renamed if it is an element named a; r is 1 if it was
-pub record Renamed (s s' : List ℕ) (r p t : ℕ) (a b : List ℕ) : Type 0 where
+-- one node, renamed if it is an element named a; r says whether it was
+pub record Renamed (s s' : List ℕ) (r : Bool) (p t : ℕ) (a b : List ℕ) : Type 0 where
   pub kept : Kept s s' (modify p (second (renamed_by t 0 a b)) (nodes s))
-  pub hit : r ≡ cond (is_named a (item (nodes s) p).now) 1 0
-  pub few : r ≤ 1
+  pub hit : r ≡ is_named a (item (nodes s) p).now
 
 -- the rows with those below the node at p renamed, and how many they are
 unfoldable pub rest_renamed : ℕ → List ℕ → List ℕ → ℕ → List Entry → List Entry

@@ -1,8 +1,7 @@
 // What U, UU and I do to the nodes in the lent bytes, and the place of a new child.
 #![tactic(auto)]
 
-ghost use Rattle.std.specs.Prelude.{◌≡◌, ◌&&◌, map, ◌+◌, ◌<◌, ◌≤◌, length};
-ghost use Rattle.tree.specs.Lists.{same};
+ghost use Rattle.std.specs.Prelude.{◌≡◌, map, ◌+◌, ◌<◌, ◌≤◌, length};
 ghost use Rattle.tree.specs.Steps.{is_named, placed};
 ghost use Rattle.locks.specs.Words.{need_words};
 ghost use Rattle.locks.specs.declared.StepName.TheVariants as name;
@@ -15,7 +14,12 @@ ghost use Rattle.rows.specs.Placing.{placed_by};
 ghost use Rattle.rows.specs.Rows.{new_place};
 ghost use Rattle.node_writing.specs.Writing.{new_node, counted, Counted, Renamed, RenamedRest, RenamedBelow};
 
-use table::{layout, outline, transactions};
+use table::{Mark, outline, transactions};
+
+// Kinds of nodes.
+const ELEMENT: u32 = 2;
+
+const ATTRIBUTE: u32 = 3;
 
 // Contents ---------------------------------------------------------------------------
 
@@ -30,46 +34,24 @@ pub fn write(s: &mut [u8], p: usize, t: u8, b: &[u8])
 
 // Names ------------------------------------------------------------------------------
 
-// Whether the node at p has the content a.
-fn has_content(s: &[u8], p: usize, a: &[u8]) -> bool
-    requires { (Layout s.now) × (p < length (nodes s.now)) }
-    ensures { result ≡ same a.now (item (nodes s.now) p).now.content }
-{
-    let n = a.len();
-    if table::size(s, p, 0) != n {
-        return false;
-    }
-    let mut j: usize = 0;
-    while j < n {
-        if table::content(s, p, 0, j) != a[j] {
-            return false;
-        }
-        j += 1;
-    }
-    true
-}
-
 // Whether the node at p is an element named a.
 fn is_named(s: &[u8], p: usize, a: &[u8]) -> bool
     requires { (Layout s.now) × (p < length (nodes s.now)) }
     ensures { result ≡ is_named a.now (item (nodes s.now) p).now }
 {
-    if table::kind(s, p) != 2 {
-        return false;
-    }
-    has_content(s, p, a)
+    u32::from(table::kind(s, p)) == ELEMENT && a == table::content_bytes(s, p, 0)
 }
 
-// The node at p, if it is an element named a, is named b by t; 1 if so, else 0.
-fn rename(s: &mut [u8], p: usize, t: u8, a: &[u8], b: &[u8]) -> usize
+// The node at p, if it is an element named a, is named b by t; whether it is.
+fn rename(s: &mut [u8], p: usize, t: u8, a: &[u8], b: &[u8]) -> bool
     requires { (Layout s.old) × (p < length (nodes s.old)) × (length b.now ≤ 32) × (1 ≤ t) }
     ensures { Renamed s.old s.new result p t a.now b.now }
 {
-    if !is_named(s, p, a) {
-        return 0;
+    let named = is_named(s, p, a);
+    if named {
+        write(s, p, t, b);
     }
-    write(s, p, t, b);
-    1
+    named
 }
 
 // Each element named a below the node at p that t sees is named b by t; how many.
@@ -77,27 +59,17 @@ fn rename_rest(s: &mut [u8], p: usize, t: u8, a: &[u8], b: &[u8]) -> usize
     requires { (Layout s.old) × (p < length (nodes s.old)) × (length b.now ≤ 32) × (1 ≤ t) }
     ensures { RenamedRest s.old s.new result p t a.now b.now }
 {
-    let m = table::count(s);
     let top = table::depth(s, p);
     let mut hits: usize = 0;
-    let mut hidden: usize = 0;
-    let mut i = p + 1;
-    while i < m {
-        let d = table::depth(s, i);
-        if d <= top {
+    let mut hidden: u32 = 0;
+    for i in p + 1..table::count(s) {
+        if table::depth(s, i) <= top {
             return hits;
         }
-        let j = i;
-        i += 1;
-        if layout::left_out(hidden, d as usize) {
-            continue;
+        hidden = outline::next_below(s, i, hidden, Mark::Deleter, t);
+        if hidden == 0 {
+            hits += usize::from(rename(s, i, t, a, b));
         }
-        if table::deleter(s, j) == t {
-            hidden = d as usize + 1;
-            continue;
-        }
-        hidden = 0;
-        hits += rename(s, j, t, a, b);
     }
     hits
 }
@@ -107,9 +79,8 @@ pub fn rename_below(s: &mut [u8], p: usize, t: u8, a: &[u8], b: &[u8]) -> usize
     requires { (Layout s.old) × (p < length (nodes s.old)) × (length b.now ≤ 32) × (1 ≤ t) }
     ensures { RenamedBelow s.old s.new result p t a.now b.now }
 {
-    let first = rename(s, p, t, a, b);
-    let rest = rename_rest(s, p, t, a, b);
-    first + rest
+    let first = usize::from(rename(s, p, t, a, b));
+    first + rename_rest(s, p, t, a, b)
 }
 
 // The place of a new child -----------------------------------------------------------
@@ -123,34 +94,37 @@ pub struct Tally {
     pub allowed: bool,
 }
 
-fn both(a: bool, b: bool) -> bool
-    ensures { result ≡ (a && b) }
-{
-    if a {
-        return b;
+impl Tally {
+    // One more child, of this kind.
+    #[tactic(auto, unfolding(crate::specs::Writing::counted))]
+    fn with(self, parent: u32, kind: u32) -> Tally
+        requires { (self.count < 1024) × (self.attributes < 1024) }
+        ensures { result ≡ counted parent kind self }
+    {
+        let attribute = kind == ATTRIBUTE;
+        Tally {
+            count: self.count + 1,
+            attributes: self.attributes + usize::from(attribute),
+            ordered: self.ordered && (!attribute || self.attributes == self.count),
+            allowed: self.allowed && tree::takes(parent, kind),
+        }
     }
-    false
-}
 
-// One more child, of this kind.
-fn counted(c: Tally, parent: u32, kind: u32) -> Tally
-    requires { (c.count < 1024) × (c.attributes < 1024) }
-    ensures { result ≡ counted parent kind c }
-{
-    let allowed = both(c.allowed, tree::takes(parent, kind));
-    if kind != 3 {
-        return Tally {
-            count: c.count + 1,
-            attributes: c.attributes,
-            ordered: c.ordered,
-            allowed,
-        };
-    }
-    Tally {
-        count: c.count + 1,
-        attributes: c.attributes + 1,
-        ordered: both(c.ordered, c.attributes == c.count),
-        allowed,
+    // Whether one more child, of this kind, may be the k-th.
+    #[tactic(auto, unfolding(rows::specs::Placing::placed_by))]
+    fn has_place(self, parent: u32, kind: u32, k: u32) -> bool
+        requires { (self.count ≤ 1024) × (self.attributes ≤ 1024) }
+        ensures { result ≡ placed_by parent kind k self.count self.attributes self.ordered self.allowed }
+    {
+        let k = k as usize;
+        if k == 0 || self.count + 1 < k || !tree::takes(parent, kind) || !self.allowed {
+            return false;
+        }
+        match (parent, kind) {
+            (ELEMENT, ATTRIBUTE) => self.ordered && k <= self.attributes + 1,
+            (ELEMENT, _) => self.ordered && self.attributes < k,
+            _ => self.count == 0,
+        }
     }
 }
 
@@ -159,57 +133,23 @@ fn tally_children(s: &[u8], p: usize, t: u8, parent: u32) -> Tally
     requires { (Layout s.now) × (p < length (nodes s.now)) }
     ensures { (Counted parent (map (λ c. c.now.kind) (children t (nodes s.now) p)) result) × (result.count ≤ 1024) }
 {
-    let m = table::count(s);
-    let top = table::depth(s, p) as usize;
+    let top = table::depth(s, p);
     let mut c = Tally {
         count: 0,
         attributes: 0,
         ordered: true,
         allowed: true,
     };
-    let mut i = p + 1;
-    while i < m {
-        let d = table::depth(s, i) as usize;
+    for i in p + 1..table::count(s) {
+        let d = table::depth(s, i);
         if d <= top {
             return c;
         }
-        let j = i;
-        i += 1;
-        if d != top + 1 {
-            continue;
+        if d == top + 1 && table::deleter(s, i) != t {
+            c = c.with(parent, u32::from(table::kind(s, i)));
         }
-        if table::deleter(s, j) == t {
-            continue;
-        }
-        c = counted(c, parent, table::kind(s, j) as u32);
     }
     c
-}
-
-// Whether a child of a kind may be the k-th among those counted.
-fn fits_among(parent: u32, kind: u32, k: u32, c: Tally) -> bool
-    requires { (c.count ≤ 1024) × (c.attributes ≤ 1024) }
-    ensures { result ≡ placed_by parent kind k c.count c.attributes c.ordered c.allowed }
-{
-    if k == 0 {
-        return false;
-    }
-    if c.count + 1 < k as usize {
-        return false;
-    }
-    if !both(tree::takes(parent, kind), c.allowed) {
-        return false;
-    }
-    if parent != 2 {
-        return c.count == 0;
-    }
-    if !c.ordered {
-        return false;
-    }
-    if kind != 3 {
-        return c.attributes < k as usize;
-    }
-    k as usize <= c.attributes + 1
 }
 
 // Whether a new child of a kind may be the k-th of the node at p, of the children that t sees.
@@ -218,9 +158,8 @@ pub fn fits(s: &[u8], p: usize, t: u8, kind: u32, k: u32) -> bool
     ensures { result ≡ placed (item (nodes s.now) p).now.kind kind k
         (map (λ c. c.now.kind) (children t (nodes s.now) p)) }
 {
-    let parent = table::kind(s, p) as u32;
-    let c = tally_children(s, p, t, parent);
-    fits_among(parent, kind, k, c)
+    let parent = u32::from(table::kind(s, p));
+    tally_children(s, p, t, parent).has_place(parent, kind, k)
 }
 
 // The place of a new k-th child of the node at p, of the children that t sees.
@@ -229,29 +168,24 @@ pub fn new_place(s: &[u8], p: usize, t: u8, k: u32) -> usize
     ensures { (result ≡ new_place t k p (nodes s.now)) × (result ≤ length (nodes s.now)) }
 {
     let m = table::count(s);
-    let top = table::depth(s, p) as usize;
-    let mut j = k - 1;
-    let mut i = p + 1;
-    while i < m {
-        let d = table::depth(s, i) as usize;
+    let top = table::depth(s, p);
+    let mut before = k - 1;
+    for i in p + 1..m {
+        let d = table::depth(s, i);
         if d <= top {
             return i;
         }
         if d != top + 1 {
-            i += 1;
             continue;
         }
-        if j == 0 {
+        if before == 0 {
             return i;
         }
-        let q = i;
-        i += 1;
-        if table::deleter(s, q) == t {
-            continue;
+        if table::deleter(s, i) != t {
+            before -= 1;
         }
-        j -= 1;
     }
-    i
+    m
 }
 
 // A node put in by t at place q and depth d, with the locks of t on it.

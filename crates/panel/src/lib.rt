@@ -1,5 +1,5 @@
 // The calls of the library, under the names of include/noodlefen.h; the crate panel_c exports them to C. Every contract is `Contract` of
-// traces/specs/Contract.antt.
+// traces/specs/Contract.antt. The parameters are those of the C interface: lent bytes and numbers.
 #![tactic(auto)]
 
 ghost use Rattle.tree.specs.Steps.{T, C, R, U, D, I, TT, RR, UU};

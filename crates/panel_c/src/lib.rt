@@ -1,5 +1,5 @@
 // The calls of the library as C programs see them (include/noodlefen.h): each calls the function of its name in panel, and its clauses are
-// those of that function.
+// those of that function. They are written twice since no crate can use a static library, and the programs use panel.
 #![tactic(auto)]
 
 ghost use Rattle.tree.specs.Steps.{T, C, R, U, D, I, TT, RR, UU};

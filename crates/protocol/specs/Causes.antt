@@ -1,4 +1,5 @@
--- The causes of a refusal, by their numbers: document 01, "Refused calls", and document 02. src/causes.rt has the same names for the code.
+-- The causes of a refusal, by their numbers: document 01, "Refused calls", and document 02. CauseNumbers.antt says which number each cause of
+-- src/causes.rt has.
 use Rattle.std.specs.Prelude.{ℕ, List, [], ◌∷◌}
 
 -- transaction number not 1 to 16

@@ -1,4 +1,5 @@
 pub mod Causes
+pub mod CauseNumbers
 pub mod Marked
 pub mod State
 pub mod Rings

@@ -1,37 +1,53 @@
-// The causes of a refusal, by their numbers: document 01, "Refused calls", and document 02. specs/Causes.antt has the same names.
+// Why a call is refused: document 01, "Refused calls", and document 02. specs/CauseNumbers.antt gives each its number.
+ghost use Rattle.std.specs.Prelude.{◌≡◌};
+ghost use Rattle.protocol.specs.CauseNumbers.{number_of};
 
-pub const NOT_A_TRANSACTION: u8 = 1;
+#[derive(Clone, Copy, Debug, PartialEq, Eq)]
+pub enum Cause {
+    NotATransaction,
+    AlreadyOpen,
+    NotOpen,
+    NotOfGrammar,
+    ContentOverLimit,
+    NodesOverLimit,
+    NoSuchNode,
+    KindNotAllowed,
+    ContentNotAllowed,
+    HeldNumber,
+    PlaceNotAllowed,
+    NoMoreNodes,
+    ShortBuffer,
+    NotExpressible,
+    OpenAtLoad,
+    Deadlock,
+    NoMoreCommits,
+    PartNotAllowed,
+}
 
-pub const ALREADY_OPEN: u8 = 2;
+// The papers' numbers. No call is refused for 16.
+impl From<Cause> for u8 {
+    ghost from_gives = { λ cause n. n ≡ number_of cause };
 
-pub const NOT_OPEN: u8 = 3;
-
-pub const NOT_OF_GRAMMAR: u8 = 4;
-
-pub const CONTENT_OVER_LIMIT: u8 = 5;
-
-pub const NODES_OVER_LIMIT: u8 = 6;
-
-pub const NO_SUCH_NODE: u8 = 7;
-
-pub const KIND_NOT_ALLOWED: u8 = 8;
-
-pub const CONTENT_NOT_ALLOWED: u8 = 9;
-
-pub const HELD_NUMBER: u8 = 10;
-
-pub const PLACE_NOT_ALLOWED: u8 = 11;
-
-pub const NO_MORE_NODES: u8 = 12;
-
-pub const SHORT_BUFFER: u8 = 13;
-
-pub const NOT_EXPRESSIBLE: u8 = 14;
-
-pub const OPEN_AT_LOAD: u8 = 15;
-
-pub const DEADLOCK: u8 = 17;
-
-pub const NO_MORE_COMMITS: u8 = 18;
-
-pub const PART_NOT_ALLOWED: u8 = 19;
+    fn from(cause: Cause) -> u8 {
+        match cause {
+            Cause::NotATransaction => 1,
+            Cause::AlreadyOpen => 2,
+            Cause::NotOpen => 3,
+            Cause::NotOfGrammar => 4,
+            Cause::ContentOverLimit => 5,
+            Cause::NodesOverLimit => 6,
+            Cause::NoSuchNode => 7,
+            Cause::KindNotAllowed => 8,
+            Cause::ContentNotAllowed => 9,
+            Cause::HeldNumber => 10,
+            Cause::PlaceNotAllowed => 11,
+            Cause::NoMoreNodes => 12,
+            Cause::ShortBuffer => 13,
+            Cause::NotExpressible => 14,
+            Cause::OpenAtLoad => 15,
+            Cause::Deadlock => 17,
+            Cause::NoMoreCommits => 18,
+            Cause::PartNotAllowed => 19,
+        }
+    }
+}

@@ -2,12 +2,17 @@
 #![tactic(auto)]
 
 ghost use Rattle.std.specs.Prelude.{◌≡◌};
+ghost use Rattle.protocol.specs.declared.Answer.TheVariants.{Refused};
 ghost use Rattle.protocol.specs.Answers.{code_of};
+ghost use Rattle.protocol.specs.CauseNumbers.{number_of};
 
 pub mod causes;
 pub mod sets;
 
+pub use causes::Cause;
+
 // The outcomes of the calls.
+// Kinds and causes are the papers' numbers, as the number of 64 bits has them (code_of in specs/Answers.antt).
 #[derive(Clone, Copy)]
 pub enum Answer {
     // start, begin, commit, abort, U, D and I granted
@@ -27,6 +32,14 @@ pub enum Answer {
     Refused(u8),
     // a refusal of load, with its cause and the byte offset
     RefusedAt(u8, u32),
+}
+
+impl From<Cause> for Answer {
+    ghost from_gives = { λ cause answer. answer ≡ Refused (number_of cause) };
+
+    fn from(cause: Cause) -> Answer {
+        Answer::Refused(u8::from(cause))
+    }
 }
 
 // The number that the panel gets.

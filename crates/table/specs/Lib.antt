@@ -3,6 +3,7 @@ pub mod Passes
 pub mod Flat
 pub mod Encoding
 pub mod Layout
+pub mod Marks
 pub mod Fields
 pub mod Transaction
 pub mod Sets

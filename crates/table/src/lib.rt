@@ -8,20 +8,45 @@ pub mod outline;
 pub mod sets;
 pub mod transactions;
 
-ghost use Rattle.std.specs.Prelude.{◌≡◌, true, [], ◌<◌, ◌≤◌, length, get_or, eqb};
+ghost use Rattle.std.specs.Prelude.{◌≡◌, true, [], ◌<◌, ◌≤◌, length, get_or, eqb, MatchOption};
 ghost use Rattle.protocol.specs.State.{unwritten, wrote, writer_of, deleted_by, with_inserter, with_update};
 ghost use Rattle.table.specs.Lists.{modify, first};
 ghost use Rattle.table.specs.Flat.{second};
 ghost use Rattle.table.specs.Layout.{slot, nodes, no_entry, Layout, Kept};
+ghost use Rattle.table.specs.Marks.{byte_of};
 ghost use Rattle.table.specs.Fields.{Begins, field, storable, with_field, with_kind};
 ghost use Rattle.table.specs.Fields.{has_text, text, with_bytes, restored, saved_bytes, saved_size, Stored, marked_written};
+
+use outline::Entry;
+
+// Who a node is marked by: who wrote its content, who inserted it, who deleted it.
+// A mark is the number of a transaction, or 0 for nobody, as the lent bytes have it (docs/STATE.md).
+#[derive(Clone, Copy)]
+pub enum Mark {
+    Writer,
+    Inserter,
+    Deleter,
+}
+
+// The mark's byte in the cell of a node.
+impl From<Mark> for usize {
+    ghost from_gives = { λ mark o. o ≡ byte_of mark };
+
+    fn from(mark: Mark) -> usize {
+        match mark {
+            Mark::Writer => 1,
+            Mark::Inserter => 2,
+            Mark::Deleter => 3,
+        }
+    }
+}
 
 // How many nodes are held.
 pub fn count(s: &[u8]) -> usize
     requires { Layout s.now }
     ensures { result ≡ length (nodes s.now) }
 {
-    layout::word(s, layout::COUNT) as usize
+    usize::from(layout::word(s, layout::COUNT))
 }
 
 // The slot of the outline's entry at place i, used or free.
@@ -29,29 +54,36 @@ pub fn slot(s: &[u8], i: usize) -> usize
     requires { (Layout s.now) × (i < 1024) }
     ensures { (result ≡ slot s.now i) × (result < 1024) }
 {
-    layout::word(s, layout::OUTLINE + layout::ENTRY * i) as usize
+    usize::from(Entry::at(s, i).slot)
 }
 
 pub fn depth(s: &[u8], i: usize) -> u16
     requires { (Layout s.now) × (i < length (nodes s.now)) }
     ensures { result ≡ (get_or (nodes s.now) i no_entry).0 }
 {
-    layout::word(s, layout::OUTLINE + layout::ENTRY * i + 2)
+    Entry::at(s, i).depth
 }
 
 pub fn number(s: &[u8], i: usize) -> u32
     requires { (Layout s.now) × (i < length (nodes s.now)) }
     ensures { result ≡ (get_or (nodes s.now) i no_entry).1.now.number }
 {
-    layout::double_word(s, layout::OUTLINE + layout::ENTRY * i + 4)
+    Entry::at(s, i).number
 }
 
-// Byte o of the cell of the node at i: 0 kind, 1 writer, 2 inserter, 3 deleter.
-pub fn field(s: &[u8], i: usize, o: usize) -> u8
+// Byte o of the cell of the node at i: 0 is the kind, 1 to 3 are the marks.
+fn field(s: &[u8], i: usize, o: usize) -> u8
     requires { (Layout s.now) × (i < length (nodes s.now)) × (o < 4) }
     ensures { result ≡ field o (get_or (nodes s.now) i no_entry).1 }
 {
     s[layout::CELLS + layout::CELL * slot(s, i) + o]
+}
+
+pub fn marked_by(s: &[u8], i: usize, mark: Mark) -> u8
+    requires { (Layout s.now) × (i < length (nodes s.now)) }
+    ensures { result ≡ field (byte_of mark) (get_or (nodes s.now) i no_entry).1 }
+{
+    field(s, i, usize::from(mark))
 }
 
 pub fn kind(s: &[u8], i: usize) -> u8
@@ -65,29 +97,36 @@ pub fn writer(s: &[u8], i: usize) -> u8
     requires { (Layout s.now) × (i < length (nodes s.now)) }
     ensures { result ≡ writer_of (get_or (nodes s.now) i no_entry).1.update }
 {
-    field(s, i, 1)
+    marked_by(s, i, Mark::Writer)
 }
 
 pub fn inserter(s: &[u8], i: usize) -> u8
     requires { (Layout s.now) × (i < length (nodes s.now)) }
     ensures { result ≡ (get_or (nodes s.now) i no_entry).1.inserter }
 {
-    field(s, i, 2)
+    marked_by(s, i, Mark::Inserter)
 }
 
 pub fn deleter(s: &[u8], i: usize) -> u8
     requires { (Layout s.now) × (i < length (nodes s.now)) }
     ensures { result ≡ (get_or (nodes s.now) i no_entry).1.deleter }
 {
-    field(s, i, 3)
+    marked_by(s, i, Mark::Deleter)
 }
 
-pub fn set_field(s: &mut [u8], i: usize, o: usize, v: u8)
+fn set_field(s: &mut [u8], i: usize, o: usize, v: u8)
     requires { (Layout s.old) × (i < length (nodes s.old)) × (o < 4) × (storable o v ≡ true) }
     ensures { Kept s.old s.new (modify i (second (with_field o v)) (nodes s.old)) }
 {
     let k = slot(s, i);
     s[layout::CELLS + layout::CELL * k + o] = v;
+}
+
+pub fn set_mark(s: &mut [u8], i: usize, mark: Mark, v: u8)
+    requires { (Layout s.old) × (i < length (nodes s.old)) × (storable (byte_of mark) v ≡ true) }
+    ensures { Kept s.old s.new (modify i (second (with_field (byte_of mark) v)) (nodes s.old)) }
+{
+    set_field(s, i, usize::from(mark), v);
 }
 
 pub fn set_kind(s: &mut [u8], i: usize, v: u8)
@@ -101,21 +140,21 @@ pub fn clear_writer(s: &mut [u8], i: usize)
     requires { (Layout s.old) × (i < length (nodes s.old)) }
     ensures { Kept s.old s.new (modify i (second (with_update unwritten)) (nodes s.old)) }
 {
-    set_field(s, i, 1, 0);
+    set_mark(s, i, Mark::Writer, 0);
 }
 
 pub fn set_inserter(s: &mut [u8], i: usize, v: u8)
     requires { (Layout s.old) × (i < length (nodes s.old)) }
     ensures { Kept s.old s.new (modify i (second (with_inserter v)) (nodes s.old)) }
 {
-    set_field(s, i, 2, v);
+    set_mark(s, i, Mark::Inserter, v);
 }
 
 pub fn set_deleter(s: &mut [u8], i: usize, v: u8)
     requires { (Layout s.old) × (i < length (nodes s.old)) }
     ensures { Kept s.old s.new (modify i (second (deleted_by v 0)) (nodes s.old)) }
 {
-    set_field(s, i, 3, v);
+    set_mark(s, i, Mark::Deleter, v);
 }
 
 // Bytes of the state -----------------------------------------------------------------
@@ -126,16 +165,7 @@ pub fn size(s: &[u8], i: usize, o: usize) -> usize
         × (has_text o (get_or (nodes s.now) i no_entry).1 ≡ true) }
     ensures { (result ≡ length (text o (get_or (nodes s.now) i no_entry).1)) × (result ≤ 32) }
 {
-    s[layout::CELLS + layout::CELL * slot(s, i) + 4 + o] as usize
-}
-
-// Byte j of a content of the node at i.
-pub fn content(s: &[u8], i: usize, o: usize, j: usize) -> u8
-    requires { (Layout s.now) × (i < length (nodes s.now)) × (o < 2)
-        × (has_text o (get_or (nodes s.now) i no_entry).1 ≡ true) × (j < length (text o (get_or (nodes s.now) i no_entry).1)) }
-    ensures { result ≡ get_or (text o (get_or (nodes s.now) i no_entry).1) j 0 }
-{
-    s[layout::CELLS + layout::CELL * slot(s, i) + 6 + 32 * o + j]
+    usize::from(s[layout::CELLS + layout::CELL * slot(s, i) + 4 + o])
 }
 
 // A content of the node at i.
@@ -194,11 +224,10 @@ pub fn mark_written(s: &mut [u8], i: usize, t: u8)
     requires { (Layout s.old) × (i < length (nodes s.old)) × (1 ≤ t) }
     ensures { Kept s.old s.new (modify i (second (marked_written t)) (nodes s.old)) }
 {
-    if writer(s, i) != 0 {
-        set_writer(s, i, t);
-        return;
+    let unwritten = writer(s, i) == 0;
+    if unwritten {
+        copy_content(s, i, 0, 1);
     }
-    copy_content(s, i, 0, 1);
     set_writer(s, i, t);
 }
 
@@ -210,18 +239,17 @@ pub fn restore_content(s: &mut [u8], i: usize)
     copy_content(s, i, 1, 0);
 }
 
-// The place of the node numbered n, or the count.
-pub fn find(s: &[u8], n: u32) -> usize
+// The place of the node numbered n, if it is held.
+// A loop: in a closure of find it is not known that i is less than the count, which number asks for.
+pub fn find(s: &[u8], n: u32) -> Option<usize>
     requires { Layout s.now }
-    ensures { result ≡ first (λ x. eqb x.1.now.number n) (nodes s.now) }
+    ensures { let place = first (λ x. eqb x.1.now.number n) (nodes s.now) in
+        MatchOption result (length (nodes s.now) ≤ place) (λ i. (i ≡ place) × (i < length (nodes s.now))) }
 {
-    let m = count(s);
-    let mut i: usize = 0;
-    while i < m {
+    for i in 0..count(s) {
         if number(s, i) == n {
-            return i;
+            return Some(i);
         }
-        i += 1;
     }
-    i
+    None
 }

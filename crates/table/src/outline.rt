@@ -3,43 +3,52 @@ ghost use Rattle.std.specs.Prelude.{◌≡◌, ◌+◌, ◌<◌, ◌≤◌, leng
 ghost use Rattle.protocol.specs.State.{inserted_by};
 ghost use Rattle.table.specs.Lists.{insert};
 ghost use Rattle.table.specs.Layout.{state_size, slot, depth, number, nodes, no_entry, Layout, Left, Kept, header};
+ghost use Rattle.table.specs.Marks.{byte_of};
 ghost use Rattle.table.specs.Outline.{Entered, Shifted, Opened, exchange, next_below, not_marked};
 
-use crate::{counts, layout, transactions};
+use crate::{Mark, counts, layout, transactions};
 
-// The outline's entry at place i.
-fn set_entry(s: &mut [u8], i: usize, k: u16, d: u16, n: u32)
-    requires { (state_size ≤ length s.old) × (i < 1024) }
-    ensures { Entered s.old s.new i k d n }
-{
-    let at = layout::OUTLINE + layout::ENTRY * i;
-    layout::set_word(s, at, k);
-    layout::set_word(s, at + 2, d);
-    layout::set_double_word(s, at + 4, n);
+// What the outline holds at a place: the node's slot, depth and number.
+#[derive(Clone, Copy)]
+pub struct Entry {
+    pub slot: u16,
+    pub depth: u16,
+    pub number: u32,
 }
 
-// The entry at place i copied to the next place.
-fn copy_up(s: &mut [u8], i: usize)
-    requires { (state_size ≤ length s.old) × (i < 1023) }
-    ensures { Entered s.old s.new (i + 1) (slot s.old i) (depth s.old i)
-        (number s.old i) }
-{
-    let at = layout::OUTLINE + layout::ENTRY * i;
-    let k = layout::word(s, at);
-    let d = layout::word(s, at + 2);
-    let n = layout::double_word(s, at + 4);
-    set_entry(s, i + 1, k, d, n);
+impl Entry {
+    pub fn at(s: &[u8], i: usize) -> Self
+        requires { (state_size ≤ length s.now) × (i < 1024) }
+        ensures { (result.slot ≡ slot s.now i) × (result.depth ≡ depth s.now i) × (result.number ≡ number s.now i) }
+    {
+        let at = layout::OUTLINE + layout::ENTRY * i;
+        Entry {
+            slot: layout::word(s, at),
+            depth: layout::word(s, at + 2),
+            number: layout::double_word(s, at + 4),
+        }
+    }
+
+    fn store(self, s: &mut [u8], i: usize)
+        requires { (state_size ≤ length s.old) × (i < 1024) }
+        ensures { Entered s.old s.new i self.slot self.depth self.number }
+    {
+        let at = layout::OUTLINE + layout::ENTRY * i;
+        layout::set_word(s, at, self.slot);
+        layout::set_word(s, at + 2, self.depth);
+        layout::set_double_word(s, at + 4, self.number);
+    }
 }
 
-// The entries from place p up to n moved up by one place.
+// The entries from place p up to n moved up by one place. A loop, since copy_within calls memmove, and the library calls nothing but memcpy
+// and memset (docs/PANEL.md).
 fn shift(s: &mut [u8], p: usize, n: usize)
     requires { (state_size ≤ length s.old) × (p ≤ n) × (n < 1024) }
     ensures { Shifted s.old s.new p n }
 {
-    let mut k = n;
-    while p < k {
-        copy_up(s, k - 1);
-        k -= 1;
+    for k in (p..n).rev() {
+        let entry = Entry::at(s, k);
+        entry.store(s, k + 1);
     }
 }
 
@@ -52,7 +61,12 @@ fn open_place(s: &mut [u8], p: usize, d: u16, n: u32)
     let k = crate::slot(s, m);
     layout::clear(s, layout::CELLS + layout::CELL * k + 4, 2);
     shift(s, p, m);
-    set_entry(s, p, k as u16, d, n);
+    let entry = Entry {
+        slot: k as u16,
+        depth: d,
+        number: n,
+    };
+    entry.store(s, p);
     layout::set_word(s, layout::COUNT, (m + 1) as u16);
 }
 
@@ -80,16 +94,10 @@ pub fn swap(s: &mut [u8], i: usize, j: usize)
     if i == j {
         return;
     }
-    let a = layout::OUTLINE + layout::ENTRY * i;
-    let ki = layout::word(s, a);
-    let di = layout::word(s, a + 2);
-    let ni = layout::double_word(s, a + 4);
-    let b = layout::OUTLINE + layout::ENTRY * j;
-    let kj = layout::word(s, b);
-    let dj = layout::word(s, b + 2);
-    let nj = layout::double_word(s, b + 4);
-    set_entry(s, j, ki, di, ni);
-    set_entry(s, i, kj, dj, nj);
+    let first = Entry::at(s, i);
+    let second = Entry::at(s, j);
+    first.store(s, j);
+    second.store(s, i);
 }
 
 // Only the first k nodes are held; the slots of the others are free.
@@ -100,27 +108,26 @@ pub fn cut(s: &mut [u8], k: usize)
     layout::set_word(s, layout::COUNT, k as u16);
 }
 
-// One more than the depth of the node at j where its mark o is t, else 0.
-fn below_marked(s: &[u8], j: usize, o: usize, t: u8) -> u32
-    requires { (Layout s.now) × (j < length (nodes s.now)) × (o < 4) }
-    ensures { result ≡ next_below (not_marked o t) 0 (get_or (nodes s.now) j no_entry) }
+// One more than the depth of the node at j where its mark is t, else 0.
+fn below_marked(s: &[u8], j: usize, mark: Mark, t: u8) -> u32
+    requires { (Layout s.now) × (j < length (nodes s.now)) }
+    ensures { result ≡ next_below (not_marked (byte_of mark) t) 0 (get_or (nodes s.now) j no_entry) }
 {
-    if crate::field(s, j, o) == t {
-        return crate::depth(s, j) as u32 + 1;
+    if crate::marked_by(s, j, mark) == t {
+        u32::from(crate::depth(s, j)) + 1
+    } else {
+        0
     }
-    0
 }
 
-// The least depth that is left out behind the node at j, 0 where the node is kept: those whose mark o is t go, with all below them.
-pub fn next_below(s: &[u8], j: usize, below: u32, o: usize, t: u8) -> u32
-    requires { (Layout s.now) × (j < length (nodes s.now)) × (o < 4) }
-    ensures { result ≡ next_below (not_marked o t) below (get_or (nodes s.now) j no_entry) }
+// The least depth that is left out behind the node at j, 0 where the node is kept: those whose mark is t go, with all below them.
+pub fn next_below(s: &[u8], j: usize, below: u32, mark: Mark, t: u8) -> u32
+    requires { (Layout s.now) × (j < length (nodes s.now)) }
+    ensures { result ≡ next_below (not_marked (byte_of mark) t) below (get_or (nodes s.now) j no_entry) }
 {
-    if below == 0 {
-        return below_marked(s, j, o, t);
+    if layout::left_out(below as usize, crate::depth(s, j) as usize) {
+        below
+    } else {
+        below_marked(s, j, mark, t)
     }
-    if below <= crate::depth(s, j) as u32 {
-        return below;
-    }
-    below_marked(s, j, o, t)
 }

@@ -7,6 +7,7 @@ ghost use Rattle.table.specs.Sets.{WithSet, Struck, Gathered};
 
 use crate::layout;
 use protocol::sets;
+use std::array;
 
 // A set with transaction t if it had it not, else without.
 pub fn turned(w: u16, t: usize) -> u16
@@ -38,10 +39,9 @@ fn strike_from(s: &mut [u8], t: usize, v: usize)
     ensures { WithSet s.old s.new v (λ u. not (eqb u t) && remembered s.old v u) }
 {
     let w = set(s, v);
-    if !sets::has(w, t) {
-        return;
+    if sets::has(w, t) {
+        remember(s, v, turned(w, t));
     }
-    remember(s, v, turned(w, t));
 }
 
 // Transaction t is struck from all sets, and its own is empty.
@@ -49,29 +49,16 @@ pub fn strike(s: &mut [u8], t: usize)
     requires { (Layout s.old) × (1 ≤ t) × (t ≤ 16) }
     ensures { Struck s.old s.new t }
 {
-    let mut v: usize = 1;
-    while v <= 16 {
+    for v in 1..=16 {
         strike_from(s, t, v);
-        v += 1;
     }
     remember(s, t, 0);
 }
 
 // All sixteen sets by value, that of transaction t at t - 1.
-#[derive(Drop)]
-pub struct Sets {
-    pub words: [u16; 16],
-}
-
-pub fn gather(s: &[u8]) -> Sets
+pub fn gather(s: &[u8]) -> [u16; 16]
     requires { Layout s.now }
-    ensures { Gathered s.now result.words }
+    ensures { Gathered s.now result }
 {
-    let mut words = [0u16; 16];
-    let mut k: usize = 0;
-    while k < 16 {
-        words[k] = set(s, k + 1);
-        k += 1;
-    }
-    Sets { words }
+    array::from_fn(|k| set(s, k + 1))
 }

@@ -72,23 +72,22 @@ pub fn release(s: &mut [u8], t: usize, i: usize)
     set_lock(s, t, i, 0);
 }
 
-// A transaction's mode sets: one 16-bit word for each node slot.
+// A transaction's mode sets: one word for each slot of a node.
 #[derive(Drop)]
 pub struct Transaction {
     pub modes: [u16; 1024],
 }
 
-// What transaction t was granted, by slots.
+// What transaction t was granted.
+// A loop: in a closure of array::from_fn it is not known that k is less than 1,024, which word asks for.
 pub fn load(s: &[u8], t: usize) -> Transaction
     requires { (Layout s.now) × (1 ≤ t) × (t ≤ 16) }
     ensures { Loaded s.now t result.modes }
 {
     let base = layout::LOCKS + layout::WORDS * (t - 1);
-    let mut modes = [0u16; 1024];
-    let mut k: usize = 0;
-    while k < 1024 {
-        modes[k] = layout::word(s, base + 2 * k);
-        k += 1;
+    let mut modes = [0; 1024];
+    for (k, word) in modes.iter_mut().enumerate() {
+        *word = layout::word(s, base + 2 * k);
     }
     Transaction { modes }
 }
@@ -98,9 +97,7 @@ pub fn unlock(s: &mut [u8], i: usize)
     requires { (Layout s.old) × (i < length (nodes s.old)) }
     ensures { Kept s.old s.new (modify i (second unlocked) (nodes s.old)) }
 {
-    let mut t: usize = 1;
-    while t <= 16 {
+    for t in 1..=16 {
         set_lock(s, t, i, 0);
-        t += 1;
     }
 }

@@ -1,50 +1,27 @@
 -- Characters read by the code: its tables, parts of characters, and the loops over bytes. Assumes nothing.
-use Prim.Native.Nat.{ℕ, zero, suc, ◌+◌, ◌-◌, ◌*◌, ◌≤◌, ◌<◌, max, min}
-use mathlib.Core.Path.{◌≡◌, refl, sym, ap, ◌∙◌}
-use mathlib.Core.Bool.{Bool, true, false, cond, ◌&&◌, ◌||◌, and-false, false≢true}
+use Prim.Native.Nat.{ℕ, zero, suc, ◌+◌, ◌-◌, ◌*◌, ◌≤◌, ◌<◌}
+use mathlib.Core.Path.{◌≡◌, refl, ap, ◌∙◌}
+use mathlib.Core.Bool.{Bool, true, false, cond, ◌&&◌, false≢true}
 use mathlib.Core.List.{List, [], ◌∷◌}
 use native.Mathlib.Omega.{arith}
 use native.Mathlib.Nat.{sub-zero, mul-le-mul_right}
 use lib.Dec.{eqb, leb, ltb}
-use borrow.Author.Tests.{ltb-true, lt-ltb, le-ltb, leb-true, le-leb, lt-leb, eqb-false}
-use lib.ListN.{length, get_or, take, drop, drop_of_length-le}
+use borrow.Author.Tests.{ltb-true, leb-true, eqb-false}
+use lib.ListN.{length, get_or, take, drop}
 use lib.Seq.{drop-cons, take-length}
-use native.Mathlib.Numerals.{add-one}
+use Rattle.std.specs.Prelude.{Result, Ok, Err, is_ok}
 use Rattle.tree.specs.Lists.{every}
 use Rattle.tree.specs.Characters.{within, name_start_characters, text_characters}
 use Rattle.tree.specs.Content.{name_start, name_byte, text_byte}
-use Rattle.tree.specs.Spelling.{Part, part, wrong_part, first_part, next_part, with_byte, breadth, meets, possible}
+use Rattle.tree.specs.Spelling.{Part, part, wrong_part, first_part, next_part, with_byte, breadth, possible}
 use Rattle.tree.specs.Spelling.{Spelling, broken, spelling, spell, start_of, no_part}
 use Rattle.tree.specs.Spelling.{Fault, faultless, fault, is_faultless, later, fault_behind, fault_in}
-use Rattle.tree.specs.Values.{ranges, class, Small, Behind, reading_of, plain}
-use Rattle.tree.specs.declared.characters.Reading.{Reading}
-use Rattle.tree.specs.declared.characters.Reading.TheVariants.{Whole, Broken}
+use Rattle.tree.specs.Values.{class, Small, Behind, reading_of, plain}
 use Rattle.tree.specs.Laws.Tests.{and_left, and_right}
 use Rattle.tree.specs.Laws.Utf8.{breadth_positive, breadth_suc, first_one, first}
 use Rattle.tree.specs.Laws.Utf8.{First, begins_one, begins_two, begins_three, begins_four, begins_none}
 use Rattle.tree.specs.Laws.Reading.{reading, spell_ascii, possible_one, name_start_ascii, name_ascii, text_ascii}
 use Rattle.tree.specs.Laws.Spelling.{later_faultless}
-use Rattle.tree.proofs.Bytes.{start_above, name_letter}
-
--- a loop over the ranges of a table
-module _ (l : List (List ℕ)) (i low high : ℕ) where
-  turn : i < length l
-      → meets (ranges (drop i l)) low high
-      ≡ (leb (max low (get_or (get_or l i []) 0 0)) (min high (get_or (get_or l i []) 1 0)) || meets (ranges (drop (i + 1) l)) low high)
-  unfolding meets ranges
-  turn h = rw (drop-cons l i [] h, add-one i)
-
-  pub range_meets : i < length l → (a b : ℕ) → a ≡ max low (get_or (get_or l i []) 0 0) → b ≡ min high (get_or (get_or l i []) 1 0) → a ≤ b
-      → meets (ranges (drop i l)) low high ≡ true
-  range_meets h a b e f k = turn h ∙ rw (← e, ← f, le-leb a b k)
-
-  pub range_misses : i < length l → (a b : ℕ) → a ≡ max low (get_or (get_or l i []) 0 0) → b ≡ min high (get_or (get_or l i []) 1 0) → b < a
-      → meets (ranges (drop i l)) low high ≡ meets (ranges (drop (i + 1) l)) low high
-  range_misses h a b e f k = turn h ∙ rw (← e, ← f, lt-leb a b k)
-
-  pub ranges_end : length l ≤ i → meets (ranges (drop i l)) low high ≡ false
-  unfolding meets ranges
-  ranges_end h = rw (drop_of_length-le l h)
 
 -- parts stay small
 pub small_room : (p : Part) → Small p → (n : ℕ) → n ≡ breadth p.more → (p.value * n + n ≤ 0x200000) × (1 ≤ n)
@@ -87,19 +64,6 @@ small_none p e = rw e (record { few = omega arith; low = omega arith })
 
 pub small_begins : (b : ℕ) → Small (first_part b)
 small_begins b = small_first (first b)
-
-module _ (p : Part) (b : ℕ) where
-  pub next_low : b < 128 → next_part p b ≡ wrong_part
-  unfolding next_part
-  next_low h = rw (lt-leb 128 b h)
-
-  pub next_high : 191 < b → next_part p b ≡ wrong_part
-  unfolding next_part
-  next_high h = rw (lt-leb b 191 h, and-false)
-
-  pub next_digit : 128 ≤ b → b ≤ 191 → next_part p b ≡ part (p.more - 1) (p.value * 64 + (b - 128)) p.least
-  unfolding next_part
-  next_digit h k = rw (le-leb 128 b h, le-leb b 191 k)
 
 small_next : (n v l b : ℕ) → Small (part n v l) → (n ≡ 0 → ⊥) → Small (next_part (part n v l) b)
 unfolding next_part breadth
@@ -197,11 +161,11 @@ unfolding fault_in
 read_end s text first p to i h = let e : to - i ≡ 0 = omega arith in rw e
 
 -- the answers
-pub answer_broken : (f g : Fault) (n m : ℕ) → f ≡ after n g → g ≡ fault 0 → m ≡ n → Broken m ≡ reading_of f
+pub answer_broken : (f g : Fault) (n m : ℕ) → f ≡ after n g → g ≡ fault 0 → m ≡ n → Err m ≡ reading_of f
 unfolding reading_of
 answer_broken f g n m e h k = let z : m ≡ n + 0 = omega arith in rw (e, h, z)
 
-pub answer_whole : (f g : Fault) (n : ℕ) → f ≡ after n g → g ≡ faultless → Whole ≡ reading_of f
+pub answer_whole : (f g : Fault) (n : ℕ) → f ≡ after n g → g ≡ faultless → Ok tt ≡ reading_of f
 unfolding reading_of
 answer_whole f g n e h = rw (e, h)
 
@@ -209,25 +173,17 @@ answer_whole f g n e h = rw (e, h)
 all_bytes : (s : List ℕ) → take (length s - 0) (drop 0 s) ≡ s
 all_bytes s = rw sub-zero (take-length s)
 
-module _ (x : Spelling) (s : List ℕ) (r : Reading) (e : r ≡ reading_of (fault_in x (take (length s - 0) (drop 0 s)))) where
+module _ (x : Spelling) (s : List ℕ) (r : Result (Unit {0}) ℕ) (e : r ≡ reading_of (fault_in x (take (length s - 0) (drop 0 s)))) where
   same : r ≡ reading_of (fault_in x s)
   same = e ∙ ap (λ (l : List ℕ). reading_of (fault_in x l)) (all_bytes s)
 
-  pub whole_bytes : r ≡ Whole → true ≡ is_faultless (fault_in x s)
+  pub is_ok_bytes : is_ok r ≡ is_faultless (fault_in x s)
   unfolding reading_of
-  whole_bytes h = go (fault_in x s) (sym h ∙ same)
+  is_ok_bytes = ap is_ok same ∙ go (fault_in x s)
     where
-      go : (f : Fault) → Whole ≡ reading_of f → true ≡ is_faultless f
-      go faultless k = refl
-      go (fault n) k = cc
-
-  pub broken_bytes : (n : ℕ) → r ≡ Broken n → false ≡ is_faultless (fault_in x s)
-  unfolding reading_of
-  broken_bytes n h = go (fault_in x s) (sym h ∙ same)
-    where
-      go : (f : Fault) → Broken n ≡ reading_of f → false ≡ is_faultless f
-      go faultless k = cc
-      go (fault n) k = refl
+      go : (f : Fault) → is_ok (reading_of f) ≡ is_faultless f
+      go faultless = refl
+      go (fault n) = refl
 
 -- bytes of ASCII, each a character by itself
 own_class : (text first : Bool) (b : ℕ) → plain text b ≡ true → (text ≡ false → first ≡ true → name_start b ≡ true)
@@ -255,25 +211,3 @@ pub plain_whole : (text : Bool) (s : List ℕ) → every (plain text) s ≡ true
 unfolding class
 plain_whole true s e k = plain_read true true s e (λ t f. k t)
 plain_whole false s e k = plain_read false true s e (λ t f. k t)
-
--- one of them by comparisons
-module _ (text : Bool) (b : ℕ) where
-  pub plain_high : text ≡ true → 128 ≤ b → false ≡ plain text b
-  unfolding plain
-  plain_high e h = rw (le-ltb b 128 h)
-
-  pub plain_text : text ≡ true → b < 128 → text_byte b ≡ plain text b
-  unfolding plain
-  plain_text e h = rw (lt-ltb b 128 h, e)
-
-  pub plain_above : text ≡ false → 122 < b → false ≡ plain text b
-  unfolding plain
-  plain_above e h = rw (e, ← name_letter b (omega arith), ← start_above b h) (go (ltb b 128) refl)
-    where
-      go : (t : Bool) → ltb b 128 ≡ t → false ≡ (t && leb 128 b)
-      go true f = sym (lt-leb 128 b (ltb-true b 128 f))
-      go false f = refl
-
-  pub plain_name : text ≡ false → b ≤ 122 → name_byte b ≡ plain text b
-  unfolding plain
-  plain_name e h = rw (lt-ltb b 128 (omega arith), e)

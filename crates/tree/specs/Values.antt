@@ -1,16 +1,9 @@
 -- What the values of the code stand for in the reading of characters.
-use Rattle.std.specs.Prelude.{ℕ, ◌+◌, ◌*◌, ◌≤◌, Bool, false, cond, ◌&&◌, List, [], ◌∷◌, ◌≡◌, eqb, ltb, get_or}
+use Rattle.std.specs.Prelude.{ℕ, ◌+◌, ◌*◌, ◌≤◌, Bool, false, cond, ◌&&◌, List, ◌≡◌, Result, Ok, Err, eqb, ltb}
 use Rattle.tree.specs.Characters.{Range, name_start_characters, name_characters, text_characters}
 use Rattle.tree.specs.Content.{name_byte, text_byte}
 use Rattle.tree.specs.Spelling.{Part, part, no_part, breadth, Fault, faultless, fault}
 use Rattle.tree.specs.declared.characters.Part.{Part as PartValue}
-use Rattle.tree.specs.declared.characters.Reading.{Reading}
-use Rattle.tree.specs.declared.characters.Reading.TheVariants.{Whole, Broken}
-
--- the entries of a table, two numbers each
-unfoldable pub ranges : List (List ℕ) → List Range
-ranges [] = []
-ranges (r ∷ l) = (get_or r 0 0, get_or r 1 0) ∷ ranges l
 
 -- the class of a text's characters, or of a name's: its first, or the others
 unfoldable pub class : (text first : Bool) → List Range
@@ -29,9 +22,10 @@ pub record Behind (first : Bool) (p : Part) (first' : Bool) (p' : Part) : Type 0
   pub next : first' ≡ cond (eqb p.more 0) false first
   pub rest : p' ≡ cond (eqb p.more 0) no_part p
 
-unfoldable pub reading_of : Fault → Reading
-reading_of faultless = Whole
-reading_of (fault n) = Broken n
+-- as whole characters, or no further than the first n bytes
+unfoldable pub reading_of : Fault → Result (Unit {0}) ℕ
+reading_of faultless = Ok tt
+reading_of (fault n) = Err n
 
 -- by itself a character of a text, or else of a name
 unfoldable pub plain : (text : Bool) → ℕ → Bool

@@ -1,129 +1,86 @@
 // Which bytes are a name, a text, the content of a kind, and which kind may stand under which.
 #![tactic(auto)]
 
-ghost use Rattle.std.specs.Prelude.{◌≡◌};
+ghost use Rattle.std.specs.Prelude.{◌≡◌, cond};
 ghost use Rattle.tree.specs.Content.{name_start, name_byte, text_byte, is_name, is_text, allowed, takes};
 
 pub mod characters;
 
-// Classes of bytes by comparisons: a table in a constant would be laid out anew at each lookup. Small letters, the most frequent, come
-// first.
+// Classes of bytes by ranges: a table in a constant would be laid out anew at each lookup. Small letters, the most frequent, come first.
+#[tactic(auto, unfolding(crate::specs::Content::name_start))]
 pub fn name_start(x: u8) -> bool
     ensures { result ≡ name_start x }
 {
-    if x >= b'a' {
-        if x <= b'z' {
-            return true;
-        }
-        return x >= 128;
+    match x {
+        b'a'..=b'z' | b'A'..=b'Z' | b'_' | 128..=255 => true,
+        _ => false,
     }
-    if x > b'Z' {
-        return x == b'_';
-    }
-    x >= b'A'
 }
 
+#[tactic(auto, unfolding(crate::specs::Content::name_byte, crate::specs::Content::name_start))]
 pub fn name_byte(x: u8) -> bool
     ensures { result ≡ name_byte x }
 {
-    if x >= b'a' {
-        if x <= b'z' {
-            return true;
-        }
-        return x >= 128;
+    match x {
+        b'a'..=b'z' | b'A'..=b'Z' | b'0'..=b'9' | b'_' | b'-' | b'.' | 128..=255 => true,
+        _ => false,
     }
-    if x >= b'A' {
-        return name_start(x);
-    }
-    if x >= b'0' {
-        return x <= b'9';
-    }
-    if x == b'-' {
-        return true;
-    }
-    x == b'.'
 }
 
+#[tactic(auto, unfolding(crate::specs::Content::text_byte))]
 pub fn text_byte(x: u8) -> bool
     ensures { result ≡ text_byte x }
 {
-    if x >= b' ' {
-        return true;
-    }
-    if x == 9 {
-        return true;
-    }
-    x == 10
+    x >= b' ' || x == b'\t' || x == b'\n'
 }
 
-// Most names and texts are of ASCII, and are known by a test of each byte alone.
+// Whether 1 to 32 bytes are characters of a text, or else a name. Most are of ASCII, and are known by a test of each byte alone.
+fn is_content(b: &[u8], text: bool) -> bool
+    ensures { result ≡ cond text (is_text b.now) (is_name b.now) }
+{
+    if b.is_empty() || b.len() > 32 {
+        return false;
+    }
+    if !text && !name_start(b[0]) {
+        return false;
+    }
+    characters::all_plain(b, text) || characters::whole(b, text)
+}
+
 pub fn is_name(b: &[u8]) -> bool
     ensures { result ≡ is_name b.now }
 {
-    if b.len() == 0 {
-        return false;
-    }
-    if b.len() > 32 {
-        return false;
-    }
-    if !name_start(b[0]) {
-        return false;
-    }
-    if characters::all_plain(b, false) {
-        return true;
-    }
-    characters::whole(b, false)
+    is_content(b, false)
 }
 
 pub fn is_text(b: &[u8]) -> bool
     ensures { result ≡ is_text b.now }
 {
-    if b.len() == 0 {
-        return false;
-    }
-    if b.len() > 32 {
-        return false;
-    }
-    if characters::all_plain(b, true) {
-        return true;
-    }
-    characters::whole(b, true)
+    is_content(b, true)
 }
 
 // The content that a node of a kind may have.
+#[tactic(auto, unfolding(crate::specs::Content::allowed))]
 pub fn allowed(kind: u32, b: &[u8]) -> bool
     ensures { result ≡ allowed kind b.now }
 {
-    if kind == 1 {
-        return b.len() == 0;
+    match kind {
+        1 => b.is_empty(),
+        2 | 3 => is_name(b),
+        4 => is_text(b),
+        _ => false,
     }
-    if kind == 2 {
-        return is_name(b);
-    }
-    if kind == 3 {
-        return is_name(b);
-    }
-    if kind == 4 {
-        return is_text(b);
-    }
-    false
 }
 
 // Whether a kind ever takes a child of a kind.
+#[tactic(auto, unfolding(crate::specs::Content::takes))]
 pub fn takes(parent: u32, kind: u32) -> bool
     ensures { result ≡ takes parent kind }
 {
-    if parent == 1 {
-        return kind == 2;
+    match parent {
+        1 => kind == 2,
+        2 => 2 <= kind && kind <= 4,
+        3 => kind == 4,
+        _ => false,
     }
-    if parent == 2 {
-        if kind < 2 {
-            return false;
-        }
-        return kind <= 4;
-    }
-    if parent == 3 {
-        return kind == 4;
-    }
-    false
 }

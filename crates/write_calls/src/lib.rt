@@ -1,4 +1,5 @@
 // The steps that write, answered by the number of 64 bits. Every contract is `Contract` of traces/specs/Contract.antt.
+// The parameters are those of the C interface.
 #![tactic(auto)]
 
 ghost use Rattle.tree.specs.Steps.{U, D, I, UU};

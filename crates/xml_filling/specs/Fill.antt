@@ -2,7 +2,7 @@
 use Rattle.std.specs.Prelude.{ℕ, suc, ◌+◌, ◌≤◌, ◌<◌, ◌≡◌, true, cond, List, [], ◌∷◌, ◌++◌, eqb, length, get_or, take, drop}
 use Rattle.tree.specs.Lists.{every}
 use Rattle.tree.specs.Forest.{nil, node}
-use Rattle.tree.specs.Content.{content_limit, element_kind, name_start, name_byte}
+use Rattle.tree.specs.Content.{content_limit, element_kind, attribute_kind, text_kind, name_start, name_byte}
 use Rattle.tree.specs.Document.{node_0_alone}
 use Rattle.protocol.specs.State.{unmarked, tree_of}
 use Rattle.protocol.specs.Calls.{node_limit}
@@ -18,6 +18,8 @@ use Rattle.xml.specs.Laws.Complete.{Accepts}
 use Rattle.xml.specs.Laws.Counts.{births, peak}
 use Rattle.xml_tokens.specs.Steps.{Characters, Contents}
 use Rattle.xml_tokens.specs.declared.Cursor.{Cursor}
+use Rattle.xml_filling.specs.declared.Kind.{Kind}
+use Rattle.xml_filling.specs.declared.Kind.TheVariants.{Element, Attribute, Text}
 
 -- rows -----------------------------------------------------------------------------------
 
@@ -131,6 +133,12 @@ pub record Same (s s' : List ℕ) : Type 0 where
   pub long : length s' ≡ length s
   pub behind : drop state_size s' ≡ drop state_size s
   pub header : header s' ≡ header s
+
+-- the numbers of the kinds that an input tells
+abbrev pub kind_number : Kind → ℕ
+kind_number Element = element_kind
+kind_number Attribute = attribute_kind
+kind_number Text = text_kind
 
 -- these rows were put behind the last
 abbrev pub Put : List ℕ → List ℕ → List Row → Type 0

@@ -1,4 +1,3 @@
-pub mod Opens
 pub mod Judgement
 pub mod Empty
 pub mod Load

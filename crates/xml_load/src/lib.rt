@@ -13,23 +13,15 @@ ghost use Rattle.form.specs.Form.{form};
 ghost use Rattle.engine.specs.Contract.{Performed};
 ghost use Rattle.xml_load.specs.Load.{Stands, Replaced};
 
-use protocol::Answer;
+use protocol::{Answer, Cause};
 use table::{counts, outline, transactions};
-use xml_judging::Judged;
 
 // Whether any transaction is open.
 fn any_open(s: &[u8]) -> bool
     requires { Layout s.now }
     ensures { result ≡ any (is_open s.now) transactions }
 {
-    let mut t: usize = 1;
-    while t <= 16 {
-        if transactions::is_open(s, t) {
-            return true;
-        }
-        t += 1;
-    }
-    false
+    (1..17).any(|t| transactions::is_open(s, t))
 }
 
 // The document node is held alone: empty, without marks and locks, with count 0. Commits count from 1 again.
@@ -60,14 +52,14 @@ pub fn load(s: &mut [u8], x: &[u8]) -> Answer
     ensures { (i : Input) → ReadsAs x.now i → Performed s.old s.new result (load i) }
 {
     if !form::formed(s) {
-        return Answer::Refused(13);
+        return Answer::from(Cause::ShortBuffer);
     }
     if any_open(s) {
-        return Answer::Refused(15);
+        return Answer::from(Cause::OpenAtLoad);
     }
     match xml_judging::judge(x, 1024) {
-        Judged::Rejected(cause, offset) => Answer::RefusedAt(cause, offset as u32),
-        Judged::Accepted(left) => {
+        Err(refusal) => Answer::RefusedAt(u8::from(refusal.cause), refusal.offset as u32),
+        Ok(left) => {
             replace(s, x);
             Answer::Count((1024 - left) as u32)
         }

@@ -2,7 +2,6 @@ pub mod Lines
 pub mod Selection
 pub mod Contents
 pub mod Walk
-pub mod Costs
 pub mod Tags
 pub mod Names
 pub mod Measure

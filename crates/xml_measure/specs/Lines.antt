@@ -1,11 +1,11 @@
 -- The rows of the committed document: document 01, "the one held if they all aborted".
-use Rattle.std.specs.Prelude.{◌≡◌, ℕ, suc, ◌≤◌, ◌<◌, List, map, length, get_or, take}
+use Rattle.std.specs.Prelude.{◌≡◌, ℕ, suc, ◌≤◌, ◌<◌, List, Option, None, Some, map, length, get_or, take}
 use Rattle.protocol.specs.State.{Marked, as_shown, nothing}
 use Rattle.table.specs.Flat.{second, prune}
 use Rattle.table.specs.Layout.{Entry}
 use Rattle.rows.specs.Places.{depth, item, is_committed}
 use Rattle.xml.specs.Shape.{Label, unnumbered}
-use Rattle.xml_text.specs.Rows.{Line}
+use Rattle.xml_text.specs.Rows.{Line, measured}
 use Rattle.xml_measure.specs.declared.committed.Rows.{Rows}
 
 -- a node as it is if all abort
@@ -45,3 +45,8 @@ pub record Listed (l : List Entry) (places : List ℕ) (count : ℕ) : Type 0 wh
   pub first : depth l (get_or places 0 0) ≡ 0
   pub below : (i : ℕ) → suc i < count → 1 ≤ depth l (get_or places (suc i) 0)
   pub steps : (i : ℕ) → suc i < count → depth l (get_or places (suc i) 0) ≤ suc (depth l (get_or places i 0))
+
+-- the length of what is written for these rows, if they can be written: then it is at most 65,536
+pub data Measured (rows : List Line) : Option ℕ → Type 0 where
+  is_none : measured rows ≡ 0 → Measured rows None
+  is_length : {n : ℕ} → n ≡ measured rows → 1 ≤ n → n ≤ 65536 → Measured rows (Some n)

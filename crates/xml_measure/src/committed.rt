@@ -10,6 +10,7 @@ use table::layout;
 use xml_content::escaping;
 
 // Nodes in document order, each by its place.
+// An array with its count, since there is no heap.
 #[derive(Drop)]
 pub struct Rows {
     pub places: [u16; 1024],
@@ -21,24 +22,21 @@ pub fn select(s: &[u8]) -> Rows
     requires { Layout s.now }
     ensures { Selected (nodes s.now) result }
 {
-    let total = table::count(s);
     let mut places = [0u16; 1024];
     let mut count: usize = 0;
     let mut hidden: usize = 0;
-    let mut i: usize = 0;
-    while i < total {
-        let j = i;
-        i += 1;
-        let d = table::depth(s, j) as usize;
+    for i in 0..table::count(s) {
+        let d = table::depth(s, i) as usize;
         if layout::left_out(hidden, d) {
             continue;
         }
-        if table::inserter(s, j) != 0 {
+        let inserted = table::inserter(s, i) != 0;
+        if inserted {
             hidden = d + 1;
             continue;
         }
         hidden = 0;
-        places[count] = j as u16;
+        places[count] = i as u16;
         count += 1;
     }
     Rows { places, count }
@@ -50,10 +48,7 @@ pub fn version(s: &[u8], p: usize) -> usize
     ensures { (result < 2) × (text result (item (nodes s.now) p) ≡ (label_at (nodes s.now) p).content)
         × (has_text result (item (nodes s.now) p) ≡ true) }
 {
-    if table::writer(s, p) != 0 {
-        return 1;
-    }
-    0
+    if table::writer(s, p) == 0 { 0 } else { 1 }
 }
 
 // The committed content of the node at p.

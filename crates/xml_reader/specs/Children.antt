@@ -1,5 +1,5 @@
 -- Texts and tags in the content of the open elements, and the whole input.
-use Rattle.std.specs.Prelude.{ℕ, ◌+◌, ◌-◌, ◌≤◌, ◌≡◌, true, List, [], ◌∷◌, length, get_or}
+use Rattle.std.specs.Prelude.{ℕ, ◌+◌, ◌-◌, ◌≤◌, ◌≡◌, true, List, [], ◌∷◌, length, get_or, Result, Ok, Err}
 use Rattle.xml.specs.Bytes.{less_than}
 use Rattle.xml.specs.Grammar.{Name}
 use Rattle.xml.specs.Reading.{node_offset}
@@ -7,9 +7,13 @@ use Rattle.xml.specs.Laws.Automaton.{Config, behind_open, end_name, epilog, clos
 use Rattle.xml.specs.Laws.Judge.{bad}
 use Rattle.xml.specs.Laws.Goes.{Leads, Goes}
 use Rattle.xml_tokens.specs.declared.Cursor.{Cursor}
-use Rattle.xml_reader.specs.declared.Child.{Child}
-use Rattle.xml_reader.specs.declared.Child.TheVariants.{At, Stopped}
 use Rattle.xml_reader.specs.Elements.{stack, Placed, Onward}
+use Rattle.protocol.specs.CauseNumbers.{number_of}
+use Rattle.protocol.specs.declared.causes.Cause.{Cause}
+use Rattle.xml_reader.specs.Values.{inside_at}
+use Rattle.xml_reader.specs.declared.Inside.{Inside}
+use Rattle.xml_tokens.specs.Values.{refusal}
+use Rattle.xml_tokens.specs.declared.Refusal.{Refusal}
 
 -- behind a < in the innermost of these elements
 abbrev pub opened : List Name → Config
@@ -40,8 +44,8 @@ pub record Deep (s os : List ℕ) (depth spare : ℕ) : Type 0 where
   pub names : Placed s os depth
 
 -- where a part of the content leads from a configuration: to so many open elements, the offsets before their names in os
-pub data ChildRead (s : List ℕ) (from : Config) (at spare : ℕ) (os : List ℕ) : Child → Type 0 where
+pub data ChildRead (s : List ℕ) (from : Config) (at spare : ℕ) (os : List ℕ) : Result Inside Refusal → Type 0 where
   child_at : {c : Cursor} {d m : ℕ} → Onward s at spare c m → d + 1 + m ≤ 1024 → length os ≡ 1024 → Placed s os d
       → Goes true s from spare at (closed (stack s os 0 d)) m c.at
-      → ChildRead s from at spare os (At c d m)
-  child_stopped : {x j : ℕ} → Leads true s from spare at (bad x j) → ChildRead s from at spare os (Stopped x j)
+      → ChildRead s from at spare os (Ok (inside_at c d m))
+  child_stopped : {x : Cause} {j : ℕ} → Leads true s from spare at (bad (number_of x) j) → ChildRead s from at spare os (Err (refusal x j))

@@ -1,5 +1,5 @@
 -- Names of open elements and of attributes, kept as offsets of the bytes before them, and what whole attributes and tags lead to.
-use Rattle.std.specs.Prelude.{ℕ, zero, suc, ◌+◌, ◌≤◌, ◌<◌, ◌≡◌, Bool, true, false, List, [], ◌∷◌, length, get_or}
+use Rattle.std.specs.Prelude.{ℕ, zero, suc, ◌+◌, ◌≤◌, ◌<◌, ◌≡◌, Bool, true, false, List, [], ◌∷◌, length, get_or, Result, Ok, Err}
 use Rattle.tree.specs.Content.{name_start}
 use Rattle.xml.specs.Grammar.{Name}
 use Rattle.xml.specs.Reading.{node_offset, input_limit}
@@ -12,12 +12,14 @@ use Rattle.xml.specs.Laws.Goes.{Leads, Goes}
 use Rattle.xml.specs.Laws.Tokens.{name_at}
 use Rattle.byte_strings.specs.Sorted.{entries, Among, Lists, Added}
 use Rattle.xml_tokens.specs.declared.Cursor.{Cursor}
-use Rattle.xml_tokens.specs.declared.End.{End}
-use Rattle.xml_tokens.specs.declared.End.TheVariants.{Behind, Mismatch}
 use Rattle.xml_tokens.specs.declared.Read.{Read}
-use Rattle.xml_tokens.specs.declared.Read.TheVariants.{Past, Refused}
 use Rattle.xml_reader.specs.declared.Tag.{Tag}
-use Rattle.xml_reader.specs.declared.Tag.TheVariants.{Opened, Emptied, Broken}
+use Rattle.xml_reader.specs.declared.Tag.TheVariants.{Opened, Emptied}
+use Rattle.protocol.specs.CauseNumbers.{number_of}
+use Rattle.protocol.specs.declared.causes.Cause.{Cause}
+use Rattle.xml_tokens.specs.Values.{refusal, mismatch, read}
+use Rattle.xml_tokens.specs.declared.Mismatch.{Mismatch}
+use Rattle.xml_tokens.specs.declared.Refusal.{Refusal}
 
 -- the name behind the byte at an offset
 abbrev pub name_behind : List ℕ → ℕ → Name
@@ -41,12 +43,12 @@ pub record Attributed (s : List ℕ) (at : ℕ) : Type 0 where
   pub begins_here : node_offset s at ≡ at
 
 -- where an attribute leads, behind those seen, where spare nodes may still come
-pub data AttributeRead (s : List ℕ) (seen : List Name) (at spare : ℕ) : Read → Type 0 where
+pub data AttributeRead (s : List ℕ) (seen : List Name) (at spare : ℕ) : Result Read Refusal → Type 0 where
   attribute_past : {c : Cursor} {m : ℕ} → at < c.at → c.at ≤ length s → m < spare
       → ((n : Name) (ns : List Name) → Goes true s (in_tag n ns seen) spare at (behind_part n ns (name_at s at ∷ seen)) m c.at)
-      → AttributeRead s seen at spare (Past c m)
-  attribute_refused : {x j : ℕ} → ((n : Name) (ns : List Name) → Leads true s (in_tag n ns seen) spare at (bad x j))
-      → AttributeRead s seen at spare (Refused x j)
+      → AttributeRead s seen at spare (Ok (read c m))
+  attribute_refused : {x : Cause} {j : ℕ} → ((n : Name) (ns : List Name) → Leads true s (in_tag n ns seen) spare at (bad (number_of x) j))
+      → AttributeRead s seen at spare (Err (refusal x j))
 
 -- the first n are as they were
 pub record Kept (n : ℕ) (os os' : List ℕ) : Type 0 where
@@ -68,12 +70,12 @@ pub data EnterRead (s os os' : List ℕ) (lo count at : ℕ) : Bool → Type 0 w
   is_repeated : Among (attribute_names s os lo) count (name_at s at) → EnterRead s os os' lo count at false
 
 -- behind an attribute
-pub data NamesRead (s os os' : List ℕ) (lo count at : ℕ) : Read → Type 0 where
-  names_past : {c : Cursor} {m : ℕ} → Entered s os os' lo count at → NamesRead s os os' lo count at (Past c m)
-  names_refused : {x j : ℕ} → NamesRead s os os' lo count at (Refused x j)
+pub data NamesRead (s os os' : List ℕ) (lo count at : ℕ) : Result Read Refusal → Type 0 where
+  names_past : {c : Cursor} {m : ℕ} → Entered s os os' lo count at → NamesRead s os os' lo count at (Ok (read c m))
+  names_refused : {x : Cause} {j : ℕ} → NamesRead s os os' lo count at (Err (refusal x j))
 
 -- an attribute behind those whose names stand from place lo on
-pub record AttributeEnters (s os os' : List ℕ) (lo count at spare : ℕ) (r : Read) : Type 0 where
+pub record AttributeEnters (s os os' : List ℕ) (lo count at spare : ℕ) (r : Result Read Refusal) : Type 0 where
   pub reads : (seen : List Name) → Lists (attribute_names s os lo) count seen → AttributeRead s seen at spare r
   pub names : NamesRead s os os' lo count at r
   pub kept : Kept lo os os'
@@ -86,15 +88,15 @@ pub record Onward (s : List ℕ) (at spare : ℕ) (c : Cursor) (m : ℕ) : Type 
   pub fewer : m ≤ spare
 
 -- where a start tag leads from behind its name
-pub data AttributesRead (s : List ℕ) (at spare : ℕ) : Tag → Type 0 where
+pub data AttributesRead (s : List ℕ) (at spare : ℕ) : Result Tag Refusal → Type 0 where
   attributes_opened : {c : Cursor} {m : ℕ} → Onward s at spare c m
       → ((n : Name) (ns : List Name) → Goes true s (behind_part n ns []) spare at (content n ns) m c.at)
-      → AttributesRead s at spare (Opened c m)
+      → AttributesRead s at spare (Ok (Opened (read c m)))
   attributes_emptied : {c : Cursor} {m : ℕ} → Onward s at spare c m
       → ((n : Name) (ns : List Name) → Goes true s (behind_part n ns []) spare at (closed ns) m c.at)
-      → AttributesRead s at spare (Emptied c m)
-  attributes_broken : {x j : ℕ} → ((n : Name) (ns : List Name) → Leads true s (behind_part n ns []) spare at (bad x j))
-      → AttributesRead s at spare (Broken x j)
+      → AttributesRead s at spare (Ok (Emptied (read c m)))
+  attributes_broken : {x : Cause} {j : ℕ} → ((n : Name) (ns : List Name) → Leads true s (behind_part n ns []) spare at (bad (number_of x) j))
+      → AttributesRead s at spare (Err (refusal x j))
 
 -- a name begins here
 pub record Named (s : List ℕ) (at : ℕ) : Type 0 where
@@ -103,23 +105,23 @@ pub record Named (s : List ℕ) (at : ℕ) : Type 0 where
   pub starts : name_start (get_or s at 0) ≡ true
 
 -- where a start tag leads from behind the first byte of its name, if that begins a character
-pub data ElementRead (s : List ℕ) (at spare : ℕ) : Tag → Type 0 where
+pub data ElementRead (s : List ℕ) (at spare : ℕ) : Result Tag Refusal → Type 0 where
   element_opened : {c : Cursor} {m : ℕ} → Onward s at spare c m
       → ((ns : List Name) (y : Spelling) → spell (start_of false) (get_or s at 0) ≡ spelling y → (v : Verdict)
       → Leads true s (content (name_at s at) ns) m c.at v
       → scan_at s (tag_name ns (get_or s at 0 ∷ [])) (on y) spare 1 (at + 1) ≡ v)
-      → ElementRead s at spare (Opened c m)
+      → ElementRead s at spare (Ok (Opened (read c m)))
   element_emptied : {c : Cursor} {m : ℕ} → Onward s at spare c m
       → ((ns : List Name) (y : Spelling) → spell (start_of false) (get_or s at 0) ≡ spelling y → (v : Verdict)
       → Leads true s (closed ns) m c.at v → scan_at s (tag_name ns (get_or s at 0 ∷ [])) (on y) spare 1 (at + 1) ≡ v)
-      → ElementRead s at spare (Emptied c m)
-  element_broken : {x j : ℕ}
+      → ElementRead s at spare (Ok (Emptied (read c m)))
+  element_broken : {x : Cause} {j : ℕ}
       → ((ns : List Name) (y : Spelling) → spell (start_of false) (get_or s at 0) ≡ spelling y
-      → scan_at s (tag_name ns (get_or s at 0 ∷ [])) (on y) spare 1 (at + 1) ≡ bad x j)
-      → ElementRead s at spare (Broken x j)
+      → scan_at s (tag_name ns (get_or s at 0 ∷ [])) (on y) spare 1 (at + 1) ≡ bad (number_of x) j)
+      → ElementRead s at spare (Err (refusal x j))
 
 -- where the end tag of an element named n leads
-pub data EndRead (s : List ℕ) (n : Name) (at : ℕ) : End → Type 0 where
+pub data EndRead (s : List ℕ) (n : Name) (at : ℕ) : Result Cursor Mismatch → Type 0 where
   end_behind : {c : Cursor} → at < c.at → c.at ≤ length s → node_offset s c.at ≡ c.at
-      → ((ns : List Name) (m : ℕ) → Goes true s (end_name n ns n) m at (closed ns) m c.at) → EndRead s n at (Behind c)
-  end_mismatch : {j : ℕ} → ((ns : List Name) (m : ℕ) → Leads true s (end_name n ns n) m at (bad 4 j)) → EndRead s n at (Mismatch j)
+      → ((ns : List Name) (m : ℕ) → Goes true s (end_name n ns n) m at (closed ns) m c.at) → EndRead s n at (Ok c)
+  end_mismatch : {j : ℕ} → ((ns : List Name) (m : ℕ) → Leads true s (end_name n ns n) m at (bad 4 j)) → EndRead s n at (Err (mismatch j))

@@ -1,3 +1,4 @@
+pub mod Values
 pub mod Elements
 pub mod Children
 pub mod Prolog

@@ -7,27 +7,19 @@ mod names;
 pub mod start;
 pub mod start_tags;
 
-use xml_tokens::Cursor;
+use xml_tokens::{Cursor, Read};
 
-// A start tag: the cursor behind it and how many nodes may still come, where content follows and where the element is empty; or a cause and
-// its offset.
+// What is read up to behind a start tag: where content follows, and where the element is empty.
 #[derive(Clone, Copy)]
 pub enum Tag {
-    Opened(Cursor, usize),
-    Emptied(Cursor, usize),
-    Broken(u8, usize),
+    Opened(Read),
+    Emptied(Read),
 }
 
-// Inside the document: the cursor, the number of open elements and how many nodes may still come; or a cause and its offset.
+// Inside the document: the cursor, the number of open elements and how many nodes may still come.
 #[derive(Clone, Copy)]
-pub enum Child {
-    At(Cursor, usize, usize),
-    Stopped(u8, usize),
-}
-
-// At the first byte of the root element's name, or the offset where there is none.
-#[derive(Clone, Copy)]
-pub enum Prolog {
-    Root(Cursor),
-    NoRoot(usize),
+pub struct Inside {
+    pub cursor: Cursor,
+    pub depth: usize,
+    pub spare: usize,
 }

@@ -8,57 +8,41 @@ ghost use Rattle.byte_strings.specs.Sorted.{Increasing, Belongs};
 ghost use Rattle.xml_tokens.specs.Steps.{Run};
 ghost use Rattle.xml_reader.specs.Elements.{Placed, Attributed, Kept, attribute_names, EnterRead};
 
-use byte_strings::{Order, Place};
+use std::cmp::Ordering;
 use xml_tokens::peek;
 
-// How the name that stands between two offsets lies to the one at another.
-fn order(s: &[u8], from: usize, to: usize, other: usize) -> Order
+// How the name at an offset lies to the one that stands between two others.
+// No cmp of slices: where the other name ends is found only as far as the two agree.
+fn order(s: &[u8], other: usize, from: usize, to: usize) -> Ordering
     requires { (from ≤ to) × (other ≤ length s.now) × Run name_byte s.now from to }
-    ensures { Ordered (name_at s.now from) (name_at s.now other) result }
+    ensures { Ordered (name_at s.now other) (name_at s.now from) result }
 {
     let word = &s[from..to];
     let n = byte_strings::agreement(s, other, word);
     let next = peek(s, other + n);
-    let more = tree::name_byte(next);
-    if n == to - from {
-        if more {
-            return Order::Before;
-        }
-        return Order::Same;
+    match (tree::name_byte(next), n < word.len()) {
+        (true, true) => next.cmp(&word[n]),
+        (true, false) => Ordering::Greater,
+        (false, true) => Ordering::Less,
+        (false, false) => Ordering::Equal,
     }
-    if !more {
-        return Order::Behind;
-    }
-    if s[from + n] < next {
-        return Order::Before;
-    }
-    Order::Behind
 }
 
 // Where a name belongs among the count names that are kept from lo on.
-fn place(s: &[u8], names: &[u16; 1024], lo: usize, count: usize, from: usize, to: usize) -> Place
+fn place(
+    s: &[u8],
+    names: &[u16; 1024],
+    lo: usize,
+    count: usize,
+    from: usize,
+    to: usize,
+) -> Result<usize, usize>
     requires { (from ≤ to) × Run name_byte s.now from to × (lo + count ≤ 1024) × Placed s.now names.now (lo + count)
         × Increasing (attribute_names s.now names.now lo) count }
     ensures { Belongs (attribute_names s.now names.now lo) count (name_at s.now from) result }
 {
-    let mut low: usize = 0;
-    let mut high = count;
-    while low < high {
-        let middle = (low + high) / 2;
-        let other = names[lo + middle] as usize + 1;
-        match order(s, from, to, other) {
-            Order::Same => return Place::Taken,
-            Order::Before => {
-                high = middle;
-                continue;
-            }
-            Order::Behind => {
-                low = middle + 1;
-                continue;
-            }
-        }
-    }
-    Place::Free(low)
+    let kept = &names[lo..lo + count];
+    byte_strings::find(kept, |o| order(s, o as usize + 1, from, to))
 }
 
 // A name put among the count names that are kept from lo on, unless it is one of them.
@@ -76,8 +60,8 @@ pub fn enter(
         × Kept lo names.old names.new }
 {
     match place(s, names, lo, count, from, to) {
-        Place::Taken => false,
-        Place::Free(k) => {
+        Ok(_) => false,
+        Err(k) => {
             byte_strings::insert(names, lo + k, lo + count, (from - 1) as u16);
             true
         }

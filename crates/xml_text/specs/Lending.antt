@@ -24,11 +24,6 @@ copy_more p o₀ o i h k e =
 pub wrote_none : (o : List ℕ) → Wrote [] o o 0
 wrote_none o = record { count = refl; bytes = refl }
 
--- one byte
-pub wrote_byte : (b : ℕ) (o : List ℕ) → 1 ≤ length o → Wrote (b ∷ []) o (set o 0 b) 1
-wrote_byte b [] h = absurd (omega arith)
-wrote_byte b (x ∷ o) h = record { count = refl; bytes = refl }
-
 -- the same piece, given otherwise
 pub wrote_as : {a b o o' : List ℕ} {r : ℕ} → a ≡ b → Wrote a o o' r → Wrote b o o' r
 wrote_as e w = rw (← e) w

@@ -4,18 +4,25 @@ ghost use Rattle.xml.specs.Writing.{escape};
 ghost use Rattle.xml_text.specs.Rows.{in_start_tag, fits, prolog};
 ghost use Rattle.xml_text.specs.Lending.{Wrote};
 
-// A copy of p.
+// The kinds of nodes, as the lent bytes have them, and 0 for no node, as the definitions have it (`previous_of` in specs/Rows.antt).
+pub const NO_NODE: u8 = 0;
+
+pub const ELEMENT: u8 = 2;
+
+pub const ATTRIBUTE: u8 = 3;
+
+pub const TEXT: u8 = 4;
+
+// A copy of p. A loop: most pieces are a few bytes whose number is known where this is inlined, and then it is one or two stores; and
+// copy_from_slice calls memmove, where the library calls nothing but memcpy and memset (docs/PANEL.md).
 pub fn put(out: &mut [u8], p: &[u8]) -> usize
     requires { length p.now ≤ length out.old }
     ensures { Wrote p.now out.old out.new result }
 {
-    let n = p.len();
-    let mut i: usize = 0;
-    while i < n {
-        out[i] = p[i];
-        i += 1;
+    for (i, b) in p.iter().enumerate() {
+        out[i] = *b;
     }
-    n
+    p.len()
 }
 
 // The declaration and a line feed.
@@ -32,71 +39,48 @@ pub fn put_byte(out: &mut [u8], b: u8, value: bool) -> usize
     requires { length (escape value b) ≤ length out.old }
     ensures { Wrote (escape value b) out.old out.new result }
 {
-    if b == b'&' {
-        return put(out, &xml::AMP);
+    match b {
+        b'&' => put(out, &xml::AMP),
+        b'<' => put(out, &xml::LT),
+        b'>' => put(out, &xml::GT),
+        b'"' => put(out, &xml::QUOT),
+        b'\t' if value => put(out, &xml::TAB),
+        b'\n' if value => put(out, &xml::LINE_FEED),
+        _ => put(out, &[b]),
     }
-    if b == b'<' {
-        return put(out, &xml::LT);
-    }
-    if b == b'>' {
-        return put(out, &xml::GT);
-    }
-    if b == b'"' {
-        return put(out, &xml::QUOT);
-    }
-    if !value {
-        out[0] = b;
-        return 1;
-    }
-    if b == b'\t' {
-        return put(out, &xml::TAB);
-    }
-    if b == b'\n' {
-        return put(out, &xml::LINE_FEED);
-    }
-    out[0] = b;
-    1
 }
 
-// How many bytes stand for one of a text, or of a value. No branch, so that a loop over many bytes takes several at once.
+// How many bytes stand for one of a text, or of a value. No branch, so that a loop over many bytes takes several at once; a `match` has one.
 pub fn byte_length(b: u8, value: bool) -> u8
     ensures { (result ≡ length (escape value b)) × (result ≤ 6) }
 {
-    let v = value as u8;
-    let amp = (b == b'&') as u8;
-    let lt = (b == b'<') as u8;
-    let gt = (b == b'>') as u8;
-    let quot = (b == b'"') as u8;
-    let tab = (b == b'\t') as u8;
-    let line_feed = (b == b'\n') as u8;
+    let v = u8::from(value);
+    let amp = u8::from(b == b'&');
+    let lt = u8::from(b == b'<');
+    let gt = u8::from(b == b'>');
+    let quot = u8::from(b == b'"');
+    let tab = u8::from(b == b'\t');
+    let line_feed = u8::from(b == b'\n');
     1 + 4 * amp + 3 * lt + 3 * gt + 5 * quot + 3 * v * tab + 4 * v * line_feed
 }
 
-// Whether a start tag is still open behind a child of this kind, 0 for none.
+// Whether a start tag is still open behind a child of this kind.
 pub fn in_start_tag(previous: u8) -> bool
     ensures { result ≡ in_start_tag previous }
 {
-    if previous == 0 {
-        return true;
-    }
-    previous == 3
+    matches!(previous, NO_NODE | ATTRIBUTE)
 }
 
-// Whether a node of a kind may be written below one of kind `parent` and behind one of kind `previous`, 0 for none.
+// Whether a node of a kind may be written below one of kind `parent` and behind one of kind `previous`.
+#[tactic(auto, unfolding(crate::specs::Rows::fits, crate::specs::Rows::may_stand))]
 pub fn fits(parent: u8, previous: u8, kind: u8) -> bool
     ensures { result ≡ fits parent previous kind }
 {
-    if !tree::takes(parent as u32, kind as u32) {
-        return false;
-    }
-    if parent != 2 {
-        return previous == 0;
-    }
-    if kind == 3 {
-        return in_start_tag(previous);
-    }
-    if kind == 4 {
-        return previous != 4;
-    }
-    true
+    tree::takes(u32::from(parent), u32::from(kind))
+        && match (parent, kind) {
+            (ELEMENT, ATTRIBUTE) => in_start_tag(previous),
+            (ELEMENT, TEXT) => previous != TEXT,
+            (ELEMENT, _) => true,
+            _ => previous == NO_NODE,
+        }
 }

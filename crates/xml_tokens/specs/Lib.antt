@@ -1,3 +1,4 @@
+pub mod Values
 pub mod Classes
 pub mod Steps
 pub mod Laws

@@ -1,27 +1,33 @@
 // Blanks, names and references.
-ghost use Rattle.std.specs.Prelude.{◌≡◌, ◌≤◌, length, get_or, drop};
+ghost use Rattle.std.specs.Prelude.{◌≡◌, ◌≤◌, ℕ, Bool, length, get_or, drop};
 ghost use Rattle.tree.specs.Content.{name_byte};
 ghost use Rattle.xml.specs.Bytes.{blank};
 ghost use Rattle.xml.specs.Laws.Fixed.{word_at, reference_at};
-ghost use Rattle.xml_tokens.specs.Steps.{Run, Refers};
+ghost use Rattle.xml_tokens.specs.Values.{Computes};
+ghost use Rattle.xml_tokens.specs.Steps.{Run, ByteRead, Refers};
 
-use super::{Cursor, Reference, is_blank, peek};
+use super::{Cursor, Mismatch, Reference, is_blank, peek};
 
 impl Cursor {
-    // Over blanks.
+    // Over bytes of a class.
+    pub fn run<F: Fn(u8) -> bool>(self, s: &[u8], class: F) -> Cursor
+        requires inside { self.at ≤ length s.now }
+        requires callable { F.IsAlwaysCallable class }
+        ensures { (t : ℕ → Bool) → Computes (F.post class) t → Run t s.now self.at result.at }
+    {
+        for i in self.at..s.len() {
+            if !class(s[i]) {
+                return Cursor { at: i };
+            }
+        }
+        Cursor { at: s.len() }
+    }
+
     pub fn blanks(self, s: &[u8]) -> Cursor
         requires { self.at ≤ length s.now }
         ensures { Run blank s.now self.at result.at }
     {
-        let mut i = self.at;
-        while i < s.len() {
-            let b = s[i];
-            if !is_blank(b) {
-                break;
-            }
-            i += 1;
-        }
-        Cursor { at: i }
+        self.run(s, is_blank)
     }
 
     // Over the bytes of a name.
@@ -29,65 +35,48 @@ impl Cursor {
         requires { self.at ≤ length s.now }
         ensures { Run name_byte s.now self.at result.at }
     {
-        let mut i = self.at;
-        while i < s.len() {
-            let b = s[i];
-            if !tree::name_byte(b) {
-                break;
-            }
-            i += 1;
+        self.run(s, tree::name_byte)
+    }
+
+    // Over one byte, which has to be this one.
+    pub fn over(self, s: &[u8], byte: u8) -> Result<Cursor, Mismatch>
+        ensures { ByteRead s.now self.at byte result }
+    {
+        let at = self.at;
+        match s.get(at) {
+            Some(b) if *b == byte => Ok(Cursor { at: at + 1 }),
+            _ => Err(Mismatch { offset: at }),
         }
-        Cursor { at: i }
     }
 
     // One reference, compared whole.
-    fn word(self, s: &[u8], word: &[u8], value: u8) -> Reference
+    fn word(self, s: &[u8], word: &[u8], byte: u8) -> Result<Reference, Mismatch>
         requires { self.at ≤ length s.now }
-        ensures { Refers s.now self.at (word_at word.now value (drop self.at s.now)) result }
+        ensures { Refers s.now self.at (word_at word.now byte (drop self.at s.now)) result }
     {
-        let at = self.at;
-        let n = byte_strings::agreement(s, at, word);
+        let n = byte_strings::agreement(s, self.at, word);
+        let behind = Cursor { at: self.at + n };
         if n == word.len() {
-            return Reference::Byte(value, Cursor { at: at + n });
+            return Ok(Reference { byte, behind });
         }
-        Reference::NoReference(at + n)
-    }
-
-    // A character reference, from its # on.
-    fn character_reference(self, s: &[u8]) -> Reference
-        requires { (self.at ≤ length s.now) × (get_or s.now self.at 0 ≡ 35) }
-        ensures { Refers s.now self.at (reference_at (drop self.at s.now)) result }
-    {
-        let second = peek(s, self.at + 1);
-        if second == b'1' {
-            return self.word(s, &xml::LINE_FEED[1..], 10);
-        }
-        self.word(s, &xml::TAB[1..], 9)
+        Err(Mismatch { offset: behind.at })
     }
 
     // A reference, behind its ampersand; its first two bytes tell which it can be.
-    pub fn reference(self, s: &[u8]) -> Reference
+    pub fn reference(self, s: &[u8]) -> Result<Reference, Mismatch>
         requires { self.at ≤ length s.now }
         ensures { Refers s.now self.at (reference_at (drop self.at s.now)) result }
     {
-        let at = self.at;
-        let first = peek(s, at);
-        if first == b'a' {
-            let second = peek(s, at + 1);
-            if second == b'm' {
-                return self.word(s, &xml::AMP[1..], 38);
-            }
-            return self.word(s, &xml::APOS[1..], 39);
+        let first = peek(s, self.at);
+        let second = peek(s, self.at + 1);
+        match (first, second) {
+            (b'a', b'm') => self.word(s, &xml::AMP[1..], b'&'),
+            (b'a', _) => self.word(s, &xml::APOS[1..], b'\''),
+            (b'g', _) => self.word(s, &xml::GT[1..], b'>'),
+            (b'l', _) => self.word(s, &xml::LT[1..], b'<'),
+            (b'#', b'1') => self.word(s, &xml::LINE_FEED[1..], b'\n'),
+            (b'#', _) => self.word(s, &xml::TAB[1..], b'\t'),
+            _ => self.word(s, &xml::QUOT[1..], b'"'),
         }
-        if first == b'g' {
-            return self.word(s, &xml::GT[1..], 62);
-        }
-        if first == b'l' {
-            return self.word(s, &xml::LT[1..], 60);
-        }
-        if first == b'#' {
-            return self.character_reference(s);
-        }
-        self.word(s, &xml::QUOT[1..], 34)
     }
 }

@@ -1,3 +1,4 @@
 pub mod Contract
 pub mod Texts
+pub mod Pieces
 pub mod Laws

@@ -1,44 +1,11 @@
 -- Entries of an array: one place further, and a new one among them.
-use Rattle.std.specs.Prelude.{ℕ, suc, ◌+◌, ◌-◌, ◌≤◌, ◌<◌, ◌≡◌, refl, Bool, true, false, List, eqb, length, get_or, set}
-use Rattle.std.proofs.Common.{ap, ◌∙◌, arith, length-set, get_or-set_same, get_or-set_other, eqb-true}
-use Rattle.std.proofs.lemmas.Bool.{eqb-false}
-use Rattle.byte_strings.specs.Sorted.{entries, Increasing, Between, Inserted, Added}
+use Rattle.std.specs.Prelude.{ℕ, suc, ◌+◌, ◌≤◌, ◌<◌, ◌≡◌, List, Result, length, get_or, take, drop}
+use Rattle.std.proofs.Common.{length-drop, ap, ◌∙◌, arith}
+use Rattle.std.proofs.Math.Seq.{length-take-le, get_or-drop, get_or-take}
+use Rattle.std.specs.declared.cmp.Ordering.{Ordering}
+use Rattle.byte_strings.specs.Order.{Ordered}
+use Rattle.byte_strings.specs.Sorted.{entries, Belongs, Orders, Increasing, Between, Inserted, Added}
 use Rattle.byte_strings.specs.Laws.Sorted.{Side, side, side_before, side_here, side_behind, added}
-
--- the loop that shifts: those from place i on stand further, those before it as they were
-pub record Shifting (os os' : List ℕ) (end i : ℕ) : Type 0 where
-  pub as_long : length os' ≡ length os
-  pub ahead : (j : ℕ) → j ≤ i → get_or os' j 0 ≡ get_or os j 0
-  pub further : (j : ℕ) → i ≤ j → j < end → get_or os' (suc j) 0 ≡ get_or os j 0
-
-pub shift_start : (os : List ℕ) (end : ℕ) → Shifting os os end end
-shift_start os end = record { as_long = refl; ahead = λ j h. refl; further = λ j h k. absurd (omega arith) }
-
-module _ {os os' : List ℕ} {end i : ℕ} (v : Shifting os os' end i) where
-  pub shift_turn : 0 < i → i < length os' → Shifting os (set os' i (get_or os' (i - 1) 0)) end (i - 1)
-  shift_turn h k = record {
-    as_long = length-set os' i (get_or os' (i - 1) 0) ∙ v.as_long;
-    ahead = λ j l. get_or-set_other os' i j (get_or os' (i - 1) 0) 0 (λ e. omega arith) ∙ v.ahead j (omega arith);
-    further = λ j l m. go j l m (eqb (suc j) i) refl;
-  }
-    where
-      go : (j : ℕ) → i - 1 ≤ j → j < end → (t : Bool) → eqb (suc j) i ≡ t → get_or (set os' i (get_or os' (i - 1) 0)) (suc j) 0 ≡ get_or os j 0
-      go j l m true e =
-          let p : suc j ≡ i = eqb-true (suc j) i e in
-          let q : i - 1 ≡ j = omega arith in
-          rw (p, get_or-set_same os' i (get_or os' (i - 1) 0) 0 k, q) (v.ahead j (omega arith))
-      go j l m false e =
-          let p : suc j ≡ i → ⊥ = eqb-false (suc j) i e in
-          get_or-set_other os' i (suc j) (get_or os' (i - 1) 0) 0 p ∙ v.further j (omega (arith, p)) m
-
-  pub shift_end : {at : ℕ} (p : ℕ) → at ≡ i → at ≤ end → end < length os → Inserted os (set os' at p) at end p
-  shift_end {at} p e h k = record {
-    inside = h;
-    as_long = length-set os' at p ∙ v.as_long;
-    ahead = λ j l. get_or-set_other os' at j p 0 (λ z. omega arith) ∙ v.ahead j (omega arith);
-    here = get_or-set_same os' at p 0 (omega (arith, v.as_long));
-    further = λ j l m. get_or-set_other os' at (suc j) p 0 (λ z. omega arith) ∙ v.further j (omega arith) m;
-  }
 
 -- what holds for each entry and the new one
 pub each_entry : {os os' : List ℕ} {k n v : ℕ} → Inserted os os' k n v → (P : ℕ → Type 0) → ((i : ℕ) → i < n → P (get_or os i 0)) → P v
@@ -58,3 +25,25 @@ unfolding entries
 entry_added f lo p q x s b =
     added s b (omega (arith, x.inside)) (λ i h. ap f (x.ahead (lo + i) (omega arith))) (rw (← p) (ap f x.here))
     (λ i h j. let z : lo + suc i ≡ suc (lo + i) = omega arith in ap f (rw z (x.further (lo + i) (omega arith) (omega arith))))
+
+-- n entries from place lo on, as a slice
+module _ (os : List ℕ) (lo n : ℕ) (h : lo + n ≤ length os) where
+  length_part : length (take n (drop lo os)) ≡ n
+  length_part = length-take-le n (drop lo os) (omega (arith, length-drop lo os))
+
+  entry_part : (i : ℕ) → i < n → get_or (take n (drop lo os)) i 0 ≡ get_or os (lo + i) 0
+  entry_part i k = get_or-take n (drop lo os) i 0 k ∙ get_or-drop lo os i 0
+
+-- what is found among them
+pub found_part : (os : List ℕ) (lo : ℕ) {m : ℕ} (n : ℕ) (f : ℕ → List ℕ) (w : List ℕ) {says : ℕ → Ordering → Type 0} {r : Result ℕ ℕ}
+    → m ≡ n → lo + n ≤ length os
+    → ((name : ℕ → List ℕ) (v : List ℕ) → Increasing name (length (take m (drop lo os))) → Orders says (take m (drop lo os)) name v
+    → Belongs name (length (take m (drop lo os))) v r)
+    → Increasing (entries f os lo) n
+    → ((i : ℕ) (o : Ordering) → i < n → says (get_or os (lo + i) 0) o → Ordered (f (get_or os (lo + i) 0)) w o)
+    → Belongs (entries f os lo) n w r
+unfolding entries
+found_part os lo n f w e h b s o =
+    let l = length_part os lo n h in
+    let g = rw (e, l) at b in
+    g (entries f os lo) w s (record { lies = λ i {r = x} k y. o i x (omega (arith, l)) (rw (entry_part os lo n h i (omega (arith, l))) at y) })

@@ -1,5 +1,7 @@
 -- A name is found among sorted ones by halving, and put among them.
-use Rattle.std.specs.Prelude.{ℕ, zero, suc, ◌+◌, ◌≤◌, ◌<◌, ◌≡◌, refl, Bool, true, false, ◌⊎◌, List, [], ◌∷◌, eqb, ltb}
+use Rattle.std.specs.Prelude.{ℕ, zero, suc, ◌+◌, ◌≤◌, ◌<◌, ◌≡◌, refl, Bool, true, false, ◌⊎◌, List, [], ◌∷◌, Result, Ok, Err, eqb, ltb}
+use Rattle.std.specs.declared.cmp.Ordering.{Ordering}
+use Rattle.std.specs.declared.cmp.Ordering.TheVariants.{Less, Equal, Greater}
 use Rattle.std.proofs.Common.{sym, ◌∙◌, subst, inl, inr, arith, eqb-true, ltb-true, ltb-false}
 use Rattle.std.proofs.Math.Bool.{or-true}
 use Rattle.std.proofs.lemmas.Bool.{false≢true, eqb-false}
@@ -7,10 +9,6 @@ use Rattle.tree.specs.Lists.{same}
 use Rattle.tree.specs.Laws.Tests.{refuted, or_cases}
 use Rattle.tree.specs.Laws.Compare.{same_equal, same_self}
 use Rattle.xml.specs.Bytes.{used}
-use Rattle.byte_strings.specs.declared.Order.{Order}
-use Rattle.byte_strings.specs.declared.Order.TheVariants.{Before, Same, Behind}
-use Rattle.byte_strings.specs.declared.Place.{Place}
-use Rattle.byte_strings.specs.declared.Place.TheVariants.{Taken, Free}
 use Rattle.byte_strings.specs.Order.{Precedes, Ordered}
 use Rattle.byte_strings.specs.Sorted.{Increasing, Among, Lists, Between, Belongs, is_taken, is_free, Added}
 use Rattle.byte_strings.specs.Laws.Order.{precedes_through, precedes_none, before_of, same_of, behind_of}
@@ -40,27 +38,27 @@ module _ {name : ℕ → List ℕ} {n low high m : ℕ} {w : List ℕ} (s : Incr
       go i k true e = rw (eqb-true i m e) p
       go i k false e = precedes_through (s.increasing i m (omega (arith, eqb-false i m e)) h) p
 
-  module _ {r : Order} (o : Ordered w (name m) r) where
-    pub turn_before : r ≡ Before → Between name n low m w
-    turn_before e = between_before (before_of (subst (Ordered w (name m)) e o))
+  module _ {r : Ordering} (o : Ordered (name m) w r) where
+    pub turn_less : r ≡ Less → Between name n (m + 1) high w
+    turn_less e = between_behind (before_of (subst (Ordered (name m) w) e o))
 
-    pub turn_behind : r ≡ Behind → Between name n (m + 1) high w
-    turn_behind e = between_behind (behind_of (subst (Ordered w (name m)) e o))
+    pub turn_greater : r ≡ Greater → Between name n low m w
+    turn_greater e = between_before (behind_of (subst (Ordered (name m) w) e o))
 
-    pub turn_same : r ≡ Same → Belongs name n w Taken
-    turn_same e = is_taken (record { at = m; inside = h; is = sym (same_of (subst (Ordered w (name m)) e o)) })
+    pub turn_equal : r ≡ Equal → Belongs name n w (Ok m)
+    turn_equal e = is_taken h (same_of (subst (Ordered (name m) w) e o))
 
-module _ {name : ℕ → List ℕ} {n : ℕ} {w : List ℕ} {r : Place} (b : Belongs name n w r) where
-  pub taken_of : r ≡ Taken → Among name n w
-  taken_of e = go (subst (Belongs name n w) e b)
+module _ {name : ℕ → List ℕ} {n : ℕ} {w : List ℕ} {r : Result ℕ ℕ} (b : Belongs name n w r) where
+  pub taken_of : {k : ℕ} → r ≡ Ok k → Among name n w
+  taken_of {k} e = go (subst (Belongs name n w) e b)
     where
-      go : Belongs name n w Taken → Among name n w
-      go (is_taken a) = a
+      go : Belongs name n w (Ok k) → Among name n w
+      go (is_taken h z) = record { at = k; inside = h; is = z }
 
-  pub free_of : {k : ℕ} → r ≡ Free k → (k ≤ n) × Between name n k k w
+  pub free_of : {k : ℕ} → r ≡ Err k → (k ≤ n) × Between name n k k w
   free_of {k} e = go (subst (Belongs name n w) e b)
     where
-      go : Belongs name n w (Free k) → (k ≤ n) × Between name n k k w
+      go : Belongs name n w (Err k) → (k ≤ n) × Between name n k k w
       go (is_free h x) = (h, x)
 
 -- what is found is seen, what is not found is not

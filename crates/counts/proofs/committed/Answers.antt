@@ -12,17 +12,17 @@ loop-k-init c =
 
 pub loop-k-preserved-then-e-d : goal.loop-k-preserved-then-e-d
 loop-k-preserved-then-e-d c =
-    climbing_passed c.loop-k.invariant (search rules) c.depth-d.ensures c.if-e-d.true
+    climbing_passed _ _ _ _ c.loop-k.invariant (search rules) c.depth-d.ensures c.if-e-d.true
 
 pub returns-then-inserter-ne0-2 : goal.returns-then-inserter-ne0-2
 returns-then-inserter-ne0-2 c =
-    climbing_inserted c.loop-k.invariant (search rules) c.depth-d.ensures (search rules) _ c.inserter-in-loop-k.ensures
+    climbing_inserted _ _ _ _ c.loop-k.invariant (search rules) c.depth-d.ensures (search rules) _ c.inserter-in-loop-k.ensures
     c.if-inserter-ne0-2.true
 
 pub loop-k-preserved : goal.loop-k-preserved
 loop-k-preserved c =
-    climbing_found c.loop-k.invariant (search rules) c.depth-d.ensures (search rules) _ c.inserter-in-loop-k.ensures
+    climbing_found _ _ _ _ c.loop-k.invariant (search rules) c.depth-d.ensures (search rules) _ c.inserter-in-loop-k.ensures
     (search rules)
 
 pub returns : goal.returns
-returns c = climbing_done c.loop-k.invariant (search rules)
+returns c = climbing_done _ _ _ _ c.loop-k.invariant (search rules)

@@ -80,11 +80,12 @@ module _ (l : List ℕ) (t reach next v : ℕ) (h : v < 16) (j : Joined l t reac
       go a true c = refl
       go a false c = refl
 
-  pub joined_more : in_set reach (v + 1) ≡ true → Joined l t reach (bit_or next (get_or l (v + 1 - 1) 0)) (v + 1)
+  pub joined_more : in_set reach (v + 1) ≡ true → Joined l t reach (bit_or next (get_or l v 0)) (v + 1)
   unfolding Joined
   joined_more e u =
-      let w = get_or l (v + 1 - 1) 0 in
-      j u ∙ rw (behind_turn (led l reach u) v h, e, word_set l (v + 1) u (omega arith) (omega arith), in_either next w u)
+      let w = get_or l v 0 in
+      let z : v + 1 - 1 ≡ v = omega arith in
+      j u ∙ rw (behind_turn (led l reach u) v h, e, word_set l (v + 1) u (omega arith) (omega arith), z, in_either next w u)
       (go (in_set next u) (in_set w u) (behind (led l reach u) (v + 1)))
     where
       go : (a b c : Bool) → (a || ((b && true) || c)) ≡ ((a || b) || c)

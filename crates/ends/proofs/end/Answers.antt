@@ -9,7 +9,7 @@ overflow_cast-t c = omega (arith, c.requires.high)
 pub one_pass-requires : goal.one_pass-requires
 one_pass-requires c =
     let opened = c.requires in
-    (opened.layout, opened.low, opened.high, document_stays c.args.commits opened)
+    (opened.layout, opened.low, opened.high, document_stays c.args.end opened)
 
 pub close-requires : goal.close-requires
 close-requires c =
@@ -18,7 +18,4 @@ close-requires c =
     (pass.left.layout, opened.low, opened.high, left_open _ pass.left opened.is_open)
 
 pub returns : goal.returns
-returns c =
-    let pass = c.one_pass.ensures in
-    let args = c.args in
-    end_left args.commits args.n _ pass c.close.ensures
+returns c = end_left c.args.end _ c.one_pass.ensures c.close.ensures

@@ -31,6 +31,8 @@ use Rattle.engine.specs.Contract.{Performed}
 use Rattle.engine.specs.Admission.{Opened, Barred}
 use Rattle.ends.specs.Ends.{Restarted}
 use Rattle.ends.specs.Marks.{stays, end_tree}
+use Rattle.ends.specs.declared.pass.Ending.{Ending}
+use Rattle.ends.specs.declared.pass.Ending.TheVariants.{Lasting, Undone}
 use Rattle.ends.specs.Pass.{two_passes, Ended}
 use Rattle.engine.specs.Laws.Outcomes.{performed_stays, performed_grants, stopped_stays}
 use Rattle.engine.specs.Laws.Admission.{open_next}
@@ -45,8 +47,8 @@ first_document s f =
     let e : (get_or (nodes s) 0 no_entry).1 ≡ r.it = ap (λ (l : List Entry). (get_or l 0 no_entry).1) (m.1.rows ∙ ap (flat 0) r.whole) in
     rw e r.document
 
-pub document_stays : {s : List ℕ} {t : ℕ} (commits : Bool) → Opened s t → stays commits t (get_or (nodes s) 0 no_entry).1 ≡ true
-document_stays {s} {t} commits o = go commits
+pub document_stays : {s : List ℕ} {t : ℕ} (end : Ending) → Opened s t → stays end t (get_or (nodes s) 0 no_entry).1 ≡ true
+document_stays {s} {t} end o = go end
   where
     d : FineDocument (get_or (nodes s) 0 no_entry).1
     d = first_document s o.formed
@@ -54,9 +56,9 @@ document_stays {s} {t} commits o = go commits
     n : eqb nobody t ≡ false
     n = ne_eqb nobody t (λ e. omega (arith, o.low))
 
-    go : (commits : Bool) → stays commits t (get_or (nodes s) 0 no_entry).1 ≡ true
-    go true = rw (d.deleter, n)
-    go false = rw (d.inserter, n)
+    go : (end : Ending) → stays end t (get_or (nodes s) 0 no_entry).1 ≡ true
+    go (Lasting k) = rw (d.deleter, n)
+    go Undone = rw (d.inserter, n)
 
 -- start ---------------------------------------------------------------------------------------------
 
@@ -141,18 +143,18 @@ module _ {s : List ℕ} {t : ℕ} (f : form s ≡ true) where
 
 -- commit and abort ------------------------------------------------------------------------------------
 
-end_rows : (commits : Bool) (n t : ℕ) (f : Tree)
-    → flat 0 (end_tree commits n t f) ≡ two_passes commits n t (flat 0 f)
-end_rows true n t f = commit_rows n t f
-end_rows false n t f = abort_rows t f
+end_rows : (end : Ending) (t : ℕ) (f : Tree)
+    → flat 0 (end_tree end t f) ≡ two_passes end t (flat 0 f)
+end_rows (Lasting n) t f = commit_rows n t f
+end_rows Undone t f = abort_rows t f
 
-end_unique : (commits : Bool) (n t : ℕ) (f : Tree) → unique (flat 0 f) ≡ true → unique (flat 0 (end_tree commits n t f)) ≡ true
-end_unique true n t f = unique_commit n t f
-end_unique false n t f = unique_abort t f
+end_unique : (end : Ending) (t : ℕ) (f : Tree) → unique (flat 0 f) ≡ true → unique (flat 0 (end_tree end t f)) ≡ true
+end_unique (Lasting n) t f = unique_commit n t f
+end_unique Undone t f = unique_abort t f
 
-end_valid : (commits : Bool) (n t : ℕ) (f : Tree) → 1 ≤ t → valid_tree f ≡ true → valid_tree (end_tree commits n t f) ≡ true
-end_valid true n t f = valid_commit n t f
-end_valid false n t f = valid_abort t f
+end_valid : (end : Ending) (t : ℕ) (f : Tree) → 1 ≤ t → valid_tree f ≡ true → valid_tree (end_tree end t f) ≡ true
+end_valid (Lasting n) t f = valid_commit n t f
+end_valid Undone t f = valid_abort t f
 
 -- 13, 1 or 3; `behind` is what the definition has behind these
 barred : {s : List ℕ} {t : ℕ} (call : Call) (behind : State → Next) → ((M : State) → next call M ≡ if_open t M (behind M)) → (cause : ℕ)
@@ -180,19 +182,19 @@ module _ {s : List ℕ} {t : ℕ} where
 
   module _ (o : Opened s t) where
     -- what is left of the state M by an end; g is what else becomes of the header
-    end_holds : (commits : Bool) (n : ℕ) (g : Header → Header) (s' : List ℕ) (M : State)
-        → Left s s' (g (ended t (header s))) (two_passes commits n t (nodes s)) → Holds s M → AmongOpen (g (ended t M.header))
-        → Holds s' (record { header = g (ended t M.header); tree = end_tree commits n t M.tree })
-    end_holds commits n g s' M k h a =
-        holds_left {s = s} (record { header = g (ended t M.header); tree = end_tree commits n t M.tree })
+    end_holds : (end : Ending) (g : Header → Header) (s' : List ℕ) (M : State)
+        → Left s s' (g (ended t (header s))) (two_passes end t (nodes s)) → Holds s M → AmongOpen (g (ended t M.header))
+        → Holds s' (record { header = g (ended t M.header); tree = end_tree end t M.tree })
+    end_holds end g s' M k h a =
+        holds_left {s = s} (record { header = g (ended t M.header); tree = end_tree end t M.tree })
         (record {
           layout = k.layout;
           long = k.long;
           behind = k.behind;
           header = k.header ∙ ap (λ (q : Header). g (ended t q)) h.header;
-          nodes = k.nodes ∙ ap (two_passes commits n t) h.rows ∙ sym (end_rows commits n t M.tree);
+          nodes = k.nodes ∙ ap (two_passes end t) h.rows ∙ sym (end_rows end t M.tree);
         })
-        (end_unique commits n t M.tree (holds_unique h)) (end_valid commits n t M.tree o.low h.valid) a
+        (end_unique end t M.tree (holds_unique h)) (end_valid end t M.tree o.low h.valid) a
 
     -- granted: the definition's next state is N
     ended_done : (call : Call) (N : State → State) (s' : List ℕ) → ((M : State) → Holds s M → next call M ≡ becomes done (N M))
@@ -209,9 +211,9 @@ module _ {s : List ℕ} {t : ℕ} where
         })
         Done refl
 
-    pub abort_done : {s' : List ℕ} → Ended false 0 t s s' → Performed s s' Done (abort t)
+    pub abort_done : {s' : List ℕ} → Ended Undone t s s' → Performed s s' Done (abort t)
     abort_done {s'} k = ended_done (abort t) (aborted t) s' (λ M h. abort_next t M ∙ open_next o M h _)
-        (λ M h. end_holds false 0 (λ q. q) s' M k h (among_ended M.header h.sets t)) k.long k.behind
+        (λ M h. end_holds Undone (λ q. q) s' M k h (among_ended M.header h.sets t)) k.long k.behind
 
     -- the number of commits that the bytes hold
     module _ (k : ℕ) (e : k ≡ commits s) where
@@ -223,11 +225,11 @@ module _ {s : List ℕ} {t : ℕ} where
           let f : leb commit_limit M.header.commits ≡ true = rw (← commits_are M h) (le-leb commit_limit k l) in
           commit_next t M ∙ open_next o M h _ ∙ rw f)
 
-      pub commit_done : {s₁ s₂ : List ℕ} → k < commit_limit → Ended true (k + 1) t s s₁
+      pub commit_done : {s₁ s₂ : List ℕ} → k < commit_limit → Ended (Lasting (k + 1)) t s s₁
           → Left s₁ s₂ (with_commits (k + 1) (header s₁)) (nodes s₁) → Performed s s₂ Done (commit t)
       commit_done {s₁} {s₂} l a b =
-          let left : Left s s₂ (with_commits (k + 1) (ended t (header s))) (two_passes true (k + 1) t (nodes s)) =
-          left_on (two_passes true (k + 1) t (nodes s)) (with_commits (k + 1)) (λ ns. ns) a b in
+          let left : Left s s₂ (with_commits (k + 1) (ended t (header s))) (two_passes (Lasting (k + 1)) t (nodes s)) =
+          left_on (two_passes (Lasting (k + 1)) t (nodes s)) (with_commits (k + 1)) (λ ns. ns) a b in
           ended_done (commit t) (committed t) s₂
           (λ M h.
           let f : leb commit_limit M.header.commits ≡ false = rw (← commits_are M h) (lt-leb commit_limit k l) in
@@ -235,5 +237,5 @@ module _ {s : List ℕ} {t : ℕ} where
           (λ M h.
           let c : k + 1 ≡ next_count M = omega (arith, commits_are M h) in
           subst (λ (j : ℕ). Holds s₂ (closed t (commit_tree j t M.tree) (with_header (with_commits j M.header) M))) c
-          (end_holds true (k + 1) (with_commits (k + 1)) s₂ M left h (among_ended M.header h.sets t)))
+          (end_holds (Lasting (k + 1)) (with_commits (k + 1)) s₂ M left h (among_ended M.header h.sets t)))
           left.long left.behind

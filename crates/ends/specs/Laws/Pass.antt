@@ -19,6 +19,8 @@ use Rattle.table.specs.Outline.{next_below, exchange}
 use Rattle.table.specs.Laws.Lists.{modify_same, length_modify, getD_modify}
 use Rattle.table.specs.Laws.ListInsertion.{take_modify, drop_modify}
 use Rattle.table.specs.Laws.Kept.{kept_same, left_kept, then_left, left_as}
+use Rattle.ends.specs.declared.pass.Ending.{Ending}
+use Rattle.ends.specs.declared.pass.Ending.TheVariants.{Lasting, Undone}
 use Rattle.ends.specs.Marks.{stays, at_end, ended_marks, marks_sum}
 use Rattle.ends.specs.Pass.{two_passes, IfKept, Moved}
 use Rattle.ends.specs.Laws.Marks.{marks_whole, none_kept, both_marks}
@@ -88,81 +90,81 @@ module _ (shown : Marked → Bool) (g : Entry → Entry) (l : List Entry) (below
 -- the loop -----------------------------------------------------------------------------------------
 
 -- the first k are what was passed; those from place j on are to come
-abbrev pub Passed : Bool → ℕ → ℕ → List Entry → ℕ → ℕ → ℕ → List Entry → Type 0
-Passed commits n t l₀ k below j l =
-    take k l ++ map (second (at_end commits n t)) (prune (stays commits t) below (drop j l)) ≡ two_passes commits n t l₀
+abbrev pub Passed : Ending → ℕ → List Entry → ℕ → ℕ → ℕ → List Entry → Type 0
+Passed end t l₀ k below j l =
+    take k l ++ map (second (at_end end t)) (prune (stays end t) below (drop j l)) ≡ two_passes end t l₀
 
 -- a visit: the marks, the lock, the place
-pub passed_next : {s s₁ s₂ s₃ : List ℕ} (commits : Bool) (n t : ℕ) (l₀ : List Entry) (below k j b k' : ℕ) → j < length (nodes s) → k ≤ j
-    → Passed commits n t l₀ k below j (nodes s)
-    → IfKept commits n t below j s s₁ b → Kept s₁ s₂ (modify j (second (released t)) (nodes s₁)) → Moved k j b s₂ s₃ k'
-    → Passed commits n t l₀ k' b (j + 1) (nodes s₃)
-passed_next {s} {s₁} {s₂} {s₃} commits n t l₀ below k j b k' h q v ends lock moved = go (eqb b 0) refl
+pub passed_next : {s s₁ s₂ s₃ : List ℕ} (end : Ending) (t : ℕ) (l₀ : List Entry) (below k j b k' : ℕ) → j < length (nodes s) → k ≤ j
+    → Passed end t l₀ k below j (nodes s)
+    → IfKept end t below j s s₁ b → Kept s₁ s₂ (modify j (second (released t)) (nodes s₁)) → Moved k j b s₂ s₃ k'
+    → Passed end t l₀ k' b (j + 1) (nodes s₃)
+passed_next {s} {s₁} {s₂} {s₃} end t l₀ below k j b k' h q v ends lock moved = go (eqb b 0) refl
   where
     of : Bool → Marked → Marked
-    of x a = released t (cond x (ended_marks commits n t a) a)
+    of x a = released t (cond x (ended_marks end t a) a)
 
     rows : nodes s₂ ≡ modify j (second (of (eqb b 0))) (nodes s)
-    rows = (both_marks j (λ a. cond (eqb b 0) (ended_marks commits n t a) a) (released t) ends.kept lock).nodes
+    rows = (both_marks j (λ a. cond (eqb b 0) (ended_marks end t a) a) (released t) ends.kept lock).nodes
 
-    whole : modify j (second (of true)) (nodes s) ≡ modify j (second (at_end commits n t)) (nodes s)
-    whole = modify_same j (second (of true)) (second (at_end commits n t)) (nodes s) no_entry
-        (ap (λ (a : Marked). ((get_or (nodes s) j no_entry).0, a)) (marks_whole commits n t (get_or (nodes s) j no_entry).1))
+    whole : modify j (second (of true)) (nodes s) ≡ modify j (second (at_end end t)) (nodes s)
+    whole = modify_same j (second (of true)) (second (at_end end t)) (nodes s) no_entry
+        (ap (λ (a : Marked). ((get_or (nodes s) j no_entry).0, a)) (marks_whole end t (get_or (nodes s) j no_entry).1))
 
-    go : (x : Bool) → eqb b 0 ≡ x → Passed commits n t l₀ k' b (j + 1) (nodes s₃)
+    go : (x : Bool) → eqb b 0 ≡ x → Passed end t l₀ k' b (j + 1) (nodes s₃)
     go true p =
         rw (moved.count, moved.kept.nodes, p, rows, p, whole)
-        (keep (stays commits t) (second (at_end commits n t)) (nodes s) below j h (two_passes commits n t l₀) k b v ends.next q
+        (keep (stays end t) (second (at_end end t)) (nodes s) below j h (two_passes end t l₀) k b v ends.next q
         (eqb-true b 0 p))
     go false p =
         rw (moved.count, moved.kept.nodes, p, rows, p)
-        (skip (stays commits t) (second (at_end commits n t)) (nodes s) below j h (two_passes commits n t l₀) k b v ends.next q
+        (skip (stays end t) (second (at_end end t)) (nodes s) below j h (two_passes end t l₀) k b v ends.next q
         (second (of false)) (eqb-false b 0 p))
 
-pub passed_start : (commits : Bool) (n t : ℕ) (l : List Entry) → Passed commits n t l 0 0 0 l
-passed_start commits n t l = refl
+pub passed_start : (end : Ending) (t : ℕ) (l : List Entry) → Passed end t l 0 0 0 l
+passed_start end t l = refl
 
-module _ (commits : Bool) (n t : ℕ) (l₀ : List Entry) (k below j : ℕ) (l : List Entry) (v : Passed commits n t l₀ k below j l)
+module _ (end : Ending) (t : ℕ) (l₀ : List Entry) (k below j : ℕ) (l : List Entry) (v : Passed end t l₀ k below j l)
     (past : length l ≤ j) where
   -- nothing is to come
-  passed_all : take k l ≡ two_passes commits n t l₀
+  passed_all : take k l ≡ two_passes end t l₀
   unfolding prune
   passed_all = sym (append-nil (take k l)) ∙ (rw (drop_of_length-le l past) at v)
 
   -- the first stays
-  pub passed_some : 1 ≤ length l₀ → stays commits t (get_or l₀ 0 no_entry).1 ≡ true → 1 ≤ k
+  pub passed_some : 1 ≤ length l₀ → stays end t (get_or l₀ 0 no_entry).1 ≡ true → 1 ≤ k
   unfolding prune
   passed_some some first = go k passed_all
     where
-      none : (l₀ : List Entry) → 1 ≤ length l₀ → stays commits t (get_or l₀ 0 no_entry).1 ≡ true → [] ≡ two_passes commits n t l₀ → ⊥
+      none : (l₀ : List Entry) → 1 ≤ length l₀ → stays end t (get_or l₀ 0 no_entry).1 ≡ true → [] ≡ two_passes end t l₀ → ⊥
       none [] h e w = omega arith
       none (x ∷ xs) h e w = omega (arith, ap length (rw e at w))
 
-      go : (k : ℕ) → take k l ≡ two_passes commits n t l₀ → 1 ≤ k
+      go : (k : ℕ) → take k l ≡ two_passes end t l₀ → 1 ≤ k
       go zero w = absurd (none l₀ some first w)
       go (suc k) w = omega arith
 
 -- and the count cut down
-pub passed_left : {s s' s'' : List ℕ} (commits : Bool) (n t k below j : ℕ) → Kept s s' (nodes s')
-    → Passed commits n t (nodes s) k below j (nodes s') → length (nodes s') ≤ j → Left s' s'' (header s') (take k (nodes s'))
-    → Left s s'' (header s) (two_passes commits n t (nodes s))
-passed_left {s} {s'} commits n t k below j a v past b =
-    left_as _ _ (passed_all commits n t (nodes s) k below j (nodes s') v past) (then_left (nodes s') (take k) (left_kept a) b)
+pub passed_left : {s s' s'' : List ℕ} (end : Ending) (t k below j : ℕ) → Kept s s' (nodes s')
+    → Passed end t (nodes s) k below j (nodes s') → length (nodes s') ≤ j → Left s' s'' (header s') (take k (nodes s'))
+    → Left s s'' (header s) (two_passes end t (nodes s))
+passed_left {s} {s'} end t k below j a v past b =
+    left_as _ _ (passed_all end t (nodes s) k below j (nodes s') v past) (then_left (nodes s') (take k) (left_kept a) b)
 
 -- the parts of a visit -----------------------------------------------------------------------------
 
-module _ {s : List ℕ} (commits : Bool) (n t below j b : ℕ) where
-  pub left_out_then : Layout s → b ≡ next_below (stays commits t) below (get_or (nodes s) j no_entry) → 0 < b
-      → IfKept commits n t below j s s b
+module _ {s : List ℕ} (end : Ending) (t below j b : ℕ) where
+  pub left_out_then : Layout s → b ≡ next_below (stays end t) below (get_or (nodes s) j no_entry) → 0 < b
+      → IfKept end t below j s s b
   left_out_then h e z = record { next = e; kept = rw (ne_eqb b 0 (λ q. omega arith)) (none_kept s j (λ a. a) refl h) }
 
-  pub kept_then_ends : {s' : List ℕ} → b ≡ next_below (stays commits t) below (get_or (nodes s) j no_entry) → b ≤ 0
-      → Kept s s' (modify j (second (ended_marks commits n t)) (nodes s))
-      → IfKept commits n t below j s s' 0
-  kept_then_ends e z k = record { next = omega arith; kept = k }
+  pub kept_then_ends : {s' : List ℕ} → b ≡ next_below (stays end t) below (get_or (nodes s) j no_entry) → b ≡ 0
+      → Kept s s' (modify j (second (ended_marks end t)) (nodes s))
+      → IfKept end t below j s s' b
+  kept_then_ends e z k = record { next = e; kept = rw (eq-eqb b 0 z) k }
 
 -- no mark
-module _ (n t : ℕ) (low : 1 ≤ t) (a : Marked) (h : marks_sum a ≡ 0) where
+module _ (t : ℕ) (low : 1 ≤ t) (a : Marked) (h : marks_sum a ≡ 0) where
   writer : eqb (writer_of a.update) t ≡ false
   writer = ne_eqb (writer_of a.update) t (λ e. omega arith)
 
@@ -172,25 +174,25 @@ module _ (n t : ℕ) (low : 1 ≤ t) (a : Marked) (h : marks_sum a ≡ 0) where
   deleter : eqb a.deleter t ≡ false
   deleter = ne_eqb a.deleter t (λ e. omega arith)
 
-  stays_so : (commits : Bool) → stays commits t a ≡ true
-  stays_so true = rw deleter
-  stays_so false = rw inserter
+  stays_so : (end : Ending) → stays end t a ≡ true
+  stays_so (Lasting n) = rw deleter
+  stays_so Undone = rw inserter
 
-  nothing_ends : (commits : Bool) → ended_marks commits n t a ≡ a
-  nothing_ends true = rw (writer, inserter)
-  nothing_ends false = rw (writer, deleter)
+  nothing_ends : (end : Ending) → ended_marks end t a ≡ a
+  nothing_ends (Lasting n) = rw (writer, inserter)
+  nothing_ends Undone = rw (writer, deleter)
 
-pub unmarked_stays : {s : List ℕ} (commits : Bool) (n t below j : ℕ) → Layout s → 1 ≤ t
+pub unmarked_stays : {s : List ℕ} (end : Ending) (t below j : ℕ) → Layout s → 1 ≤ t
     → below + marks_sum (get_or (nodes s) j no_entry).1 ≡ 0
-    → IfKept commits n t below j s s 0
+    → IfKept end t below j s s 0
 unfolding next_below
-unmarked_stays {s} commits n t below j h low m =
+unmarked_stays {s} end t below j h low m =
     let a : Marked = (get_or (nodes s) j no_entry).1 in
     let none : marks_sum a ≡ 0 = omega arith in
     let e : below ≡ 0 = omega arith in
     record {
-      next = rw (e, stays_so n t low a none commits);
-      kept = none_kept s j (ended_marks commits n t) (nothing_ends n t low a none commits) h;
+      next = rw (e, stays_so t low a none end);
+      kept = none_kept s j (ended_marks end t) (nothing_ends t low a none end) h;
     }
 
 module _ {s : List ℕ} (k j next : ℕ) where

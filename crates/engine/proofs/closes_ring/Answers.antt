@@ -8,5 +8,5 @@ use Rattle.engine.proofs.closes_ring.Goals as goal
 pub returns : goal.returns
 returns c =
     c.ring.ensures ∙ ap (λ (r : WaitSets). in_ring r c.args.t)
-    (replaced_sets c.args.t c.args.set c.gather.ensures (search rules) (search rules)
+    (replaced_sets c.args.t c.args.set c.gather-words.ensures (search rules) (search rules)
     (search rules))

@@ -1,12 +1,12 @@
 -- The loop that grants locks along the way.
-use Rattle.std.specs.Prelude.{◌≡◌, ℕ, suc, ◌+◌, ◌≤◌, ◌<◌, Bool, true, false, cond, eqb, length, take}
+use Rattle.std.specs.Prelude.{◌≡◌, ℕ, suc, ◌+◌, ◌≤◌, ◌<◌, Bool, true, false, cond, eqb, length}
 use Rattle.std.proofs.Math.Path.{refl, fun_ext}
-use Rattle.std.proofs.Common.{sym, ap, ◌∙◌, arith, eqb-true}
+use Rattle.std.proofs.Common.{sym, ap, ◌∙◌, eqb-true}
 use mathlib.Core.List.{List, [], ◌∷◌}
 use Rattle.std.proofs.Math.Numerals.{add-one}
 use Rattle.std.specs.Int.Bits.{bit_or}
-use Rattle.std.proofs.Math.ListN.{get_or, drop, length-take, drop_of_length-le}
-use Rattle.std.proofs.Math.Seq.{drop-cons, get_or-take}
+use Rattle.std.proofs.Math.ListN.{get_or, drop, drop_of_length-le}
+use Rattle.std.proofs.Math.Seq.{drop-cons}
 use Rattle.locks.specs.Modes.{Mode, ModeSet, union, among, in_word}
 use Rattle.tree.specs.Steps.{Step}
 use Rattle.locks.specs.Needs.{Need, need}
@@ -21,12 +21,12 @@ use Rattle.table.specs.Sets.{WithSet}
 use Rattle.table.specs.Fields.{with_modes}
 use Rattle.table.specs.Laws.Lists.{modify_same}
 use Rattle.table.specs.Laws.Bytes.{put_word}
-use Rattle.table.specs.Laws.Kept.{kept_same, kept_then, kept_as, left_then}
+use Rattle.table.specs.Laws.Kept.{kept_then, kept_as, left_then}
 use Rattle.table.specs.Laws.Sets.{remembered_left}
 use Rattle.protocol.proofs.Laws.Transactions.{empty_set}
 use Rattle.rows.specs.Places.{item}
 use Rattle.rows.specs.Rows.{granted_modes, granted_along}
-use Rattle.engine.specs.Way.{Places, places_of, Inside}
+use Rattle.engine.specs.Way.{AllInside}
 use Rattle.engine.specs.Waits.{word_at}
 use Rattle.engine.specs.Grants.{with_more, granted_from, granted_on, Granted, GrantedStep}
 
@@ -75,40 +75,25 @@ module _ (t : ℕ) (w : Need) (e : SameSets w) where
 -- the loop ---------------------------------------------------------------------------------
 
 -- the first j places of the way have their locks
-pub record Granting (s s' : List ℕ) (t : ℕ) (m : NeedWords) (w : Places) (j : ℕ) : Type 0 where
+pub record Granting (s s' : List ℕ) (t : ℕ) (m : NeedWords) (way : List ℕ) (j : ℕ) : Type 0 where
   pub kept : Kept s s' (nodes s')
-  pub rest : granted_from t m 0 (places_of w) (nodes s) ≡ granted_from t m j (drop j (places_of w)) (nodes s')
+  pub rest : granted_from t m 0 way (nodes s) ≡ granted_from t m j (drop j way) (nodes s')
 
-pub granting_start : {s : List ℕ} (t : ℕ) (m : NeedWords) (w : Places) → Layout s → Granting s s t m w 0
-granting_start {s} t m w h = record { kept = kept_same s h; rest = refl }
-
-module _ {s s' : List ℕ} {t : ℕ} {m : NeedWords} {w : Places} {j : ℕ} (h : Inside (nodes s) w) (c : Granting s s' t m w j) where
-  length_places : length (places_of w) ≡ w.count
-  unfolding places_of
-  length_places = length-take w.count w.places ∙ omega (arith, h.long, h.room)
-
-  places_cons : j < w.count → drop j (places_of w) ≡ get_or w.places j 0 ∷ drop (j + 1) (places_of w)
-  unfolding places_of
-  places_cons k = drop-cons (take w.count w.places) j 0 (omega (arith, length_places))
-      ∙ rw (add-one, get_or-take w.count w.places j 0 k)
-
-  pub granting_inside : j < w.count → get_or w.places j 0 < length (nodes s')
-  granting_inside k = omega (arith, h.inside j k, c.kept.many)
-
-  pub granting_turn : {s'' : List ℕ} (v : ℕ) → j < w.count → v ≡ word_at m j
-      → Kept s' s'' (modify (get_or w.places j 0) (second (with_more t v)) (nodes s')) → Granting s s'' t m w (j + 1)
+module _ {s s' : List ℕ} {t : ℕ} {m : NeedWords} {way : List ℕ} {j : ℕ} (c : Granting s s' t m way j) where
+  pub granting_turn : {s'' : List ℕ} (v : ℕ) → j < length way → v ≡ word_at m j
+      → Kept s' s'' (modify (get_or way j 0) (second (with_more t v)) (nodes s')) → Granting s s'' t m way (j + 1)
   unfolding granted_from
   granting_turn {s''} v k e a =
-      let i = get_or w.places j 0 in
+      let i = get_or way j 0 in
       let n : Kept s s'' (modify i (second (with_more t v)) (nodes s')) = kept_then (nodes s') (modify i (second (with_more t v)))
       c.kept a in
-      record { kept = kept_as _ _ (sym a.nodes) n; rest = c.rest ∙ rw (places_cons k, add-one j, a.nodes, e) }
+      record { kept = kept_as _ _ (sym a.nodes) n; rest = c.rest ∙ rw (drop-cons way j 0 k, add-one j, a.nodes, e) }
 
-  pub granting_done : w.count ≤ j → (st : Step) → m ≡ words (need st) → Kept s s' (granted_on t (need st) (places_of w) (nodes s))
+  pub granting_done : length way ≤ j → (st : Step) → m ≡ words (need st) → Kept s s' (granted_on t (need st) way (nodes s))
   unfolding granted_from granted_on
   granting_done k st e =
-      let z : drop j (places_of w) ≡ [] = drop_of_length-le (places_of w) {i = j} (omega (arith, length_places)) in
-      kept_as _ _ (sym (sym (along_words t (need st) (need_sets st) (places_of w) (nodes s)) ∙ rw (← e) (c.rest ∙ rw z))) c.kept
+      let z : drop j way ≡ [] = drop_of_length-le way {i = j} k in
+      kept_as _ _ (sym (sym (along_words t (need st) (need_sets st) way (nodes s)) ∙ rw (← e) (c.rest ∙ rw z))) c.kept
 
 -- a granted step -----------------------------------------------------------------------------
 
@@ -117,16 +102,16 @@ forgotten : (s s' : List ℕ) (t : ℕ) → s' ≡ put_word s (set_at t) 0 → L
 forgotten s s' t e h a b = rw (← empty_set) (remembered_left s s' t 0 e h a b)
 
 -- the places are where they were
-pub forgotten_inside : (s s' : List ℕ) (t : ℕ) (w : Places) → s' ≡ put_word s (set_at t) 0 → Layout s → 1 ≤ t → t ≤ 16
-    → Inside (nodes s) w → (Layout s') × (1 ≤ t) × (t ≤ 16) × Inside (nodes s') w
-forgotten_inside s s' t w e h a b i = let f = forgotten s s' t e h a b in (f.layout, a, b, rw f.nodes i)
+pub forgotten_inside : (s s' : List ℕ) (t : ℕ) (way : List ℕ) → s' ≡ put_word s (set_at t) 0 → Layout s → 1 ≤ t → t ≤ 16
+    → AllInside (nodes s) way → (Layout s') × (1 ≤ t) × (t ≤ 16) × AllInside (nodes s') way
+forgotten_inside s s' t way e h a b i = let f = forgotten s s' t e h a b in (f.layout, a, b, rw f.nodes i)
 
-pub granted_step : (s s₁ s₂ : List ℕ) (t : ℕ) (m : NeedWords) (w : Places) → s₁ ≡ put_word s (set_at t) 0 → Layout s → 1 ≤ t → t ≤ 16
-    → Granted s₁ s₂ t m w → GrantedStep s s₂ t m w
-granted_step s s₁ s₂ t m w e h a b g = record {
+pub granted_step : (s s₁ s₂ : List ℕ) (t : ℕ) (m : NeedWords) (way : List ℕ) → s₁ ≡ put_word s (set_at t) 0 → Layout s → 1 ≤ t → t ≤ 16
+    → Granted s₁ s₂ t m way → GrantedStep s s₂ t m way
+granted_step s s₁ s₂ t m way e h a b g = record {
   settled = λ st x. let f = forgotten s s₁ t e h a b in let k = g.kept st x in
       record {
-        left = left_then (nodes s) (granted_on t (need st) (places_of w)) f k;
+        left = left_then (nodes s) (granted_on t (need st) way) f k;
         many = k.many ∙ ap length f.nodes;
       };
 }

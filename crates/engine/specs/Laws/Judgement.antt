@@ -1,12 +1,12 @@
 -- How far a step that was admitted is judged, and where it ends: 8, 9, 10, wait or 17, 11, 12, 13, granted.
-use Rattle.std.specs.Prelude.{◌≡◌, ℕ, ◌≤◌, ◌<◌, Bool, cond, not, length, ltb}
+use Rattle.std.specs.Prelude.{◌≡◌, ℕ, ◌≤◌, ◌<◌, Bool, cond, not, length, ltb, Result, Ok, Err, IsErr, IsErrAnd, MatchResult, ⊤}
 use Rattle.std.proofs.Math.Path.{refl, ap}
 use Rattle.std.proofs.Common.{sym, ◌∙◌, arith}
 use Rattle.std.proofs.Math.Bool.{true, false}
 use Rattle.std.proofs.lemmas.Bool.{false≢true}
 use mathlib.Core.List.{List, [], ◌∷◌, ◌++◌, map}
 use Rattle.std.proofs.Math.Dec.{eqb}
-use borrow.Author.Tests.{eqb-true, eqb-false, ne_eqb, not-true, not-false}
+use borrow.Author.Tests.{eqb-false, ne_eqb}
 use Rattle.tree.specs.Lists.{any, every}
 use Rattle.tree.specs.Steps.{Step, target, inserts, wrong_kind_on, wrong_content_on}
 use Rattle.tree.specs.Laws.Lists.{any_same}
@@ -19,13 +19,19 @@ use Rattle.protocol.specs.State.{in_set, with_set, Header, State, Tree, act, gra
 use Rattle.protocol.specs.Rings.{in_ring}
 use Rattle.protocol.proofs.Laws.WaitSets.{among_forgetting}
 use Rattle.protocol.specs.Causes.{deadlock}
+use Rattle.protocol.specs.declared.causes.Cause.{Cause as CauseName}
+use Rattle.protocol.specs.declared.causes.Cause.TheVariants.{Deadlock}
+use Rattle.protocol.specs.CauseNumbers.{number_of as number_of_cause}
 use Rattle.protocol.specs.Lent.{Room}
-use Rattle.protocol.specs.Calls.{step, Check, checked, waits, refused, unchanged, held_back, closes_ring, grants_step, Next, next}
+use Rattle.tree.specs.Steps.{Value}
+use Rattle.engine.specs.Contract.{Performed, Lent}
+use Rattle.protocol.specs.Calls.{Call, step, Check, checked, waits, refused, unchanged, held_back, closes_ring, grants_step, Next, next}
 use Rattle.protocol.specs.Answers.{answer_of}
 use Rattle.protocol.specs.declared.Answer.{Answer}
 use Rattle.protocol.specs.declared.Answer.TheVariants.{Waits, Refused}
 use Rattle.table.specs.Flat.{flat}
-use Rattle.table.specs.Layout.{Entry, nodes, is_open, remembered, Layout, Left, header}
+use Rattle.table.specs.Laws.Bytes.{put_word}
+use Rattle.table.specs.Layout.{Entry, set_at, nodes, is_open, remembered, Layout, Left, header}
 use Rattle.table.specs.Laws.Kept.{left_as}
 use Rattle.rows.specs.Places.{item, number_of, place_of, ups, numbers_above}
 use Rattle.rows.specs.Found.{answer_at, used_in, wait_word, judged_at}
@@ -35,14 +41,16 @@ use Rattle.rows.proofs.Laws.Granted.{step_rows}
 use Rattle.rows.proofs.Laws.Kept.{unique_grant, unique_act}
 use Rattle.form.specs.Form.{Holds}
 use Rattle.form.specs.Laws.Steps.{holds_unique, valid_grant, valid_act}
-use Rattle.engine.specs.Way.{Inside}
+use Rattle.engine.specs.Way.{AllInside}
 use Rattle.engine.specs.Waits.{WaitsFor}
 use Rattle.engine.specs.Grants.{Settled, GrantedStep}
 use Rattle.engine.specs.Laws.Way.{climbed_nodes, climbed_grants}
-use Rattle.engine.specs.Admission.{Site, Rejected, Standing, Admitted}
-use Rattle.engine.specs.Judgement.{Cause, first_cause, own_causes, own_cause, late_causes, FirstOf, Stopped, with_wait, Asked, Free}
-use Rattle.engine.specs.Judgement.{Judged}
-use Rattle.engine.specs.declared.Verdict.{Verdict}
+use Rattle.engine.specs.Admission.{Site, Rejected, Standing}
+use Rattle.engine.specs.Judgement.{Cause, first_cause, own_causes, own_cause, late_causes, Stopped, with_wait}
+use Rattle.engine.specs.Judgement.{left_by, CanStop, Asked, Free, Passed, HeldBack, Halted, Tried, TriedLent}
+use Rattle.engine.specs.Laws.Causes.{cause_named}
+use Rattle.engine.specs.declared.Stop.{Stop}
+use Rattle.engine.specs.declared.Stop.TheVariants as stop
 use Rattle.engine.specs.Laws.Outcomes.{not_both, Grants, stopped_stays}
 use Rattle.engine.specs.Laws.Waiting.{waits_for_open, stopped_waits}
 
@@ -85,22 +93,6 @@ module _ (t : ℕ) (M : State) (rest : List Check) (n : Next) where
       go true z f g = absurd (z f)
       go false z f g = g f
 
--- a step without causes of its own
-pub none_first : (found : ℕ) → FirstOf found 0 found
-none_first found = record { first = λ n. refl; second = λ z. z }
-
--- by what a function of own causes finds
-module _ {found later : ℕ} where
-  pub found_first : (found ≡ 0 → ⊥) → FirstOf found later found
-  found_first n = record { first = λ x. refl; second = λ z. absurd (n z) }
-
-  pub found_later : {cause : ℕ} → found ≡ 0 → cause ≡ later → FirstOf found later cause
-  found_later z e = record { first = λ n. absurd (n z); second = λ x. e }
-
--- where they look
-pub admitted_place : {s : List ℕ} {t n : ℕ} {a : Site} → Admitted s t n a → a.cause ≡ 0 → Layout s × (a.place < length (nodes s))
-admitted_place d z = ((d.standing z).layout, (d.standing z).inside)
-
 -- the whole judgement, by its lists --------------------------------------------------------
 
 abbrev set_of : ℕ → Step → State → List Entry → ℕ → ℕ
@@ -129,46 +121,25 @@ module _ (t : ℕ) (st : Step) (room : Room) (M : State) (l : List Entry) (p : �
 
 -- the wait and before --------------------------------------------------------------------
 
-stopped_rejected : {s : List ℕ} {t c : ℕ} (st : Step) → Rejected s t (target st) c → (room : Room)
+-- a step that was not admitted
+pub stopped_rejected : {s : List ℕ} {t c : ℕ} (st : Step) → Rejected s t (target st) c → (room : Room)
     → Stopped s s (Refused c) (step t st room)
 unfolding answer_of
 stopped_rejected st r room =
     stopped_stays (λ x. ap Refused (r.unformed x)) (λ M h. r.formed M h st refl room) refl (λ writing. refl)
 
-module _ {s : List ℕ} {t : ℕ} {a : Site} {cause : ℕ} {w : NeedWords} {st : Step} (q : Asked s t a cause w st) where
-  -- without a cause it stands
-  standing : cause ≡ 0 → Standing s t (target st) a
-  standing z = q.admitted.standing (go (eqb a.cause 0) refl)
-    where
-      go : (b : Bool) → eqb a.cause 0 ≡ b → a.cause ≡ 0
-      go true e = eqb-true a.cause 0 e
-      go false e = sym (q.causes.first (eqb-false a.cause 0 e)) ∙ z
+-- a step with a cause of its own
+pub stopped_own : {s : List ℕ} {t : ℕ} {a : Site} {st : Step} → Standing s t (target st) a → (c : ℕ) → c ≡ own_cause st (nodes s) a.place
+    → (c ≡ 0 → ⊥) → (room : Room) → Stopped s s (Refused c) (step t st room)
+unfolding answer_of
+stopped_own {s} {a = a} {st = st} at c e n room =
+    stopped_stays {o = refused c} (λ x. not_both at.formed x)
+    (λ M h. at.next M h st refl room ∙ at_own a.t st room M (nodes s) a.place c e n) refl (λ writing. refl)
 
-  asked_refused : (cause ≡ 0 → ⊥) → (room : Room) → Stopped s s (Refused cause) (step t st room)
-  unfolding answer_of
-  asked_refused n room = go (eqb a.cause 0) refl
-    where
-      go : (b : Bool) → eqb a.cause 0 ≡ b → Stopped s s (Refused cause) (step t st room)
-      go false e =
-          let z = eqb-false a.cause 0 e in
-          rw (q.causes.first z) (stopped_rejected st (q.admitted.rejected z) room)
-      go true e =
-          let z = eqb-true a.cause 0 e in
-          let at = q.admitted.standing z in
-          stopped_stays {o = refused cause} (λ x. not_both at.formed x)
-          (λ M h. at.next M h st refl room
-          ∙ at_own a.t st room M (nodes s) a.place cause (q.causes.second z) n) refl (λ writing. refl)
-
-  module _ (z : cause ≡ 0) (set : ℕ) (v : WaitsFor s a.t w a.way set) where
-    fitting : own_cause st (nodes s) a.place ≡ 0
-    fitting = go (eqb a.cause 0) refl
-      where
-        go : (b : Bool) → eqb a.cause 0 ≡ b → own_cause st (nodes s) a.place ≡ 0
-        go true e = sym (q.causes.second (eqb-true a.cause 0 e)) ∙ z
-        go false e = let y = eqb-false a.cause 0 e in absurd (y (sym (q.causes.first y) ∙ z))
-
+module _ {s : List ℕ} {a : Site} {w : NeedWords} (set : ℕ) (v : WaitsFor s a.t w a.way set) where
+  module _ {t : ℕ} {st : Step} (q : Asked s t a w st) where
     set_is : set ≡ wait_word a.t (need st) (is_open s) (item (nodes s) a.place ∷ ups (nodes s) a.place)
-    set_is = v.is st q.needs ∙ rw (climbed_nodes (standing z).climbed)
+    set_is = v.is st q.needs ∙ rw (climbed_nodes q.standing.climbed)
 
     set_in : {M : State} → Holds s M → set ≡ set_of a.t st M (nodes s) a.place
     set_in h = set_is ∙ rw (← h.header)
@@ -182,87 +153,109 @@ module _ {s : List ℕ} {t : ℕ} {a : Site} {cause : ℕ} {w : NeedWords} {st :
       asked_ring : b ≡ true → (room : Room) → Stopped s s (Refused deadlock) (step t st room)
       unfolding answer_of
       asked_ring e room =
-          stopped_stays {o = refused deadlock} (λ x. not_both (standing z).formed x)
-          (λ M h. (standing z).next M h st refl room ∙ behind_own a.t st room M (nodes s) a.place fitting ∙ rw (ring_in M h ∙ e)) refl
+          let at = q.standing in
+          stopped_stays {o = refused deadlock} (λ x. not_both at.formed x)
+          (λ M h. at.next M h st refl room ∙ behind_own a.t st room M (nodes s) a.place q.fits ∙ rw (ring_in M h ∙ e)) refl
           (λ writing. refl)
 
       asked_waits : b ≡ false → (room : Room) → Stopped s (with_wait a.t set s) (Waits set) (step t st room)
       unfolding with_wait
       asked_waits e room = rw (ne_eqb set 0 n)
-          (stopped_waits (standing z) set (λ u i. waits_for_open a.t (need st) (is_open s)
+          (stopped_waits q.standing set (λ u i. waits_for_open a.t (need st) (is_open s)
           (item (nodes s) a.place ∷ ups (nodes s) a.place) u (rw set_is at i)) room
-          (λ M h. (standing z).next M h st refl room ∙ behind_own a.t st room M (nodes s) a.place fitting
+          (λ M h. q.standing.next M h st refl room ∙ behind_own a.t st room M (nodes s) a.place q.fits
           ∙ rw (ring_in M h ∙ e, ← set_in h, ne_eqb set 0 n)))
 
-    asked_free : set ≡ 0 → Free s t a w st
-    asked_free e = record { standing = standing z; fits = fitting; none = sym set_is ∙ e; needs = q.needs }
+  -- the ends of the judgement
+  pub judged_free : set ≡ 0 → Passed s a w
+  judged_free e = record {
+    free = λ q. record { standing = q.standing; fits = q.fits; none = sym (set_is q) ∙ e; needs = q.needs };
+  }
 
--- what the judgement can read, and the transaction whose wait may be remembered
-pub ready : {s : List ℕ} {t n : ℕ} {a : Site} {later cause : ℕ} → Admitted s t n a → FirstOf a.cause later cause → cause ≡ 0
-    → Layout s × Inside (nodes s) a.way × (1 ≤ a.t) × (a.t ≤ 16)
-ready {s} {a = a} d f z = go (eqb a.cause 0) refl
-  where
-    go : (b : Bool) → eqb a.cause 0 ≡ b → Layout s × Inside (nodes s) a.way × (1 ≤ a.t) × (a.t ≤ 16)
-    go true e = let at = d.standing (eqb-true a.cause 0 e) in (at.layout, at.climbed.inside, at.low, at.high)
-    go false e = let y = eqb-false a.cause 0 e in absurd (y (sym (f.first y) ∙ z))
+  module _ (n : set ≡ 0 → ⊥) (b : Bool) (r : b ≡ in_ring (with_set a.t (in_set set) (remembered s)) a.t) where
+    pub judged_ring : b ≡ true → HeldBack s a w (stop.Refused Deadlock)
+    unfolding with_wait
+    judged_ring e = record { can_stop = tt; stopped = λ q room. asked_ring q n b r e room }
 
-module _ {s : List ℕ} {a : Site} {cause : ℕ} {w : NeedWords} where
-  pub judged_refused : (v : Verdict) → v ≡ record { free = false; set = 0; answer = Refused cause } → (cause ≡ 0 → ⊥) → Judged s a cause w v
-  unfolding with_wait
-  judged_refused v e n = rw e (record {
-    stopped = λ f q room. asked_refused q n room;
-    waiting = λ x. absurd (x refl);
-    free = λ f. absurd (false≢true f);
-  })
+    pub judged_waits : b ≡ false → Layout s × AllInside (nodes s) a.way × (1 ≤ a.t) × (a.t ≤ 16) → HeldBack s a w (stop.Waits set)
+    judged_waits e p = record { can_stop = (n, p.0, p.2, p.3); stopped = λ q room. asked_waits q n b r e room }
 
-  module _ (z : cause ≡ 0) (set : ℕ) (v : WaitsFor s a.t w a.way set) where
-    pub judged_free : set ≡ 0 → (r : Answer) → Judged s a cause w (record { free = true; set = set; answer = r })
-    judged_free e r = record {
-      stopped = λ f. absurd (false≢true (sym f));
-      waiting = λ x. z;
-      free = λ f q. asked_free q z set v e;
-    }
+-- a step by its name, which stands and has no cause of its own
+pub asked : {s : List ℕ} {t : ℕ} {a : Site} {w : NeedWords} (k : StepName) (st : Step) → need (step_named k) ≡ need st
+    → Standing s t (target st) a
+    → 0 ≡ own_cause st (nodes s) a.place
+    → w ≡ need_words k
+    → Asked s t a w st
+unfolding need_words
+asked k st same at f e = record { standing = at; fits = sym f; needs = e ∙ ap words same }
 
-    module _ (n : set ≡ 0 → ⊥) (b : Bool) (r : b ≡ in_ring (with_set a.t (in_set set) (remembered s)) a.t) where
-      pub judged_ring : b ≡ true → (x : Verdict) → x ≡ record { free = false; set = 0; answer = Refused deadlock } → Judged s a cause w x
-      unfolding with_wait
-      judged_ring e x i = rw i (record {
-        stopped = λ f q room. asked_ring q z set v n b r e room;
-        waiting = λ y. absurd (y refl);
-        free = λ f. absurd (false≢true f);
-      })
+-- a step that was tried ---------------------------------------------------------------------
 
-      pub judged_waits : b ≡ false → Judged s a cause w (record { free = false; set = set; answer = Waits set })
-      judged_waits e = record {
-        stopped = λ f q room. asked_waits q z set v n b r e room;
-        waiting = λ x. z;
-        free = λ f. absurd (false≢true f);
-      }
+-- at the exit of a `?`, with a cause
+pub tried_refused : {s : List ℕ} {call : Call} (t : ℕ) (r : Result Answer Stop) (c : CauseName) → IsErrAnd r (λ x. x ≡ stop.Refused c)
+    → Stopped s s (Refused (number_of_cause c)) call
+    → Tried s s t r call
+unfolding with_wait
+tried_refused t (Ok a) c e h = absurd e
+tried_refused t (Err x) c e h = rw e (record { same = refl; can_stop = tt; stopped = h })
 
--- a step by its name, with the answers of `admit`, of the step's own causes, of `needed` and of `judge`
-module _ {s : List ℕ} {t : ℕ} {a : Site} {cause : ℕ} {w : NeedWords} {v : Verdict} (k : StepName) (st : Step)
-    (same : need (step_named k) ≡ need st) (d : Admitted s t (target st) a)
-    (f : FirstOf a.cause (own_cause st (nodes s) a.place) cause)
-    (e : w ≡ need_words k) (j : Judged s a cause w v) where
-  asked : Asked s t a cause w st
-  unfolding need_words
-  asked = record { admitted = d; causes = f; needs = e ∙ ap words same }
+module _ {s : List ℕ} {t : ℕ} (r : Result Answer Stop) (c : CauseName) (e : IsErrAnd r (λ x. x ≡ stop.Refused c)) where
+  pub tried_rejected : (st : Step) → Rejected s t (target st) (number_of_cause c) → (room : Room) → Tried s s t r (step t st room)
+  tried_rejected st h room = tried_refused t r c e (stopped_rejected st h room)
 
-  -- with the answer of `stop`
-  pub step_stopped : {s' : List ℕ} {r : Answer} → not v.free ≡ true → (room : Room)
-      → (r ≡ v.answer) × (s' ≡ with_wait a.t v.set s)
-      → Stopped s s' r (step t st room)
-  step_stopped n room x = rw (x.0, x.1) (j.stopped (not-true _ n) asked room)
+  pub tried_own : {a : Site} (st : Step) → Standing s t (target st) a → number_of_cause c ≡ own_cause st (nodes s) a.place → (room : Room)
+      → Tried s s t r (step t st room)
+  tried_own st at h room = tried_refused t r c e (stopped_own {st = st} at _ h (cause_named c) room)
 
-  pub step_free : not v.free ≡ false → Free s t a w st
-  step_free n = j.free (not-false _ n) asked
+-- by the judgement
+pub tried_judged : {s : List ℕ} {t : ℕ} {a : Site} {w : NeedWords} {st : Step} (r : Result Answer Stop) (x : Stop) → IsErrAnd r (λ y. y ≡ x)
+    → Asked s t a w st
+    → HeldBack s a w x
+    → (room : Room) → Tried s s t r (step t st room)
+tried_judged (Ok a) x e q h room = absurd e
+tried_judged {s} {t} {a} {w} {st} (Err y) x e q h room = rw e (record {
+  same = refl;
+  can_stop = rw q.standing.same at h.can_stop;
+  stopped = rw q.standing.same at (h.stopped q room);
+})
 
--- what `stop` asks for
-pub stop_ready : {s : List ℕ} {t n : ℕ} {a : Site} {later cause : ℕ} {w : NeedWords} {v : Verdict} → Admitted s t n a
-    → FirstOf a.cause later cause
-    → Judged s a cause w v
-    → (v.set ≡ 0 → ⊥) → Layout s × (1 ≤ a.t) × (a.t ≤ 16)
-stop_ready d f j n = let x = ready d f (j.waiting n) in (x.0, x.2, x.3)
+-- a lent buffer there
+pub lent_exit : (lent : Value → List ℕ) (s b : List ℕ) (r : Result Answer Stop) (call : Call) → IsErr r → TriedLent lent s b b r call
+lent_exit lent s b (Ok a) call e = absurd (false≢true e)
+lent_exit lent s b (Err x) call e = refl
+
+-- what it answers
+pub can_answer : (s s' : List ℕ) (t : ℕ) (r : Result Answer Stop) (call : Call) → Tried s s' t r call
+    → MatchResult r (λ a. ⊤) (CanStop s' t)
+can_answer s s' t (Ok a) call h = tt
+can_answer s s' t (Err x) call h = rw h.same h.can_stop
+
+pub tried_lent : (lent : Value → List ℕ) (s s' b b' : List ℕ) (t : ℕ) (r : Result Answer Stop) (call : Call) → Tried s s' t r call
+    → TriedLent lent s b b' r call
+    → Lent lent s b b' call
+tried_lent lent s s' b b' t (Ok a) call h k = k
+tried_lent lent s s' b b' t (Err x) call h k = rw k (h.stopped.lent lent b)
+
+pub performed_refused : {s s' : List ℕ} {t : ℕ} {c : CauseName} {a : Answer} {call : Call} → Halted s s' t (stop.Refused c) call
+    → a ≡ Refused (number_of_cause c)
+    → Performed s s' a call
+unfolding with_wait
+performed_refused h e = rw (e, h.same) h.stopped.performed
+
+pub performed_waits : {s s' s'' : List ℕ} {t w : ℕ} {call : Call} → Halted s s' t (stop.Waits w) call → s'' ≡ put_word s' (set_at t) w
+    → Performed s s'' (Waits w) call
+unfolding with_wait
+performed_waits {w = w} h e = let p = h.stopped.performed in rw (e, h.same) (rw (ne_eqb w 0 h.can_stop.0) at p)
+
+-- the bytes behind a refusal and behind a wait
+pub left_refused : (s : List ℕ) (t : ℕ) {o : Result Answer Stop} {x : Stop} {c : CauseName} → o ≡ Err x → x ≡ stop.Refused c → s ≡ left_by t o s
+unfolding with_wait
+left_refused s t e f = rw (e, f) refl
+
+pub left_waits : (s : List ℕ) {s' : List ℕ} (t : ℕ) {w : ℕ} {o : Result Answer Stop} {x : Stop} → o ≡ Err x → x ≡ stop.Waits w
+    → MatchResult o (λ y. ⊤) (CanStop s t) → s' ≡ put_word s (set_at t) w → s' ≡ left_by t o s
+unfolding with_wait
+left_waits s t {w = w} e f h k = let q = (rw (e, f) at h) in rw (e, f) (rw (ne_eqb w 0 q.0) k)
 
 -- behind the wait --------------------------------------------------------------------------
 

@@ -2,12 +2,12 @@
 use Rattle.std.proofs.Math.Path.{◌≡◌, refl, sym, fun_ext}
 use Rattle.std.proofs.Common.{ap, ◌∙◌, arith, drop_of_length-le, pow_mono, lt_of_lt_of_le}
 use Prim.Native.Nat.{ℕ, zero, suc, ◌+◌, ◌-◌, ◌*◌, ◌≤◌, ◌<◌}
-use Rattle.std.specs.Prelude.{Bool, cond, ◌&&◌, ◌||◌, List, [], ◌∷◌, map, length, get_or, take, drop}
+use Rattle.std.specs.Prelude.{Bool, cond, ◌&&◌, ◌||◌, List, [], ◌∷◌, map, length, get_or, drop}
 use Rattle.std.proofs.Math.Bool.{true, false}
 use Rattle.std.proofs.Math.Numerals.{add-one}
-use borrow.Author.Tests.{eq-eqb, ne_eqb}
-use Rattle.std.proofs.Math.ListN.{length-take, get_or-map}
-use Rattle.std.proofs.Math.Seq.{drop-cons, get_or-take}
+use Rattle.std.proofs.Math.ListN.{get_or-map}
+use Rattle.std.proofs.lemmas.List.{length-map}
+use Rattle.std.proofs.Math.Seq.{drop-cons}
 use Rattle.tree.specs.Laws.Lists.{any_same}
 use Rattle.locks.specs.Modes.{modes, in_word}
 use Rattle.tree.specs.Steps.{Step}
@@ -21,48 +21,43 @@ use Rattle.table.specs.Layout.{Entry, nodes, slot}
 use Rattle.table.specs.Transaction.{Loaded}
 use Rattle.rows.specs.Places.{item}
 use Rattle.rows.specs.Found.{blocks_at, wait_word}
-use Rattle.engine.specs.Way.{Places, places_of, nodes_of, Inside}
+use Rattle.engine.specs.Way.{nodes_at}
 use Rattle.engine.specs.Waits.{word_at, masks_of, SmallWords, touches, touches_from, blocks_by}
 use Rattle.engine.specs.Laws.Masks.{blocks_mask}
 
 -- along the way ----------------------------------------------------------------------
 
-map_length : {A B : Type 0} (f : A → B) (l : List A) → length (map f l) ≡ length l
-map_length f [] = refl
-map_length f (x ∷ l) = ap suc (map_length f l)
-
-module _ {l : List Entry} {w : Places} (h : Inside l w) where
-  pub length_way : length (nodes_of l w) ≡ w.count
-  unfolding nodes_of places_of
-  length_way = map_length (item l) (take w.count w.places) ∙ length-take w.count w.places ∙ omega (arith, h.long, h.room)
+module _ (l : List Entry) (way : List ℕ) where
+  length_way : length (nodes_at l way) ≡ length way
+  unfolding nodes_at
+  length_way = length-map way (item l)
 
   -- the nodes from the j-th on
-  pub way_cons : (j : ℕ) → j < w.count → drop j (nodes_of l w) ≡ item l (get_or w.places j 0) ∷ drop (j + 1) (nodes_of l w)
-  unfolding nodes_of places_of
+  way_cons : (j : ℕ) → j < length way → drop j (nodes_at l way) ≡ item l (get_or way j 0) ∷ drop (j + 1) (nodes_at l way)
+  unfolding nodes_at
   way_cons j k =
-      drop-cons (map (item l) (take w.count w.places)) j (item l 0) (omega (arith, length_way))
-      ∙ rw (add-one, get_or-map (item l) (take w.count w.places) j 0, get_or-take w.count w.places j 0 k)
+      drop-cons (map (item l) way) j (item l 0) (omega (arith, length_way)) ∙ rw (add-one, get_or-map (item l) way j 0)
 
-  pub way_end : (j : ℕ) → w.count ≤ j → drop j (nodes_of l w) ≡ []
-  way_end j k = drop_of_length-le (nodes_of l w) {i = j} (omega (arith, length_way))
+  way_end : (j : ℕ) → length way ≤ j → drop j (nodes_at l way) ≡ []
+  way_end j k = drop_of_length-le (nodes_at l way) {i = j} (omega (arith, length_way))
 
   -- the j-th node is looked at, those before touched nothing
-  module _ (m : NeedWords) (u j : ℕ) (v : touches_from m 0 u (nodes_of l w) ≡ touches_from m j u (drop j (nodes_of l w))) where
-    turn : j < w.count
-        → touches_from m 0 u (nodes_of l w)
-        ≡ (touches (word_at m j) u (item l (get_or w.places j 0)) || touches_from m (j + 1) u (drop (j + 1) (nodes_of l w)))
+  module _ (m : NeedWords) (u j : ℕ) (v : touches_from m 0 u (nodes_at l way) ≡ touches_from m j u (drop j (nodes_at l way))) where
+    turn : j < length way
+        → touches_from m 0 u (nodes_at l way)
+        ≡ (touches (word_at m j) u (item l (get_or way j 0)) || touches_from m (j + 1) u (drop (j + 1) (nodes_at l way)))
     unfolding touches_from
     turn k = v ∙ rw (way_cons j k, add-one j)
 
-    pub touch_found : j < w.count → touches (word_at m j) u (item l (get_or w.places j 0)) ≡ true
-        → true ≡ touches_from m 0 u (nodes_of l w)
+    pub touch_found : j < length way → touches (word_at m j) u (item l (get_or way j 0)) ≡ true
+        → true ≡ touches_from m 0 u (nodes_at l way)
     touch_found k e = sym (turn k ∙ rw e)
 
-    pub touch_passed : j < w.count → touches (word_at m j) u (item l (get_or w.places j 0)) ≡ false
-        → touches_from m 0 u (nodes_of l w) ≡ touches_from m (j + 1) u (drop (j + 1) (nodes_of l w))
+    pub touch_passed : j < length way → touches (word_at m j) u (item l (get_or way j 0)) ≡ false
+        → touches_from m 0 u (nodes_at l way) ≡ touches_from m (j + 1) u (drop (j + 1) (nodes_at l way))
     touch_passed k e = turn k ∙ rw e
 
-    pub touch_none : w.count ≤ j → false ≡ touches_from m 0 u (nodes_of l w)
+    pub touch_none : length way ≤ j → false ≡ touches_from m 0 u (nodes_at l way)
     unfolding touches_from
     touch_none k = sym (v ∙ rw (way_end j k))
 
@@ -83,25 +78,6 @@ pub word_above : (m : NeedWords) (j : ℕ) → (j ≡ 0 → ⊥) → (j ≡ 1 �
 word_above m zero p q = absurd (p refl)
 word_above m (suc zero) p q = absurd (q refl)
 word_above m (suc (suc j)) p q = refl
-
--- one transaction ------------------------------------------------------------------------
-
-module _ (t : ℕ) (m : NeedWords) (is_open : ℕ → Bool) (way : List Marked) (u : ℕ) where
-  pub blocks_shut : is_open u ≡ false → false ≡ blocks_by t m is_open way u
-  unfolding blocks_by
-  blocks_shut e = rw e
-
-  pub blocks_self : u ≡ t → false ≡ blocks_by t m is_open way u
-  unfolding blocks_by
-  blocks_self e = rw (eq-eqb u t e) (go (is_open u))
-    where
-      go : (b : Bool) → false ≡ (b && false && touches_from m 0 u way)
-      go true = refl
-      go false = refl
-
-  pub blocks_other : is_open u ≡ true → (u ≡ t → ⊥) → touches_from m 0 u way ≡ blocks_by t m is_open way u
-  unfolding blocks_by
-  blocks_other e n = rw (e, ne_eqb u t n)
 
 -- the set ----------------------------------------------------------------------------------
 

@@ -2,10 +2,11 @@
 use Rattle.std.specs.Prelude.{◌≡◌, Bool, true, false, not, eqb, set}
 use Rattle.std.proofs.Math.Path.{refl, sym, ap}
 use Rattle.std.proofs.Common.{◌∙◌, arith, add-one, eqb-true, eq-eqb, ne_eqb, length-take, get_or-set_same, get_or-set_other}
-use Prim.Native.Nat.{ℕ, suc, ◌+◌, ◌-◌, ◌≤◌, ◌<◌}
+use Prim.Native.Nat.{ℕ, ◌+◌, ◌-◌, ◌≤◌, ◌<◌}
 use mathlib.Core.List.{List, [], ◌∷◌, ◌++◌, map, append_assoc, append-nil}
 use Rattle.std.proofs.lemmas.Bool.{eqb-false}
 use Rattle.std.proofs.Math.ListN.{length, get_or, take, length-set}
+use Rattle.std.proofs.lemmas.List.Elements.{All-from_get_or}
 use Rattle.std.proofs.Math.Seq.{take-suc-set, get_or-take}
 use Rattle.tree.specs.Steps.{parent}
 use Rattle.locks.specs.Needs.{Need}
@@ -15,7 +16,7 @@ use Rattle.rows.specs.Places.{depth, item, number_of, climb, above_places, ups, 
 use Rattle.rows.specs.Rows.{granted_along, granted_up}
 use Rattle.rows.proofs.Laws.Up.{climb_found, climb_passed, climb_start}
 use Rattle.rows.proofs.Laws.Up.{all_up, all_up_fails, all_up_found, all_up_passed, all_up_start, all_at_up}
-use Rattle.engine.specs.Way.{Places, way_up, places_of, nodes_of, Climbed, Climb}
+use Rattle.engine.specs.Way.{way_up, nodes_at, Climbed, Seen}
 use Rattle.engine.specs.Grants.{granted_on}
 
 -- a place stored behind the others
@@ -44,15 +45,11 @@ pub record Climbing (l : List Entry) (t p e k count : ℕ) (places : List ℕ) :
   pub found : way_up l p ≡ take count places ++ climb l e k
   pub seen : seen_at t l p ≡ all_up (seen_by t) l e k
 
--- t deleted the node at p or one above it
-hidden_way : {l : List Entry} {t p : ℕ} (places : List ℕ) → seen_at t l p ≡ false → Climb l t p (record { places = places; count = 0 })
-hidden_way places h = record { hidden = λ z. h; seen = λ n. absurd (n refl); climbed = λ n. absurd (n refl) }
+pub climbing_hidden : (l : List Entry) (t p x : ℕ) → x ≡ (item l p).deleter → x ≡ t → seen_at t l p ≡ false
+climbing_hidden l t p x d f = rw (deleted_it t x (item l p) d f)
 
 module _ {l : List Entry} {t p : ℕ} (h : p < length l) where
   module _ (x : ℕ) (d : x ≡ (item l p).deleter) where
-    pub climbing_hidden : (places : List ℕ) → x ≡ t → Climb l t p (record { places = places; count = 0 })
-    climbing_hidden places f = hidden_way places (rw (deleted_it t x (item l p) d f))
-
     pub climbing_start : (e : ℕ) (places : List ℕ) → (x ≡ t → ⊥) → e ≡ depth l p → length places ≡ 1024
         → Climbing l t p e p 1 (set places 0 p)
     unfolding way_up above_places
@@ -79,9 +76,9 @@ module _ {l : List Entry} {t p : ℕ} (h : p < length l) where
     }
 
     module _ (q : d < e) (x : ℕ) (y : x ≡ (item l (k - 1)).deleter) where
-      pub climbing_deleted : x ≡ t → Climb l t p (record { places = places; count = 0 })
+      pub climbing_deleted : x ≡ t → seen_at t l p ≡ false
       climbing_deleted f =
-          hidden_way places (c.seen ∙ all_up_fails (seen_by t) l e k some (omega (arith, v)) (deleted_it t x (item l (k - 1)) y f))
+          c.seen ∙ all_up_fails (seen_by t) l e k some (omega (arith, v)) (deleted_it t x (item l (k - 1)) y f)
 
       pub climbing_found : length l ≤ 1024 → (x ≡ t → ⊥) → Climbing l t p d (k - 1) (count + 1) (set places count (k - 1))
       climbing_found m f =
@@ -99,46 +96,41 @@ module _ {l : List Entry} {t p : ℕ} (h : p < length l) where
           }
 
   pub climbing_done : {e k count : ℕ} {places : List ℕ} → Climbing l t p e k count places → length l ≤ 1024 → k ≡ 0
-      → Climb l t p (record { places = places; count = count })
-  unfolding places_of
-  climbing_done {e} {k} {count} {places} c m z = record {
-    hidden = λ n. absurd (omega (arith, c.some));
-    seen = λ n. c.seen ∙ rw z (all_up_start (seen_by t) l e);
-    climbed = λ n. record {
-      inside = record { long = c.long; room = omega (arith, c.room); inside = c.inside };
-      places = sym (c.found ∙ rw (z, climb_start l e) (append-nil (take count places)));
-    };
-  }
+      → Seen l t p (take count places)
+  climbing_done {e} {k} {count} {places} c m z =
+      let n : count ≤ length places = omega (arith, c.long, c.room) in
+      record {
+        seen = c.seen ∙ rw z (all_up_start (seen_by t) l e);
+        climbed = record {
+          inside = All-from_get_or (λ i. i < length l) (take count places) 0
+              (λ i k. let j : i < count = omega (arith, length-take count places, k) in rw (get_or-take count places i 0 j) (c.inside i j));
+          places = sym (c.found ∙ rw (z, climb_start l e) (append-nil (take count places)));
+        };
+      }
 
 -- what the way stands for
-module _ {l : List Entry} {p : ℕ} {w : Places} (c : Climbed l p w) where
-  pub climbed_nodes : nodes_of l w ≡ item l p ∷ ups l p
-  unfolding nodes_of way_up ups
+module _ {l : List Entry} {p : ℕ} {way : List ℕ} (c : Climbed l p way) where
+  pub climbed_nodes : nodes_at l way ≡ item l p ∷ ups l p
+  unfolding nodes_at way_up ups
   climbed_nodes = ap (map (item l)) c.places
 
-  pub climbed_grants : (t : ℕ) (n : Need) → granted_on t n (places_of w) l ≡ granted_up t n p l
+  pub climbed_grants : (t : ℕ) (n : Need) → granted_on t n way l ≡ granted_up t n p l
   unfolding granted_on way_up
   climbed_grants t n = ap (λ is. granted_along t n.node n.parent n.above is l) c.places
 
   -- the parent is the second
-  climbed_count : w.count ≡ suc (length (above_places l p))
-  unfolding places_of way_up
-  climbed_count = sym (length-take w.count w.places ∙ omega (arith, c.inside.long, c.inside.room)) ∙ ap length c.places
-
-  pub climbed_top : w.count < 2 → parent (numbers_above l p) ≡ 0
-  unfolding ups
-  climbed_top k = go (above_places l p) climbed_count
+  pub climbed_top : length way < 2 → 0 ≡ parent (numbers_above l p)
+  unfolding ups way_up
+  climbed_top k = go (above_places l p) (ap length c.places)
     where
-      go : (is : List ℕ) → w.count ≡ suc (length is) → parent (map number_of (map (item l) is)) ≡ 0
+      go : (is : List ℕ) → length way ≡ length (p ∷ is) → 0 ≡ parent (map number_of (map (item l) is))
       go [] e = refl
       go (i ∷ is) e = absurd (omega arith)
 
-  pub climbed_parent : 2 ≤ w.count → parent (numbers_above l p) ≡ number_of (item l (get_or w.places 1 0))
-  unfolding ups places_of way_up
-  climbed_parent k = go (above_places l p) climbed_count c.places
+  pub climbed_parent : 1 < length way → number_of (item l (get_or way 1 0)) ≡ parent (numbers_above l p)
+  unfolding ups way_up
+  climbed_parent k = go (above_places l p) c.places
     where
-      go : (is : List ℕ) → w.count ≡ suc (length is) → take w.count w.places ≡ p ∷ is
-          → parent (map number_of (map (item l) is)) ≡ number_of (item l (get_or w.places 1 0))
-      go [] e f = absurd (omega arith)
-      go (i ∷ is) e f = ap (λ (z : ℕ). number_of (item l z)) (ap (λ (z : List ℕ). get_or z 1 0) (sym f)
-          ∙ get_or-take w.count w.places 1 0 k)
+      go : (is : List ℕ) → way ≡ p ∷ is → number_of (item l (get_or way 1 0)) ≡ parent (map number_of (map (item l) is))
+      go [] e = absurd (omega (arith, ap length e))
+      go (i ∷ is) e = rw e

@@ -1,28 +1,26 @@
-use mathlib.Core.Path.{sym, ◌∙◌}
-use borrow.Author.Tests.{not-true, not-false}
-use Rattle.table.specs.Layout.{count}
+use Rattle.std.proofs.Common.{sym, ◌∙◌}
+use Rattle.table.specs.Layout.{count, format_mark}
+use Rattle.form.specs.Laws.Begins.{starts_same}
 use Rattle.form.specs.Laws.Check.{header_short, header_mark, header_none, header_many}
-use borrow.Author.Rules.{rules}
+use borrow.Author.Tests.{lt-leb}
 use Rattle.form.proofs.header.Goals as goal
+use Rattle.form.proofs.header.Goals.{then-s-lt-SIZE-via-then-s-lt-SIZE, then-s-lt-SIZE-via-else-s-lt-SIZE+then-not-starts_with}
 
 pub returns-then-s-lt-SIZE : goal.returns-then-s-lt-SIZE
-returns-then-s-lt-SIZE c = header_short _ (search rules)
+returns-then-s-lt-SIZE c = elim c.then-s-lt-SIZE.branch [
+  | then-s-lt-SIZE-via-then-s-lt-SIZE w ↦ header_short _ w.if-s-lt-SIZE.true
+  | then-s-lt-SIZE-via-else-s-lt-SIZE+then-not-starts_with w ↦
+      header_mark _ w.if-s-lt-SIZE.false (starts_same c.args.s.now format_mark ∙ sym w.if-not-starts_with.ensures.value)
+]
 
-pub returns-then-not-begins : goal.returns-then-not-begins
-returns-then-not-begins c = header_mark _ (search rules) (sym c.begins.ensures ∙ not-true _ c.if-not-begins.true-raw)
-
-pub returns-then-n-lt1 : goal.returns-then-n-lt1
+pub returns-then-n-ge1 : goal.returns-then-n-ge1
 unfolding count
-returns-then-n-lt1 c =
-    let begins = c.begins in
-    let if2 = c.if-not-begins in
-    let word = c.word-n in
-    header_none _ (search rules) (sym begins.ensures ∙ not-false _ if2.false-raw) _ word.ensures (search rules)
+returns-then-n-ge1 c =
+    header_many _ c.if-s-lt-SIZE.false (starts_same c.args.s.now format_mark ∙ sym c.if-not-starts_with.ensures.value) _ (c.from-n.ensures ∙ c.word.ensures)
+    c.if-n-ge1.true
 
-pub returns : goal.returns
+pub returns-else-n-ge1 : goal.returns-else-n-ge1
 unfolding count
-returns c =
-    let begins = c.begins in
-    let if2 = c.if-not-begins in
-    let word = c.word-n in
-    header_many _ (search rules) (sym begins.ensures ∙ not-false _ if2.false-raw) _ word.ensures (search rules)
+returns-else-n-ge1 c = lt-leb 1 _ c.if-n-ge1.false ∙
+    header_none _ c.if-s-lt-SIZE.false (starts_same c.args.s.now format_mark ∙ sym c.if-not-starts_with.ensures.value) _ (c.from-n.ensures ∙ c.word.ensures)
+    c.if-n-ge1.false

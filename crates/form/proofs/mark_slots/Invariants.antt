@@ -1,6 +1,5 @@
 use mathlib.Core.Path.{◌≡◌}
 use mathlib.Core.Bool.{◌&&◌}
-use Prim.Native.Nat.{◌-◌, ◌≤◌}
 use lib.ListN.{drop}
 use lib.Dec.{ltb}
 use Rattle.tree.specs.Lists.{every}
@@ -11,8 +10,5 @@ use Rattle.form.proofs.mark_slots.Given as goal
 
 abbrev pub invariant-loop-i : goal.invariant-loop-i
 invariant-loop-i l =
-    (l.i ≤ 1024) × (marked l.initial.met (slots l.s) ≡ marked l.met (drop l.i (slots l.s)))
+    (marked l.initial.met (slots l.s) ≡ marked l.met (drop l.i (slots l.s)))
     × (every (λ k. ltb k node_limit) (slots l.s) ≡ (ltb l.bits node_limit && every (λ k. ltb k node_limit) (drop l.i (slots l.s))))
-
-abbrev pub decreases-loop-i : goal.decreases-loop-i
-decreases-loop-i l = 1024 - l.i

@@ -172,11 +172,6 @@ module _ (s : List ℕ) (d : ℕ) (e : d ≡ word s 18) where
     unfolding valid_first depth slot
     first_cell h k i r j = rw (← e, eq-eqb d 0 f, ← g, eq-eqb n 0 h, ← i) j
 
--- the slot that was read is in range
-pub slot_small : (s : List ℕ) (i k : ℕ) → Outlined s → i < 1024 → k ≡ word s (entry_at i) → k < 1024
-unfolding slot
-slot_small s i k o h e = rw e (o.slots i h)
-
 -- the whole ----------------------------------------------------------------------------------------------
 
 -- the numbers of the nodes

@@ -76,22 +76,22 @@ module _ (opens t w : ℕ) where
 
 -- all sets ---------------------------------------------------------------------------------------
 
--- those up to t pass
+-- those below t pass
 pub Passed : List ℕ → ℕ → Type 0
-Passed s t = (v : ℕ) → 1 ≤ v → v ≤ t → set_open (word s open_at) v (word s (set_at v)) ≡ true
+Passed s t = (v : ℕ) → 1 ≤ v → v < t → set_open (word s open_at) v (word s (set_at v)) ≡ true
 
 module _ (s : List ℕ) where
-  pub passed_none : Passed s 0
+  pub passed_none : Passed s 1
   unfolding Passed
   passed_none v a b = absurd (omega arith)
 
-  pub passed_more : (t : ℕ) → Passed s t → set_open (word s open_at) (t + 1) (word s (set_at (t + 1))) ≡ true → Passed s (t + 1)
+  pub passed_more : (t : ℕ) → Passed s t → set_open (word s open_at) t (word s (set_at t)) ≡ true → Passed s (t + 1)
   unfolding Passed
-  passed_more t p e v a b = go (eqb v (t + 1)) refl
+  passed_more t p e v a b = go (eqb v t) refl
     where
-      go : (x : Bool) → eqb v (t + 1) ≡ x → set_open (word s open_at) v (word s (set_at v)) ≡ true
-      go true q = rw (eqb-true v (t + 1) q) e
-      go false q = let n : v ≡ t + 1 → ⊥ = eqb-false v (t + 1) q in p v a (omega arith)
+      go : (x : Bool) → eqb v t ≡ x → set_open (word s open_at) v (word s (set_at v)) ≡ true
+      go true q = rw (eqb-true v t q) e
+      go false q = let n : v ≡ t → ⊥ = eqb-false v t q in p v a (omega (arith, n))
 
   -- the set of t, as the form asks
   row : ℕ → Bool
@@ -102,7 +102,7 @@ module _ (s : List ℕ) where
   row_is t a b = let o = word s open_at in
       ap (λ (S : ℕ → Bool). every (λ u. not (S u) || (in_set o t && in_set o u)) transactions) (sym (set_word s t a b))
 
-  pub passed_all : (t : ℕ) → t ≡ 16 → Passed s t → true ≡ sets_open (header s)
+  pub passed_all : (t : ℕ) → t ≡ 17 → Passed s t → true ≡ sets_open (header s)
   unfolding Passed row sets_open
   passed_all t e p = sym (all_sixteen row (λ v a b. row_is v a b ∙ p v a (omega arith)))
 

@@ -74,9 +74,6 @@ module _ (l : List ℕ) (n i : ℕ) (v : n + sum (drop i l) ≡ sum l) where
   unfolding sum
   sum_turn h = rw (drop-cons l i 0 h, add-one i)
 
-  pub sum_fits : i < length l → n + get_or l i 0 ≤ sum l
-  sum_fits h = omega (arith, v, sum_turn h)
-
   pub sum_next : i < length l → n + get_or l i 0 + sum (drop (i + 1) l) ≡ sum l
   sum_next h = omega (arith, v, sum_turn h)
 

@@ -1,5 +1,5 @@
 -- The bytes of the beginning hold the state of the beginning.
-use Rattle.std.specs.Prelude.{◌≡◌, Bool, List, [], ◌∷◌, length, get_or, set, eqb, ltb}
+use Rattle.std.specs.Prelude.{◌≡◌, Bool, List, [], ◌∷◌, length, get_or, eqb, ltb}
 use Rattle.std.proofs.Math.Path.{refl, ap, fun_ext}
 use Rattle.std.proofs.Common.{sym, ◌∙◌, subst, arith, zero-add, ext_get_or, eq-eqb, ne_eqb, lt-ltb, le-ltb, ltb-true, ltb-false, le-leb}
 use Prim.Native.Nat.{ℕ, ◌+◌, ◌-◌, ◌*◌, ◌/◌, ◌%◌, ◌^◌, ◌≤◌, ◌<◌}
@@ -14,7 +14,7 @@ use Rattle.protocol.proofs.Laws.WaitSets.{among_start}
 use Rattle.table.specs.Layout.{tabulate, state_size, format_mark, commits_at, entry_at, cell_size, lock_at, set_at, word, double_word, part}
 use Rattle.table.specs.Layout.{count, slot, depth, number, cell, is_open, remembered, commits, held, decode, entry, nodes, Layout}
 use Rattle.table.specs.Flat.{flat}
-use Rattle.table.specs.Laws.Bytes.{Filled, filled_more, length_part, part_at, drop_high}
+use Rattle.table.specs.Laws.Bytes.{Filled, length_part, part_at, drop_high}
 use Rattle.table.specs.Laws.Nodes.{length_nodes, header_is}
 use Rattle.table.specs.Laws.Fields.{cell_byte}
 use Rattle.table.specs.Laws.Locks.{no_modes}
@@ -193,12 +193,6 @@ module _ (s : List ℕ) (l : state_size ≤ length s) (b : (j : ℕ) → j < sta
   }
 
 -- the calls ------------------------------------------------------------------------------------------
-
--- one byte more, from the first on
-pub filled_next : (n : ℕ) (v : ℕ → ℕ) (s s' : List ℕ) (x : ℕ) → Filled 0 n v s s' → n < length s → x ≡ v n
-    → Filled 0 (n + 1) v s (set s' n x)
-filled_next n v s s' x f h e =
-    subst (λ (m : ℕ). Filled 0 (n + 1) v s (set s' m x)) (zero-add n) (filled_more 0 n v s s' x f (omega arith) e)
 
 pub started_short : (s : List ℕ) → length s < state_size → Started s s false
 started_short s h = record {

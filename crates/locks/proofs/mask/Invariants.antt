@@ -1,10 +1,6 @@
-use Prim.Native.Nat.{◌≤◌}
 use mathlib.Core.Path.{◌≡◌}
 use Rattle.locks.proofs.Laws.Words.{mask_from}
 use Rattle.locks.proofs.mask.Given as goal
 
 abbrev pub invariant-loop-b : goal.invariant-loop-b
-invariant-loop-b l = (l.b ≤ 12) × (l.m ≡ mask_from l.w l.b)
-
-abbrev pub decreases-loop-b : goal.decreases-loop-b
-decreases-loop-b l = l.b
+invariant-loop-b l = l.m ≡ mask_from l.w l.b

@@ -1,29 +1,14 @@
 use borrow.Author.Rules.{rules}
-use native.Mathlib.Omega.{arith}
-use mathlib.Core.Path.{refl}
-use Rattle.node_reading.specs.Laws.Buffers.{written_start, written_more, cells_done}
+use mathlib.Core.Path.{◌∙◌}
+use Rattle.table.specs.Layout.{nodes}
+use Rattle.node_reading.specs.Laws.Buffers.{written_start, written_more, written_done, cell_pieces}
 use Rattle.node_reading.proofs.cells.Goals as goal
 
 pub loop-j-init : goal.loop-j-init
-loop-j-init c = (search rules, written_start _ _ _ _ _)
-
-pub overflow_cast-places : goal.overflow_cast-places
-overflow_cast-places c =
-    let pre = c.requires in
-    let l = c.loop-j in
-    record { fits = omega (arith, pre.1.inside l.j (search rules), pre.0.room, pre.0.many) }
-
-pub put_cell-requires : goal.put_cell-requires
-put_cell-requires c =
-    let pre = c.requires in
-    let l = c.loop-j in
-    (pre.0, pre.1.inside l.j (search rules), omega (arith, l.invariant.1.long))
+loop-j-init c = written_start _ _ _ _
 
 pub loop-j-preserved : goal.loop-j-preserved
-loop-j-preserved c =
-    let l = c.loop-j in
-    let put_cell = c.put_cell in
-    (search rules, written_more l.invariant.1 _ refl (search rules) put_cell.ensures.1 put_cell.ensures.0.bytes)
+loop-j-preserved c = written_more c.loop-j.invariant (search rules) (search rules) (rw (← c.from.ensures) c.put_cell.ensures) (search rules)
 
 pub returns : goal.returns
-returns c = cells_done _ c.loop-j.invariant.1 (search rules) (search rules)
+returns c = written_done c.loop-j.invariant (search rules) (search rules) ∙ rw (cell_pieces (nodes c.args.s.now) c.args.places.now)

@@ -1,6 +1,8 @@
-use Rattle.node_reading.specs.Laws.Stores.{stored_front}
-use borrow.Author.Rules.{rules}
+use Rattle.std.proofs.Common.{refl, rules}
+use Rattle.node_reading.specs.Laws.Stores.{copied, stored_front}
 use Rattle.node_reading.proofs.content.Goals as goal
 
 pub returns : goal.returns
-returns c = stored_front c.copy.ensures (search rules)
+returns c =
+    let e = c.content_bytes.ensures in
+    stored_front (copied _ (rw e at c.store.ensures) refl (search rules)) (search rules)

@@ -1,27 +1,21 @@
-use mathlib.Core.Path.{refl}
 use borrow.Author.Rules.{rules}
 use native.Mathlib.Omega.{arith}
-use Rattle.node_reading.specs.Laws.Buffers.{written_start, written_number, numbers_done}
+use mathlib.Core.Path.{ap, ◌∙◌, ◌≡◌}
+use Prim.Native.Nat.{◌/◌, ◌%◌}
+use lib.ListN.{length}
+use Rattle.table.specs.Layout.{nodes}
+use Rattle.node_reading.specs.Laws.Buffers.{written_start, written_more, written_done, number_pieces}
 use Rattle.node_reading.proofs.numbers.Goals as goal
 
 pub loop-j-init : goal.loop-j-init
-loop-j-init c = (search rules, written_start _ _ _ _ _)
-
-pub overflow_cast-places : goal.overflow_cast-places
-overflow_cast-places c =
-    let pre = c.requires in
-    let l = c.loop-j in
-    record { fits = omega (arith, pre.1.inside l.j (search rules), pre.0.room, pre.0.many) }
-
-pub number-n-requires : goal.number-n-requires
-number-n-requires c = (search rules, c.requires.1.inside c.loop-j.j (search rules))
+loop-j-init c = written_start _ _ _ _
 
 pub loop-j-preserved : goal.loop-j-preserved
 loop-j-preserved c =
-    let l = c.loop-j in
-    let number = c.number-n in
-    let set_double_word = c.set_double_word in
-    (search rules, written_number l.invariant.1 _ _ refl (search rules) number.ensures set_double_word.ensures)
+    let n = c.number-n.result in
+    let high : n / 16777216 % 256 ≡ n / 16777216 = omega (arith, c.number-n.type_inv) in
+    let bytes = c.copy_from_slice.ensures.after ∙ c.to_le_bytes.ensures in
+    written_more c.loop-j.invariant (search rules) (search rules) (bytes ∙ rw (high, c.number-n.ensures, c.from.ensures)) (ap length bytes)
 
 pub returns : goal.returns
-returns c = numbers_done _ c.loop-j.invariant.1 (search rules) (search rules)
+returns c = written_done c.loop-j.invariant (search rules) (search rules) ∙ rw (number_pieces (nodes c.args.s.now) c.args.places.now)

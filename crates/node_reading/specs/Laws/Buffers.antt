@@ -1,102 +1,58 @@
--- The loops over the nodes of a subtree that put a piece for each into a lent buffer.
-use Rattle.std.specs.Prelude.{◌≡◌, refl, get_or, take}
-use Rattle.std.proofs.Common.{sym, ◌∙◌, arith, length-append}
-use Rattle.std.proofs.Math.Path.{ap}
-use Prim.Native.Nat.{ℕ, ◌+◌, ◌*◌, ◌≤◌, ◌<◌}
-use mathlib.Core.List.{List, [], ◌∷◌, ◌++◌, map, append_assoc, append-nil}
-use Rattle.std.proofs.Math.Nat.{zero-add}
-use Rattle.std.proofs.Math.Numerals.{add-one}
-use Rattle.std.proofs.Math.ListN.{length}
-use Rattle.std.proofs.lemmas.List.Edits.{sets}
-use Rattle.std.proofs.Math.Seq.{length-sets, take-suc}
-use Rattle.tree.specs.Laws.Lists.{map_append}
-use Rattle.protocol.specs.State.{Marked}
+-- The loops that put a piece for each place into a lent buffer.
+use Rattle.std.specs.Prelude.{◌≡◌, refl, ℕ, ◌+◌, ◌-◌, ◌*◌, ◌≤◌, ◌<◌, List, [], ◌∷◌, map, length, get_or, take, drop}
+use Rattle.std.specs.List.{flat_map}
+use Rattle.std.proofs.Common.{sym, ap, ◌∙◌, arith, append-nil, mul-zero}
+use Rattle.std.proofs.Math.Nat.{mul-le-mul_left}
+use Rattle.std.proofs.lemmas.List.{take_all, take_more, take-append-drop, length-take-le, drop-drop}
+use Rattle.std.proofs.lemmas.Grind.{flat_map-append}
+use Rattle.std.proofs.lemmas.Slice.{take-put_mid, drop-put_mid}
+use borrow.Rule.Slice.PartMut.{put_mid}
 use Rattle.protocol.specs.Lent.{number_bytes, list_bytes, cell, cells, filled}
 use Rattle.table.specs.Layout.{Entry}
-use Rattle.table.specs.Laws.Bytes.{put_double_word}
 use Rattle.rows.specs.Places.{item, number_of}
-use Rattle.engine.specs.Way.{Places, places_of, nodes_of}
-use Rattle.node_reading.specs.Laws.Stores.{sets_append, sets_front, double_word_sets}
 
--- the pieces of the nodes, one behind the other
-unfoldable pub pieces : (Marked → List ℕ) → List Marked → List ℕ
-pieces f [] = []
-pieces f (a ∷ l) = f a ++ pieces f l
+-- the pieces of the first j places are written, w bytes each, and nothing behind them
+pub record Written (piece : ℕ → List ℕ) (w : ℕ) (places : List ℕ) (j : ℕ) (o out : List ℕ) : Type 0 where
+  pub front : take (w * j) out ≡ flat_map piece (take j places)
+  pub rest : drop (w * j) out ≡ drop (w * j) o
 
-pieces_append : (f : Marked → List ℕ) (l k : List Marked) → pieces f (l ++ k) ≡ pieces f l ++ pieces f k
-unfolding pieces
-pieces_append f [] k = refl
-pieces_append f (a ∷ l) k = rw (pieces_append f l k) (sym (append_assoc (f a) (pieces f l) (pieces f k)))
+pub written_start : (piece : ℕ → List ℕ) (w : ℕ) (places o : List ℕ) → Written piece w places 0 o o
+written_start piece w places o = record { front = rw mul-zero; rest = refl }
 
-abbrev pub number_piece : Marked → List ℕ
-number_piece a = number_bytes (number_of a)
+module _ {piece : ℕ → List ℕ} {w : ℕ} {places : List ℕ} {j : ℕ} {o out : List ℕ} (c : Written piece w places j o out)
+    (m : w * length places ≤ length out)
+  where
+    -- the next piece
+    pub written_more : {b : List ℕ} → j < length places → b ≡ piece (get_or places j 0) → length b ≡ w
+        → Written piece w places (j + 1) o (put_mid (w * j) (w * j + w - w * j) out b)
+    written_more {b} h e n =
+        let z : w * (j + 1) ≤ w * length places = mul-le-mul_left w (omega arith) in
+        let k : w * j + w - w * j ≡ w = omega arith in
+        let a : w * j ≤ length out = omega arith in
+        let rest_more : drop (w * (j + 1)) out ≡ drop (w * (j + 1)) o =
+        let x : w * (j + 1) ≡ w * j + w = omega arith in
+        rw (x, ← drop-drop w (w * j) out, ← drop-drop w (w * j) o, c.rest) in
+        record {
+          front = take-put_mid (w * j) (w * j + w - w * j) out b (w * (j + 1)) (omega arith) a
+              ∙ rw (c.front, take_more places j 0 h, flat_map-append piece (take j places) (get_or places j 0 ∷ []), e, append-nil);
+          rest = drop-put_mid (w * j) (w * j + w - w * j) out b (w * (j + 1)) (omega arith) a (omega arith)
+              ∙ rest_more;
+        }
 
-abbrev pub cell_piece : Marked → List ℕ
-cell_piece a = cell a.now.content
-
-pub pieces_numbers : (l : List Marked) → pieces number_piece l ≡ list_bytes (map number_of l)
-unfolding pieces
-pieces_numbers [] = refl
-pieces_numbers (a ∷ l) = rw (pieces_numbers l)
-
-pub pieces_cells : (l : List Marked) → pieces cell_piece l ≡ cells (map (λ a. (number_of a, a.now.content)) l)
-unfolding pieces
-pieces_cells [] = refl
-pieces_cells (a ∷ l) = rw (pieces_cells l)
-
--- the pieces of the first j nodes are written, w bytes each
-pub record Written (f : Marked → List ℕ) (w : ℕ) (l : List Entry) (places : List ℕ) (j : ℕ) (o out : List ℕ) : Type 0 where
-  pub long : length out ≡ length o
-  pub size : length (pieces f (map (item l) (take j places))) ≡ w * j
-  pub bytes : out ≡ sets o 0 (pieces f (map (item l) (take j places)))
-
-pub written_start : (f : Marked → List ℕ) (w : ℕ) (l : List Entry) (places o : List ℕ) → Written f w l places 0 o o
-unfolding pieces
-written_start f w l places o = record { long = refl; size = omega arith; bytes = refl }
-
-module _ {f : Marked → List ℕ} {w : ℕ} {l : List Entry} {places : List ℕ} {j : ℕ} {o out : List ℕ} (c : Written f w l places j o out) where
-  -- the next piece
-  pub written_more : {out' : List ℕ} (i : ℕ) → i ≡ get_or places j 0 → j < length places → length (f (item l i)) ≡ w
-      → out' ≡ sets out (w * j) (f (item l i))
-      → Written f w l places (j + 1) o out'
-  unfolding pieces
-  written_more {out'} i v h n q =
-      let a : List ℕ = pieces f (map (item l) (take j places)) in
-      let e : pieces f (map (item l) (take (j + 1) places)) ≡ a ++ f (item l i) =
-      rw (
-        add-one,
-        take-suc places j 0 h,
-        map_append (item l) (take j places) (get_or places j 0 ∷ []),
-        pieces_append f (map (item l) (take j places)) (item l (get_or places j 0) ∷ []),
-        v,
-      )
-      (ap (λ z. a ++ z) (append-nil (f (item l (get_or places j 0))))) in
-      record {
-        long = ap length q ∙ length-sets out (w * j) (f (item l i)) ∙ c.long;
-        size = rw e (length-append a (f (item l i)) ∙ rw (c.size, n) (omega arith));
-        bytes = q ∙ rw (e, sets_append o 0 a (f (item l i)), zero-add, c.size, ← c.bytes);
-      }
-
-  -- all pieces
-  pub written_done : (t : Places) → t.places ≡ places → j ≡ t.count → w * t.count ≤ length o → out ≡ filled (pieces f (nodes_of l t)) o
-  unfolding nodes_of places_of
-  written_done t p e m =
-      let b : length (pieces f (map (item l) (take j places))) ≤ length o = rw (c.size, e) m in
-      c.bytes ∙ sets_front o (pieces f (map (item l) (take j places))) b ∙ rw (e, p)
+    -- all pieces
+    pub written_done : j ≡ length places → out ≡ filled (flat_map piece places) o
+    written_done e =
+        let n : length (flat_map piece (take j places)) ≡ w * j = ap length (sym c.front) ∙ length-take-le (w * j) out (rw e m) in
+        sym (take-append-drop (w * j) out) ∙ rw (c.front, c.rest, ← n, take_all j places (omega arith))
 
 -- numbers take four bytes each
-pub written_number : {l : List Entry} {places : List ℕ} {j : ℕ} {o out out' : List ℕ} → Written number_piece 4 l places j o out → (i v : ℕ)
-    → i ≡ get_or places j 0 → j < length places
-    → v ≡ number_of (item l i) → out' ≡ put_double_word out (4 * j) v → Written number_piece 4 l places (j + 1) o out'
-written_number {l} {places} {j} {o} {out} c i v e h n q = written_more c i e h refl (q ∙ double_word_sets out (4 * j) v ∙ rw n)
-
-pub numbers_done : {l : List Entry} {j : ℕ} {o out : List ℕ} (t : Places) → Written number_piece 4 l t.places j o out → j ≡ t.count
-    → 4 * t.count ≤ length o
-    → out ≡ filled (list_bytes (map number_of (nodes_of l t))) o
-numbers_done {l} {j} {o} t c e m = written_done c t refl e m ∙ ap (λ b. filled b o) (pieces_numbers (nodes_of l t))
+pub number_pieces : (l : List Entry) (places : List ℕ)
+    → flat_map (λ i. number_bytes (number_of (item l i))) places ≡ list_bytes (map number_of (map (item l) places))
+number_pieces l [] = refl
+number_pieces l (i ∷ places) = rw (number_pieces l places)
 
 -- cells take 33
-pub cells_done : {l : List Entry} {j : ℕ} {o out : List ℕ} (t : Places) → Written cell_piece 33 l t.places j o out → j ≡ t.count
-    → 33 * t.count ≤ length o
-    → out ≡ filled (cells (map (λ a. (number_of a, a.now.content)) (nodes_of l t))) o
-cells_done {l} {j} {o} t c e m = written_done c t refl e m ∙ ap (λ b. filled b o) (pieces_cells (nodes_of l t))
+pub cell_pieces : (l : List Entry) (places : List ℕ)
+    → flat_map (λ i. cell (item l i).now.content) places ≡ cells (map (λ a. (number_of a, a.now.content)) (map (item l) places))
+cell_pieces l [] = refl
+cell_pieces l (i ∷ places) = rw (cell_pieces l places)

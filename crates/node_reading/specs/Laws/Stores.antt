@@ -2,7 +2,7 @@
 use Rattle.std.specs.Prelude.{◌≡◌, refl, ℕ, zero, suc, ◌+◌, ◌-◌, ◌*◌, ◌/◌, ◌%◌, ◌≤◌, ◌<◌, Bool, true, false, List, [], ◌∷◌, ◌++◌, length, get_or, set, replicate, ltb, leb}
 use Rattle.std.proofs.Common.{sym, ◌∙◌, arith, add-zero, zero-add, add-one, length-append, length-set, ext_get_or, get_or-set_same, get_or-set_other, ltb-true, ltb-false, leb-true, leb-false}
 use Rattle.std.proofs.Math.Arith.{mod-mul}
-use Rattle.std.proofs.lemmas.List.{length-replicate, get_or-replicate}
+use Rattle.std.proofs.lemmas.List.{append-nil, drop_all, length-replicate, get_or-replicate}
 use Rattle.std.proofs.lemmas.List.Edits.{sets, sets-eq}
 use Rattle.std.proofs.Math.Seq.{length-sets}
 use Rattle.protocol.specs.Lent.{number_bytes, cell, filled}
@@ -91,3 +91,7 @@ cell_stored {k} {n} {b} {o} {o'} {o''} e h c f m =
       },
       length_cell b e h,
     )
+
+-- a buffer as long as what is stored from the front on is that
+pub stored_whole : {b o o' : List ℕ} {n : ℕ} → Stored 0 b o o' → length b ≡ n → length o ≡ n → o' ≡ b
+stored_whole {b} {o} c e h = stored_front c (omega (arith, e, h)) ∙ rw (drop_all (length b) o (omega (arith, e, h))) (append-nil b)

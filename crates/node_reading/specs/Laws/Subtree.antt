@@ -1,17 +1,34 @@
 -- The loop that selects the nodes of a subtree that a transaction sees.
-use Rattle.std.specs.Prelude.{◌≡◌, refl, ℕ, zero, suc, ◌+◌, ◌≤◌, ◌<◌, Bool, true, false, not, ◌&&◌, get_or, take, drop, set, leb, ltb}
+use Rattle.std.specs.Prelude.{◌≡◌, refl, ℕ, suc, ◌+◌, ◌≤◌, ◌<◌, Bool, true, false, cond, eqb, All, get_or, take, drop, set, ltb}
 use Rattle.std.proofs.Math.Path.{sym}
-use Rattle.std.proofs.Common.{ap, ◌∙◌, arith, add-one, length-set, take-suc-set, eq-eqb, ne_eqb, lt-ltb, ltb-true, leb-true, leb-false}
+use Rattle.std.proofs.Common.{ap, ◌∙◌, arith, add-one, length-set, take-suc-set, eq-eqb, ne_eqb, ltb-true}
 use mathlib.Core.List.{List, [], ◌∷◌, ◌++◌, map, append_assoc, append-nil}
 use Rattle.std.proofs.Math.ListN.{length, length-map}
 use Rattle.std.proofs.Math.Seq.{length-take-le}
+use Rattle.std.proofs.lemmas.List.{get_or-take, get_or_default}
 use Rattle.tree.specs.Laws.Lists.{map_append}
-use Rattle.table.specs.Layout.{Entry}
-use Rattle.rows.specs.Places.{depth, item, seen_from, subtree}
-use Rattle.rows.proofs.Laws.Subtree.{seen_hidden, seen_deleted, seen_found, seen_left, seen_end}
-use Rattle.engine.specs.Way.{places_of, nodes_of}
+use Rattle.tree.specs.Laws.Tests.{and_left}
+use Rattle.protocol.specs.State.{Marked, seen_by}
+use Rattle.table.specs.Flat.{left_out, prune}
+use Rattle.table.specs.Layout.{Entry, no_entry}
+use Rattle.table.specs.Outline.{next_below}
+use Rattle.rows.specs.Places.{depth, item, items, below, seen_from, subtree}
+use Rattle.rows.proofs.Laws.Subtree.{below_turn, seen_left, seen_end}
+use Rattle.engine.specs.Way.{Places, places_of, nodes_of}
 use Rattle.engine.specs.Laws.Way.{inside_set}
 use Rattle.node_reading.specs.Subtree.{Selected}
+
+-- what was selected, as the list of its places
+module _ {l : List Entry} {t p : ℕ} {w : Places} (c : Selected l t p w) where
+  pub selected_inside : All (λ i. i < length l) (take w.count w.places)
+  selected_inside k d h =
+      let n : k < w.count = omega (arith, length-take-le w.count w.places (omega (arith, c.inside.long, c.inside.room))) in
+      let z = get_or_default (take w.count w.places) k d 0 h ∙ get_or-take w.count w.places k 0 n in
+      rw z (c.inside.inside k n)
+
+  pub selected_nodes : map (item l) (take w.count w.places) ≡ subtree t l p
+  unfolding nodes_of places_of
+  selected_nodes = c.nodes
 
 -- count places were selected, the rows from i on are still to be looked at, and those from depth hidden on are left out now
 pub record Selecting (l : List Entry) (t p e hidden i count : ℕ) (places : List ℕ) : Type 0 where
@@ -30,6 +47,21 @@ selecting_start {l} {p} {e} t places h v n = record {
   inside = inside_set (length l) 0 p places (omega arith) h (λ j z. absurd (omega arith));
   found = rw (v, add-one, take-suc-set places 0 p (omega arith));
 }
+
+-- a row is found and nothing behind it is left out, or it is left out with what lies below
+turn : (shown : Marked → Bool) (hidden : ℕ) (x : Entry) (xs : List Entry)
+    → items (prune shown hidden (x ∷ xs))
+    ≡ cond (eqb (next_below shown hidden x) 0) (x.1 ∷ items (prune shown 0 xs)) (items (prune shown (next_below shown hidden x) xs))
+unfolding prune next_below
+turn shown hidden x xs = go (left_out hidden x.0) refl (shown x.1)
+  where
+    go : (u : Bool) → left_out hidden x.0 ≡ u → (v : Bool)
+        → items (cond u (prune shown hidden xs) (cond v (x ∷ prune shown 0 xs) (prune shown (suc x.0) xs)))
+        ≡ cond (eqb (cond u hidden (cond v 0 (suc x.0))) 0) (x.1 ∷ items (prune shown 0 xs))
+        (items (prune shown (cond u hidden (cond v 0 (suc x.0))) xs))
+    go true p v = rw (ne_eqb hidden 0 (λ z. omega (arith, ltb-true 0 hidden (and_left (ltb 0 hidden) _ p))))
+    go false p true = refl
+    go false p false = rw (ne_eqb (suc x.0) 0 (λ z. omega arith))
 
 module _ {l : List Entry} {t p e hidden i count : ℕ} {places : List ℕ} (c : Selecting l t p e hidden i count places) where
   selecting_on : (hidden' : ℕ) → i < length l → seen_from t hidden e (drop i l) ≡ seen_from t hidden' e (drop (i + 1) l)
@@ -63,35 +95,21 @@ module _ {l : List Entry} {t p e hidden i count : ℕ} {places : List ℕ} (c : 
     pub selecting_left : length l ≤ 1024 → d ≤ e → Selected l t p (record { places = places; count = count })
     selecting_left m q = selecting_over m (seen_left l e i t hidden h (omega (arith, v)))
 
-    -- below a node that t deleted
-    pub selecting_hidden : e < d → (ltb 0 hidden && leb hidden d) ≡ true → Selecting l t p e hidden (i + 1) count places
-    selecting_hidden b q = go (ltb 0 hidden) refl q
-      where
-        go : (x : Bool) → ltb 0 hidden ≡ x → (x && leb hidden d) ≡ true → Selecting l t p e hidden (i + 1) count places
-        go true z y =
-            selecting_on hidden h (seen_hidden l e i t hidden h (omega (arith, v)) (ltb-true 0 hidden z)
-            (omega (arith, v, leb-true hidden d y)))
-        go false z y = absurd (let w : ◌≡◌ {A = ℕ} 0 1 = cc in omega arith)
+    -- b is the least depth that is left out behind the row
+    module _ {b : ℕ} (k : e < d) (n : b ≡ next_below (seen_by t) hidden (get_or l i no_entry)) where
+      next_seen : seen_from t hidden e (drop i l)
+          ≡ cond (eqb b 0) (item l i ∷ seen_from t 0 e (drop (i + 1) l)) (seen_from t b e (drop (i + 1) l))
+      unfolding seen_from
+      next_seen = rw (below_turn l e i h (omega (arith, v)), n) (turn (seen_by t) hidden (get_or l i no_entry) (below e (drop (i + 1) l)))
 
-    -- x is who deleted it
-    module _ {x : ℕ} (b : e < d) (y : (ltb 0 hidden && leb hidden d) ≡ false) (w : x ≡ (item l i).deleter) where
-      apart : 0 < hidden → depth l i < hidden
-      apart z = go hidden z y
-        where
-          go : (n : ℕ) → 0 < n → (ltb 0 n && leb n d) ≡ false → depth l i < n
-          go zero z q = absurd (omega arith)
-          go (suc n) z q = let y : leb (suc n) d ≡ false = rw (lt-ltb 0 (suc n) z) at q in omega (arith, v, leb-false (suc n) d y)
+      -- it is below a node that t deleted, or is one
+      pub selecting_passed : (b ≡ 0 → ⊥) → Selecting l t p e b (i + 1) count places
+      selecting_passed z = selecting_on b h (next_seen ∙ rw (ne_eqb b 0 z))
 
-      pub selecting_deleted : x ≡ t → Selecting l t p e (d + 1) (i + 1) count places
-      selecting_deleted q =
-          rw (v, add-one) (selecting_on (suc (depth l i)) h
-          (seen_deleted l e i t hidden h (omega (arith, v)) apart (ap not (eq-eqb (item l i).deleter t (sym w ∙ q)))))
-
-      pub selecting_found : length l ≤ 1024 → (x ≡ t → ⊥) → Selecting l t p e 0 (i + 1) (count + 1) (set places count i)
-      selecting_found m q =
+      pub selecting_found : length l ≤ 1024 → b ≡ 0 → Selecting l t p e 0 (i + 1) (count + 1) (set places count i)
+      selecting_found m z =
           let n : count < length places = omega (arith, c.long, c.room) in
-          let f : seen_from t hidden e (drop i l) ≡ item l i ∷ seen_from t 0 e (drop (i + 1) l) =
-          seen_found l e i t hidden h (omega (arith, v)) apart (ap not (ne_eqb (item l i).deleter t (λ z. q (w ∙ z)))) in
+          let f : seen_from t hidden e (drop i l) ≡ item l i ∷ seen_from t 0 e (drop (i + 1) l) = next_seen ∙ rw (eq-eqb b 0 z) in
           record {
             long = length-set places count i ∙ c.long;
             behind = omega arith;

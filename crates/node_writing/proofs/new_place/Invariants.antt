@@ -1,5 +1,3 @@
-use Prim.Native.Nat.{◌-◌, ◌≤◌}
-use lib.ListN.{length}
 use Rattle.protocol.specs.State.{seen_by}
 use Rattle.table.specs.Layout.{nodes}
 use Rattle.rows.specs.Places.{depth}
@@ -8,8 +6,5 @@ use Rattle.rows.proofs.Laws.Loops.{Placing}
 use Rattle.node_writing.proofs.new_place.Given as goal
 
 abbrev pub invariant-loop-i : goal.invariant-loop-i
-invariant-loop-i l = (l.i ≤ length (nodes l.s)) × Placing (seen_by l.t) (depth (nodes l.s) l.p) (new_place l.t l.k l.p (nodes l.s))
-    (nodes l.s) l.i l.j
-
-abbrev pub decreases-loop-i : goal.decreases-loop-i
-decreases-loop-i l = length (nodes l.s) - l.i
+invariant-loop-i l =
+    Placing (seen_by l.t) (depth (nodes l.s) l.p) (new_place l.t l.k l.p (nodes l.s)) (nodes l.s) l.i l.before

@@ -1,6 +1,6 @@
 -- Whether an element has a name, and the renaming of one node.
 use Rattle.std.specs.Prelude.{◌≡◌, ℕ, true, false, List, get_or}
-use Rattle.std.proofs.Common.{sym, ap, arith, eq-eqb, ne_eqb}
+use Rattle.std.proofs.Common.{sym, ap, eq-eqb, ne_eqb}
 use Rattle.tree.specs.Lists.{same}
 use Rattle.tree.specs.Content.{element_kind}
 use Rattle.tree.specs.Steps.{is_named}
@@ -23,23 +23,21 @@ named_element a x e = rw (eq-eqb x.now.kind element_kind e)
 
 -- one node
 module _ {s : List ℕ} (p t : ℕ) (a b : List ℕ) where
-  pub renamed_none : Layout s → is_named a (item (nodes s) p).now ≡ false → Renamed s s 0 p t a b
+  pub renamed_none : Layout s → is_named a (item (nodes s) p).now ≡ false → Renamed s s false p t a b
   renamed_none h n =
       let e : renamed_by t 0 a b (item (nodes s) p) ≡ item (nodes s) p = rw n in
       let row = ap {B = Entry} (λ (z : Marked). ((get_or (nodes s) p no_entry).0, z)) e in
       record {
         kept = kept_as _ _ (sym (modify_none p (second (renamed_by t 0 a b)) (nodes s) no_entry row)) (kept_same s h);
-        hit = rw n;
-        few = omega arith;
+        hit = sym n;
       }
 
   pub renamed_one : {s' : List ℕ} → is_named a (item (nodes s) p).now ≡ true → Kept s s' (modify p (second (written_by t 0 b)) (nodes s))
-      → Renamed s s' 1 p t a b
+      → Renamed s s' true p t a b
   renamed_one n k =
       let e : renamed_by t 0 a b (item (nodes s) p) ≡ written_by t 0 b (item (nodes s) p) = rw n in
       let row = ap {B = Entry} (λ (z : Marked). ((get_or (nodes s) p no_entry).0, z)) e in
       record {
         kept = kept_as _ _ (sym (modify_same p (second (renamed_by t 0 a b)) (second (written_by t 0 b)) (nodes s) no_entry row)) k;
-        hit = rw n;
-        few = omega arith;
+        hit = sym n;
       }

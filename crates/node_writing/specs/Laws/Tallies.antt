@@ -1,10 +1,10 @@
 -- The pass over the children of a node.
-use Rattle.std.specs.Prelude.{◌≡◌, refl, ℕ, suc, ◌+◌, ◌≤◌, ◌<◌, Bool, true, false, cond, ◌&&◌, List, [], ◌∷◌, map, length, drop, eqb, leb, ltb}
+use Rattle.std.specs.Prelude.{◌≡◌, refl, ℕ, suc, ◌+◌, ◌≤◌, ◌<◌, Bool, true, false, cond, ◌&&◌, List, [], ◌∷◌, map, length, drop, eqb}
 use Rattle.std.proofs.Common.{sym, ◌∙◌, arith, add-one}
-use Rattle.std.proofs.Math.Bool.{and-true, and-false, and_assoc}
-use borrow.Author.Tests.{eqb-true, eqb-false, eq-eqb, ne_eqb, le-leb, lt-leb}
+use Rattle.std.proofs.Math.Bool.{and-true, and_assoc}
+use borrow.Author.Tests.{eqb-true, eqb-false, eq-eqb, ne_eqb}
 use Rattle.tree.specs.Lists.{every, keep}
-use Rattle.tree.specs.Content.{element_kind, attribute_kind, takes, attributes_first}
+use Rattle.tree.specs.Content.{attribute_kind, takes, attributes_first}
 use Rattle.tree.specs.Steps.{placed}
 use Rattle.protocol.specs.State.{Marked}
 use Rattle.table.specs.Layout.{Entry}
@@ -117,53 +117,6 @@ module _ (t : ℕ) (l : List Entry) (p parent : ℕ) where
 pub placed_counted : {parent : ℕ} {kinds : List ℕ} {c : Tally} (kind k : ℕ) → Counted parent kinds c
     → placed_by parent kind k c.count c.attributes c.ordered c.allowed ≡ placed parent kind k kinds
 placed_counted {parent} {kinds} {c} kind k v = sym (placed_pass parent kind k kinds ∙ rw (v.count, v.attributes, v.ordered, v.allowed))
-
--- the tests one after the other
-module _ (parent kind k n a : ℕ) (ordered allowed : Bool) where
-  pub placed_zero : k ≡ 0 → placed_by parent kind k n a ordered allowed ≡ false
-  unfolding placed_by
-  placed_zero e = rw e
-
-  pub placed_far : n + 1 < k → placed_by parent kind k n a ordered allowed ≡ false
-  unfolding placed_by
-  placed_far h = rw (lt-leb k (suc n) (omega arith), and-false (leb 1 k))
-
-  module _ (low : (k ≡ 0 → ⊥)) (near : k ≤ n + 1) where
-    inner : placed_by parent kind k n a ordered allowed
-        ≡ (takes parent kind && allowed && cond (eqb parent element_kind)
-        (ordered && cond (eqb kind attribute_kind) (leb k (suc a)) (ltb a k)) (eqb n 0))
-    unfolding placed_by
-    inner = rw (le-leb 1 k (omega arith), le-leb k (suc n) (omega arith))
-
-    pub placed_untaken : (takes parent kind && allowed) ≡ false → placed_by parent kind k n a ordered allowed ≡ false
-    placed_untaken e = inner ∙ rw e
-
-    module _ (e : (takes parent kind && allowed) ≡ true) where
-      pub placed_only : (parent ≡ element_kind → ⊥) → placed_by parent kind k n a ordered allowed ≡ eqb n 0
-      placed_only z = inner ∙ rw (e, ne_eqb parent element_kind z)
-
-      module _ (z : parent ≡ element_kind) where
-        pub placed_unordered : ordered ≡ false → placed_by parent kind k n a ordered allowed ≡ false
-        placed_unordered o = inner ∙ rw (e, eq-eqb parent element_kind z, o)
-
-        module _ (o : ordered ≡ true) where
-          pub placed_behind : (kind ≡ attribute_kind → ⊥) → placed_by parent kind k n a ordered allowed ≡ ltb a k
-          placed_behind x = inner ∙ rw (e, eq-eqb parent element_kind z, o, ne_eqb kind attribute_kind x)
-
-          pub placed_attribute : kind ≡ attribute_kind → placed_by parent kind k n a ordered allowed ≡ leb k (a + 1)
-          placed_attribute x = inner ∙ rw (e, eq-eqb parent element_kind z, o, eq-eqb kind attribute_kind x, add-one a)
-
--- one more child, by its kind
-module _ (parent kind : ℕ) (c : Tally) (taken : Bool) (e : taken ≡ (c.allowed && takes parent kind)) where
-  pub counted_kind : (kind ≡ attribute_kind → ⊥)
-      → record { count = c.count + 1; attributes = c.attributes; ordered = c.ordered; allowed = taken } ≡ counted parent kind c
-  unfolding counted
-  counted_kind n = rw (e, ne_eqb kind attribute_kind n)
-
-  pub counted_attribute : kind ≡ attribute_kind → (o : Bool) → o ≡ (c.ordered && eqb c.attributes c.count)
-      → record { count = c.count + 1; attributes = c.attributes + 1; ordered = o; allowed = taken } ≡ counted parent kind c
-  unfolding counted
-  counted_attribute n o f = rw (e, f, eq-eqb kind attribute_kind n)
 
 pub counted_count : (parent kind : ℕ) (c r : Tally) → r ≡ counted parent kind c → r.count ≡ c.count + 1
 unfolding counted

@@ -2,12 +2,17 @@
 use Rattle.std.specs.Prelude.{◌≡◌, refl, ℕ, zero, suc, ◌*◌, ◌≤◌, ◌<◌, List, [], ◌∷◌, map, length, get_or, take}
 use Rattle.std.proofs.Common.{◌∙◌, arith, length-append}
 use Rattle.std.proofs.lemmas.List.{length-replicate}
+use Rattle.std.proofs.Math.ListN.{length-take}
 use Rattle.protocol.specs.State.{Marked}
 use Rattle.protocol.specs.Lent.{list_bytes, cell, cells}
 use Rattle.table.specs.Layout.{slot, Entry, nodes, Layout}
 use Rattle.table.specs.Laws.Texts.{size_small}
 use Rattle.rows.specs.Places.{item, number_of}
-use Rattle.engine.specs.Way.{Places, places_of, nodes_of, Inside}
+use Rattle.engine.specs.Way.{Places, Inside}
+
+-- the places that were found
+pub length_places : {l : List Entry} {w : Places} → Inside l w → length (take w.count w.places) ≡ w.count
+length_places {w = w} c = length-take w.count w.places ∙ omega (arith, c.long, c.room)
 
 -- four bytes for a number
 pub length_numbers : (l : List Marked) → length (list_bytes (map number_of l)) ≡ 4 * length l
@@ -33,8 +38,7 @@ content_small : {s : List ℕ} → Layout s → (i : ℕ) → i < length (nodes 
 content_small {s} h i l = size_small s i 0 (slot s i) refl h l refl
 
 pub length_cells : {s : List ℕ} (w : Places) → Layout s → Inside (nodes s) w
-    → length (cells (map (λ a. (number_of a, a.now.content)) (nodes_of (nodes s) w))) ≡ 33 * w.count
-unfolding nodes_of places_of
+    → length (cells (map (λ a. (number_of a, a.now.content)) (map (item (nodes s)) (take w.count w.places)))) ≡ 33 * w.count
 length_cells {s} w h c =
     cells_of (nodes s) w.places w.count (omega (arith, c.long, c.room))
     (λ j g. content_small h (get_or w.places j 0) (c.inside j g))

@@ -1,5 +1,5 @@
 -- C, R, TT and RR on the node at p: room for their answers, what they put into lent buffers, and their ends.
-use Rattle.std.specs.Prelude.{◌≡◌, refl, ℕ, zero, suc, ◌*◌, ◌≤◌, ◌<◌, true, false, cond, not, ◌&&◌, List, [], ◌∷◌, map, length, leb}
+use Rattle.std.specs.Prelude.{◌≡◌, refl, ℕ, zero, suc, ◌*◌, ◌≤◌, ◌<◌, true, false, cond, not, ◌&&◌, List, [], ◌∷◌, map, length, leb, take}
 use Rattle.std.proofs.Math.Path.{sym, ap}
 use Rattle.std.proofs.Common.{◌∙◌, arith, le-leb}
 use Rattle.std.proofs.Math.Bool.{and-false}
@@ -11,17 +11,16 @@ use Rattle.protocol.specs.Lent.{Room, list_bytes, cells, first_lent, second_lent
 use Rattle.protocol.specs.State.{Marked}
 use Rattle.protocol.specs.Calls.{Call}
 use Rattle.protocol.specs.Answers.{granted_answer}
-use Rattle.protocol.specs.declared.Answer.{Answer}
 use Rattle.protocol.specs.declared.Answer.TheVariants.{Count}
 use Rattle.table.specs.Layout.{nodes, Layout}
-use Rattle.rows.specs.Places.{number_of, subtree}
+use Rattle.rows.specs.Places.{item, number_of, subtree}
 use Rattle.rows.specs.Found.{kth_child}
-use Rattle.engine.specs.Way.{Places, nodes_of}
+use Rattle.engine.specs.Way.{Places}
 use Rattle.node_reading.specs.Subtree.{Selected}
+use Rattle.node_reading.specs.Laws.Subtree.{selected_nodes}
 use Rattle.read_steps.specs.Laws.Lengths.{length_numbers, length_cells}
 use Rattle.engine.specs.Contract.{Performed, Lent, no_room, room_of, rooms_of}
 use Rattle.engine.specs.Laws.Outcomes.{Grants, performed_grants, lent_grants}
-use Rattle.engine.specs.Judgement.{Stopped}
 
 -- room for the answer ----------------------------------------------------------------------
 
@@ -41,17 +40,6 @@ module _ (v : Value) (room : Room) where
 
   pub room_short : has_room v room ≡ false → ◌≡◌ {A = ℕ} 13 (cond (not (has_room v room)) 13 0)
   room_short e = rw e
-
-pub not_none : ◌≡◌ {A = ℕ} 13 0 → ⊥
-not_none z = omega arith
-
--- both contracts, or all three, of a step that is not granted
-module _ {s s' : List ℕ} {r : Answer} {call : Call} (x : Stopped s s' r call) where
-  pub stopped_one : (b : List ℕ) → Performed s s' r call × Lent first_lent s b b call
-  stopped_one b = (x.performed, x.lent first_lent b)
-
-  pub stopped_two : (b q : List ℕ) → Performed s s' r call × Lent first_lent s b b call × Lent second_lent s q q call
-  stopped_two b q = (x.performed, x.lent first_lent b, x.lent second_lent q)
 
 -- C has no lent buffer
 pub child_fits : (k : ℕ) (cs : List Marked) → has_room (kth_child k cs) no_room ≡ true
@@ -100,7 +88,7 @@ module _ (s : List ℕ) {t p : ℕ} {w : Places} (c : Selected (nodes s) t p w) 
 
   module _ (h : Layout s) (o q : List ℕ) where
     cells_long : length (cells (map numbered (seen s t p))) ≡ 33 * w.count
-    cells_long = sym (ap (λ l. length (cells (map numbered l))) c.nodes) ∙ length_cells w h c.inside
+    cells_long = sym (ap (λ l. length (cells (map numbered l))) (selected_nodes c)) ∙ length_cells w h c.inside
 
     pub cells_fit : 4 * w.count ≤ length o → 33 * w.count ≤ length q
         → has_room (cells_are (map numbered (seen s t p))) (rooms_of o q) ≡ true
@@ -115,12 +103,12 @@ module _ (s : List ℕ) {t p : ℕ} {w : Places} (c : Selected (nodes s) t p w) 
     unfolding first_lent second_lent
     cells_short_second j = short_second _ (length o) _ (length q) (omega (arith, cells_long))
 
-  numbers_filled : (o o' : List ℕ) → o' ≡ filled (list_bytes (map number_of (nodes_of (nodes s) w))) o
+  numbers_filled : (o o' : List ℕ) → o' ≡ filled (list_bytes (map number_of (map (item (nodes s)) (take w.count w.places)))) o
       → o' ≡ filled (list_bytes (map number_of (seen s t p))) o
-  numbers_filled o o' e = e ∙ ap (λ l. filled (list_bytes (map number_of l)) o) c.nodes
+  numbers_filled o o' e = e ∙ ap (λ l. filled (list_bytes (map number_of l)) o) (selected_nodes c)
 
   -- granted: the count, and the lent buffers
-  module _ {s' : List ℕ} {call : Call} {o o' : List ℕ} (e : o' ≡ filled (list_bytes (map number_of (nodes_of (nodes s) w))) o) where
+  module _ {s' : List ℕ} {call : Call} {o o' : List ℕ} (e : o' ≡ filled (list_bytes (map number_of (map (item (nodes s)) (take w.count w.places)))) o) where
     pub numbers_granted : Grants s s' (numbers_are (map number_of (seen s t p))) call
         → Performed s s' (Count w.count) call × Lent first_lent s o o' call
     unfolding granted_answer first_lent
@@ -129,14 +117,14 @@ module _ (s : List ℕ) {t p : ℕ} {w : Places} (c : Selected (nodes s) t p w) 
       lent_grants g first_lent o o' (numbers_filled o o' e),
     )
 
-    pub cells_granted : {q q' : List ℕ} → q' ≡ filled (cells (map numbered (nodes_of (nodes s) w))) q
+    pub cells_granted : {q q' : List ℕ} → q' ≡ filled (cells (map numbered (map (item (nodes s)) (take w.count w.places)))) q
         → Grants s s' (cells_are (map numbered (seen s t p))) call
         → Performed s s' (Count w.count) call × Lent first_lent s o o' call × Lent second_lent s q q' call
     unfolding granted_answer first_lent second_lent
     cells_granted {q} {q'} i g = (
       performed_grants g (Count w.count) (ap Count (c.many ∙ sym (length-map (seen s t p) numbered))),
       lent_grants g first_lent o o' (numbers_filled o o' e ∙ ap (λ b. filled b o) (sym firsts)),
-      lent_grants g second_lent q q' (i ∙ ap (λ l. filled (cells (map numbered l)) q) c.nodes),
+      lent_grants g second_lent q q' (i ∙ ap (λ l. filled (cells (map numbered l)) q) (selected_nodes c)),
     )
 
 pub content_granted : {s s' : List ℕ} {call : Call} {n : ℕ} {b o o' : List ℕ} → Grants s s' (content_is b) call → n ≡ length b

@@ -1,14 +1,10 @@
 use mathlib.Core.Path.{◌≡◌}
-use Prim.Native.Nat.{◌+◌, ◌-◌, ◌≤◌}
-use lib.ListN.{length, drop}
+use Prim.Native.Nat.{◌+◌}
+use lib.ListN.{drop}
 use Rattle.table.specs.Lists.{first}
 use Rattle.table.specs.Layout.{nodes}
 use lib.Dec.{eqb}
 use Rattle.table.proofs.find.Given as goal
 
 abbrev pub invariant-loop-i : goal.invariant-loop-i
-invariant-loop-i l = (l.i ≤ length (nodes l.s))
-    × (first (λ x. eqb x.1.now.number l.n) (nodes l.s) ≡ l.i + first (λ x. eqb x.1.now.number l.n) (drop l.i (nodes l.s)))
-
-abbrev pub decreases-loop-i : goal.decreases-loop-i
-decreases-loop-i l = length (nodes l.s) - l.i
+invariant-loop-i l = first (λ x. eqb x.1.now.number l.n) (nodes l.s) ≡ l.i + first (λ x. eqb x.1.now.number l.n) (drop l.i (nodes l.s))

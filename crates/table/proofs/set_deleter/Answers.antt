@@ -3,4 +3,4 @@ use borrow.Author.Rules.{rules}
 use Rattle.table.proofs.set_deleter.Goals as goal
 
 pub returns : goal.returns
-returns c = deleted_kept _ _ _ _ (search rules) c.set_field.ensures
+returns c = deleted_kept _ _ _ _ (search rules) c.set_mark.ensures

@@ -1,7 +1,6 @@
-use Rattle.table.specs.Layout.{slot}
+use Rattle.std.proofs.Common.{◌∙◌}
 use borrow.Author.Rules.{rules}
 use Rattle.table.proofs.slot.Goals as goal
 
 pub returns : goal.returns
-unfolding slot
-returns c = (search rules, rw c.word.ensures (c.requires.0.slots _ (search rules)))
+returns c = (c.from.ensures ∙ c.at.ensures.0, rw (c.from.ensures, c.at.ensures.0) (c.requires.0.slots _ (search rules)))

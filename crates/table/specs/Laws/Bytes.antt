@@ -1,6 +1,6 @@
 -- Stores to bytes, and what they leave alone.
-use Rattle.std.specs.Prelude.{◌≡◌, refl, ℕ, ◌+◌, ◌-◌, ◌/◌, ◌%◌, ◌≤◌, ◌<◌, Bool, true, false, List, length, get_or, take, drop, set, eqb, ltb, leb}
-use Rattle.std.proofs.Common.{sym, ◌∙◌, arith, length-take, length-drop, length-set, get_or-take, get_or-drop, ext_get_or, get_or-set_same, get_or-set_other, length-take-le, eqb-true, ltb-true, ltb-false, leb-true, leb-false}
+use Rattle.std.specs.Prelude.{◌≡◌, refl, ℕ, zero, suc, ◌+◌, ◌/◌, ◌%◌, ◌≤◌, ◌<◌, Bool, true, false, List, ◌∷◌, ◌++◌, length, get_or, take, drop, set, eqb, ltb}
+use Rattle.std.proofs.Common.{sym, ◌∙◌, ap, arith, suc-add, length-take, length-drop, length-set, get_or-take, get_or-drop, ext_get_or, get_or-set_same, get_or-set_other, length-take-le, eqb-true, ltb-true, ltb-false}
 use Rattle.std.proofs.lemmas.List.{drop-set-add}
 use Rattle.std.proofs.Math.Seq.{take-set-lt}
 use Rattle.std.proofs.lemmas.Bool.{eqb-false}
@@ -161,11 +161,14 @@ filled_more k n v s s' x f h e =
 pub filled_done : {k : ℕ} {v : ℕ → ℕ} {s s' : List ℕ} (j n : ℕ) → Filled k j v s s' → j ≤ n → n ≤ j → Filled k n v s s'
 filled_done {k} {v} {s} {s'} j n f a b = let e : j ≡ n = omega arith in rw e at f
 
--- a byte that a loop over other bytes has left
-pub filled_far : {k n : ℕ} {v : ℕ → ℕ} {s s' : List ℕ} (j : ℕ) → Filled k n v s s' → ((i : ℕ) → i < n → j ≡ k + i → ⊥)
-    → get_or s' j 0 ≡ get_or s j 0
-filled_far {k} {n} {v} {s} {s'} j f h = off f.only j (λ l. go (leb (k + n) j) refl l)
-  where
-    go : (t : Bool) → leb (k + n) j ≡ t → k ≤ j → k + n ≤ j
-    go true q l = leb-true (k + n) j q
-    go false q l = absurd (h (j - k) (omega (arith, leb-false (k + n) j q)) (omega arith))
+-- two bytes, or four, in the place of others are as many stores
+pub two_stored : (s : List ℕ) (k a b : ℕ) → k + 1 < length s → take k s ++ (a ∷ (b ∷ drop 2 (drop k s))) ≡ set (set s k a) (k + 1) b
+two_stored (v ∷ (w ∷ s)) zero a b h = refl
+two_stored (v ∷ s) (suc k) a b h = rw (suc-add k 1) (ap (λ l. v ∷ l) (two_stored s k a b (omega arith)))
+two_stored _ _ a b h = absurd (omega arith)
+
+pub four_stored : (s : List ℕ) (k a b c d : ℕ) → k + 3 < length s
+    → take k s ++ (a ∷ (b ∷ (c ∷ (d ∷ drop 4 (drop k s))))) ≡ set (set (set (set s k a) (k + 1) b) (k + 2) c) (k + 3) d
+four_stored (v ∷ (w ∷ (x ∷ (y ∷ s)))) zero a b c d h = refl
+four_stored (v ∷ s) (suc k) a b c d h = rw (suc-add k 1, suc-add k 2, suc-add k 3) (ap (λ l. v ∷ l) (four_stored s k a b c d (omega arith)))
+four_stored _ _ a b c d h = absurd (omega arith)

@@ -4,9 +4,10 @@ use Rattle.std.proofs.Math.Path.{refl, sym, ap}
 use Rattle.std.proofs.Common.{◌∙◌, arith}
 use Rattle.std.proofs.Math.Numerals.{add-one}
 use Rattle.std.proofs.Math.ListN.{get_or}
-use borrow.Author.Tests.{lt-ltb, eqb-true, eqb-false, eq-eqb, ne_eqb, le-leb, lt-leb}
+use borrow.Author.Tests.{eqb-true, eqb-false, eq-eqb, ne_eqb}
 use Rattle.protocol.specs.State.{Marked}
 use Rattle.table.specs.Lists.{modify}
+use Rattle.table.specs.Passes.{left_out}
 use Rattle.table.specs.Layout.{tabulate, count_at, count, slot, depth, number, cell, Entry, entry, nodes, no_entry, Sized, Layout}
 use Rattle.table.specs.Layout.{Left, Kept, header}
 use Rattle.table.specs.Laws.Lists.{modify_none, tabulate_same, modify_tabulate}
@@ -113,10 +114,10 @@ module _ (shown : Marked → Bool) (below : ℕ) (x : Entry) where
   unfolding next_below
   below_kept e = rw e
 
-  pub below_deep : (below ≡ 0 → ⊥) → below ≤ x.0 → below ≡ next_below shown below x
+  pub below_deep : left_out below x.0 ≡ true → below ≡ next_below shown below x
   unfolding next_below
-  below_deep a b = rw (lt-ltb 0 below (omega (arith, a)), le-leb below x.0 b)
+  below_deep e = rw e
 
-  pub below_past : x.0 < below → next_below shown 0 x ≡ next_below shown below x
+  pub below_past : left_out below x.0 ≡ false → next_below shown 0 x ≡ next_below shown below x
   unfolding next_below
-  below_past a = rw (lt-ltb 0 below (omega arith), lt-leb below x.0 a)
+  below_past e = rw e

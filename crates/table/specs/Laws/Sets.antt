@@ -1,5 +1,5 @@
 -- The words of the remembered wait sets, stored and struck.
-use Rattle.std.specs.Prelude.{◌≡◌, ℕ, zero, suc, ◌+◌, ◌-◌, ◌^◌, ◌≤◌, ◌<◌, Bool, not, ◌&&◌, List, get_or, eqb, ltb}
+use Rattle.std.specs.Prelude.{◌≡◌, ℕ, zero, suc, ◌+◌, ◌-◌, ◌^◌, ◌≤◌, ◌<◌, Bool, not, ◌&&◌, List, eqb, ltb}
 use Rattle.std.proofs.Math.Path.{refl, fun_ext}
 use Rattle.std.proofs.Common.{sym, ap, ◌∙◌, subst, arith, eqb-true, eq-eqb, ne_eqb, ltb-true, ltb-false, lt-ltb, le-ltb}
 use Rattle.std.proofs.Math.Bool.{true, false, cond}
@@ -14,7 +14,7 @@ use Rattle.table.specs.Laws.Bytes.{Only, only_word, put_word, word_put, word_off
 use Rattle.table.specs.Laws.Kept.{left_on}
 use Rattle.table.specs.Laws.Nodes.{header_is, same_cell, same_open, same_commits, left_none}
 use Rattle.protocol.proofs.Laws.Transactions.{transaction_low, transaction_high, is_transaction_of, empty_set}
-use Rattle.table.specs.Sets.{WithSet, Struck, Gathered}
+use Rattle.table.specs.Sets.{WithSet, Struck}
 
 -- sets as words ------------------------------------------------------------------------
 
@@ -185,8 +185,3 @@ strike_done {s} {s'} {s''} t v e a z l m =
     go : (x u : ℕ) (y : Bool) → cond y (in_set 0) (struck_below t 17 (remembered s) x) u ≡ (not y && (not (eqb u t) && remembered s x u))
     go x u true = ap (λ (S : ℕ → Bool). S u) empty_set
     go x u false = all x u (ltb x 17) refl
-
--- all sixteen words by value -----------------------------------------------------------------
-
-pub gathered_of : (s words : List ℕ) → ((k : ℕ) → k < 16 → get_or words k 0 ≡ word s (set_at (k + 1))) → Gathered s words
-gathered_of s words f = record { word = λ t a b. let e : t - 1 + 1 ≡ t = omega arith in rw e at (f (t - 1) (omega arith)) }

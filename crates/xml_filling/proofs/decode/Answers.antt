@@ -1,11 +1,8 @@
 use borrow.Author.Rules.{rules}
 use native.Mathlib.Omega.{arith}
-use Prim.Native.Nat.{◌+◌, max}
-use mathlib.Core.Path.{refl, ap, subst, ◌∙◌}
-use lib.ListN.{drop, length-set}
-use Rattle.xml.specs.Laws.Fixed.{reference_at}
-use Rattle.xml_tokens.specs.declared.Reference.{Reference}
-use Rattle.xml_tokens.specs.Steps.{Refers}
+use Prim.Native.Nat.{max}
+use mathlib.Core.Path.{refl, ap, ◌∙◌}
+use lib.ListN.{length-set}
 use Rattle.xml_tokens.specs.Laws.Specials.{reference_inside}
 use Rattle.xml_filling.specs.Laws.Decoding.{decode_start, decode_end, decode_stop, decode_full, decode_lost, decode_byte}
 use Rattle.xml_filling.specs.Laws.Decoding.{decode_reference}
@@ -29,35 +26,23 @@ loop-i-preserved-then-b-ne38 c =
       search rules,
       simp length-set l.invariant.3,
       decode_byte _ _ _ _ _ _ l.invariant.4 l.invariant.0 l.invariant.2 l.invariant.3 (search rules) if1.false (search rules) _
-          c.if-b-ne38.true (c.larger.ensures ∙ ap (max _) e),
+          c.if-b-ne38.true (c.max.ensures ∙ ap (max _) e),
     )
 
 pub loop-i-smaller : goal.loop-i-smaller
-loop-i-smaller c =
-    let if3 = c.if-b-ne38 in
-    let reference = c.reference in
-    let l = c.loop-i in
-    let x = c.args.x.now in
-    let name = reference_at (drop (l.i + 1) x) in
-    let r = subst (λ (r : Reference). Refers x (l.i + 1) name r) c.in-Byte.is reference.ensures in
-    let y = reference_inside r in
-    omega (arith, y.0, y.1)
+loop-i-smaller c = let y = reference_inside (rw c.in-Ok.is at c.reference.ensures) in omega (arith, y.0, y.1)
 
 pub loop-i-preserved : goal.loop-i-preserved
 loop-i-preserved c =
-    let if3 = c.if-b-ne38 in
-    let reference = c.reference in
     let l = c.loop-i in
-    let x = c.args.x.now in
-    let name = reference_at (drop (l.i + 1) x) in
-    let r = subst (λ (r : Reference). Refers x (l.i + 1) name r) c.in-Byte.is reference.ensures in
+    let r = rw c.in-Ok.is at c.reference.ensures in
     let y = reference_inside r in (
       omega (arith, y.0),
       y.1,
       search rules,
       simp length-set l.invariant.3,
       decode_reference _ _ _ _ _ _ l.invariant.4 l.invariant.0 l.invariant.2 l.invariant.3 (search rules) c.if-b-stop.false (search rules)
-          if3.false r,
+          c.if-b-ne38.false r,
     )
 
 pub returns-after-loop-i : goal.returns-after-loop-i
@@ -70,13 +55,10 @@ returns-then-n-eq32 c = let l = c.loop-i in (
   decode_full _ _ _ _ _ _ l.invariant.4 l.invariant.0 l.invariant.2 l.invariant.3 (search rules) c.if-b-stop.false _ c.if-n-eq32.true,
 )
 
-pub returns-in-NoReference : goal.returns-in-NoReference
-returns-in-NoReference c =
-    let l = c.loop-i in
-    let x = c.args.x.now in
-    let name = reference_at (drop (l.i + 1) x) in
-    let r = subst (λ (r : Reference). Refers x (l.i + 1) name r) c.in-NoReference.is c.reference.ensures in (
+pub returns-in_default : goal.returns-in_default
+returns-in_default c =
+    let l = c.loop-i in (
       l.invariant.3,
       decode_lost _ _ _ _ _ _ l.invariant.4 l.invariant.0 l.invariant.2 l.invariant.3 (search rules) c.if-b-stop.false _
-          c.if-b-ne38.false r,
+          c.if-b-ne38.false c.in_default.ensures,
     )

@@ -1,6 +1,6 @@
 -- Values and texts, decoded character by character.
 use Prim.Native.Nat.{ℕ, ◌+◌, ◌≤◌, ◌<◌, max}
-use Rattle.std.specs.Prelude.{◌≡◌, refl, Bool, true, false, cond, not, ◌&&◌, ◌||◌, eqb, leb, length, get_or, take, drop, set}
+use Rattle.std.specs.Prelude.{◌≡◌, refl, Bool, true, false, cond, not, ◌&&◌, ◌||◌, eqb, leb, length, get_or, take, drop, set, Ok, Err}
 use Rattle.std.proofs.Common.{sym, subst, ◌∙◌, arith, add-one, drop-cons, take-suc-set, eq-eqb, ne_eqb, eqb-true, leb-true, leb-false}
 use Rattle.std.proofs.Math.Path.{ap}
 use Rattle.std.proofs.lemmas.Bool.{false≢true, eqb-false, lt-leb}
@@ -27,10 +27,10 @@ use Rattle.xml.proofs.Laws.Tells.{no_step, tells_then, tells_step, tells_word, n
 use Rattle.xml.proofs.Laws.Behind.{some_byte}
 use Rattle.xml_tokens.specs.Classes.{literal, reads_as}
 use Rattle.xml_tokens.specs.declared.Cursor.{Cursor}
-use Rattle.xml_tokens.specs.declared.Reference.TheVariants.{Byte, NoReference}
 use Rattle.xml_tokens.specs.Steps.{Refers, refers, no_reference, Characters, Contents}
 use Rattle.xml_tokens.specs.Laws.Contents.{begun_by}
 use Rattle.xml_filling.specs.Fill.{least, Decodes}
+use Rattle.xml_tokens.specs.Values.{mismatch, reference}
 
 told_more : (b : List ℕ) (v : ℕ) (l : List Event) → tell_bytes (b ++ (v ∷ [])) l ≡ tell_bytes b (byte v ∷ l)
 unfolding tell_bytes
@@ -152,7 +152,7 @@ module _ (x : List ℕ) (stop at i n : ℕ) (b : List ℕ) (g : Decoding x stop 
                   (omega arith)
 
       -- a reference that goes wrong
-      pub decode_lost : (c : Cursor) {j : ℕ} → get_or x i 0 ≡ ampersand → Refers x (i + 1) (reference_at (drop (i + 1) x)) (NoReference j)
+      pub decode_lost : (c : Cursor) {j : ℕ} → get_or x i 0 ≡ ampersand → Refers x (i + 1) (reference_at (drop (i + 1) x)) (Err (mismatch j))
           → Decodes x stop at b n c
       decode_lost c {j} a r = record {
         few = few;
@@ -162,7 +162,7 @@ module _ (x : List ℕ) (stop at i n : ℕ) (b : List ℕ) (g : Decoding x stop 
         where
           never : {C : ℕ → Config} {R : Words → Config} {D : Config} → Characters stop C R D → {l : List Event}
               → Accepts true (R references) (drop (i + 1) x) l → (q : Reach) → reference_at (drop (i + 1) x) ≡ q
-              → Refers x (i + 1) q (NoReference j) → ⊥
+              → Refers x (i + 1) q (Err (mismatch j)) → ⊥
           never {C} {R} k u q p (no_reference o) =
               no_word_read x R (C 0) (λ b. byte b ∷ []) k.words references (i + 1) (references_at (drop (i + 1) x) ∙ p) u
 
@@ -195,7 +195,7 @@ module _ (x : List ℕ) (stop at i n : ℕ) (b : List ℕ) (g : Decoding x stop 
         }
 
         -- a reference
-        pub decode_reference : {v : ℕ} {c : Cursor} → get_or x i 0 ≡ ampersand → Refers x (i + 1) (reference_at (drop (i + 1) x)) (Byte v c)
+        pub decode_reference : {v : ℕ} {c : Cursor} → get_or x i 0 ≡ ampersand → Refers x (i + 1) (reference_at (drop (i + 1) x)) (Ok (reference v c))
             → Decoding x stop at c.at (take (n + 1) (set b n v))
         decode_reference {v} {c} a r = record {
           comes = λ C R D q u.
@@ -205,7 +205,7 @@ module _ (x : List ℕ) (stop at i n : ℕ) (b : List ℕ) (g : Decoding x stop 
         }
           where
             word : {C : ℕ → Config} {R : Words → Config} {D : Config} → Characters stop C R D → (q : Reach)
-                → reference_at (drop (i + 1) x) ≡ q → Refers x (i + 1) q (Byte v c)
+                → reference_at (drop (i + 1) x) ≡ q → Refers x (i + 1) q (Ok (reference v c))
                 → Tells x (R references) (i + 1) (byte v ∷ []) (C 0) c.at
             word {C} {R} k q p (refers {n = m} o l) =
                 rw o (tells_word x R (C 0) (λ b. byte b ∷ []) k.words references (i + 1) (references_at (drop (i + 1) x) ∙ p))

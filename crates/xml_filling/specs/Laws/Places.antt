@@ -1,6 +1,6 @@
 -- From one place of the reading to the next.
 use Prim.Native.Nat.{ℕ, suc, ◌+◌, ◌-◌, ◌≤◌, ◌<◌}
-use Rattle.std.specs.Prelude.{◌≡◌, refl, false, length, drop}
+use Rattle.std.specs.Prelude.{◌≡◌, refl, false, length, drop, Ok, IsOk, Result}
 use Rattle.std.proofs.Math.Path.{sym, ap, subst}
 use Rattle.std.proofs.Common.{◌∙◌, arith, add-one}
 use Rattle.std.proofs.Math.Bool.{true}
@@ -21,12 +21,10 @@ use Rattle.xml.proofs.Laws.Unique.{Fresh, one_tree}
 use Rattle.xml.proofs.Laws.Tells.{tells_step, not_refused}
 use Rattle.xml.proofs.Laws.Behind.{part_fresh, open_fresh, nothing_told}
 use Rattle.xml_tokens.specs.declared.Cursor.{Cursor}
-use Rattle.xml_tokens.specs.declared.Equals.TheVariants.{Quoted, NoQuote}
-use Rattle.xml_tokens.specs.declared.Item.TheVariants.{Open, Empty, Attribute, Wrong}
-use Rattle.xml_tokens.specs.declared.Markup.TheVariants.{StartTag, EndTag, NoTag}
+use Rattle.xml_tokens.specs.declared.Item.TheVariants.{Open, Empty, Attribute}
+use Rattle.xml_tokens.specs.declared.Markup.TheVariants.{StartTag, EndTag}
 use Rattle.xml_tokens.specs.Steps.{EqualsRead, quoted, no_quote, ItemRead, tag_open, tag_empty, tag_attribute, tag_wrong}
 use Rattle.xml_tokens.specs.Steps.{MarkupRead, markup_start, markup_end, markup_wrong}
-use Rattle.xml_reader.specs.declared.Prolog.TheVariants.{Root, NoRoot}
 use Rattle.xml_reader.specs.Prolog.{RootRead, root_at, no_root}
 use Rattle.xml_reader.specs.Laws.Configurations.{text_contents, text_depth, value_contents, value_depth}
 use Rattle.xml_filling.specs.Fill.{Row, listed, told, Short, Spelled, Behind, InTag, AtAttribute, AtEquals, AtTag, AtElement, Filling}
@@ -35,6 +33,11 @@ use Rattle.xml_filling.specs.Fill.{Valued, Fits, Putting, TextPut, EndsAt, Begun
 use Rattle.xml_filling.specs.Laws.Rows.{rows_done, told_listed, births_told, peak_told, length_listed, short_listed, document_rows}
 use Rattle.xml_filling.specs.Laws.Rows.{one_node}
 use Rattle.xml_filling.specs.Laws.Texts.{filled_by, moved, few, short_told, never, put_same, same_then}
+use Rattle.xml_tokens.specs.Values.{opening}
+use Rattle.xml_tokens.specs.declared.Item.{Item}
+use Rattle.xml_tokens.specs.declared.Markup.{Markup}
+use Rattle.xml_tokens.specs.declared.Mismatch.{Mismatch}
+use Rattle.xml_tokens.specs.declared.Opening.{Opening}
 
 -- values and texts ---------------------------------------------------------------------------
 
@@ -51,8 +54,9 @@ module _ {x s : List ℕ} {at d : ℕ} (F : Filling AtEquals x s at d) where
   abbrev B : AtEquals x at d (told F.rows [])
   B = F.rest
 
-  pub unquoted : {j : ℕ} → EqualsRead x at (NoQuote j) → ⊥
-  unquoted (no_quote f) = never F (f false B.name B.names B.seen) B.rest
+  pub quote_there : {r : Result Opening Mismatch} → EqualsRead x at r → IsOk r
+  quote_there (quoted q a b e f) = refl
+  quote_there (no_quote f) = absurd (never F (f false B.name B.names B.seen) B.rest)
 
   -- what is read behind the quote
   record AtQuote (stop i : ℕ) : Type 0 where
@@ -61,7 +65,7 @@ module _ {x s : List ℕ} {at d : ℕ} (F : Filling AtEquals x s at d) where
     rest : Accepts true before (drop i x) (told F.rows [])
     further : at < i
 
-  at_quote : {stop : ℕ} {c : Cursor} → EqualsRead x at (Quoted stop c) → AtQuote stop c.at
+  at_quote : {stop : ℕ} {c : Cursor} → EqualsRead x at (Ok (opening stop c)) → AtQuote stop c.at
   unfolding depth
   at_quote (quoted {c = c} q a b e f) =
       let y = (f B.name B.names B.seen).tells.told _ B.rest in record {
@@ -76,7 +80,7 @@ module _ {x s : List ℕ} {at d : ℕ} (F : Filling AtEquals x s at d) where
         further = a;
       }
 
-  module _ {stop : ℕ} {c : Cursor} (q : EqualsRead x at (Quoted stop c)) where
+  module _ {stop : ℕ} {c : Cursor} (q : EqualsRead x at (Ok (opening stop c))) where
     pub value_fits : Fits x s stop c.at (d + 1)
     value_fits = let y = at_quote q in record {
       before = y.before;
@@ -106,10 +110,13 @@ module _ {x s : List ℕ} {at d : ℕ} (F : Filling InTag x s at d) where
   abbrev T : InTag x at d (told F.rows [])
   T = F.rest
 
-  pub no_item : {j : ℕ} → ItemRead x at (Wrong j) → ⊥
-  no_item (tag_wrong f) = never F (f false T.name T.names T.seen) T.rest
+  pub item_there : {r : Result Item Mismatch} → ItemRead x at r → IsOk r
+  item_there (tag_open a i e f) = refl
+  item_there (tag_empty a i e f) = refl
+  item_there (tag_attribute a i e h f) = refl
+  item_there (tag_wrong f) = absurd (never F (f false T.name T.names T.seen) T.rest)
 
-  pub tag_opened : {c : Cursor} → ItemRead x at (Open c) → Filling Behind x s c.at d × (at < c.at)
+  pub tag_opened : {c : Cursor} → ItemRead x at (Ok (Open c)) → Filling Behind x s c.at d × (at < c.at)
   tag_opened {c} (tag_open a i e f) =
       let y = (f T.name T.names T.seen).tells.told _ T.rest in (
         moved F c.at d (record { names = T.name ∷ T.names; spelled = T.spelled; deep = T.deep; rest = rw y.1 y.2 }) i
@@ -117,7 +124,7 @@ module _ {x s : List ℕ} {at d : ℕ} (F : Filling InTag x s at d) where
         a,
       )
 
-  pub tag_emptied : {c : Cursor} → ItemRead x at (Empty c) → Filling Behind x s c.at (d - 1) × (at < c.at)
+  pub tag_emptied : {c : Cursor} → ItemRead x at (Ok (Empty c)) → Filling Behind x s c.at (d - 1) × (at < c.at)
   unfolding Spelled depth
   tag_emptied {c} (tag_empty a i e f) =
       let y = (f T.name T.names T.seen).tells.told _ T.rest in (
@@ -131,7 +138,7 @@ module _ {x s : List ℕ} {at d : ℕ} (F : Filling InTag x s at d) where
   unfolding depth
   tag_deep = omega (arith, T.deep)
 
-  pub tag_attributed : {c : Cursor} → ItemRead x at (Attribute c) → Filling AtAttribute x s c.at d × (at < c.at)
+  pub tag_attributed : {c : Cursor} → ItemRead x at (Ok (Attribute c)) → Filling AtAttribute x s c.at d × (at < c.at)
   tag_attributed {c} (tag_attribute a i e h f) =
       let y = (f T.name T.names T.seen).tells.told _ T.rest in (
         moved F c.at d (record {
@@ -204,14 +211,16 @@ module _ {x s : List ℕ} {at d : ℕ} (F : Filling AtTag x s at d) where
   abbrev G : AtTag x at d (told F.rows [])
   G = F.rest
 
-  pub no_tag : {j : ℕ} → MarkupRead x at (NoTag j) → ⊥
-  no_tag (markup_wrong f) = never F (f false G.name G.names) G.rest
+  pub markup_there : {r : Result Markup Mismatch} → MarkupRead x at r → IsOk r
+  markup_there (markup_start e h f) = refl
+  markup_there (markup_end e h f) = refl
+  markup_there (markup_wrong f) = absurd (never F (f false G.name G.names) G.rest)
 
   pub open_deep : 1 ≤ d
   unfolding depth
   open_deep = omega (arith, G.deep)
 
-  pub tag_started : {c : Cursor} → MarkupRead x at (StartTag c) → Filling AtElement x s c.at d × (c.at ≡ at)
+  pub tag_started : {c : Cursor} → MarkupRead x at (Ok (StartTag c)) → Filling AtElement x s c.at d × (c.at ≡ at)
   unfolding step
   tag_started {c} (markup_start e h f) =
       let b = get_or x at 0 in
@@ -230,7 +239,7 @@ module _ {x s : List ℕ} {at d : ℕ} (F : Filling AtTag x s at d) where
         e,
       )
 
-  pub tag_ended : {c c' : Cursor} → MarkupRead x at (EndTag c) → EndsAt x c.at c' → Filling Behind x s c'.at (d - 1) × (at < c'.at)
+  pub tag_ended : {c c' : Cursor} → MarkupRead x at (Ok (EndTag c)) → EndsAt x c.at c' → Filling Behind x s c'.at (d - 1) × (at < c'.at)
   unfolding Spelled depth
   tag_ended {c} {c'} (markup_end e h f) t =
       let y = (f G.name G.names).tells.told _ G.rest in
@@ -274,12 +283,13 @@ module _ {x s : List ℕ} (b : Begun x s) where
   unfolding Short
   short_rows = short_listed 1 b.shape [] b.short tt
 
-  pub no_root_never : {j : ℕ} → RootRead x at_start 0 (NoRoot j) → ⊥
-  no_root_never (no_root f) =
-      not_refused (f false (length (listed 1 b.shape []))) started (omega (arith, births_told (listed 1 b.shape [])))
-      (peak_told 0 (listed 1 b.shape []) (omega arith) short_rows)
+  pub root_there : {r : Result Cursor Mismatch} → RootRead x at_start 0 r → IsOk r
+  root_there (root_at n f g t) = refl
+  root_there (no_root f) =
+      absurd (not_refused (f false (length (listed 1 b.shape []))) started (omega (arith, births_told (listed 1 b.shape [])))
+      (peak_told 0 (listed 1 b.shape []) (omega arith) short_rows))
 
-  pub begin_filling : {c : Cursor} → RootRead x at_start 0 (Root c) → Filling AtElement x s c.at 1
+  pub begin_filling : {c : Cursor} → RootRead x at_start 0 (Ok c) → Filling AtElement x s c.at 1
   unfolding Spelled depth
   begin_filling {c} (root_at n f g t) =
       let y = t.told _ started in record {

@@ -1,5 +1,5 @@
 -- An end tag whose name is passed over, and a node put behind the last.
-use Rattle.std.specs.Prelude.{ℕ, ◌≡◌, true, false, List, [], ◌∷◌, ◌++◌, length, drop}
+use Rattle.std.specs.Prelude.{ℕ, ◌≡◌, true, false, List, [], ◌∷◌, ◌++◌, length, drop, Result}
 use Rattle.std.proofs.Math.Path.{refl}
 use Rattle.std.proofs.Common.{sym, ap, ◌∙◌, arith, drop-drop}
 use Rattle.std.proofs.Math.Seq.{take-length, drop-length}
@@ -18,9 +18,10 @@ use Rattle.xml.specs.Laws.Counts.{births}
 use Rattle.xml.specs.Laws.Tokens.{span}
 use Rattle.xml.proofs.Laws.Tells.{not_refused}
 use Rattle.xml_tokens.specs.declared.Cursor.{Cursor}
-use Rattle.xml_tokens.specs.declared.End.TheVariants.{Behind, Mismatch}
 use Rattle.xml_tokens.specs.Steps.{Run, CloseRead, close_behind, close_wrong}
+use Rattle.std.specs.Result.{result_unwrap_or}
 use Rattle.xml_filling.specs.Fill.{entries, with_rows, Put, EndsAt}
+use Rattle.xml_tokens.specs.declared.Mismatch.{Mismatch}
 
 -- the name in an end tag ---------------------------------------------------------------------
 
@@ -60,13 +61,12 @@ module _ (x : List ℕ) (at to : ℕ) (r : Run name_byte x at to) where
       ∙ ap (λ (l : List ℕ). drop (span name_byte l) l) y.1 ∙ over_spelled n y.0 h (no_name_byte y.2) in
       rw p y.2
 
-  pub end_there : {c : Cursor} → CloseRead x to (Behind c) → EndsAt x at c
-  end_there (close_behind f g d w) = record {
+  -- where there is no end, what is said of an accepted input holds of every cursor
+  pub ends_at : {r : Result Cursor Mismatch} → CloseRead x to r → (c : Cursor) → EndsAt x at (result_unwrap_or r c)
+  ends_at (close_behind f g d w) c = record {
     closes = λ n ns h m a. let y = (w n ns).tells.told _ (name_passed n ns h a) in (omega (arith, r.ends), g, rw y.1 y.2);
   }
-
-  pub no_end : {j : ℕ} → CloseRead x to (Mismatch j) → (c : Cursor) → EndsAt x at c
-  no_end (close_wrong f) c = record {
+  ends_at (close_wrong f) c = record {
     closes = λ n ns h {e} m a. absurd (not_refused (f false n ns (births e)) (name_passed n ns h a) (omega arith) m);
   }
 

@@ -1,54 +1,31 @@
-use mathlib.Core.Path.{subst}
+use borrow.Author.Rules.{rules}
 use native.Mathlib.Omega.{arith}
-use Rattle.xml.specs.Laws.Automaton.{closed}
-use Rattle.xml_reader.specs.declared.Child.{Child}
-use Rattle.xml_reader.specs.Elements.{stack}
-use Rattle.xml_reader.specs.Children.{ChildRead}
 use Rattle.xml_judging.specs.Laws.Element.{content_start, content_deep, content_stopped, content_turn, content_over}
 use Rattle.xml_judging.proofs.root_content.Goals as goal
 
-pub loop-depth-init : goal.loop-depth-init
-loop-depth-init c = (c.requires.0.inside, content_start _ _ _ _ c.requires.0 c.requires.1)
+pub loop-inside-init : goal.loop-inside-init
+loop-inside-init c = record { within = c.requires.0.inside; comes = content_start _ _ _ _ c.requires.0 c.requires.1 }
 
 pub child-requires : goal.child-requires
 child-requires c =
-    let l = c.loop-depth in
-    (l.invariant.1.begins_here, content_deep _ _ _ _ _ _ _ _ l.invariant.1 (omega arith))
+    let i = c.loop-inside.invariant in
+    (i.comes.begins_here, content_deep _ _ _ _ _ _ _ _ i.comes (omega arith))
 
-pub returns-in-Stopped : goal.returns-in-Stopped
-returns-in-Stopped c =
-    let a = c.args in
-    let l = c.loop-depth in
-    let child = c.child in
-    let open_names = closed (stack a.s.now l.names 0 l.depth) in
-    let whole = child.new.names in
-    let read = subst (λ (r : Child). ChildRead a.s.now open_names l.i l.n whole r) c.in-Stopped.is child.ensures in
-    content_stopped _ _ _ _ _ _ _ _ l.invariant.1 read
+pub returns-in_err-inside : goal.returns-in_err-inside
+returns-in_err-inside c = search (rules, content_stopped)
 
-pub loop-depth-smaller : goal.loop-depth-smaller
-loop-depth-smaller c =
-    let a = c.args in
-    let l = c.loop-depth in
-    let child = c.child in
-    let open_names = closed (stack a.s.now l.names 0 l.depth) in
-    let whole = child.new.names in
-    let read = subst (λ (r : Child). ChildRead a.s.now open_names l.i l.n whole r) c.in-At.is child.ensures in
-    let z = content_turn _ _ _ _ _ _ _ _ l.invariant.1 read in
-    omega (arith, z.1, z.2)
+pub loop-inside-smaller : goal.loop-inside-smaller
+loop-inside-smaller c =
+    let z = content_turn _ _ _ _ _ _ _ _ c.loop-inside.invariant.comes c.in_ok-inside.ensures in omega (arith, z.1, z.2)
 
-pub loop-depth-preserved : goal.loop-depth-preserved
-loop-depth-preserved c =
-    let a = c.args in
-    let l = c.loop-depth in
-    let child = c.child in
-    let open_names = closed (stack a.s.now l.names 0 l.depth) in
-    let whole = child.new.names in
-    let read = subst (λ (r : Child). ChildRead a.s.now open_names l.i l.n whole r) c.in-At.is child.ensures in
-    let z = content_turn _ _ _ _ _ _ _ _ l.invariant.1 read in
-    (z.2, z.0)
+pub loop-inside-preserved : goal.loop-inside-preserved
+loop-inside-preserved c =
+    let z = content_turn _ _ _ _ _ _ _ _ c.loop-inside.invariant.comes c.in_ok-inside.ensures in
+    record { within = z.2; comes = z.0 }
 
 pub behind_root-requires : goal.behind_root-requires
-behind_root-requires c = c.loop-depth.invariant.0
+behind_root-requires c = c.loop-inside.invariant.within
 
 pub returns : goal.returns
-returns c = content_over _ _ _ _ _ _ _ _ c.loop-depth.invariant.1 c.loop-depth-test.false _ c.behind_root.ensures
+returns c =
+    content_over _ _ _ _ _ _ _ _ c.loop-inside.invariant.comes c.loop-inside-test.false _ c.behind_root.ensures

@@ -3,8 +3,11 @@ use lib.ListN.{length}
 use Rattle.xml_judging.specs.Laws.Element.{ContentTo}
 use Rattle.xml_judging.proofs.root_content.Given as goal
 
-abbrev pub invariant-loop-depth : goal.invariant-loop-depth
-invariant-loop-depth l = (l.i ≤ length l.s) × ContentTo l.s l.initial.names l.names l.initial.i l.spare l.i l.depth l.n
+abbrev pub invariant-loop-inside : goal.invariant-loop-inside
+invariant-loop-inside l = record {
+  within : l.inside.cursor.at ≤ length l.s;
+  comes : ContentTo l.s l.initial.names l.names l.fn.c.at l.spare l.inside.cursor.at l.inside.depth l.inside.spare;
+}
 
-abbrev pub decreases-loop-depth : goal.decreases-loop-depth
-decreases-loop-depth l = length l.s - l.i
+abbrev pub decreases-loop-inside : goal.decreases-loop-inside
+decreases-loop-inside l = length l.s - l.inside.cursor.at

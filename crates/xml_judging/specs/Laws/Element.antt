@@ -1,5 +1,5 @@
 -- The root element: its start tag, the loop over its content, what is behind it.
-use Rattle.std.specs.Prelude.{ℕ, ◌+◌, ◌≤◌, ◌<◌, ◌≡◌, true, false, length, get_or}
+use Rattle.std.specs.Prelude.{ℕ, ◌+◌, ◌≤◌, ◌<◌, ◌≡◌, true, false, length, get_or, Ok, Err}
 use Rattle.std.proofs.Math.Path.{refl}
 use Rattle.std.proofs.Common.{sym}
 use mathlib.Core.List.{List, [], ◌∷◌}
@@ -16,10 +16,13 @@ use Rattle.xml.proofs.Laws.Tokens.{goes_blanks}
 use Rattle.xml_tokens.specs.declared.Cursor.{Cursor}
 use Rattle.xml_tokens.specs.Steps.{Run}
 use Rattle.xml_tokens.specs.Laws.Tags.{no_blank_here}
-use Rattle.xml_reader.specs.declared.Child.TheVariants.{At, Stopped}
-use Rattle.xml_reader.specs.declared.Tag.TheVariants.{Opened, Emptied, Broken}
+use Rattle.xml_reader.specs.declared.Tag.TheVariants.{Opened, Emptied}
 use Rattle.xml_reader.specs.Elements.{stack, Placed, ElementRead, element_opened, element_emptied, element_broken}
 use Rattle.xml_reader.specs.Children.{Beginning, Deep, ChildRead, child_at, child_stopped}
+use Rattle.protocol.specs.CauseNumbers.{number_of}
+use Rattle.protocol.specs.declared.causes.Cause.{Cause}
+use Rattle.xml_reader.specs.Values.{inside_at}
+use Rattle.xml_tokens.specs.Values.{refusal, read}
 
 -- behind the root element
 module _ (s : List ℕ) (at i spare : ℕ) (r : Run blank s at i) where
@@ -56,11 +59,11 @@ module _ (s os os' : List ℕ) (at spare i deep n : ℕ) (t : ContentTo s os os'
   pub content_deep : 0 < deep → Deep s os' deep n
   content_deep h = record { some = omega arith; room = t.room; long = t.long; names = t.names }
 
-  pub content_stopped : {os'' : List ℕ} {x j : ℕ} → ChildRead s (closed (stack s os' 0 deep)) i n os'' (Stopped x j)
-      → Leads true s (closed (stack s os 0 1)) spare at (bad x j)
+  pub content_stopped : {os'' : List ℕ} {x : Cause} {j : ℕ} → ChildRead s (closed (stack s os' 0 deep)) i n os'' (Err (refusal x j))
+      → Leads true s (closed (stack s os 0 1)) spare at (bad (number_of x) j)
   content_stopped (child_stopped f) = t.comes.back _ f
 
-  pub content_turn : {os'' : List ℕ} {c : Cursor} {d m : ℕ} → ChildRead s (closed (stack s os' 0 deep)) i n os'' (At c d m)
+  pub content_turn : {os'' : List ℕ} {c : Cursor} {d m : ℕ} → ChildRead s (closed (stack s os' 0 deep)) i n os'' (Ok (inside_at c d m))
       → ContentTo s os os'' at spare c.at d m × (i < c.at) × (c.at ≤ length s)
   content_turn (child_at o p q r w) = (
     record {
@@ -85,25 +88,25 @@ module _ (s : List ℕ) (at spare : ℕ) where
   Rooted v = (y : Spelling) → spell (start_of false) (get_or s at 0) ≡ spelling y
       → scan_at s (tag_name [] (get_or s at 0 ∷ [])) (on y) spare 1 (at + 1) ≡ v
 
-  pub root_broken : {x j : ℕ} → ElementRead s at spare (Broken x j) → Rooted (bad x j)
+  pub root_broken : {x : Cause} {j : ℕ} → ElementRead s at spare (Err (refusal x j)) → Rooted (bad (number_of x) j)
   root_broken (element_broken f) y e = f [] y e
 
-  pub root_empty : {c : Cursor} {m : ℕ} (v : Verdict) → ElementRead s at spare (Emptied c m) → Leads true s epilog m c.at v
+  pub root_empty : {c : Cursor} {m : ℕ} (v : Verdict) → ElementRead s at spare (Ok (Emptied (read c m))) → Leads true s epilog m c.at v
       → Rooted v
   root_empty v (element_emptied o f) k y e = f [] y e v k
 
-  pub root_open : {c : Cursor} {m : ℕ} (os : List ℕ) (v : Verdict) → get_or os 0 0 + 1 ≡ at → ElementRead s at spare (Opened c m)
+  pub root_open : {c : Cursor} {m : ℕ} (os : List ℕ) (v : Verdict) → get_or os 0 0 + 1 ≡ at → ElementRead s at spare (Ok (Opened (read c m)))
       → Leads true s (closed (stack s os 0 1)) m c.at v
       → Rooted v
   unfolding stack
   root_open os v e (element_opened o f) k y h = f [] y h v (rw e at k)
 
-pub emptied_inside : {s : List ℕ} {at spare m : ℕ} {c : Cursor} → ElementRead s at spare (Emptied c m) → c.at ≤ length s
+pub emptied_inside : {s : List ℕ} {at spare m : ℕ} {c : Cursor} → ElementRead s at spare (Ok (Emptied (read c m))) → c.at ≤ length s
 emptied_inside (element_emptied o f) = o.inside
 
 pub opened_inside : {s : List ℕ} {at spare m : ℕ} {c : Cursor} (os : List ℕ) → length os ≡ 1024 → get_or os 0 0 + 1 ≡ at → at ≤ length s
     → length s ≤ 65537 → 2 + spare ≤ 1024
-    → ElementRead s at spare (Opened c m) → Beginning s c.at × Deep s os 1 m
+    → ElementRead s at spare (Ok (Opened (read c m))) → Beginning s c.at × Deep s os 1 m
 opened_inside {s} os l e h z p (element_opened o f) = (
   record { inside = o.inside; begins_here = o.begins_here },
   record {

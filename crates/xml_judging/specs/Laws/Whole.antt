@@ -1,41 +1,37 @@
 -- The whole input and the limit on its length.
-use Rattle.std.specs.Prelude.{ℕ, suc, ◌+◌, ◌-◌, ◌≤◌, ◌<◌, ◌≡◌, Bool, List, [], ◌∷◌, length, get_or, take}
+use Rattle.std.specs.Prelude.{ℕ, suc, ◌+◌, ◌-◌, ◌≤◌, ◌<◌, ◌≡◌, List, [], ◌∷◌, length, get_or, take, Ok, Err}
 use Rattle.std.proofs.Math.Path.{refl}
-use Rattle.std.proofs.Common.{sym, ap, ◌∙◌, take_all, length-take-le, le-leb, lt-ltb, le-ltb}
+use Rattle.std.proofs.Common.{sym, ap, ◌∙◌, take_all, length-take-le, lt-ltb, le-ltb}
 use Rattle.std.proofs.Math.Bool.{true, false}
 use native.Mathlib.Omega.{arith}
-use Rattle.std.proofs.lemmas.Bool.{lt-leb}
 use Rattle.tree.specs.Spelling.{first_part, possible, Spelling, spelling, spell, start_of}
 use Rattle.xml.specs.Reading.{input_limit}
 use Rattle.xml.specs.Laws.Automaton.{at_start, tag_name}
 use Rattle.xml.specs.Laws.Monitor.{on, monitoring}
-use Rattle.xml.specs.Laws.Judge.{Verdict, fine, bad, judgement}
+use Rattle.xml.specs.Laws.Judge.{Verdict, bad, judgement}
 use Rattle.xml.specs.Laws.Scan.{scan, scan_at, limited}
 use Rattle.xml.proofs.Laws.Scan.{judgement_scan}
 use Rattle.xml_tokens.specs.declared.Cursor.{Cursor}
 use Rattle.xml_tokens.specs.Laws.Spelling.{begins_none, begins_some}
-use Rattle.xml_reader.specs.declared.Prolog.TheVariants.{Root, NoRoot}
 use Rattle.xml_reader.specs.Elements.{Named}
 use Rattle.xml_reader.specs.Prolog.{RootRead, root_at, no_root}
-use Rattle.xml_judging.specs.declared.Judged.{Judged}
-use Rattle.xml_judging.specs.declared.Judged.TheVariants.{Accepted, Rejected}
-use Rattle.xml_judging.specs.Judged.{verdict}
+use Rattle.xml_tokens.specs.Values.{mismatch}
 
 -- from the root element on
 module _ (s : List ℕ) (limit : ℕ) where
-  pub no_root_is : {j : ℕ} → RootRead s at_start 0 (NoRoot j) → scan at_start monitoring (limit - 1) 0 0 0 s ≡ bad 4 j
+  pub no_root_is : {j : ℕ} → RootRead s at_start 0 (Err (mismatch j)) → scan at_start monitoring (limit - 1) 0 0 0 s ≡ bad 4 j
   unfolding scan_at
   no_root_is (no_root f) = (f true (limit - 1)).leads monitoring refl refl 0 (omega arith)
 
   -- the first byte of its name begins no character that names begin with
-  pub root_unspelled : {c : Cursor} → RootRead s at_start 0 (Root c)
+  pub root_unspelled : {c : Cursor} → RootRead s at_start 0 (Ok c)
       → possible (start_of false).here (first_part (get_or s c.at 0)) ≡ false
       → scan at_start monitoring (limit - 1) 0 0 0 s ≡ bad 4 c.at
   unfolding scan_at
   root_unspelled {c} (root_at n f g t) e =
       (g (limit - 1) (begins_none false (get_or s c.at 0) e)).leads monitoring refl refl 0 (omega arith)
 
-  pub root_is : {c : Cursor} (v : Verdict) → 2 ≤ limit → RootRead s at_start 0 (Root c)
+  pub root_is : {c : Cursor} (v : Verdict) → 2 ≤ limit → RootRead s at_start 0 (Ok c)
       → possible (start_of false).here (first_part (get_or s c.at 0)) ≡ true
       → ((y : Spelling) → spell (start_of false) (get_or s c.at 0) ≡ spelling y
       → scan_at s (tag_name [] (get_or s c.at 0 ∷ [])) (on y) (limit - 2) 1 (c.at + 1) ≡ v)
@@ -46,22 +42,8 @@ module _ (s : List ℕ) (limit : ℕ) where
       let y = begins_some false (get_or s c.at 0) e in
       (f (limit - 1) (omega arith) y.0 y.1 v (rw p (k y.0 y.1))).leads monitoring refl refl 0 (omega arith)
 
-pub root_named : {s : List ℕ} {c : Cursor} → RootRead s at_start 0 (Root c) → Named s c.at
+pub root_named : {s : List ℕ} {c : Cursor} → RootRead s at_start 0 (Ok c) → Named s c.at
 root_named (root_at n f g t) = n
-
--- the limit
-module _ (long : Bool) (said : Judged) where
-  pub limit_accepted : (n : ℕ) → said ≡ Accepted n → long ≡ false → limited long (verdict said) ≡ fine n
-  limit_accepted n p e = rw (p, e)
-
-  pub limit_long : (n : ℕ) → said ≡ Accepted n → long ≡ true → limited long (verdict said) ≡ bad 4 input_limit
-  limit_long n p e = rw (p, e)
-
-  pub limit_far : (x i : ℕ) → said ≡ Rejected x i → input_limit ≤ i → limited long (verdict said) ≡ bad 4 input_limit
-  limit_far x i p h = rw (p, le-leb input_limit i h)
-
-  pub limit_near : (x i : ℕ) → said ≡ Rejected x i → i < input_limit → limited long (verdict said) ≡ bad x i
-  limit_near x i p h = rw (p, lt-leb input_limit i h)
 
 -- so many of the first bytes
 pub taken_length : (n : ℕ) (s : List ℕ) → n ≤ length s → n ≡ length (take n s)

@@ -27,8 +27,5 @@ version_saved l p h = (
   rw (ne_eqb (writer_of (item l p).update) 0 h),
 )
 
-pub begins_as : {t u w : List ℕ} → t ≡ u → Begins t w → Begins u w
-begins_as e b = rw (← e) b
-
 pub first_is : (content window : List ℕ) (n : ℕ) → Begins content window → n ≡ length content → take n window ≡ content
 first_is content window n b e = rw e b.first

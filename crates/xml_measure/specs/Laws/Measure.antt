@@ -1,5 +1,5 @@
 -- The loop that measures.
-use Rattle.std.specs.Prelude.{◌≡◌, refl, ℕ, suc, ◌+◌, ◌-◌, ◌*◌, ◌≤◌, ◌<◌, Bool, true, false, cond, List, [], ◌∷◌, get_or, drop, set, eqb, leb}
+use Rattle.std.specs.Prelude.{◌≡◌, refl, ℕ, suc, ◌+◌, ◌-◌, ◌*◌, ◌≤◌, ◌<◌, Bool, true, false, cond, List, [], ◌∷◌, Option, None, Some, get_or, drop, set, eqb, leb}
 use Rattle.std.proofs.Math.Path.{sym}
 use Rattle.std.proofs.Common.{ap, ◌∙◌, subst, arith, drop_of_length-le, get_or-set_same, le-leb, eqb-true}
 use Rattle.std.proofs.Math.Numerals.{add-one}
@@ -12,10 +12,8 @@ use Rattle.rows.specs.Places.{depth}
 use Rattle.xml_text.specs.Rows.{Line, parent_of, previous_of, fits, cost, repeated, judge, prolog, measured}
 use Rattle.byte_strings.specs.Sorted.{Increasing, Among, Lists}
 use Rattle.byte_strings.specs.Laws.Sorted.{lists_none, increasing_none, among_seen}
-use Rattle.xml_measure.specs.Lines.{label_at, line_at, lines, Inside, Listed}
+use Rattle.xml_measure.specs.Lines.{label_at, line_at, lines, Inside, Listed, Measured, is_none, is_length}
 use Rattle.xml_measure.specs.Laws.Lines.{length_lines, lines_from}
-use Rattle.xml_measure.specs.declared.measuring.Admission.{Admission}
-use Rattle.xml_measure.specs.declared.measuring.Admission.TheVariants.{Refused, Kept}
 use Rattle.xml_measure.specs.Walk.{open_labels, before_lines, previous_kind, Walk}
 use Rattle.xml_measure.specs.Names.{tag_names, names_at, Follows, Followed, is_again, is_followed, Admitted, is_unfit, is_fit}
 use Rattle.xml_measure.specs.Laws.Walk.{parent_is, opened_is, previous_is, walk_start, walk_below, walk_steps, walk_deep, walk_kind}
@@ -28,6 +26,7 @@ pub record Measuring (l : List Entry) (places : List ℕ) (count : ℕ) (path ki
     : Type 0 where
   pub walk : Walk l places path kinds top i
   pub behind : i ≤ count
+  pub some : 1 ≤ sum
   pub small : sum ≤ 39 + 256 * i
   pub whole : measured (lines l places count)
       ≡ judge (open_labels l path (suc top)) 0 (before_lines l places i) sum (drop i (lines l places count))
@@ -50,6 +49,7 @@ measuring_start {l} {places} {count} path kinds names c m n o q {k} g =
     record {
       walk = walk_start path kinds c n o g;
       behind = omega arith;
+      some = omega arith;
       small = omega arith;
       whole =
           ap measured (e ∙ ap (λ (k : List Line). line_at l (get_or places 0 0) ∷ k) f)
@@ -61,14 +61,14 @@ measuring_start {l} {places} {count} path kinds names c m n o q {k} g =
       lists = rw c.first (lists_none (names_at l names));
     }
 
-pub too_few : (l : List Entry) (places : List ℕ) (count : ℕ) → Listed l places count → count < 2 → 0 ≡ measured (lines l places count)
+pub too_few : (l : List Entry) (places : List ℕ) (count : ℕ) → Listed l places count → count < 2 → Measured (lines l places count) None
 unfolding measured
 too_few l places count c m =
     let h : count ≤ length places = omega (arith, c.long, c.room) in
     let e : lines l places count ≡ line_at l (get_or places 0 0) ∷ drop 1 (lines l places count) = lines_from l places count h 0 c.some in
     let f : drop 1 (lines l places count)
     ≡ [] = drop_of_length-le (lines l places count) {i = 1} (omega (arith, length_lines l places count h)) in
-    sym (ap measured (e ∙ ap (λ (k : List Line). line_at l (get_or places 0 0) ∷ k) f))
+    is_none (ap measured (e ∙ ap (λ (k : List Line). line_at l (get_or places 0 0) ∷ k) f))
 
 module _ {l : List Entry} {places path kinds names : List ℕ} {count top kept i sum : ℕ} (c : Listed l places count)
     (v : Measuring l places count path kinds top names kept i sum) where
@@ -80,11 +80,11 @@ module _ {l : List Entry} {places path kinds names : List ℕ} {count top kept i
         let n : count ≤ length places = omega (arith, c.long, c.room) in
         v.whole ∙ rw (drop_of_length-le (lines l places count) {i = i} (omega (arith, length_lines l places count n)))
 
-    pub measured_long : 65536 < sum → 0 ≡ measured (lines l places count)
-    measured_long k = sym (last ∙ rw (lt-leb sum 65536 k))
+    pub measured_long : 65536 < sum → Measured (lines l places count) None
+    measured_long k = is_none (last ∙ rw (lt-leb sum 65536 k))
 
-    pub measured_sum : sum ≤ 65536 → sum ≡ measured (lines l places count)
-    measured_sum k = sym (last ∙ rw (le-leb sum 65536 k))
+    pub measured_sum : sum ≤ 65536 → Measured (lines l places count) (Some sum)
+    measured_sum k = is_length (sym (last ∙ rw (le-leb sum 65536 k))) v.some k
 
   -- the i-th row: p is its place, d its depth, b its kind, a the kind of its parent, and k the kind of its previous sibling
   module _ (h : i < count) {d p a b k : ℕ} (ep : p ≡ get_or places i 0) (ed : d ≡ depth l p) (ea : a ≡ get_or kinds (d - 1) 0)
@@ -111,9 +111,9 @@ module _ {l : List Entry} {places path kinds names : List ℕ} {count top kept i
     fits_is : fits (label_at l (get_or path (d - 1) 0)).kind k (label_at l p).kind ≡ fits a k (label_at l p).kind
     fits_is = rw (ea ∙ walk_kind c v.walk h depth_is)
 
-    unfit : fits a k (label_at l p).kind ≡ false → 0 ≡ measured (lines l places count)
+    unfit : fits a k (label_at l p).kind ≡ false → measured (lines l places count) ≡ 0
     unfolding judge
-    unfit e = sym (v.whole ∙ rw (row, parent_label, sibling, fits_is, e))
+    unfit e = v.whole ∙ rw (row, parent_label, sibling, fits_is, e)
 
     module _ (f : fits a k (label_at l p).kind ≡ true) where
       fits_here : fits (get_or kinds (d - 1) 0) (previous_kind kinds top d) (label_at l p).kind ≡ true
@@ -127,9 +127,9 @@ module _ {l : List Entry} {places path kinds names : List ℕ} {count top kept i
           ∙ ap (λ (ns : List (List ℕ)). used ns (label_at l p).content) (tagged_names v.tags low deep (label_at l p) fits_here e)
 
       again : (label_at l p).kind ≡ attribute_kind → Among (names_at l names) kept (label_at l p).content
-          → 0 ≡ measured (lines l places count)
+          → measured (lines l places count) ≡ 0
       unfolding judge
-      again e x = sym (v.whole ∙ rw (row, parent_label, sibling, fits_is, f, seen_before e ∙ among_seen v.lists x))
+      again e x = v.whole ∙ rw (row, parent_label, sibling, fits_is, f, seen_before e ∙ among_seen v.lists x)
 
       module _ {names' : List ℕ} {m : ℕ} (w : Follows l names names' kept p m) where
         unrepeated : repeated (before_lines l places i) (d, label_at l p) ≡ false
@@ -150,6 +150,7 @@ module _ {l : List Entry} {places path kinds names : List ℕ} {count top kept i
         on {n} g small = record {
           walk = walk_on c v.walk h depth_is ep eb;
           behind = omega arith;
+          some = omega (arith, v.some);
           small = omega (arith, v.small);
           whole = v.whole
               ∙ rw (
@@ -174,25 +175,25 @@ module _ {l : List Entry} {places path kinds names : List ℕ} {count top kept i
           lists = rw (add-one i, ← same_line) (w.lists d low (before_lines l places i) v.lists);
         }
 
-    module _ {names' : List ℕ} {r : Admission} (y : Admitted l names names' kept a k p r) where
-      pub measured_refused : r ≡ Refused → 0 ≡ measured (lines l places count)
-      measured_refused e = go (subst (Admitted l names names' kept a k p) e y)
+    module _ {names' : List ℕ} {r : Option ℕ} (y : Admitted l names names' kept a k p r) where
+      pub measured_refused : r ≡ None → Measured (lines l places count) None
+      measured_refused e = is_none (go (subst (Admitted l names names' kept a k p) e y))
         where
-          under : fits a k (label_at l p).kind ≡ true → Followed l names names' kept p Refused → 0 ≡ measured (lines l places count)
+          under : fits a k (label_at l p).kind ≡ true → Followed l names names' kept p None → measured (lines l places count) ≡ 0
           under f (is_again e x) = again f e x
 
-          go : Admitted l names names' kept a k p Refused → 0 ≡ measured (lines l places count)
+          go : Admitted l names names' kept a k p None → measured (lines l places count) ≡ 0
           go (is_unfit e) = unfit e
           go (is_fit f x) = under f x
 
-      pub measured_on : {m : ℕ} → r ≡ Kept m → {n : ℕ} → n ≡ cost (label_at l (get_or path (d - 1) 0)) k (label_at l p) → n ≤ 256
+      pub measured_on : {m : ℕ} → r ≡ Some m → {n : ℕ} → n ≡ cost (label_at l (get_or path (d - 1) 0)) k (label_at l p) → n ≤ 256
           → Measuring l places count (set path d p) (set kinds d b) d names' m (i + 1) (sum + n)
       measured_on {m} e {n} g small = go (subst (Admitted l names names' kept a k p) e y)
         where
-          under : fits a k (label_at l p).kind ≡ true → Followed l names names' kept p (Kept m)
+          under : fits a k (label_at l p).kind ≡ true → Followed l names names' kept p (Some m)
               → Measuring l places count (set path d p) (set kinds d b) d names' m (i + 1) (sum + n)
           under f (is_followed w) = on f w g small
 
-          go : Admitted l names names' kept a k p (Kept m)
+          go : Admitted l names names' kept a k p (Some m)
               → Measuring l places count (set path d p) (set kinds d b) d names' m (i + 1) (sum + n)
           go (is_fit f x) = under f x

@@ -184,6 +184,3 @@ module _ {l : List Entry} {places path kinds : List ℕ} {count top i d : ℕ} (
 
   pub row_deep : d < 1024
   row_deep = omega (arith, e, walk_deep c w h)
-
-  pub row_above : d - 1 < 1024
-  row_above = omega (arith, e, walk_deep c w h)

@@ -1,7 +1,7 @@
 -- Names compared with each other, and an attribute from its name to its value.
-use Rattle.std.specs.Prelude.{ℕ, ◌+◌, ◌-◌, ◌≤◌, ◌<◌, ◌≡◌, Bool, eqb, length, get_or}
+use Rattle.std.specs.Prelude.{ℕ, ◌+◌, ◌-◌, ◌≤◌, ◌<◌, ◌≡◌, Bool, eqb, length, get_or, Result, Ok, Err}
 use Rattle.std.proofs.Math.Path.{refl, ap}
-use Rattle.std.proofs.Common.{sym, ◌∙◌, subst, true≢false, arith}
+use Rattle.std.proofs.Common.{sym, ◌∙◌, true≢false, arith}
 use Rattle.std.proofs.Math.Bool.{true, false}
 use Rattle.std.proofs.lemmas.Bool.{false≢true}
 use mathlib.Core.List.{List, [], ◌∷◌}
@@ -23,11 +23,7 @@ use Rattle.xml.specs.Laws.Goes.{Leads, Goes}
 use Rattle.xml.proofs.Laws.Goes.{goes_then, scan_born, scan_too_many}
 use Rattle.xml.specs.Laws.Tokens.{name_at, Naming}
 use Rattle.xml_tokens.specs.declared.Cursor.{Cursor}
-use Rattle.xml_tokens.specs.declared.Equals.{Equals}
-use Rattle.xml_tokens.specs.declared.Equals.TheVariants.{Quoted, NoQuote}
-use Rattle.xml_tokens.specs.declared.Piece.TheVariants.{Taken, Unfit}
 use Rattle.xml_tokens.specs.declared.Read.{Read}
-use Rattle.xml_tokens.specs.declared.Read.TheVariants.{Past, Refused}
 use Rattle.xml_tokens.specs.Steps.{no_step, quiet_step, NamePlace, NameRead, EqualsRead, quoted, no_quote, TextRead, text_past}
 use Rattle.xml_tokens.specs.Steps.{text_refused}
 use Rattle.xml_tokens.specs.Laws.Spelling.{monitor_name}
@@ -37,6 +33,10 @@ use Rattle.byte_strings.specs.Laws.Sorted.{among_seen}
 use Rattle.xml_reader.specs.Elements.{Attributed, AttributeRead, attribute_past, attribute_refused, Kept, attribute_names, Entered}
 use Rattle.xml_reader.specs.Elements.{EnterRead, is_entered, is_repeated, NamesRead, names_past, names_refused, AttributeEnters}
 use Rattle.xml_reader.specs.Laws.Configurations.{value_contents}
+use Rattle.protocol.specs.declared.causes.Cause.{Cause}
+use Rattle.protocol.specs.declared.causes.Cause.TheVariants.{NotOfGrammar, NodesOverLimit}
+use Rattle.xml_tokens.specs.Values.{refusal, mismatch, piece, opening}
+use Rattle.xml_tokens.specs.declared.Refusal.{Refusal}
 
 module _ {s os os' : List ℕ} {lo count at : ℕ} where
   repeated_of : {b : Bool} → EnterRead s os os' lo count at b → b ≡ false → Among (attribute_names s os lo) count (name_at s at)
@@ -47,9 +47,9 @@ module _ {s os os' : List ℕ} {lo count at : ℕ} where
   entered_of (is_repeated a) h = absurd (false≢true h)
   entered_of (is_entered a) h = a
 
-  names_behind : Entered s os os' lo count at → (y : Read) → NamesRead s os os' lo count at y
-  names_behind e (Past c m) = names_past e
-  names_behind e (Refused x j) = names_refused
+  names_behind : Entered s os os' lo count at → (y : Result Read Refusal) → NamesRead s os os' lo count at y
+  names_behind e (Ok r) = names_past e
+  names_behind e (Err r) = names_refused
 
 -- an attribute ---------------------------------------------------------------------------------
 
@@ -76,8 +76,8 @@ module _ (s : List ℕ) (at spare : ℕ) (x : Attributed s at) where
   unfolding step
   born_step n ns seen = rw x.starts
 
-  attribute_broken : (seen : List Name) → spell (start_of false) b ≡ broken → AttributeRead s seen at spare (Refused 4 at)
-  attribute_broken seen e = attribute_refused {x = 4} {j = at} (λ n ns. record {
+  attribute_broken : (seen : List Name) → spell (start_of false) b ≡ broken → AttributeRead s seen at spare (Err (refusal NotOfGrammar at))
+  attribute_broken seen e = attribute_refused {x = NotOfGrammar} {j = at} (λ n ns. record {
     leads = λ w o r k m.
         scan_unspelled s (in_tag n ns seen) w spare k at x.inside (attribute_name n ns seen (b ∷ []))
         (born (depth (n ∷ ns)) attribute_kind ∷ byte b ∷ []) (born_step n ns seen)
@@ -89,9 +89,9 @@ module _ (s : List ℕ) (at spare : ℕ) (x : Attributed s at) where
         → monitor w (born (depth (n ∷ ns)) attribute_kind ∷ byte b ∷ []) ≡ Monitores.seen (on y)
     first_seen n ns w o r = monitor_name w o r (depth (n ∷ ns)) attribute_kind b refl ∙ ap seen_as e
 
-    attribute_many : (seen : List Name) → spare ≡ 0 → AttributeRead s seen at spare (Refused 6 at)
+    attribute_many : (seen : List Name) → spare ≡ 0 → AttributeRead s seen at spare (Err (refusal NodesOverLimit at))
     unfolding births tail peak
-    attribute_many seen l = attribute_refused {x = 6} {j = at} (λ n ns. record {
+    attribute_many seen l = attribute_refused {x = NodesOverLimit} {j = at} (λ n ns. record {
       leads = λ w o r k m.
           scan_too_many s (in_tag n ns seen) spare at x.inside (attribute_name n ns seen (b ∷ [])) (depth (n ∷ ns)) attribute_kind
           (byte b ∷ []) (born_step n ns seen) w (on y) (first_seen n ns w o r) l k m (omega arith)
@@ -108,12 +108,12 @@ module _ (s : List ℕ) (at spare : ℕ) (x : Attributed s at) where
           (byte b ∷ [])
           (born_step n ns seen) w (on y) (first_seen n ns w o r) refl room k h (omega arith)
 
-      attribute_unfit : {a j : ℕ} (seen : List Name) → NameRead s at (Unfit a j) → AttributeRead s seen at spare (Refused a j)
+      attribute_unfit : {a : Cause} {j : ℕ} (seen : List Name) → NameRead s at (Err (refusal a j)) → AttributeRead s seen at spare (Err (refusal a j))
       attribute_unfit {a} {j} seen f = attribute_refused {x = a} {j = j} (λ n ns. record {
         leads = λ w o r k m. named n ns seen w o r k m ∙ name_stops f (attribute_place n ns seen) (spare - 1) e;
       })
 
-      module _ {end : Cursor} {count : ℕ} (f : NameRead s at (Taken end count)) where
+      module _ {end : Cursor} {count : ℕ} (f : NameRead s at (Ok (piece end count))) where
         abbrev to : ℕ
         to = end.at
 
@@ -129,10 +129,10 @@ module _ (s : List ℕ) (at spare : ℕ) (x : Attributed s at) where
         ended : to < length s → name_byte (get_or s to 0) ≡ false
         ended h = name_ended (name_run f).0 h
 
-        attribute_repeated : (seen : List Name) → used seen (name_at s at) ≡ true → AttributeRead s seen at spare (Refused 4 to)
+        attribute_repeated : (seen : List Name) → used seen (name_at s at) ≡ true → AttributeRead s seen at spare (Err (refusal NotOfGrammar to))
         unfolding step
         attribute_repeated seen q =
-            attribute_refused {x = 4} {j = to} (λ n ns. whole n ns seen (λ z o r. go n ns z (leb (length s) to) refl))
+            attribute_refused {x = NotOfGrammar} {j = to} (λ n ns. whole n ns seen (λ z o r. go n ns z (leb (length s) to) refl))
           where
             go : (n : Name) (ns : List Name) (z : Monitor) (t : Bool) → leb (length s) to ≡ t
                 → scan_at s (attribute_name n ns seen (name_at s at)) z (spare - 1) (to - at) to ≡ bad 4 to
@@ -152,11 +152,11 @@ module _ (s : List ℕ) (at spare : ℕ) (x : Attributed s at) where
                 ∙ g.leads z o r (to - at) (name_run f).1);
           }
 
-          attribute_unquoted : {j : ℕ} → EqualsRead s to (NoQuote j) → AttributeRead s seen at spare (Refused 4 j)
+          attribute_unquoted : {j : ℕ} → EqualsRead s to (Err (mismatch j)) → AttributeRead s seen at spare (Err (refusal NotOfGrammar j))
           attribute_unquoted {j} (no_quote g) =
-              attribute_refused {x = 4} {j = j} (λ n ns. (to_sign n ns).back _ (g true n ns (name_at s at ∷ seen) (spare - 1)))
+              attribute_refused {x = NotOfGrammar} {j = j} (λ n ns. (to_sign n ns).back _ (g true n ns (name_at s at ∷ seen) (spare - 1)))
 
-          attribute_valued : {q : ℕ} {c : Cursor} {z : Read} → EqualsRead s to (Quoted q c) → TextRead s q c.at (spare - 1) z
+          attribute_valued : {q : ℕ} {c : Cursor} {z : Result Read Refusal} → EqualsRead s to (Ok (opening q c)) → TextRead s q c.at (spare - 1) z
               → AttributeRead s seen at spare z
           attribute_valued (quoted q a b d g) (text_past {c = c} {m = m} h i j k u) =
               attribute_past {c = c} {m = m} (omega (arith, (name_run f).0.ends)) i (omega arith)
@@ -169,28 +169,28 @@ module _ (s : List ℕ) (at spare : ℕ) (x : Attributed s at) where
 
 -- with the names of the attributes before it, os before and os' behind it
 module _ {s os : List ℕ} {lo count at spare : ℕ} (x : Attributed s at) where
-  nothing_entered : {a j : ℕ} → ((seen : List Name) → AttributeRead s seen at spare (Refused a j))
-      → AttributeEnters s os os lo count at spare (Refused a j)
+  nothing_entered : {a : Cause} {j : ℕ} → ((seen : List Name) → AttributeRead s seen at spare (Err (refusal a j)))
+      → AttributeEnters s os os lo count at spare (Err (refusal a j))
   nothing_entered f = record {
     reads = λ seen l. f seen;
     names = names_refused;
     kept = record { as_long = refl; kept = λ i h. refl };
   }
 
-  pub enters_broken : spell (start_of false) (get_or s at 0) ≡ broken → AttributeEnters s os os lo count at spare (Refused 4 at)
+  pub enters_broken : spell (start_of false) (get_or s at 0) ≡ broken → AttributeEnters s os os lo count at spare (Err (refusal NotOfGrammar at))
   enters_broken e = nothing_entered (λ seen. attribute_broken s at spare x seen e)
 
   module _ {y : Spelling} (e : spell (start_of false) (get_or s at 0) ≡ spelling y) where
-    pub enters_many : spare ≡ 0 → AttributeEnters s os os lo count at spare (Refused 6 at)
+    pub enters_many : spare ≡ 0 → AttributeEnters s os os lo count at spare (Err (refusal NodesOverLimit at))
     enters_many h = nothing_entered (λ seen. attribute_many s at spare x e seen h)
 
     module _ (room : 1 ≤ spare) where
-      pub enters_unfit : {a j : ℕ} → NameRead s at (Unfit a j) → AttributeEnters s os os lo count at spare (Refused a j)
+      pub enters_unfit : {a : Cause} {j : ℕ} → NameRead s at (Err (refusal a j)) → AttributeEnters s os os lo count at spare (Err (refusal a j))
       enters_unfit f = nothing_entered (λ seen. attribute_unfit s at spare x e room seen f)
 
-      module _ {end : Cursor} {long : ℕ} (f : NameRead s at (Taken end long)) {os' : List ℕ} {b : Bool}
+      module _ {end : Cursor} {long : ℕ} (f : NameRead s at (Ok (piece end long))) {os' : List ℕ} {b : Bool}
           (g : EnterRead s os os' lo count at b) (k : Kept lo os os') where
-        pub enters_repeated : b ≡ false → AttributeEnters s os os' lo count at spare (Refused 4 end.at)
+        pub enters_repeated : b ≡ false → AttributeEnters s os os' lo count at spare (Err (refusal NotOfGrammar end.at))
         enters_repeated h = record {
           reads = λ seen l. attribute_repeated s at spare x e room f seen (among_seen l (repeated_of g h));
           names = names_refused;
@@ -198,14 +198,16 @@ module _ {s os : List ℕ} {lo count at spare : ℕ} (x : Attributed s at) where
         }
 
         module _ (h : b ≡ true) where
-          pub enters_unquoted : {j : ℕ} → EqualsRead s end.at (NoQuote j) → AttributeEnters s os os' lo count at spare (Refused 4 j)
+          pub enters_unquoted : {j : ℕ} → EqualsRead s end.at (Err (mismatch j))
+              → AttributeEnters s os os' lo count at spare (Err (refusal NotOfGrammar j))
           enters_unquoted q = record {
             reads = λ seen l. attribute_unquoted s at spare x e room f seen ((entered_of g h).added.unseen seen l) q;
             names = names_refused;
             kept = k;
           }
 
-          pub enters_valued : {q : ℕ} {c : Cursor} {z : Read} → EqualsRead s end.at (Quoted q c) → TextRead s q c.at (spare - 1) z
+          pub enters_valued : {q : ℕ} {c : Cursor} {z : Result Read Refusal} → EqualsRead s end.at (Ok (opening q c))
+              → TextRead s q c.at (spare - 1) z
               → AttributeEnters s os os' lo count at spare z
           enters_valued {z = z} q v = record {
             reads = λ seen l. attribute_valued s at spare x e room f seen ((entered_of g h).added.unseen seen l) q v;
@@ -213,9 +215,6 @@ module _ {s os : List ℕ} {lo count at spare : ℕ} (x : Attributed s at) where
             kept = k;
           }
 
-pub equals_as : {s : List ℕ} {at : ℕ} {r q : Equals} → r ≡ q → EqualsRead s at r → EqualsRead s at q
-equals_as {s} {at} e k = subst (EqualsRead s at) e k
-
-pub quoted_inside : {s : List ℕ} {at q : ℕ} {c : Cursor} → EqualsRead s at (Quoted q c)
+pub quoted_inside : {s : List ℕ} {at q : ℕ} {c : Cursor} → EqualsRead s at (Ok (opening q c))
     → (1 ≤ c.at) × (c.at ≤ length s) × (c.at - 1 ≡ node_offset s c.at)
 quoted_inside (quoted q a b d f) = (omega arith, b, sym d)

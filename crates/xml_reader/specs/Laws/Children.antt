@@ -1,8 +1,8 @@
 -- Tags and texts in the content of the open elements.
 use Prim.Native.Nat.{ℕ, zero, suc, ◌+◌, ◌-◌, ◌≤◌, ◌<◌}
-use Rattle.std.specs.Prelude.{◌≡◌, Bool, false, List, [], ◌∷◌, length, eqb}
+use Rattle.std.specs.Prelude.{◌≡◌, Bool, false, List, [], ◌∷◌, length, eqb, Result, Ok, Err}
 use Rattle.std.proofs.Math.Path.{refl, ap}
-use Rattle.std.proofs.Common.{sym, subst, ◌∙◌, add-one, eqb-true}
+use Rattle.std.proofs.Common.{sym, ◌∙◌, add-one, eqb-true}
 use Rattle.std.proofs.Math.Bool.{true}
 use native.Mathlib.Omega.{arith}
 use Rattle.std.proofs.Math.ListN.{get_or}
@@ -22,20 +22,22 @@ use Rattle.xml.proofs.Laws.Scan.{scan_unspelled}
 use Rattle.xml.specs.Laws.Goes.{Leads}
 use Rattle.xml.proofs.Laws.Goes.{goes_then, scan_too_many, scan_born}
 use Rattle.xml_tokens.specs.declared.Cursor.{Cursor}
-use Rattle.xml_tokens.specs.declared.End.TheVariants as end_variants
-use Rattle.xml_tokens.specs.declared.Markup.{Markup}
-use Rattle.xml_tokens.specs.declared.Markup.TheVariants.{StartTag, EndTag, NoTag}
-use Rattle.xml_tokens.specs.declared.Read.TheVariants.{Past, Refused}
+use Rattle.xml_tokens.specs.declared.Markup.TheVariants.{StartTag, EndTag}
 use Rattle.xml_tokens.specs.Steps.{TextRead, text_past, text_refused, MarkupRead, markup_start, markup_end, markup_wrong}
 use Rattle.xml_tokens.specs.Laws.Spelling.{monitor_name}
-use Rattle.xml_reader.specs.declared.Child.{Child}
-use Rattle.xml_reader.specs.declared.Child.TheVariants.{At, Stopped}
-use Rattle.xml_reader.specs.declared.Tag.TheVariants.{Opened, Emptied, Broken}
+use Rattle.xml_reader.specs.declared.Tag.TheVariants.{Opened, Emptied}
 use Rattle.xml_reader.specs.Elements.{stack, name_behind, Placed, Kept, ElementRead, element_opened, element_emptied, element_broken}
 use Rattle.xml_reader.specs.Elements.{EndRead, end_behind, end_mismatch}
 use Rattle.xml_reader.specs.Children.{opened, ending, Behind, Deep, ChildRead, child_at, child_stopped}
 use Rattle.xml_reader.specs.Laws.Configurations.{text_contents}
 use Rattle.xml_reader.specs.Laws.StartTags.{stack_same, placed_kept}
+use Rattle.protocol.specs.CauseNumbers.{number_of}
+use Rattle.protocol.specs.declared.causes.Cause.{Cause}
+use Rattle.protocol.specs.declared.causes.Cause.TheVariants.{NotOfGrammar, NodesOverLimit}
+use Rattle.xml_reader.specs.Values.{inside_at}
+use Rattle.xml_reader.specs.declared.Inside.{Inside}
+use Rattle.xml_tokens.specs.Values.{refusal, mismatch, read}
+use Rattle.xml_tokens.specs.declared.Refusal.{Refusal}
 
 -- the innermost open element and those around it
 innermost : (s os : List ℕ) (d : ℕ) → 1 ≤ d → stack s os 0 d ≡ name_behind s (get_or os (d - 1) 0) ∷ stack s os 0 (d - 1)
@@ -70,15 +72,17 @@ module _ (s os : List ℕ) (deep spare at : ℕ) (x : Deep s os deep spare) wher
   ending_is : ending (stack s os 0 deep) ≡ end_name n ns n
   ending_is = ap ending (innermost s os deep x.some)
 
-  stopped : (os' : List ℕ) (y j : ℕ) → Leads true s (behind_open n ns) spare at (bad y j) → ChildRead s from at spare os' (Stopped y j)
+  stopped : (os' : List ℕ) (y : Cause) (j : ℕ) → Leads true s (behind_open n ns) spare at (bad (number_of y) j)
+      → ChildRead s from at spare os' (Err (refusal y j))
   stopped os' y j l = child_stopped {x = y} {j = j} (rw from_is l)
 
   -- behind a <
-  pub tag_none : {j : ℕ} → MarkupRead s at (NoTag j) → ChildRead s from at spare os (Stopped 4 j)
-  tag_none {j} (markup_wrong f) = stopped os 4 j (f true n ns spare)
+  pub tag_none : {j : ℕ} → MarkupRead s at (Err (mismatch j)) → ChildRead s from at spare os (Err (refusal NotOfGrammar j))
+  tag_none {j} (markup_wrong f) = stopped os NotOfGrammar j (f true n ns spare)
 
   -- an end tag
-  pub tag_ended : {c : Cursor} {r : Child} → MarkupRead s at (EndTag c) → ChildRead s (ending (stack s os 0 deep)) c.at spare os r
+  pub tag_ended : {c : Cursor} {r : Result Inside Refusal} → MarkupRead s at (Ok (EndTag c))
+      → ChildRead s (ending (stack s os 0 deep)) c.at spare os r
       → ChildRead s from at spare os r
   tag_ended {c} (markup_end e h f) (child_at {c = c'} {d = d} {m = m} o p q r w) =
       child_at {c = c'} {d = d} {m = m}
@@ -87,11 +91,11 @@ module _ (s os : List ℕ) (deep spare at : ℕ) (x : Deep s os deep spare) wher
   tag_ended (markup_end e h f) (child_stopped {x = y} {j = j} w) =
       child_stopped {x = y} {j = j} (rw from_is (((f n ns).goes spare).back _ (rw ending_is at w)))
 
-  pub end_wrong : {j : ℕ} → EndRead s n at (end_variants.Mismatch j) → ChildRead s (ending (stack s os 0 deep)) at spare os (Stopped 4 j)
-  end_wrong {j} (end_mismatch f) = child_stopped {x = 4} {j = j} (rw ending_is (f ns spare))
+  pub end_wrong : {j : ℕ} → EndRead s n at (Err (mismatch j)) → ChildRead s (ending (stack s os 0 deep)) at spare os (Err (refusal NotOfGrammar j))
+  end_wrong {j} (end_mismatch f) = child_stopped {x = NotOfGrammar} {j = j} (rw ending_is (f ns spare))
 
-  pub end_right : {c : Cursor} → EndRead s n at (end_variants.Behind c)
-      → ChildRead s (ending (stack s os 0 deep)) at spare os (At c (deep - 1) spare)
+  pub end_right : {c : Cursor} → EndRead s n at (Ok c)
+      → ChildRead s (ending (stack s os 0 deep)) at spare os (Ok (inside_at c (deep - 1) spare))
   end_right {c} (end_behind a b d f) =
       child_at {c = c} {d = deep - 1} {m = spare}
       (record { further = a; inside = b; begins_here = d; fewer = omega arith }) (omega (arith, x.room)) x.long
@@ -109,8 +113,8 @@ module _ (s os : List ℕ) (deep spare at : ℕ) (x : Deep s os deep spare) wher
       starts = rw e
 
       -- no character begins with it
-      pub start_wrong : spell (start_of false) b ≡ broken → ChildRead s from at spare os (Stopped 4 at)
-      start_wrong q = stopped os 4 at (record {
+      pub start_wrong : spell (start_of false) b ≡ broken → ChildRead s from at spare os (Err (refusal NotOfGrammar at))
+      start_wrong q = stopped os NotOfGrammar at (record {
         leads = λ w o r k m.
             scan_unspelled s (behind_open n ns) w spare k at h (tag_name (n ∷ ns) (b ∷ []))
             (born (depth (n ∷ ns)) element_kind ∷ byte b ∷ []) starts
@@ -122,11 +126,11 @@ module _ (s os : List ℕ) (deep spare at : ℕ) (x : Deep s os deep spare) wher
             → monitor w (born (depth (n ∷ ns)) element_kind ∷ byte b ∷ []) ≡ seen (on z)
         first_seen w o r = monitor_name w o r (depth (n ∷ ns)) element_kind b refl ∙ ap seen_as q
 
-        pub start_many : Behind s at → spare ≡ 0 → ChildRead s from at spare os (Stopped 6 (at - 1))
+        pub start_many : Behind s at → spare ≡ 0 → ChildRead s from at spare os (Err (refusal NodesOverLimit (at - 1)))
         unfolding births tail peak
         start_many y l =
             let p = (offset_before s at (before at y.not_first y.opens)).0 in
-            stopped os 6 (at - 1) (record {
+            stopped os NodesOverLimit (at - 1) (record {
               leads = λ w o r k m.
                   scan_too_many s (behind_open n ns) spare at h (tag_name (n ∷ ns) (b ∷ [])) (depth (n ∷ ns)) element_kind (byte b ∷ [])
                   starts w (on z) (first_seen w o r) l k m (omega arith)
@@ -153,19 +157,20 @@ module _ (s os : List ℕ) (deep spare at : ℕ) (x : Deep s os deep spare) wher
           around : n ∷ ns ≡ stack s os' 0 deep
           around = sym (innermost s os deep x.some) ∙ sym (stack_same s os os' deep k)
 
-          pub start_broken : {y j : ℕ} → ElementRead s at (spare - 1) (Broken y j) → ChildRead s from at spare os' (Stopped y j)
+          pub start_broken : {y : Cause} {j : ℕ} → ElementRead s at (spare - 1) (Err (refusal y j))
+              → ChildRead s from at spare os' (Err (refusal y j))
           start_broken {y} {j} (element_broken f) = stopped os' y j (born_to (f (n ∷ ns) z q))
 
-          pub start_emptied : {c : Cursor} {m : ℕ} → ElementRead s at (spare - 1) (Emptied c m)
-              → ChildRead s from at spare os' (At c deep m)
+          pub start_emptied : {c : Cursor} {m : ℕ} → ElementRead s at (spare - 1) (Ok (Emptied (read c m)))
+              → ChildRead s from at spare os' (Ok (inside_at c deep m))
           start_emptied {c} {m} (element_emptied o f) =
               child_at {c = c} {d = deep} {m = m}
               (record { further = o.further; inside = o.inside; begins_here = o.begins_here; fewer = omega (arith, o.fewer) })
               (omega (arith, x.room, o.fewer)) (k.as_long ∙ x.long) (placed_kept s os os' deep x.names k)
               (rw (from_is, ← around) (record { back = λ v y. born_to (f (n ∷ ns) z q v y) }))
 
-          pub start_opened : {c : Cursor} {m : ℕ} → get_or os' deep 0 + 1 ≡ at → ElementRead s at (spare - 1) (Opened c m)
-              → ChildRead s from at spare os' (At c (deep + 1) m)
+          pub start_opened : {c : Cursor} {m : ℕ} → get_or os' deep 0 + 1 ≡ at → ElementRead s at (spare - 1) (Ok (Opened (read c m)))
+              → ChildRead s from at spare os' (Ok (inside_at c (deep + 1) m))
           start_opened {c} {m} e (element_opened o f) =
               child_at {c = c} {d = deep + 1} {m = m}
               (record { further = o.further; inside = o.inside; begins_here = o.begins_here; fewer = omega (arith, o.fewer) })
@@ -177,11 +182,11 @@ module _ (s os : List ℕ) (deep spare at : ℕ) (x : Deep s os deep spare) wher
   within_is : closed (stack s os 0 deep) ≡ content n ns
   within_is = ap closed (innermost s os deep x.some)
 
-  pub child_refused : {y j : ℕ} → TextRead s less_than at spare (Refused y j) → (os' : List ℕ)
-      → ChildRead s (closed (stack s os 0 deep)) at spare os' (Stopped y j)
+  pub child_refused : {y : Cause} {j : ℕ} → TextRead s less_than at spare (Err (refusal y j)) → (os' : List ℕ)
+      → ChildRead s (closed (stack s os 0 deep)) at spare os' (Err (refusal y j))
   child_refused {y} {j} (text_refused f) os' = child_stopped {x = y} {j = j} (rw within_is (f _ _ _ _ (text_contents n ns)))
 
-  pub child_past : {c : Cursor} {m : ℕ} {r : Child} (os' : List ℕ) → TextRead s less_than at spare (Past c m)
+  pub child_past : {c : Cursor} {m : ℕ} {r : Result Inside Refusal} (os' : List ℕ) → TextRead s less_than at spare (Ok (read c m))
       → ChildRead s from c.at m os' r
       → ChildRead s (closed (stack s os 0 deep)) at spare os' r
   child_past {c} os' (text_past a b d e f) (child_at {c = c'} {d = d'} {m = m'} o p q r w) =
@@ -192,7 +197,7 @@ module _ (s os : List ℕ) (deep spare at : ℕ) (x : Deep s os deep spare) wher
   child_past {c} os' (text_past a b d e f) (child_stopped {x = y} {j = j} w) =
       child_stopped {x = y} {j = j} (rw within_is ((f _ _ _ _ (text_contents n ns)).back _ (rw from_is at w)))
 
-pub behind_text : {s os : List ℕ} {deep at spare m : ℕ} {c : Cursor} → Deep s os deep spare → TextRead s less_than at spare (Past c m)
+pub behind_text : {s os : List ℕ} {deep at spare m : ℕ} {c : Cursor} → Deep s os deep spare → TextRead s less_than at spare (Ok (read c m))
     → Behind s c.at × Deep s os deep m
 behind_text x (text_past a b d e f) = (
   record { inside = b; not_first = omega arith; opens = d },
@@ -200,13 +205,10 @@ behind_text x (text_past a b d e f) = (
       { some = x.some; room = omega (arith, x.room); long = x.long; names = x.names },
 )
 
-pub markup_as : {s : List ℕ} {at : ℕ} {r q : Markup} → r ≡ q → MarkupRead s at r → MarkupRead s at q
-markup_as {s} {at} e k = subst (MarkupRead s at) e k
-
 -- at the name of a start tag
-pub start_there : {s : List ℕ} {at : ℕ} {c : Cursor} → Behind s at → MarkupRead s at (StartTag c)
+pub start_there : {s : List ℕ} {at : ℕ} {c : Cursor} → Behind s at → MarkupRead s at (Ok (StartTag c))
     → Behind s c.at × (c.at < length s) × (name_start (get_or s c.at 0) ≡ true) × (c.at ≡ at)
 start_there b (markup_start e h f) = (rw e b, rw e h, rw e f, e)
 
-pub end_there : {s : List ℕ} {at : ℕ} {c : Cursor} → MarkupRead s at (EndTag c) → c.at ≤ length s
+pub end_there : {s : List ℕ} {at : ℕ} {c : Cursor} → MarkupRead s at (Ok (EndTag c)) → c.at ≤ length s
 end_there (markup_end e h f) = omega arith

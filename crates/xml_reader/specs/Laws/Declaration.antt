@@ -2,7 +2,10 @@
 use Prim.Native.Nat.{ℕ, suc, ◌+◌, ◌≤◌, ◌<◌}
 use Rattle.std.proofs.Math.Path.{◌≡◌, refl, sym, ap}
 use Rattle.std.proofs.Common.{◌∙◌, subst, drop-cons}
-use Rattle.std.specs.Prelude.{Bool, leb, get_or}
+use Rattle.tree.specs.Laws.Tests.{and_left, and_right}
+use Rattle.std.specs.List.{starts_with}
+use Rattle.std.proofs.lemmas.Bool.{false≢true}
+use Rattle.std.specs.Prelude.{nat_eq, Bool, leb, get_or, Result, Err}
 use Rattle.std.proofs.Math.Bool.{true, false}
 use mathlib.Core.List.{List, [], ◌∷◌}
 use native.Mathlib.Omega.{arith}
@@ -29,10 +32,11 @@ use Rattle.xml.specs.Laws.Tells.{Tells}
 use Rattle.xml.proofs.Laws.Tells.{tells_then, tells_step, read_alike, tells_word}
 use Rattle.xml.specs.Laws.Fixed.{word_at, agree, declaration_at}
 use Rattle.xml.proofs.Laws.Fixed.{declarations_at}
-use Rattle.xml_reader.specs.declared.Prolog.{Prolog}
-use Rattle.xml_reader.specs.declared.Prolog.TheVariants.{NoRoot}
 use Rattle.byte_strings.specs.Agreement.{Agreement}
 use Rattle.xml_reader.specs.Prolog.{RootRead, root_at, no_root, DeclaredRead, behind_it, short_of_it}
+use Rattle.xml_tokens.specs.Values.{mismatch}
+use Rattle.xml_tokens.specs.declared.Cursor.{Cursor}
+use Rattle.xml_tokens.specs.declared.Mismatch.{Mismatch}
 
 -- a byte that is not 0 is inside
 there : (s : List ℕ) (i b : ℕ) → get_or s i 0 ≡ b → 0 < b → i < length s
@@ -74,7 +78,8 @@ module _ (s : List ℕ) where
           let p : step true prolog (get_or s 0 0) ≡ to behind_root = rw b in
           rw (drop-cons s 0 0 h₀) (subst (λ (l : List Event). Accepts true prolog (get_or s 0 0 ∷ drop 1 s) l) (sym x.1) (on p y))
 
-  pub start_plain : {r : Prolog} → (get_or s 0 0 ≡ less_than → get_or s 1 0 ≡ 63 → ⊥) → RootRead s prolog 0 r → RootRead s at_start 0 r
+  pub start_plain : {r : Result Cursor Mismatch} → (get_or s 0 0 ≡ less_than → get_or s 1 0 ≡ 63 → ⊥) → RootRead s prolog 0 r
+      → RootRead s at_start 0 r
   start_plain f (root_at {c = c} a g u w) = root_at {c = c} a
       (λ m h y e v p. record { leads = λ x o r k l. plain_start f x r m k l ∙ (g m h y e v p).leads x o r k l })
       (λ m e. record { leads = λ x o r k l. plain_start f x r m k l ∙ (u m e).leads x o r k l })
@@ -143,7 +148,7 @@ module _ (s : List ℕ) where
         → scan_at s at_start x m k 0 ≡ bad 4 n
     behind_part {n} e x r m k l = let p : 0 + n ≡ n = omega arith in declared_start x r m k l ∙ rw (e, p)
 
-    pub start_declared : {r : Prolog} (q : Reach) → declaration_at s ≡ q → DeclaredRead s q r → RootRead s at_start 0 r
+    pub start_declared : {r : Result Cursor Mismatch} (q : Reach) → declaration_at s ≡ q → DeclaredRead s q r → RootRead s at_start 0 r
     start_declared q e (behind_it (root_at {c = c} d g u w)) = root_at {c = c} d
         (λ m h y f v q. record { leads = λ x o r k l. behind_whole e x r m k l ∙ (g m h y f v q).leads x o r k l })
         (λ m f. record { leads = λ x o r k l. behind_whole e x r m k l ∙ (u m f).leads x o r k l })
@@ -153,22 +158,47 @@ module _ (s : List ℕ) where
     start_declared q e (short_of_it {n = n}) =
         no_root {j = n} (λ w m. record { leads = λ x o r k l. behind_part e x r m k l })
 
-    pub start_short : {r : Prolog} → get_or s 19 0 ≡ 63 → DeclaredRead s (word_at short_declaration 0 s) r → RootRead s at_start 0 r
+    pub start_short : {r : Result Cursor Mismatch} → get_or s 19 0 ≡ 63 → DeclaredRead s (word_at short_declaration 0 s) r → RootRead s at_start 0 r
     unfolding declaration_at
     start_short e d = start_declared (word_at short_declaration 0 s) (rw e) d
 
-    pub start_long : {r : Prolog} → (get_or s 19 0 ≡ 63 → ⊥) → DeclaredRead s (word_at long_declaration 0 s) r → RootRead s at_start 0 r
+    pub start_long : {r : Result Cursor Mismatch} → (get_or s 19 0 ≡ 63 → ⊥) → DeclaredRead s (word_at long_declaration 0 s) r
+        → RootRead s at_start 0 r
     unfolding declaration_at
     start_long e d = start_declared (word_at long_declaration 0 s) (rw (ne_eqb (get_or s 19 0) 63 e)) d
 
 -- how far a declaration agrees
 module _ (w s : List ℕ) (n : ℕ) (a : Agreement w s 0 n) where
-  pub declared_whole : {r : Prolog} → n ≡ length w → RootRead s prolog n r → DeclaredRead s (word_at w 0 s) r
+  pub declared_whole : {r : Result Cursor Mismatch} → n ≡ length w → RootRead s prolog n r → DeclaredRead s (word_at w 0 s) r
   unfolding word_at
   declared_whole {r} h d =
       let p : agree w s ≡ length w = sym a.agrees ∙ h in
       rw (p, eq-eqb (length w) (length w) refl) (behind_it (subst (λ (i : ℕ). RootRead s prolog i r) h d))
 
-  pub declared_part : (n ≡ length w → ⊥) → DeclaredRead s (word_at w 0 s) (NoRoot n)
+  pub declared_part : (n ≡ length w → ⊥) → DeclaredRead s (word_at w 0 s) (Err (mismatch n))
   unfolding word_at
   declared_part h = let p : agree w s ≡ n = sym a.agrees in rw (p, ne_eqb n (length w) h) short_of_it
+
+-- the first two bytes
+module _ (s : List ℕ) where
+  abbrev two : List ℕ
+  two = less_than ∷ 63 ∷ []
+
+  pub two_there : starts_with nat_eq s two ≡ true → (get_or s 0 0 ≡ less_than) × (get_or s 1 0 ≡ 63)
+  two_there e = go s e
+    where
+      go : (s : List ℕ) → starts_with nat_eq s two ≡ true → (get_or s 0 0 ≡ less_than) × (get_or s 1 0 ≡ 63)
+      go [] e = absurd (false≢true e)
+      go (x ∷ []) e = absurd (false≢true (and_right (eqb less_than x) false e))
+      go (x ∷ y ∷ s) e = (
+        sym (eqb-true less_than x (and_left (eqb less_than x) _ e)),
+        sym (eqb-true 63 y (and_left (eqb 63 y) _ (and_right (eqb less_than x) _ e))),
+      )
+
+  pub two_missing : starts_with nat_eq s two ≡ false → get_or s 0 0 ≡ less_than → get_or s 1 0 ≡ 63 → ⊥
+  two_missing e f g = go s e f g
+    where
+      go : (s : List ℕ) → starts_with nat_eq s two ≡ false → get_or s 0 0 ≡ less_than → get_or s 1 0 ≡ 63 → ⊥
+      go [] e f g = omega arith
+      go (x ∷ []) e f g = omega arith
+      go (x ∷ y ∷ s) e f g = absurd (false≢true (sym (rw (f, g) at e)))

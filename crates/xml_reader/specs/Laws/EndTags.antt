@@ -1,6 +1,6 @@
 -- An end tag, compared with the name of its element.
 use Prim.Native.Nat.{ℕ, suc, ◌+◌, ◌-◌, ◌≤◌, ◌<◌}
-use Rattle.std.specs.Prelude.{◌≡◌, Bool, cond, get_or, take, drop}
+use Rattle.std.specs.Prelude.{◌≡◌, Bool, cond, get_or, take, drop, Result, Err}
 use Rattle.std.proofs.Math.Path.{refl}
 use Rattle.std.proofs.Common.{sym, ap, ◌∙◌, add-one, drop_of_length-le, drop-cons}
 use Rattle.std.proofs.Math.Bool.{true, false}
@@ -17,12 +17,13 @@ use Rattle.xml.specs.Laws.Goes.{Leads, Goes}
 use Rattle.xml.proofs.Laws.Goes.{goes_then, goes_same, goes_step, stops_end, stops_stuck}
 use Rattle.xml.specs.Laws.Tokens.{name_at}
 use Rattle.xml.specs.Laws.Fixed.{agree}
-use Rattle.xml_tokens.specs.declared.End.{End}
-use Rattle.xml_tokens.specs.declared.End.TheVariants.{Mismatch}
 use Rattle.byte_strings.specs.Agreement.{Agreement}
 use Rattle.xml_tokens.specs.Steps.{Run, CloseRead, close_behind, close_wrong}
 use Rattle.xml_tokens.specs.Laws.Letters.{name_of, length_name}
 use Rattle.xml_reader.specs.Elements.{EndRead, end_behind, end_mismatch}
+use Rattle.xml_tokens.specs.Values.{mismatch}
+use Rattle.xml_tokens.specs.declared.Cursor.{Cursor}
+use Rattle.xml_tokens.specs.declared.Mismatch.{Mismatch}
 
 module _ (s : List ℕ) (n : Name) (ns : List Name) (m : ℕ) where
   -- a byte of the name
@@ -90,7 +91,7 @@ module _ (s : List ℕ) (at from to : ℕ) (r : Run name_byte s from to) (k : �
   agreed : k ≡ agree (name_at s from) (drop at s)
   agreed = a.agrees ∙ ap (λ (w : List ℕ). agree w (drop at s)) (name_of s from to r)
 
-  pub end_differs : (k ≡ to - from → ⊥) → EndRead s (name_at s from) at (Mismatch (at + k))
+  pub end_differs : (k ≡ to - from → ⊥) → EndRead s (name_at s from) at (Err (mismatch (at + k)))
   end_differs h =
       end_mismatch {j = at + k}
       (λ ns m. rw agreed (part_name s (name_at s from) ns m (name_at s from) at (λ e. h (agreed ∙ e ∙ length_name s from to r))))
@@ -104,7 +105,7 @@ module _ (s : List ℕ) (at from to : ℕ) (r : Run name_byte s from to) (k : �
         goes_then (whole_name s n ns m n at (sym agreed ∙ e)) (goes_same s (end_name n ns []) m (at + length n) (at + k) (omega arith))
 
     -- and what is read behind the name
-    pub end_rest : {x : End} → CloseRead s (at + k) x → EndRead s (name_at s from) at x
+    pub end_rest : {x : Result Cursor Mismatch} → CloseRead s (at + k) x → EndRead s (name_at s from) at x
     end_rest (close_behind {c = c} f g d w) =
         end_behind {c = c} (omega arith) g d (λ ns m. goes_then (to_close ns m) ((w (name_at s from) ns).goes m))
     end_rest (close_wrong {j = j} f) = end_mismatch {j = j} (λ ns m. (to_close ns m).back _ (f true (name_at s from) ns m))

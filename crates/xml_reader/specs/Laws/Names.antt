@@ -11,11 +11,12 @@ use Rattle.tree.specs.Content.{name_start, name_byte}
 use Rattle.xml.specs.Laws.Tokens.{span, name_at}
 use Rattle.xml.proofs.Laws.Tokens.{span_length, span_byte, span_behind}
 use Rattle.xml.specs.Laws.Fixed.{agree}
-use Rattle.byte_strings.specs.declared.Order.TheVariants.{Before, Same, Behind}
+use Rattle.std.specs.declared.cmp.Ordering.TheVariants.{Less, Equal, Greater}
+use Rattle.std.specs.Ordering.{nat_cmp}
 use Rattle.byte_strings.specs.Agreement.{Agreement}
 use Rattle.byte_strings.specs.Order.{Ordered}
 use Rattle.byte_strings.specs.Laws.Agreeing.{agree_most}
-use Rattle.byte_strings.specs.Laws.Order.{order_same, order_shorter, order_longer, order_smaller, order_greater}
+use Rattle.byte_strings.specs.Laws.Order.{order_same, order_shorter, order_longer, order_differ}
 use Rattle.byte_strings.specs.Sorted.{Increasing, Between, Inserted}
 use Rattle.byte_strings.specs.Laws.Entries.{each_entry, entry_added}
 use Rattle.xml_tokens.specs.Steps.{Run}
@@ -81,39 +82,31 @@ module _ (s : List ℕ) (from to other n : ℕ) (a : Run name_byte s from to) (g
       go true l = absurd (false≢true (sym e ∙ (span_byte name_byte s n other (ltb-true n (span name_byte (drop other s)) l)).1))
       go false l = omega (arith, ltb-false n (span name_byte (drop other s)) l, length_there)
 
-  pub name_longer : n ≡ to - from → name_byte (get_or s (other + n) 0) ≡ true → Ordered (name_at s from) (name_at s other) Before
-  name_longer h e = order_shorter (name_at s from) (name_at s other) agrees_to (omega (arith, length_here)) (goes_on e)
+  pub name_longer : n ≡ to - from → name_byte (get_or s (other + n) 0) ≡ true → Ordered (name_at s other) (name_at s from) Greater
+  name_longer h e = order_longer (name_at s from) (name_at s other) agrees_to (omega (arith, length_here)) (goes_on e)
 
-  pub name_same : n ≡ to - from → name_byte (get_or s (other + n) 0) ≡ false → Ordered (name_at s from) (name_at s other) Same
+  pub name_same : n ≡ to - from → name_byte (get_or s (other + n) 0) ≡ false → Ordered (name_at s other) (name_at s from) Equal
   name_same h e = order_same (name_at s from) (name_at s other) agrees_to (omega (arith, length_here)) (ends_there e)
 
-  module _ (h : n ≡ to - from → ⊥) where
+  module _ (h : n < to - from) where
     left : n < length (name_at s from)
-    left = omega (arith, h, length_here, agree_most_left)
-      where
-        agree_most_left : n ≤ to - from
-        agree_most_left =
-            omega (arith, g.most, length-take-le (to - from) (drop from s) (omega (arith, a.ends, span_length name_byte (drop from s))))
+    left = omega (arith, h, length_here)
 
-    pub name_shorter : name_byte (get_or s (other + n) 0) ≡ false → Ordered (name_at s from) (name_at s other) Behind
-    name_shorter e = order_longer (name_at s from) (name_at s other) agrees_to left (ends_there e)
+    pub name_shorter : name_byte (get_or s (other + n) 0) ≡ false → Ordered (name_at s other) (name_at s from) Less
+    name_shorter e = order_shorter (name_at s from) (name_at s other) agrees_to left (ends_there e)
 
     module _ (e : name_byte (get_or s (other + n) 0) ≡ true) where
-      byte_here : get_or (name_at s from) n 0 ≡ get_or s (from + n) 0
+      byte_here : get_or (name_at s from) n 0 ≡ get_or (take (to - from) (drop from s)) n 0
       unfolding name_at
-      byte_here =
-          get_or-take (span name_byte (drop from s)) (drop from s) n 0 (omega (arith, left, length_here, a.ends)) ∙ get_or-drop from s n 0
+      byte_here = ap (λ (w : List ℕ). get_or w n 0) (sym (name_of s from to a))
 
       byte_there : get_or (name_at s other) n 0 ≡ get_or s (other + n) 0
       unfolding name_at
       byte_there =
           get_or-take (span name_byte (drop other s)) (drop other s) n 0 (omega (arith, goes_on e, length_there)) ∙ get_or-drop other s n 0
 
-      pub name_smaller : get_or s (from + n) 0 < get_or s (other + n) 0 → Ordered (name_at s from) (name_at s other) Before
-      name_smaller l = order_smaller (name_at s from) (name_at s other) agrees_to left (goes_on e) (omega (arith, l, byte_here, byte_there))
-
-      pub name_greater : get_or s (other + n) 0 ≤ get_or s (from + n) 0 → Ordered (name_at s from) (name_at s other) Behind
-      name_greater l = order_greater (name_at s from) (name_at s other) agrees_to left (goes_on e) (omega (arith, l, byte_here, byte_there))
+      pub name_differs : Ordered (name_at s other) (name_at s from) (nat_cmp (get_or s (other + n) 0) (get_or (take (to - from) (drop from s)) n 0))
+      name_differs = rw (← byte_here, ← byte_there) (order_differ (name_at s from) (name_at s other) agrees_to left (goes_on e))
 
 -- a name put among the others ------------------------------------------------------------------
 

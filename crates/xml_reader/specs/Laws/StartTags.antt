@@ -1,5 +1,5 @@
 -- Start tags: names kept as offsets, the loop over the attributes, the tag from the first byte of its name.
-use Rattle.std.specs.Prelude.{ℕ, zero, suc, ◌+◌, ◌-◌, ◌≤◌, ◌<◌, ◌≡◌, Bool, true, false, List, [], ◌∷◌, eqb, length, get_or, set}
+use Rattle.std.specs.Prelude.{ℕ, zero, suc, ◌+◌, ◌-◌, ◌≤◌, ◌<◌, ◌≡◌, Bool, true, false, List, [], ◌∷◌, eqb, length, get_or, set, Result, Ok, Err}
 use Rattle.std.proofs.Math.Path.{refl}
 use Rattle.std.proofs.Common.{◌∙◌, subst, arith, length-set, get_or-set_same, get_or-set_other, eqb-true}
 use Rattle.std.proofs.lemmas.Bool.{eqb-false}
@@ -16,21 +16,21 @@ use Rattle.xml.specs.Laws.Goes.{Leads, Goes}
 use Rattle.xml.proofs.Laws.Goes.{goes_then, goes_same}
 use Rattle.xml.specs.Laws.Tokens.{name_at, Naming}
 use Rattle.xml_tokens.specs.declared.Cursor.{Cursor}
-use Rattle.xml_tokens.specs.declared.Item.{Item}
-use Rattle.xml_tokens.specs.declared.Item.TheVariants.{Open, Empty, Attribute, Wrong}
-use Rattle.xml_tokens.specs.declared.Piece.TheVariants.{Taken, Unfit}
-use Rattle.xml_tokens.specs.declared.Read.{Read}
-use Rattle.xml_tokens.specs.declared.Read.TheVariants.{Past, Refused}
+use Rattle.xml_tokens.specs.declared.Item.TheVariants.{Open, Empty, Attribute}
 use Rattle.xml_tokens.specs.Steps.{no_step, quiet_step, NamePlace, NameRead, TagRead, tag_open, tag_empty, tag_attribute, tag_wrong}
 use Rattle.xml_tokens.specs.Laws.Letters.{name_run, name_scan, name_stops, name_ended, quiet_either}
 use Rattle.xml_reader.specs.declared.Tag.{Tag}
-use Rattle.xml_reader.specs.declared.Tag.TheVariants.{Opened, Emptied, Broken}
+use Rattle.xml_reader.specs.declared.Tag.TheVariants.{Opened, Emptied}
 use Rattle.byte_strings.specs.Sorted.{Lists}
 use Rattle.byte_strings.specs.Laws.Sorted.{lists_none}
 use Rattle.xml_reader.specs.Elements.{stack, Placed, Attributed, AttributeRead, attribute_past, attribute_refused, Kept}
 use Rattle.xml_reader.specs.Elements.{attribute_names, Entered, NamesRead, names_past, AttributeEnters, AttributesRead}
 use Rattle.xml_reader.specs.Elements.{attributes_opened, attributes_emptied, attributes_broken, Onward, ElementRead, element_opened}
 use Rattle.xml_reader.specs.Elements.{element_emptied, element_broken}
+use Rattle.protocol.specs.declared.causes.Cause.{Cause}
+use Rattle.protocol.specs.declared.causes.Cause.TheVariants.{NotOfGrammar}
+use Rattle.xml_tokens.specs.Values.{refusal, mismatch, read, piece}
+use Rattle.xml_tokens.specs.declared.Refusal.{Refusal}
 
 -- offsets --------------------------------------------------------------------------------------
 
@@ -65,12 +65,8 @@ placed_short p i h = omega (arith, p.short, p.placed i h)
 
 -- the loop over the attributes -------------------------------------------------------------------
 
-pub attribute_here : {s : List ℕ} {i : ℕ} {r : Item} {c : Cursor} → TagRead s behind_part i r → r ≡ Attribute c
-    → Attributed s c.at × (i < c.at)
-attribute_here {s} {i} z ez = go (subst (TagRead s behind_part i) ez z)
-  where
-    go : {s : List ℕ} {i : ℕ} {c : Cursor} → TagRead s behind_part i (Attribute c) → Attributed s c.at × (i < c.at)
-    go (tag_attribute d e g h f) = (record { not_first = omega arith; inside = e; starts = h; begins_here = g }, d)
+pub attribute_here : {s : List ℕ} {i : ℕ} {c : Cursor} → TagRead s behind_part i (Ok (Attribute c)) → Attributed s c.at × (i < c.at)
+attribute_here (tag_attribute d e g h f) = (record { not_first = omega arith; inside = e; starts = h; begins_here = g }, d)
 
 -- the attributes so far lead here; the names that were seen are those from place lo on
 pub record AttributesTo (s os : List ℕ) (lo count at spare i n : ℕ) : Type 0 where
@@ -86,62 +82,53 @@ attributes_start s os lo at spare = record {
 }
 
 module _ (s os : List ℕ) (lo count at spare i n : ℕ) (t : AttributesTo s os lo count at spare i n) (a : at ≤ i) (b : n ≤ spare) where
-  pub attributes_wrong : {j : ℕ} → TagRead s behind_part i (Wrong j) → AttributesRead s at spare (Broken 4 j)
-  attributes_wrong {j} (tag_wrong f) = attributes_broken {x = 4} {j = j} (λ m ns. (t.comes m ns).back _ (f true m ns t.seen n))
+  pub attributes_wrong : {j : ℕ} → TagRead s behind_part i (Err (mismatch j)) → AttributesRead s at spare (Err (refusal NotOfGrammar j))
+  attributes_wrong {j} (tag_wrong f) = attributes_broken {x = NotOfGrammar} {j = j} (λ m ns. (t.comes m ns).back _ (f true m ns t.seen n))
 
-  pub attributes_open : {c : Cursor} → TagRead s behind_part i (Open c) → AttributesRead s at spare (Opened c n)
+  pub attributes_open : {c : Cursor} → TagRead s behind_part i (Ok (Open c)) → AttributesRead s at spare (Ok (Opened (read c n)))
   attributes_open {c} (tag_open d e g f) =
       attributes_opened {c = c} {m = n} (record { further = omega arith; inside = e; begins_here = g; fewer = b })
       (λ m ns. goes_then (t.comes m ns) ((f m ns t.seen).goes n))
 
-  pub attributes_empty : {c : Cursor} → TagRead s behind_part i (Empty c) → AttributesRead s at spare (Emptied c n)
+  pub attributes_empty : {c : Cursor} → TagRead s behind_part i (Ok (Empty c)) → AttributesRead s at spare (Ok (Emptied (read c n)))
   attributes_empty {c} (tag_empty d e g f) =
       attributes_emptied {c = c} {m = n} (record { further = omega arith; inside = e; begins_here = g; fewer = b })
       (λ m ns. goes_then (t.comes m ns) ((f m ns t.seen).goes n))
 
-  -- an attribute that is refused
-  refused : {c : Cursor} {x j : ℕ} → TagRead s behind_part i (Attribute c) → AttributeRead s t.seen c.at n (Refused x j)
-      → AttributesRead s at spare (Broken x j)
-  refused {c} {x} {j} (tag_attribute d e g h f) (attribute_refused u) =
-      attributes_broken {x = x} {j = j} (λ m ns. (t.comes m ns).back _ (((f m ns t.seen).goes n).back _ (u m ns)))
-
-  -- one that is read
-  past : {c d : Cursor} {m : ℕ} {os' : List ℕ} → TagRead s behind_part i (Attribute c) → AttributeRead s t.seen c.at n (Past d m)
-      → Lists (attribute_names s os' lo) (count + 1) (name_at s c.at ∷ t.seen) → AttributesTo s os' lo (count + 1) at spare d.at m
-  past {c} {d} {m} (tag_attribute p e g h f) (attribute_past q r w u) y = record {
-    seen = name_at s c.at ∷ t.seen;
-    lists = y;
-    comes = λ nm ns. goes_then (t.comes nm ns) (goes_then ((f nm ns t.seen).goes n) (u nm ns));
-  }
-
   -- an attribute at c, and what is read of it
-  module _ {os' : List ℕ} {r : Item} {c : Cursor} {q : Read} (z : TagRead s behind_part i r) (ez : r ≡ Attribute c)
-      (y : AttributeEnters s os os' lo count c.at n q) where
-    found : TagRead s behind_part i (Attribute c)
-    found = subst (TagRead s behind_part i) ez z
+  module _ {os' : List ℕ} {c : Cursor} (z : TagRead s behind_part i (Ok (Attribute c))) where
+    pub attributes_bad : {x : Cause} {j : ℕ} → AttributeEnters s os os' lo count c.at n (Err (refusal x j))
+        → AttributesRead s at spare (Err (refusal x j))
+    attributes_bad {x} {j} y = go z (y.reads t.seen t.lists)
+      where
+        go : TagRead s behind_part i (Ok (Attribute c)) → AttributeRead s t.seen c.at n (Err (refusal x j))
+            → AttributesRead s at spare (Err (refusal x j))
+        go (tag_attribute d e g h f) (attribute_refused u) =
+            attributes_broken {x = x} {j = j} (λ m ns. (t.comes m ns).back _ (((f m ns t.seen).goes n).back _ (u m ns)))
 
-    reads : {q' : Read} → q ≡ q' → AttributeRead s t.seen c.at n q'
-    reads e = subst (AttributeRead s t.seen c.at n) e (y.reads t.seen t.lists)
-
-    pub attributes_bad : {x j : ℕ} → q ≡ Refused x j → AttributesRead s at spare (Broken x j)
-    attributes_bad e = refused found (reads e)
-
-    module _ {d : Cursor} {m : ℕ} (e : q ≡ Past d m) where
+    module _ {d : Cursor} {m : ℕ} (y : AttributeEnters s os os' lo count c.at n (Ok (read d m))) where
       pub attribute_entered : Entered s os os' lo count c.at
-      attribute_entered = go (subst (NamesRead s os os' lo count c.at) e y.names)
+      attribute_entered = go y.names
         where
-          go : NamesRead s os os' lo count c.at (Past d m) → Entered s os os' lo count c.at
+          go : NamesRead s os os' lo count c.at (Ok (read d m)) → Entered s os os' lo count c.at
           go (names_past x) = x
 
       pub attributes_turn : AttributesTo s os' lo (count + 1) at spare d.at m
-      attributes_turn = past found (reads e) (attribute_entered.added.lists t.seen t.lists)
+      attributes_turn = go z (y.reads t.seen t.lists)
+        where
+          go : TagRead s behind_part i (Ok (Attribute c)) → AttributeRead s t.seen c.at n (Ok (read d m))
+              → AttributesTo s os' lo (count + 1) at spare d.at m
+          go (tag_attribute p e g h f) (attribute_past q r w u) = record {
+            seen = name_at s c.at ∷ t.seen;
+            lists = attribute_entered.added.lists t.seen t.lists;
+            comes = λ nm ns. goes_then (t.comes nm ns) (goes_then ((f nm ns t.seen).goes n) (u nm ns));
+          }
 
       pub attribute_behind : (i < c.at) × (c.at < d.at) × (d.at ≤ length s) × (m < n)
-      attribute_behind = go (reads e)
+      attribute_behind = go (y.reads t.seen t.lists)
         where
-          go : AttributeRead s t.seen c.at n (Past d m)
-              → (i < c.at) × (c.at < d.at) × (d.at ≤ length s) × (m < n)
-          go (attribute_past a b g u) = ((attribute_here z ez).1, a, b, g)
+          go : AttributeRead s t.seen c.at n (Ok (read d m)) → (i < c.at) × (c.at < d.at) × (d.at ≤ length s) × (m < n)
+          go (attribute_past a b g u) = ((attribute_here z).1, a, b, g)
 
 -- from the first byte of the name ------------------------------------------------------------------
 
@@ -159,10 +146,10 @@ tag_place ns = record {
 }
 
 module _ (s : List ℕ) (at spare : ℕ) where
-  pub element_unfit : {x j : ℕ} → NameRead s at (Unfit x j) → ElementRead s at spare (Broken x j)
+  pub element_unfit : {x : Cause} {j : ℕ} → NameRead s at (Err (refusal x j)) → ElementRead s at spare (Err (refusal x j))
   element_unfit {x} {j} f = element_broken {x = x} {j = j} (λ ns y e. name_stops f (tag_place ns) spare e)
 
-  module _ {end : Cursor} {n : ℕ} (f : NameRead s at (Taken end n)) where
+  module _ {end : Cursor} {n : ℕ} (f : NameRead s at (Ok (piece end n))) where
     -- behind the name
     to_part : (ns : List Name) {y : Spelling} → spell (start_of false) (get_or s at 0) ≡ spelling y → {v : Verdict}
         → Leads true s (behind_part (name_at s at) ns []) spare end.at v
@@ -181,7 +168,7 @@ module _ (s : List ℕ) (at spare : ℕ) where
       fewer = o.fewer;
     }
 
-    pub element_rest : {y : Tag} → AttributesRead s end.at spare y → ElementRead s at spare y
+    pub element_rest : {y : Result Tag Refusal} → AttributesRead s end.at spare y → ElementRead s at spare y
     element_rest (attributes_opened {c = c} {m = m} o g) =
         element_opened {c = c} {m = m} (onward o) (λ ns y e v l. to_part ns e ((g (name_at s at) ns).back v l))
     element_rest (attributes_emptied {c = c} {m = m} o g) =

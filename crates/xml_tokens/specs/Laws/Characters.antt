@@ -1,6 +1,6 @@
 -- The loop over the characters of a value or a text.
 use Prim.Native.Nat.{ℕ, ◌+◌, ◌-◌, ◌≤◌, ◌<◌}
-use Rattle.std.specs.Prelude.{◌≡◌, Bool, cond, ◌||◌, List, [], ◌∷◌, ltb, length}
+use Rattle.std.specs.Prelude.{◌≡◌, Bool, cond, ◌||◌, List, [], ◌∷◌, ltb, length, Ok, Err}
 use Rattle.std.proofs.Math.Path.{refl}
 use Rattle.std.proofs.Common.{sym, ap, ◌∙◌, subst, arith, ne_eqb, ltb-true}
 use Rattle.std.proofs.Math.Bool.{true, false}
@@ -19,15 +19,15 @@ use Rattle.xml.specs.Laws.Scan.{scan_at}
 use Rattle.xml.proofs.Laws.Scan.{scan_end, scan_stuck}
 use Rattle.xml.proofs.Laws.Goes.{scan_quiet, scan_byte, scan_full}
 use Rattle.xml_tokens.specs.declared.Cursor.{Cursor}
-use Rattle.xml_tokens.specs.declared.Piece.{Piece}
-use Rattle.xml_tokens.specs.declared.Piece.TheVariants.{Taken, Unfit}
-use Rattle.xml_tokens.specs.declared.Read.TheVariants.{Past, Refused}
 use Rattle.xml_tokens.specs.Classes.{literal, begins, alone, reads_as}
 use Rattle.xml_tokens.specs.Steps.{text_monitor, Characters, SpecialRead, special_taken, special_unfit, CharactersRead}
 use Rattle.xml_tokens.specs.Steps.{characters_past, characters_refused}
 use Rattle.xml_tokens.specs.Laws.Classes.{literal_text, space_text}
 use Rattle.xml_tokens.specs.Laws.Spelling.{text_seen}
 use Rattle.xml_tokens.specs.Laws.Specials.{reads_ascii}
+use Rattle.protocol.specs.declared.causes.Cause.{Cause}
+use Rattle.protocol.specs.declared.causes.Cause.TheVariants.{NotOfGrammar, ContentOverLimit}
+use Rattle.xml_tokens.specs.Values.{refusal, read, piece}
 
 -- a byte that stands for itself and is a character by itself
 pub literal_seen : (stop k b : ℕ) → literal stop k b ≡ true → b < 128 → see_byte text_monitor (reads_as stop b) ≡ seen text_monitor
@@ -56,21 +56,21 @@ pub characters_start : (s : List ℕ) (stop spare at : ℕ) → CharactersTo s s
 characters_start s stop spare at = record { comes = λ C R D x. refl }
 
 module _ (s : List ℕ) (stop spare at k count i : ℕ) (t : CharactersTo s stop spare at k count i) where
-  pub characters_end : length s ≤ i → CharactersRead s stop at spare (Refused 4 i)
+  pub characters_end : length s ≤ i → CharactersRead s stop at spare (Err (refusal NotOfGrammar i))
   characters_end h =
-      characters_refused {x = 4} {j = i} (λ C R D x. t.comes C R D x ∙ scan_end s (C k) text_monitor spare count i h ∙ rw (x.going k))
+      characters_refused {x = NotOfGrammar} {j = i} (λ C R D x. t.comes C R D x ∙ scan_end s (C k) text_monitor spare count i h ∙ rw (x.going k))
 
   -- a reference or bytes from 128 on
-  pub characters_unfit : {x j : ℕ} → SpecialRead s i count (Unfit x j) → CharactersRead s stop at spare (Refused x j)
+  pub characters_unfit : {x : Cause} {j : ℕ} → SpecialRead s i count (Err (refusal x j)) → CharactersRead s stop at spare (Err (refusal x j))
   characters_unfit {x} {j} (special_unfit f) =
       characters_refused {x = x} {j = j} (λ C R D y. t.comes C R D y ∙ f stop C R D y k spare)
 
-  pub characters_special : {c : Cursor} {n : ℕ} → SpecialRead s i count (Taken c n) → CharactersTo s stop spare at 0 n c.at
+  pub characters_special : {c : Cursor} {n : ℕ} → SpecialRead s i count (Ok (piece c n)) → CharactersTo s stop spare at 0 n c.at
   characters_special (special_taken a b d f) = record { comes = λ C R D y. t.comes C R D y ∙ f stop C R D y k spare }
 
   module _ (h : i < length s) where
     pub characters_stop : (c : Cursor) → at ≤ i → get_or s i 0 ≡ stop → count ≤ content_limit → c.at ≡ i + 1
-        → CharactersRead s stop at spare (Past c spare)
+        → CharactersRead s stop at spare (Ok (read c spare))
     characters_stop c m e q p =
         let u : c.at - 1 ≡ i = omega arith in
         characters_past {c = c} (omega arith) (omega arith) (rw u e)
@@ -79,7 +79,7 @@ module _ (s : List ℕ) (stop spare at k count i : ℕ) (t : CharactersTo s stop
         ∙ subst (λ (j : ℕ). scan_at s D text_monitor spare count j ≡ v) p (y.leads text_monitor refl refl count q))
 
     module _ (other : get_or s i 0 ≡ stop → ⊥) where
-      pub characters_wrong : begins stop k (get_or s i 0) ≡ false → CharactersRead s stop at spare (Refused 4 i)
+      pub characters_wrong : begins stop k (get_or s i 0) ≡ false → CharactersRead s stop at spare (Err (refusal NotOfGrammar i))
       unfolding begins
       characters_wrong e = characters_refused (λ C R D x.
           t.comes C R D x ∙ scan_stuck s (C k) text_monitor spare count i h (go x (eqb (get_or s i 0) ampersand) refl e))
@@ -102,9 +102,9 @@ module _ (s : List ℕ) (stop spare at k count i : ℕ) (t : CharactersTo s stop
             → step true (C k) (get_or s i 0) ≡ move (C (brackets k (get_or s i 0))) (byte (reads_as stop (get_or s i 0)) ∷ [])
         begun x = x.plainly k (get_or s i 0) other itself
 
-        pub characters_full : count ≡ content_limit → CharactersRead s stop at spare (Refused 5 i)
+        pub characters_full : count ≡ content_limit → CharactersRead s stop at spare (Err (refusal ContentOverLimit i))
         unfolding births tail peak
-        characters_full q = characters_refused {x = 5} {j = i} (λ C R D x.
+        characters_full q = characters_refused {x = ContentOverLimit} {j = i} (λ C R D x.
             let b = get_or s i 0 in
             t.comes C R D x
             ∙ scan_full s (C k) spare i h (C (brackets k b)) (byte (reads_as stop b) ∷ []) (begun x) text_monitor text_monitor
@@ -117,10 +117,7 @@ module _ (s : List ℕ) (stop spare at k count i : ℕ) (t : CharactersTo s stop
               is_seen (x.calm (brackets k (get_or s i 0))) count room;
         }
 
-pub special_as : {s : List ℕ} {at count : ℕ} {r q : Piece} → r ≡ q → SpecialRead s at count r → SpecialRead s at count q
-special_as {s} {at} {count} e k = subst (SpecialRead s at count) e k
-
 -- behind a reference or bytes from 128 on
-pub special_inside : {s : List ℕ} {at count n : ℕ} {c : Cursor} → SpecialRead s at count (Taken c n)
+pub special_inside : {s : List ℕ} {at count n : ℕ} {c : Cursor} → SpecialRead s at count (Ok (piece c n))
     → (at < c.at) × (c.at ≤ length s) × (n ≤ content_limit)
 special_inside (special_taken a b d f) = (a, b, d)

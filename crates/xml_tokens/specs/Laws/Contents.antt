@@ -1,6 +1,6 @@
 -- A value or a text, which may be empty.
 use Prim.Native.Nat.{ℕ, ◌+◌, ◌-◌, ◌≤◌, ◌<◌}
-use Rattle.std.specs.Prelude.{◌≡◌, Bool, ◌||◌, List, [], ◌∷◌, leb, length, get_or}
+use Rattle.std.specs.Prelude.{◌≡◌, Bool, ◌||◌, List, [], ◌∷◌, leb, length, get_or, Result, Ok, Err}
 use Rattle.std.proofs.Math.Path.{refl}
 use Rattle.std.proofs.Common.{sym, ap, ◌∙◌, arith, ne_eqb, eqb-true, leb-true, leb-false}
 use Rattle.std.proofs.Math.Bool.{true, false}
@@ -21,7 +21,6 @@ use Rattle.xml.proofs.Laws.Goes.{goes_step, stops_end, stops_stuck, scan_plain, 
 use Rattle.xml.specs.Laws.Forces.{extent}
 use Rattle.xml_tokens.specs.declared.Cursor.{Cursor}
 use Rattle.xml_tokens.specs.declared.Read.{Read}
-use Rattle.xml_tokens.specs.declared.Read.TheVariants.{Past, Refused}
 use Rattle.xml_tokens.specs.Classes.{literal, begins, reads_as}
 use Rattle.xml_tokens.specs.Steps.{text_monitor, CharactersRead, characters_past, characters_refused, Contents, TextRead, text_past}
 use Rattle.xml_tokens.specs.Steps.{text_refused}
@@ -29,6 +28,9 @@ use Rattle.xml_tokens.specs.Laws.Classes.{literal_text, ampersand_text}
 use Rattle.xml_tokens.specs.Laws.Spelling.{monitor_born, text_seen}
 use Rattle.xml_tokens.specs.Laws.Specials.{high_reads}
 use Rattle.xml_tokens.specs.Laws.Characters.{literal_seen}
+use Rattle.protocol.specs.declared.causes.Cause.TheVariants.{NotOfGrammar, NodesOverLimit}
+use Rattle.xml_tokens.specs.Values.{refusal, read}
+use Rattle.xml_tokens.specs.declared.Refusal.{Refusal}
 
 -- the first character is read as any other, and a node is born
 pub record Begun (s : List ℕ) (at : ℕ) {stop : ℕ} {S : Config} {C : ℕ → Config} {R : Words → Config} {D : Config}
@@ -72,20 +74,20 @@ begun_by s at {stop} {S} {C} {R} x other itself = go (eqb (get_or s at 0) ampers
         }
 
 module _ (s : List ℕ) (stop at spare : ℕ) where
-  pub text_end : length s ≤ at → TextRead s stop at spare (Refused 4 at)
-  text_end h = text_refused {x = 4} {j = at} (λ S C R D x. stops_end s S spare at h x.starting)
+  pub text_end : length s ≤ at → TextRead s stop at spare (Err (refusal NotOfGrammar at))
+  text_end h = text_refused {x = NotOfGrammar} {j = at} (λ S C R D x. stops_end s S spare at h x.starting)
 
   module _ (h : at < length s) where
-    pub text_empty : (c : Cursor) → get_or s at 0 ≡ stop → c.at ≡ at + 1 → TextRead s stop at spare (Past c spare)
+    pub text_empty : (c : Cursor) → get_or s at 0 ≡ stop → c.at ≡ at + 1 → TextRead s stop at spare (Ok (read c spare))
     text_empty c e p =
         let u : c.at - 1 ≡ at = omega arith in
         text_past {c = c} {m = spare} (omega arith) (omega arith) (rw u e) (omega arith)
         (λ S C R D x. rw p (goes_step s S spare at h D (ap (step true S) e ∙ x.nothing) x.inner.behind))
 
     module _ (other : get_or s at 0 ≡ stop → ⊥) where
-      pub text_wrong : begins stop 0 (get_or s at 0) ≡ false → TextRead s stop at spare (Refused 4 at)
+      pub text_wrong : begins stop 0 (get_or s at 0) ≡ false → TextRead s stop at spare (Err (refusal NotOfGrammar at))
       unfolding begins
-      text_wrong e = text_refused {x = 4} {j = at} (λ S C R D x. stops_stuck s S spare at h (go x (eqb (get_or s at 0) ampersand) refl e))
+      text_wrong e = text_refused {x = NotOfGrammar} {j = at} (λ S C R D x. stops_stuck s S spare at h (go x (eqb (get_or s at 0) ampersand) refl e))
         where
           go : {S : Config} {C : ℕ → Config} {R : Words → Config} {D : Config} → Contents stop S C R D → (y : Bool)
               → eqb (get_or s at 0) ampersand ≡ y
@@ -117,10 +119,10 @@ module _ (s : List ℕ) (stop at spare : ℕ) where
                 ap seen_as (sym q) ∙ text_seen b (text (eqb b ampersand) refl) (leb-false 128 b a) in
                 absurd (let z : ◌≡◌ {A = ℕ} 0 1 = cc in omega arith)
 
-        pub text_broken : spell (start_of true) (get_or s at 0) ≡ broken → TextRead s stop at spare (Refused 4 at)
+        pub text_broken : spell (start_of true) (get_or s at 0) ≡ broken → TextRead s stop at spare (Err (refusal NotOfGrammar at))
         text_broken q =
             let high = broken_high q in
-            text_refused {x = 4} {j = at} (λ S C R D x. record {
+            text_refused {x = NotOfGrammar} {j = at} (λ S C R D x. record {
               leads = λ w o r k m.
                   let y = begun x in
                   scan_unspelled s S w spare k at h y.next (born x.depth text_kind ∷ y.rest) y.born_so
@@ -155,8 +157,8 @@ module _ (s : List ℕ) (stop at spare : ℕ) where
                         ∙ literal_seen stop 0 b (itself (eqb-false b ampersand e)) (leb-false 128 b a)),
                   )
 
-          pub text_many : spare ≡ 0 → (begin : ℕ) → begin ≡ node_offset s at → TextRead s stop at spare (Refused 6 begin)
-          text_many q begin p = text_refused {x = 6} {j = begin} (λ S C R D x. record {
+          pub text_many : spare ≡ 0 → (begin : ℕ) → begin ≡ node_offset s at → TextRead s stop at spare (Err (refusal NodesOverLimit begin))
+          text_many q begin p = text_refused {x = NodesOverLimit} {j = begin} (λ S C R D x. record {
             leads = λ w o r k m.
                 let y = begun x in
                 let z = first_seen x in
@@ -175,7 +177,7 @@ module _ (s : List ℕ) (stop at spare : ℕ) where
                 (monitor_born w o r x.depth text_kind y.rest ∙ z.1) y.calm room k m y.short
                 ∙ sym (scan_plain s (C 0) (spare - 1) at h y.next y.rest y.plainly text_monitor z.0 z.1 y.calm y.short)
 
-            pub text_rest : {r : Read} → CharactersRead s stop at (spare - 1) r → TextRead s stop at spare r
+            pub text_rest : {r : Result Read Refusal} → CharactersRead s stop at (spare - 1) r → TextRead s stop at spare r
             text_rest (characters_past {c = c} a b d f) =
                 text_past {c = c} {m = spare - 1} a b d (omega arith)
                 (λ S C R D x. record { back = λ v y. record { leads = λ w o r k m. begins_so x w o r k m ∙ f C R D x.inner v y } })

@@ -1,5 +1,5 @@
 -- Bytes that have to spell characters: a name, and bytes from 128 on in a value or a text.
-use Rattle.std.specs.Prelude.{ℕ, suc, ◌+◌, ◌-◌, ◌≤◌, ◌<◌, Bool, true, false, cond, List, [], ◌∷◌, ◌++◌, leb, length, get_or, take, drop}
+use Rattle.std.specs.Prelude.{ℕ, suc, ◌+◌, ◌-◌, ◌≤◌, ◌<◌, Bool, true, false, cond, List, [], ◌∷◌, ◌++◌, leb, length, get_or, take, drop, Result, Ok}
 use Rattle.std.proofs.Math.Path.{◌≡◌, refl}
 use Rattle.std.proofs.Common.{sym, ap, ◌∙◌, subst, arith, take-append-drop, drop-cons, length-take-le, leb-true, leb-false}
 use Rattle.std.proofs.Math.Numerals.{add-one}
@@ -7,8 +7,6 @@ use Rattle.std.proofs.Math.Seq.{take-length}
 use Rattle.tree.specs.Content.{content_limit, name_start, name_byte}
 use Rattle.tree.specs.Spelling.{Spelling, spelling, spell, start_of, Fault, faultless, fault, later, fault_in}
 use Rattle.tree.specs.Values.{reading_of}
-use Rattle.tree.specs.declared.characters.Reading.{Reading}
-use Rattle.tree.specs.declared.characters.Reading.TheVariants.{Whole, Broken}
 use Rattle.xml.specs.Grammar.{Name}
 use Rattle.xml.specs.Laws.Automaton.{Config, Move, to, step}
 use Rattle.xml.specs.Laws.Monitor.{Monitor, on, seen, at_rest, is_on, see_bytes, FaultAt, no_fault, at_byte}
@@ -24,11 +22,16 @@ use Rattle.xml.proofs.Laws.Tokens.{span_length, span_behind, span_go}
 use Rattle.xml.proofs.Laws.Taken.{Follows, name_follows, taken_all, taken_long, taken_broken}
 use Rattle.xml_tokens.specs.declared.Cursor.{Cursor}
 use Rattle.xml_tokens.specs.declared.Piece.{Piece}
-use Rattle.xml_tokens.specs.declared.Piece.TheVariants.{Taken, Unfit}
 use Rattle.xml_tokens.specs.Steps.{Run, Fits, fits, too_long, late_fault, early_fault, Quiet, no_step, quiet_step, NamePlace}
 use Rattle.xml_tokens.specs.Steps.{NameRead, name_taken, name_unfit}
 use Rattle.xml_tokens.specs.Laws.Spelling.{fault_first}
 use Rattle.xml_tokens.specs.Laws.Runs.{run_passes}
+use Rattle.protocol.specs.CauseNumbers.{number_of}
+use Rattle.protocol.specs.declared.causes.Cause.{Cause}
+use Rattle.protocol.specs.declared.causes.Cause.TheVariants.{NotOfGrammar, ContentOverLimit}
+use Rattle.std.specs.Prelude.{Err}
+use Rattle.xml_tokens.specs.Values.{refusal, piece}
+use Rattle.xml_tokens.specs.declared.Refusal.{Refusal}
 
 -- bytes that are told as they are, from c to d, behind k bytes of the content
 module _ (s : List ℕ) (n : ℕ) {c d : Config} (l t : List ℕ) (i k : ℕ) (x : Monitor) (f : Follows c l d) (q : drop i s ≡ l ++ t) where
@@ -55,34 +58,37 @@ module _ (s : List ℕ) (n : ℕ) {c d : Config} (l t : List ℕ) (i k : ℕ) (x
   cut_off {j} (at_end z h e u) m g = taken_all s n l t i k x z f q e (omega arith) ∙ g z u ∙ ap (bad 4) (omega arith)
 
 -- as far as they are spelled
-module _ (at to count : ℕ) {f : Fault} {r : Reading} (q : r ≡ reading_of f) where
-  whole_there : r ≡ Whole → f ≡ faultless
+module _ (at to count : ℕ) {f : Fault} {r : Result (Unit {0}) ℕ} (q : r ≡ reading_of f) where
+  whole_there : (x : Unit {0}) → r ≡ Ok x → f ≡ faultless
   unfolding reading_of
-  whole_there e = go f (sym q ∙ e)
+  whole_there x e = go f (sym q ∙ e)
     where
-      go : (f : Fault) → reading_of f ≡ Whole → f ≡ faultless
+      go : (f : Fault) → reading_of f ≡ Ok x → f ≡ faultless
       go faultless e = refl
-      go (fault n) e = absurd (let z : ◌≡◌ {A = ℕ} 0 1 = cc in omega arith)
+      go (fault n) e = cc
 
-  broken_there : (n : ℕ) → r ≡ Broken n → f ≡ fault n
+  broken_there : (n : ℕ) → r ≡ Err n → f ≡ fault n
   unfolding reading_of
   broken_there n e = go f (sym q ∙ e)
     where
-      go : (f : Fault) → reading_of f ≡ Broken n → f ≡ fault n
-      go faultless e = absurd (let z : ◌≡◌ {A = ℕ} 0 1 = cc in omega arith)
+      go : (f : Fault) → reading_of f ≡ Err n → f ≡ fault n
+      go faultless e = cc
       go (fault m) e = cc
 
-  pub fit_all : r ≡ Whole → count ≤ content_limit → to - at ≤ content_limit - count → (c : Cursor) → c.at ≡ to
-      → Fits at to count f (Taken c (count + (to - at)))
-  fit_all e h l c p = rw (whole_there e) (fits {c = c} p refl (omega arith))
+  pub fit_all : (x : Unit {0}) → r ≡ Ok x → count ≤ content_limit → to - at ≤ content_limit - count → (c : Cursor) → c.at ≡ to
+      → Fits at to count f (Ok (piece c (count + (to - at))))
+  fit_all x e h l c p = rw (whole_there x e) (fits {c = c} p refl (omega arith))
 
-  pub fit_long : r ≡ Whole → content_limit - count < to - at → Fits at to count f (Unfit 5 (at + (content_limit - count)))
-  fit_long e l = rw (whole_there e) (too_long (omega arith) refl)
+  pub fit_long : (x : Unit {0}) → r ≡ Ok x → content_limit - count < to - at
+      → Fits at to count f (Err (refusal ContentOverLimit (at + (content_limit - count))))
+  fit_long x e l = rw (whole_there x e) (too_long (omega arith) refl)
 
-  pub fit_late : (n : ℕ) → r ≡ Broken n → content_limit - count < n → Fits at to count f (Unfit 5 (at + (content_limit - count)))
+  pub fit_late : (n : ℕ) → r ≡ Err n → content_limit - count < n
+      → Fits at to count f (Err (refusal ContentOverLimit (at + (content_limit - count))))
   fit_late n e l = rw (broken_there n e) (late_fault {n = n} (omega arith) refl)
 
-  pub fit_broken : (n : ℕ) → r ≡ Broken n → count ≤ content_limit → n ≤ content_limit - count → Fits at to count f (Unfit 4 (at + n))
+  pub fit_broken : (n : ℕ) → r ≡ Err n → count ≤ content_limit → n ≤ content_limit - count
+      → Fits at to count f (Err (refusal NotOfGrammar (at + n)))
   fit_broken n e h l = rw (broken_there n e) (early_fault {n = n} (omega arith) refl)
 
 -- names ------------------------------------------------------------------------------------
@@ -177,7 +183,7 @@ module _ (s : List ℕ) (at : ℕ) (inside : at < length s) (start : name_start 
           rw q (cut_name s (C (b ∷ rest)) m (1 + length rest) end z
           (λ l. p.quiet (b ∷ rest) (get_or s end 0) (name_ended r l)) (p.going (b ∷ rest)) h)
 
-  pub name_fits : {x : Piece} (f : Fault) → spelled ≡ f → Fits at end 0 f x → NameRead s at x
+  pub name_fits : {x : Result Piece Refusal} (f : Fault) → spelled ≡ f → Fits at end 0 f x → NameRead s at x
   name_fits f q (fits {c = c} {n = n} e a l) =
       let k : c.at - at ≤ content_limit = omega arith in
       name_taken {c = c} {n = n} (rw e r) k (λ C p m y g v h.
@@ -186,33 +192,30 @@ module _ (s : List ℕ) (at : ℕ) (inside : at < length s) (start : name_start 
       let u : c.at - at ≡ 1 + length rest = omega (arith, rest_long) in
       let w : c.at ≡ at + 1 + length rest = omega (arith, rest_long, r.ends) in
       rw (u, w, name_is) at (h z o j)))
-  name_fits f q (too_long {j = j} l e) = name_unfit {x = 5} {j = j} (λ C p m y g.
+  name_fits f q (too_long {j = j} l e) = name_unfit {x = ContentOverLimit} {j = j} (λ C p m y g.
       too_many s m rest _ (at + 1) 1 (on y) (follows y g C p) (rest_here y g C p) (omega arith) (no_fault_in y g q)
       (omega (arith, rest_long)) ∙ ap (bad 5) (omega arith))
-  name_fits f q (late_fault {n = n} {j = j} l e) = name_unfit {x = 5} {j = j} (λ C p m y g.
+  name_fits f q (late_fault {n = n} {j = j} l e) = name_unfit {x = ContentOverLimit} {j = j} (λ C p m y g.
       let x = fault_at y g n q in
       too_late s m rest _ (at + 1) 1 (on y) (follows y g C p) (rest_here y g C p) (omega arith) x.1 (omega (arith, x.2))
       ∙ ap (bad 5) (omega arith))
-  name_fits f q (early_fault {n = n} {j = j} l e) = name_unfit {x = 4} {j = j} (λ C p m y g.
+  name_fits f q (early_fault {n = n} {j = j} l e) = name_unfit {x = NotOfGrammar} {j = j} (λ C p m y g.
       let x = fault_at y g n q in
       cut_off s m rest _ (at + 1) 1 (on y) (follows y g C p) (rest_here y g C p) x.1 (omega (arith, x.2)) (cut y g C p m)
       ∙ ap (bad 4) (omega (arith, x.2)))
 
-pub name_as : {s : List ℕ} {at : ℕ} {r q : Piece} → r ≡ q → NameRead s at r → NameRead s at q
-name_as {s} {at} e k = subst (NameRead s at) e k
-
-pub name_run : {s : List ℕ} {at n : ℕ} {c : Cursor} → NameRead s at (Taken c n) → Run name_byte s at c.at × (c.at - at ≤ content_limit)
+pub name_run : {s : List ℕ} {at n : ℕ} {c : Cursor} → NameRead s at (Ok (piece c n)) → Run name_byte s at c.at × (c.at - at ≤ content_limit)
 name_run (name_taken r l f) = (r, l)
 
 -- behind a name
-pub name_scan : {s : List ℕ} {at n : ℕ} {c : Cursor} → NameRead s at (Taken c n) → {C : Name → Config} → NamePlace C → (m : ℕ)
+pub name_scan : {s : List ℕ} {at n : ℕ} {c : Cursor} → NameRead s at (Ok (piece c n)) → {C : Name → Config} → NamePlace C → (m : ℕ)
     → {y : Spelling} → spell (start_of false) (get_or s at 0) ≡ spelling y → {v : Verdict}
     → ((z : Monitor) → is_on z ≡ true → at_rest z ≡ true → scan_at s (C (name_at s at)) z m (c.at - at) c.at ≡ v)
     → scan_at s (C (get_or s at 0 ∷ [])) (on y) m 1 (at + 1) ≡ v
 name_scan (name_taken r l f) {C} p m {y} e {v} g = f C p m y e v g
 
-pub name_stops : {s : List ℕ} {at x j : ℕ} → NameRead s at (Unfit x j) → {C : Name → Config} → NamePlace C → (m : ℕ) {y : Spelling}
-    → spell (start_of false) (get_or s at 0) ≡ spelling y → scan_at s (C (get_or s at 0 ∷ [])) (on y) m 1 (at + 1) ≡ bad x j
+pub name_stops : {s : List ℕ} {at j : ℕ} {x : Cause} → NameRead s at (Err (refusal x j)) → {C : Name → Config} → NamePlace C → (m : ℕ) {y : Spelling}
+    → spell (start_of false) (get_or s at 0) ≡ spelling y → scan_at s (C (get_or s at 0 ∷ [])) (on y) m 1 (at + 1) ≡ bad (number_of x) j
 name_stops (name_unfit f) {C} p m {y} e = f C p m y e
 
 pub quiet_either : {x y : Move} (t : Bool) → Quiet x → Quiet y → Quiet (cond t x y)

@@ -1,5 +1,5 @@
 -- Names of ASCII, which need no second reading, and the ASCII beginning of others.
-use Rattle.std.specs.Prelude.{ℕ, zero, suc, ◌+◌, ◌-◌, ◌≤◌, ◌<◌, ◌≡◌, refl, Bool, true, false, List, leb, ltb, length, get_or, take, drop}
+use Rattle.std.specs.Prelude.{ℕ, zero, suc, ◌+◌, ◌-◌, ◌≤◌, ◌<◌, ◌≡◌, refl, Bool, true, false, List, leb, ltb, length, get_or, take, drop, Ok, Err}
 use Rattle.std.proofs.Math.Path.{sym}
 use Rattle.std.proofs.Common.{◌∙◌, arith, drop-cons, leb-true, leb-false, ltb-true}
 use Rattle.tree.specs.Content.{content_limit, name_start, name_byte}
@@ -8,13 +8,14 @@ use Rattle.tree.specs.Laws.Tests.{and_left, and_right}
 use Rattle.xml.specs.Laws.Tokens.{span}
 use Rattle.xml.proofs.Laws.Tokens.{span_go, span_stop, span_some, span_behind}
 use Rattle.xml_tokens.specs.declared.Cursor.{Cursor}
-use Rattle.xml_tokens.specs.declared.Piece.TheVariants.{Taken, Unfit}
 use Rattle.xml_tokens.specs.Classes.{ascii_name}
 use Rattle.xml_tokens.specs.Steps.{Run, fits, too_long, NameRead}
 use Rattle.xml_tokens.specs.Laws.Classes.{name_ascii_byte}
 use Rattle.xml_tokens.specs.Laws.Runs.{Running, run_stop, run_end, run_passes}
 use Rattle.xml_tokens.specs.Laws.Spelling.{ascii_faultless}
 use Rattle.xml_tokens.specs.Laws.Letters.{start_name, name_fits}
+use Rattle.protocol.specs.declared.causes.Cause.TheVariants.{ContentOverLimit}
+use Rattle.xml_tokens.specs.Values.{refusal, piece}
 
 ascii_parts : (b : ℕ) → ascii_name b ≡ true → (b < 128) × (name_byte b ≡ true)
 unfolding ascii_name
@@ -67,8 +68,8 @@ module _ (s : List ℕ) (at i : ℕ) (r : Run ascii_name s at i) where
         (ascii_faultless (get_or s at 0) (take (span ascii_name (drop (suc at) s)) (drop (suc at) s)) start
         (ascii_parts (get_or s at 0) first_ascii).0 (run_passes ascii_name (drop (suc at) s)))
 
-    pub plain_long : content_limit < i - at → NameRead s at (Unfit 5 (at + 32))
+    pub plain_long : content_limit < i - at → NameRead s at (Err (refusal ContentOverLimit (at + 32)))
     plain_long h = name_fits s at inside start i ends_there faultless spelled (too_long (omega arith) refl)
 
-    pub plain_short : i - at ≤ content_limit → (c : Cursor) → c.at ≡ i → NameRead s at (Taken c (i - at))
+    pub plain_short : i - at ≤ content_limit → (c : Cursor) → c.at ≡ i → NameRead s at (Ok (piece c (i - at)))
     plain_short h c e = name_fits s at inside start i ends_there faultless spelled (fits {c = c} e (omega arith) h)

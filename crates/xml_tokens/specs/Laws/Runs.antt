@@ -1,5 +1,5 @@
 -- The loops over runs of bytes and over words.
-use Rattle.std.specs.Prelude.{ℕ, suc, ◌+◌, ◌≤◌, ◌<◌, ◌≡◌, refl, Bool, true, false, cond, List, [], ◌∷◌, get_or, take, drop}
+use Rattle.std.specs.Prelude.{ℕ, suc, ◌+◌, ◌≤◌, ◌<◌, ◌≡◌, refl, Bool, true, false, cond, List, [], ◌∷◌, get_or, take, drop, Result, Ok, Err}
 use Rattle.std.proofs.Common.{◌∙◌}
 use native.Mathlib.Omega.{arith}
 use Rattle.std.proofs.Math.Numerals.{add-one}
@@ -13,9 +13,10 @@ use Rattle.xml.proofs.Laws.Tokens.{span_end, span_stop, span_go}
 use Rattle.xml.specs.Laws.Fixed.{agree, word_at, reference_at}
 use Rattle.xml_tokens.specs.declared.Cursor.{Cursor}
 use Rattle.xml_tokens.specs.declared.Reference.{Reference}
-use Rattle.xml_tokens.specs.declared.Reference.TheVariants.{Byte, NoReference}
 use Rattle.byte_strings.specs.Agreement.{Agreement}
 use Rattle.xml_tokens.specs.Steps.{Run, Refers, refers, no_reference}
+use Rattle.xml_tokens.specs.Values.{mismatch, reference}
+use Rattle.xml_tokens.specs.declared.Mismatch.{Mismatch}
 
 -- a run: i is where the loop stands, from where it began
 unfoldable pub Running : (ℕ → Bool) → List ℕ → ℕ → ℕ → Type 0
@@ -50,18 +51,18 @@ run_passes t (b ∷ l) = go (t b) refl (run_passes t l)
 
 -- a reference
 module _ (w s : List ℕ) (value at n : ℕ) (a : Agreement w s at n) where
-  pub word_whole : (c : Cursor) → n ≡ length w → c.at ≡ at + n → Refers s at (word_at w value (drop at s)) (Byte value c)
+  pub word_whole : (c : Cursor) → n ≡ length w → c.at ≡ at + n → Refers s at (word_at w value (drop at s)) (Ok (reference value c))
   unfolding word_at
   word_whole c h e =
       let p : agree w (drop at s) ≡ length w = omega (arith, a.agrees) in
       rw (p, eq-eqb (length w) (length w) refl) (refers {n = length w} {c = c} (omega arith) (omega (arith, a.inside)))
 
-  pub word_part : (n ≡ length w → ⊥) → Refers s at (word_at w value (drop at s)) (NoReference (at + n))
+  pub word_part : (n ≡ length w → ⊥) → Refers s at (word_at w value (drop at s)) (Err (mismatch (at + n)))
   unfolding word_at
   word_part h = rw (← a.agrees, ne_eqb n (length w) h) (no_reference refl)
 
 -- which reference it can be, by the first two bytes
-module _ (s : List ℕ) (at : ℕ) (x : Reference) where
+module _ (s : List ℕ) (at : ℕ) (x : Result Reference Mismatch) where
   abbrev Is : List ℕ → ℕ → Type 0
   Is w value = Refers s at (word_at w value (drop at s)) x → Refers s at (reference_at (drop at s)) x
 

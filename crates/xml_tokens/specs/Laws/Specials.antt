@@ -1,6 +1,6 @@
 -- What may stand in a value or a text besides bytes that are characters by themselves: bytes from 128 on, and references.
 use Prim.Native.Nat.{ℕ, ◌+◌, ◌-◌, ◌≤◌, ◌<◌}
-use Rattle.std.specs.Prelude.{◌≡◌, Bool, ◌&&◌, leb, length, get_or, take}
+use Rattle.std.specs.Prelude.{◌≡◌, Bool, ◌&&◌, leb, length, get_or, take, Result, Ok, Err}
 use Rattle.std.proofs.Math.Path.{refl}
 use Rattle.std.proofs.Common.{sym, ap, ◌∙◌, subst, true≢false, arith, add-one, take-append-drop, length-take-le}
 use Rattle.std.proofs.Math.Bool.{true, false, cond, not}
@@ -31,15 +31,16 @@ use Rattle.xml.specs.Laws.Fixed.{word_at, agree, reference_at}
 use Rattle.xml.proofs.Laws.Fixed.{references_at}
 use Rattle.xml.proofs.Laws.Taken.{Follows, follows_none, follows_byte}
 use Rattle.xml_tokens.specs.declared.Cursor.{Cursor}
-use Rattle.xml_tokens.specs.declared.Reference.TheVariants.{Byte, NoReference}
 use Rattle.xml_tokens.specs.declared.Piece.{Piece}
-use Rattle.xml_tokens.specs.declared.Piece.TheVariants.{Taken, Unfit}
 use Rattle.xml_tokens.specs.Classes.{literal, alone, reads_as}
 use Rattle.xml_tokens.specs.Steps.{Run, Refers, refers, no_reference, Fits, fits, too_long, late_fault, early_fault, text_monitor}
 use Rattle.xml_tokens.specs.Steps.{Characters, SpecialRead, special_taken, special_unfit}
 use Rattle.xml_tokens.specs.Laws.Runs.{run_passes}
 use Rattle.xml_tokens.specs.Laws.Spelling.{text_seen, text_again}
 use Rattle.xml_tokens.specs.Laws.Letters.{all_taken, too_many, too_late, cut_off}
+use Rattle.protocol.specs.declared.causes.Cause.TheVariants.{NotOfGrammar, ContentOverLimit}
+use Rattle.xml_tokens.specs.Values.{refusal, mismatch, reference, piece}
+use Rattle.xml_tokens.specs.declared.Refusal.{Refusal}
 
 -- bytes from 128 on --------------------------------------------------------------------------
 
@@ -156,7 +157,7 @@ module _ (s : List ℕ) (at end count : ℕ) (inside : at < length s) (high : 12
         rw q (cut_text x s n (count + length l) 0 end z
         (λ i. leb-false 128 (get_or s end 0) (rw r.ends (span_behind (leb 128) s at (omega (arith, r.ends))))) h)
 
-  pub special_fits : {y : Piece} (f : Fault) → spelled ≡ f → Fits at end count f y → SpecialRead s at count y
+  pub special_fits : {y : Result Piece Refusal} (f : Fault) → spelled ≡ f → Fits at end count f y → SpecialRead s at count y
   special_fits f q (fits {c = c} {n = n} e a o) = special_taken {c = c} {n = n} (omega (arith, some)) (omega (arith, r.inside)) o
       (λ stop C R D x k m.
       all_taken s m l _ at count text_monitor (follows x k) there (faults q) (omega (arith, long))
@@ -164,11 +165,11 @@ module _ (s : List ℕ) (at end count : ℕ) (inside : at < length s) (high : 12
       let u : count + length l ≡ n = omega (arith, long) in
       let v : at + length l ≡ c.at = omega (arith, long, some) in
       rw (u, v, text_again l z i j)))
-  special_fits f q (too_long {j = j} o e) = special_unfit {x = 5} {j = j} (λ stop C R D x k n.
+  special_fits f q (too_long {j = j} o e) = special_unfit {x = ContentOverLimit} {j = j} (λ stop C R D x k n.
       too_many s n l _ at count text_monitor (follows x k) there m (faults q) (omega (arith, long)) ∙ ap (bad 5) (sym e))
-  special_fits f q (late_fault {n = a} {j = j} o e) = special_unfit {x = 5} {j = j} (λ stop C R D x k n.
+  special_fits f q (late_fault {n = a} {j = j} o e) = special_unfit {x = ContentOverLimit} {j = j} (λ stop C R D x k n.
       too_late s n l _ at count text_monitor (follows x k) there m (faults q) o ∙ ap (bad 5) (sym e))
-  special_fits f q (early_fault {n = a} {j = j} o e) = special_unfit {x = 4} {j = j} (λ stop C R D x k n.
+  special_fits f q (early_fault {n = a} {j = j} o e) = special_unfit {x = NotOfGrammar} {j = j} (λ stop C R D x k n.
       cut_off s n l _ at count text_monitor (follows x k) there (faults q) o (cut x n) ∙ ap (bad 4) (sym e))
 
 -- references ---------------------------------------------------------------------------------
@@ -203,7 +204,7 @@ known l =
     (known_word quot 34 l refl (omega arith)))))
 
 -- a reference ends behind its ampersand and inside the input
-pub reference_inside : {s : List ℕ} {i b : ℕ} {c : Cursor} {q : Reach} → Refers s (i + 1) q (Byte b c) → (i < c.at) × (c.at ≤ length s)
+pub reference_inside : {s : List ℕ} {i b : ℕ} {c : Cursor} {q : Reach} → Refers s (i + 1) q (Ok (reference b c)) → (i < c.at) × (c.at ≤ length s)
 reference_inside (refers o m) = (omega arith, m)
 
 not_alone : (b : ℕ) → alone b ≡ false → b < 128 → b ≡ ampersand
@@ -219,9 +220,9 @@ module _ (s : List ℕ) (i count : ℕ) (h : i < length s) (other : alone (get_o
       → step true (C k) (get_or s i 0) ≡ to (R references)
   referring {C = C} x k = ap (step true (C k)) (not_alone (get_or s i 0) other low) ∙ x.refers_to k
 
-  pub special_full : count ≡ content_limit → SpecialRead s i count (Unfit 5 i)
+  pub special_full : count ≡ content_limit → SpecialRead s i count (Err (refusal ContentOverLimit i))
   unfolding births tail peak
-  special_full q = special_unfit {x = 5} {j = i} (λ stop C R D x k n.
+  special_full q = special_unfit {x = ContentOverLimit} {j = i} (λ stop C R D x k n.
       scan_full s (C k) n i h (R references) [] (referring x k) text_monitor text_monitor (monitor_quiet text_monitor refl) refl count
       (omega (arith, x.due references)))
 
@@ -249,21 +250,22 @@ module _ (s : List ℕ) (i count : ℕ) (h : i < length s) (other : alone (get_o
             (λ b. omega (arith, x.calm 0)) (drop (i + 1) s) references (i + 1) refl (rw e tt)
             ∙ rw e
 
-    pub special_lost : {j : ℕ} → Refers s (i + 1) (reference_at (drop (i + 1) s)) (NoReference j) → SpecialRead s i count (Unfit 4 j)
-    special_lost {j} r = special_unfit {x = 4} {j = j} (λ stop C R D x k n. landed x k n ∙ go (reference_at (drop (i + 1) s)) r C n)
+    pub special_lost : {j : ℕ} → Refers s (i + 1) (reference_at (drop (i + 1) s)) (Err (mismatch j))
+        → SpecialRead s i count (Err (refusal NotOfGrammar j))
+    special_lost {j} r = special_unfit {x = NotOfGrammar} {j = j} (λ stop C R D x k n. landed x k n ∙ go (reference_at (drop (i + 1) s)) r C n)
       where
-        go : (q : Reach) → Refers s (i + 1) q (NoReference j) → (C : ℕ → Config) (n : ℕ)
+        go : (q : Reach) → Refers s (i + 1) q (Err (mismatch j)) → (C : ℕ → Config) (n : ℕ)
             → Landed s (C 0) (λ b. byte b ∷ []) (λ b. text_monitor) n count (i + 1) q ≡ bad 4 j
         go q (no_reference o) C n = ap (bad 4) (sym o)
 
-    pub special_reference : {b : ℕ} {c : Cursor} → Refers s (i + 1) (reference_at (drop (i + 1) s)) (Byte b c)
-        → SpecialRead s i count (Taken c (count + 1))
+    pub special_reference : {b : ℕ} {c : Cursor} → Refers s (i + 1) (reference_at (drop (i + 1) s)) (Ok (reference b c))
+        → SpecialRead s i count (Ok (piece c (count + 1)))
     unfolding tail
     special_reference {b} {c} r =
         let t = reference_inside r in
         special_taken {c = c} {n = count + 1} t.0 t.1 (omega arith)
         (λ stop C R D x k n. landed x k n ∙ go (reference_at (drop (i + 1) s)) r C n)
       where
-        go : (q : Reach) → Refers s (i + 1) q (Byte b c) → (C : ℕ → Config) (n : ℕ)
+        go : (q : Reach) → Refers s (i + 1) q (Ok (reference b c)) → (C : ℕ → Config) (n : ℕ)
             → Landed s (C 0) (λ b. byte b ∷ []) (λ b. text_monitor) n count (i + 1) q ≡ scan_at s (C 0) text_monitor n (count + 1) c.at
         go q (refers {n = m} o a) C n = rw o (ap (λ (j : ℕ). scan_at s (C 0) text_monitor n j (i + 1 + m)) (sym (add-one count)))

@@ -1,12 +1,13 @@
 -- Parts of a start tag: its end, the way to an attribute's name, the way from the name to the opening quote. Behind a <: which tag it is.
 -- The end of an end tag.
-use Rattle.std.specs.Prelude.{ℕ, suc, ◌+◌, ◌-◌, ◌≤◌, ◌<◌, ◌≡◌, Bool, false, eqb, length, get_or, drop}
+use Rattle.std.specs.Prelude.{ℕ, suc, ◌+◌, ◌-◌, ◌≤◌, ◌<◌, ◌≡◌, Bool, false, eqb, nat_lt, leb, length, get_or, drop, Result, Ok, Err}
 use Rattle.std.proofs.Math.Path.{refl, subst}
 use Rattle.std.proofs.Common.{sym, ap, ◌∙◌, add-one}
 use Rattle.std.proofs.Math.Bool.{true}
+use Rattle.std.proofs.lemmas.Grind.{get_or_default_zero}
 use mathlib.Core.List.{List, [], ◌∷◌}
 use native.Mathlib.Omega.{arith}
-use borrow.Author.Tests.{ne_eqb, eqb-true, eqb-false}
+use borrow.Author.Tests.{ne_eqb, eqb-true, eqb-false, ltb-true, leb-true, leb-false}
 use Rattle.tree.specs.Content.{name_start}
 use Rattle.xml.specs.Bytes.{blank, slash, greater_than, equals_sign, quotation_mark, apostrophe, Quote, double, single, quote_byte}
 use Rattle.xml.specs.Grammar.{Name}
@@ -23,13 +24,14 @@ use Rattle.xml.proofs.Laws.Tokens.{span_go, span_some, span_byte, span_behind}
 use Rattle.xml.specs.Laws.Tells.{Passes}
 use Rattle.xml.proofs.Laws.Tells.{passes_then, passes_same, passes_step, passes_blanks}
 use Rattle.xml_tokens.specs.declared.Cursor.{Cursor}
-use Rattle.xml_tokens.specs.declared.End.TheVariants.{Behind, Mismatch}
-use Rattle.xml_tokens.specs.declared.Markup.TheVariants.{EndTag, NoTag}
-use Rattle.xml_tokens.specs.declared.Equals.TheVariants.{Quoted, NoQuote}
+use Rattle.xml_tokens.specs.declared.Markup.TheVariants.{EndTag}
 use Rattle.xml_tokens.specs.declared.Item.{Item}
-use Rattle.xml_tokens.specs.declared.Item.TheVariants.{Open, Empty, Attribute, Wrong}
-use Rattle.xml_tokens.specs.Steps.{Run, EqualsRead, quoted, no_quote, TagRead, tag_open, tag_empty, tag_attribute, tag_wrong}
+use Rattle.xml_tokens.specs.declared.Item.TheVariants.{Open, Empty, Attribute}
+use Rattle.xml_tokens.specs.Steps.{Run, ByteRead, byte_there, byte_missing, EqualsRead, quoted, no_quote}
+use Rattle.xml_tokens.specs.Steps.{TagRead, tag_open, tag_empty, tag_attribute, tag_wrong}
 use Rattle.xml_tokens.specs.Steps.{TagPlace, SlashRead, MarkupRead, markup_end, markup_wrong, CloseRead, close_behind, close_wrong}
+use Rattle.xml_tokens.specs.Values.{mismatch, opening}
+use Rattle.xml_tokens.specs.declared.Mismatch.{Mismatch}
 
 pub behind_place : TagPlace behind_part
 unfolding step
@@ -50,14 +52,23 @@ no_opener s i h = rw add-one (offset_at s (suc i) h)
 blank_no_opener : (b : ℕ) → blank b ≡ true → opener b ≡ false
 blank_no_opener b h = for_blanks (λ b. opener b ≡ false) refl refl refl b h
 
+-- one byte ----------------------------------------------------------------------------------
+
+-- what looking up a byte finds
+pub found : (s : List ℕ) (i b : ℕ) → true ≡ nat_lt i (length s) → b ≡ get_or s i b → (i < length s) × (get_or s i 0 ≡ b)
+found s i b e f = let h : i < length s = ltb-true i (length s) (sym e) in (h, sym (f ∙ get_or_default_zero s i b h))
+
+pub byte_found : {s : List ℕ} {i b : ℕ} {c : Cursor} → ByteRead s i b (Ok c) → (c.at ≡ i + 1) × (i < length s) × (get_or s i 0 ≡ b)
+byte_found (byte_there p h e) = (p, h, e)
+
 -- the end of a start tag ---------------------------------------------------------------------
 
 module _ (s : List ℕ) (i : ℕ) (F : Name → List Name → List Name → Config) (place : TagPlace F) where
-  pub place_end : length s ≤ i → TagRead s F i (Wrong i)
+  pub place_end : length s ≤ i → TagRead s F i (Err (mismatch i))
   place_end h = tag_wrong {j = i} (λ w n ns seen m. stops_end s (F n ns seen) m i h (place.calm n ns seen))
 
   module _ (h : i < length s) where
-    pub place_close : (c : Cursor) → get_or s i 0 ≡ greater_than → c.at ≡ i + 1 → TagRead s F i (Open c)
+    pub place_close : (c : Cursor) → get_or s i 0 ≡ greater_than → c.at ≡ i + 1 → TagRead s F i (Ok (Open c))
     unfolding tag_step blank name_start
     place_close c e p =
         tag_open {c = c} (omega arith) (omega arith) (rw p (no_opener s i (rw e)))
@@ -68,16 +79,16 @@ module _ (s : List ℕ) (i : ℕ) (F : Name → List Name → List Name → Conf
     place_slash n ns seen e = passes_step s (F n ns seen) i h (behind_slash ns) (rw e (place.alike n ns seen slash refl)) refl
 
     module _ (e : get_or s i 0 ≡ slash) where
-      pub slash_end : length s ≤ i + 1 → TagRead s F i (Wrong (i + 1))
+      pub slash_end : length s ≤ i + 1 → TagRead s F i (Err (mismatch (i + 1)))
       slash_end k =
           tag_wrong {j = i + 1} (λ w n ns seen m. ((place_slash n ns seen e).goes m).back _ (stops_end s (behind_slash ns) m (i + 1) k refl))
 
-      pub slash_wrong : i + 1 < length s → (get_or s (i + 1) 0 ≡ greater_than → ⊥) → TagRead s F i (Wrong (i + 1))
+      pub slash_wrong : i + 1 < length s → (get_or s (i + 1) 0 ≡ greater_than → ⊥) → TagRead s F i (Err (mismatch (i + 1)))
       unfolding step
       slash_wrong k o = tag_wrong {j = i + 1} (λ w n ns seen m. ((place_slash n ns seen e).goes m).back _
           (stops_stuck s (behind_slash ns) m (i + 1) k (rw (ne_eqb (get_or s (i + 1) 0) greater_than o))))
 
-      pub slash_close : (c : Cursor) → i + 1 < length s → get_or s (i + 1) 0 ≡ greater_than → c.at ≡ i + 1 + 1 → TagRead s F i (Empty c)
+      pub slash_close : (c : Cursor) → i + 1 < length s → get_or s (i + 1) 0 ≡ greater_than → c.at ≡ i + 1 + 1 → TagRead s F i (Ok (Empty c))
       unfolding step
       slash_close c k o p =
           tag_empty {c = c} (omega arith) (omega arith) (rw p (no_opener s (i + 1) (rw o)))
@@ -87,10 +98,23 @@ module _ (s : List ℕ) (i : ℕ) (F : Name → List Name → List Name → Conf
     -- no such byte
     pub place_wrong : blank (get_or s i 0) ≡ false → (get_or s i 0 ≡ slash → ⊥) → (get_or s i 0 ≡ greater_than → ⊥)
         → name_start (get_or s i 0) ≡ false
-        → TagRead s F i (Wrong i)
+        → TagRead s F i (Err (mismatch i))
     unfolding tag_step
     place_wrong a b d e = tag_wrong {j = i} (λ w n ns seen m. stops_stuck s (F n ns seen) m i h
         (place.alike n ns seen (get_or s i 0) e ∙ rw (a, ne_eqb (get_or s i 0) slash b, ne_eqb (get_or s i 0) greater_than d)))
+
+-- an empty-element tag from its slash on
+module _ (s : List ℕ) (i : ℕ) (h : i < length s) (e : get_or s i 0 ≡ slash) where
+  pub slash_closed : {c : Cursor} → ByteRead s (i + 1) greater_than (Ok c) → SlashRead s i (Ok (Empty c))
+  slash_closed (byte_there {c = c} p k o) = record { reads = λ F q. slash_close s i F q h e c k o p }
+
+  pub slash_lost : {j : ℕ} → ByteRead s (i + 1) greater_than (Err (mismatch j)) → SlashRead s i (Err (mismatch j))
+  slash_lost (byte_missing p n) = record { reads = λ F q. rw p (go F q (leb (length s) (i + 1)) refl) }
+    where
+      go : (F : Name → List Name → List Name → Config) → TagPlace F → (t : Bool) → leb (length s) (i + 1) ≡ t
+          → TagRead s F i (Err (mismatch (i + 1)))
+      go F q true x = slash_end s i F q h e (leb-true (length s) (i + 1) x)
+      go F q false x = let k = leb-false (length s) (i + 1) x in slash_wrong s i F q h e k (n k)
 
 -- behind a name or a value, with the blanks there --------------------------------------------
 
@@ -112,7 +136,7 @@ module _ (s : List ℕ) (at i : ℕ) (r : Run blank s at i) where
       last a b = omega (arith, r.ends, span_go blank s at a b)
 
   -- what is read behind them
-  behind_spaces : {x : Item} → at < i → TagRead s in_tag i x → TagRead s behind_part at x
+  behind_spaces : {x : Result Item Mismatch} → at < i → TagRead s in_tag i x → TagRead s behind_part at x
   behind_spaces h (tag_open {c = c} a b d f) =
       tag_open {c = c} (omega arith) b d (λ n ns seen. passes_then (spaces h n ns seen) (f n ns seen))
   behind_spaces h (tag_empty {c = c} a b d f) =
@@ -121,7 +145,7 @@ module _ (s : List ℕ) (at i : ℕ) (r : Run blank s at i) where
       tag_attribute {c = c} (omega arith) b d e (λ n ns seen. passes_then (spaces h n ns seen) (f n ns seen))
   behind_spaces h (tag_wrong {j = j} f) = tag_wrong {j = j} (λ w n ns seen m. ((spaces h n ns seen).goes m).back _ (f w n ns seen m))
 
-  pub part_any : {x : Item} → SlashRead s i x → TagRead s behind_part at x
+  pub part_any : {x : Result Item Mismatch} → SlashRead s i x → TagRead s behind_part at x
   part_any {x} f = go (eqb i at) refl
     where
       go : (y : Bool) → eqb i at ≡ y → TagRead s behind_part at x
@@ -134,13 +158,13 @@ module _ (s : List ℕ) (at i : ℕ) (r : Run blank s at i) where
     no_blank_here = rw r.ends (span_behind blank s at (omega (arith, r.ends)))
 
     -- no blank before a name
-    pub part_joined : i ≡ at → (get_or s i 0 ≡ slash → ⊥) → (get_or s i 0 ≡ greater_than → ⊥) → TagRead s behind_part at (Wrong i)
+    pub part_joined : i ≡ at → (get_or s i 0 ≡ slash → ⊥) → (get_or s i 0 ≡ greater_than → ⊥) → TagRead s behind_part at (Err (mismatch i))
     unfolding step tag_step
-    part_joined p b d = subst (λ (j : ℕ). TagRead s behind_part j (Wrong i)) p
+    part_joined p b d = subst (λ (j : ℕ). TagRead s behind_part j (Err (mismatch i))) p
         (tag_wrong {j = i} (λ w n ns seen m. stops_stuck s (behind_part n ns seen) m i h
         (rw (no_blank_here, ne_eqb (get_or s i 0) slash b, ne_eqb (get_or s i 0) greater_than d))))
 
-    pub part_attribute : (i ≡ at → ⊥) → name_start (get_or s i 0) ≡ true → (c : Cursor) → c.at ≡ i → TagRead s behind_part at (Attribute c)
+    pub part_attribute : (i ≡ at → ⊥) → name_start (get_or s i 0) ≡ true → (c : Cursor) → c.at ≡ i → TagRead s behind_part at (Ok (Attribute c))
     part_attribute p e c q =
         let x = span_byte blank s (i - at - 1) at (omega (arith, r.ends)) in
         let u : at + (i - at - 1) ≡ i - 1 = omega (arith, r.ends) in
@@ -151,7 +175,7 @@ module _ (s : List ℕ) (at i : ℕ) (r : Run blank s at i) where
         (λ n ns seen. passes_then (spaces l n ns seen) (passes_same s (in_tag n ns seen) i c.at (sym q)))
 
     pub part_wrong : (i ≡ at → ⊥) → (get_or s i 0 ≡ slash → ⊥) → (get_or s i 0 ≡ greater_than → ⊥) → name_start (get_or s i 0) ≡ false
-        → TagRead s behind_part at (Wrong i)
+        → TagRead s behind_part at (Err (mismatch i))
     part_wrong p b d e = behind_spaces (omega (arith, r.ends)) (place_wrong s i in_tag in_place h no_blank_here b d e)
 
 -- from behind an attribute's name to its value -------------------------------------------------
@@ -163,11 +187,11 @@ module _ (s : List ℕ) (at i : ℕ) (r : Run blank s at i) where
       passes_then (passes_blanks s (before_equals n ns seen) (λ b e. rw e) refl at)
       (passes_same s (before_equals n ns seen) _ i (sym r.ends))
 
-  pub sign_end : length s ≤ i → EqualsRead s at (NoQuote i)
+  pub sign_end : length s ≤ i → EqualsRead s at (Err (mismatch i))
   sign_end h = no_quote {j = i} (λ w n ns seen m. ((to_sign n ns seen).goes m).back _ (stops_end s (before_equals n ns seen) m i h refl))
 
   module _ (h : i < length s) where
-    pub sign_wrong : (get_or s i 0 ≡ equals_sign → ⊥) → EqualsRead s at (NoQuote i)
+    pub sign_wrong : (get_or s i 0 ≡ equals_sign → ⊥) → EqualsRead s at (Err (mismatch i))
     unfolding step
     sign_wrong e = no_quote {j = i} (λ w n ns seen m. ((to_sign n ns seen).goes m).back _
         (stops_stuck s (before_equals n ns seen) m i h (rw (no_blank_here s at i r h, ne_eqb (get_or s i 0) equals_sign e))))
@@ -181,18 +205,18 @@ module _ (s : List ℕ) (at i : ℕ) (r : Run blank s at i) where
           (passes_then (passes_blanks s (behind_equals n ns seen) (λ b z. rw z) refl (i + 1))
           (passes_same s (behind_equals n ns seen) _ j (sym q.ends))))
 
-      pub quote_end : length s ≤ j → EqualsRead s at (NoQuote j)
+      pub quote_end : length s ≤ j → EqualsRead s at (Err (mismatch j))
       quote_end k =
           no_quote {j = j} (λ w n ns seen m. ((to_quote n ns seen).goes m).back _ (stops_end s (behind_equals n ns seen) m j k refl))
 
       module _ (k : j < length s) where
-        pub quote_wrong : (get_or s j 0 ≡ quotation_mark → ⊥) → (get_or s j 0 ≡ apostrophe → ⊥) → EqualsRead s at (NoQuote j)
+        pub quote_wrong : (get_or s j 0 ≡ quotation_mark → ⊥) → (get_or s j 0 ≡ apostrophe → ⊥) → EqualsRead s at (Err (mismatch j))
         unfolding step
         quote_wrong a b = no_quote {j = j} (λ w n ns seen m. ((to_quote n ns seen).goes m).back _
             (stops_stuck s (behind_equals n ns seen) m j k
             (rw (no_blank_here s (i + 1) j q k, ne_eqb (get_or s j 0) quotation_mark a, ne_eqb (get_or s j 0) apostrophe b))))
 
-        pub quote_read : (x : Quote) (c : Cursor) → get_or s j 0 ≡ quote_byte x → c.at ≡ j + 1 → EqualsRead s at (Quoted (quote_byte x) c)
+        pub quote_read : (x : Quote) (c : Cursor) → get_or s j 0 ≡ quote_byte x → c.at ≡ j + 1 → EqualsRead s at (Ok (opening (quote_byte x) c))
         unfolding step blank
         quote_read x c o p =
             let u : j + 1 - 1 ≡ j = omega arith in
@@ -206,25 +230,33 @@ module _ (s : List ℕ) (at i : ℕ) (r : Run blank s at i) where
             opens double n ns seen = refl
             opens single n ns seen = refl
 
-            opening : (x : Quote) → opener (quote_byte x) ≡ true
-            opening double = refl
-            opening single = refl
+            is_opener : (x : Quote) → opener (quote_byte x) ≡ true
+            is_opener double = refl
+            is_opener single = refl
 
             before : (x : Quote) → get_or s j 0 ≡ quote_byte x → node_offset s (j + 1) ≡ j
-            before x o = let z = (offset_before s (suc j) (ap opener o ∙ opening x)).0 in rw add-one (z ∙ omega arith)
+            before x o = let z = (offset_before s (suc j) (ap opener o ∙ is_opener x)).0 in rw add-one (z ∙ omega arith)
+
+module _ (s : List ℕ) (at i : ℕ) (r : Run blank s at i) where
+  pub sign_lost : {j : ℕ} → ByteRead s i equals_sign (Err (mismatch j)) → EqualsRead s at (Err (mismatch j))
+  sign_lost (byte_missing p n) = rw p (go (leb (length s) i) refl)
+    where
+      go : (t : Bool) → leb (length s) i ≡ t → EqualsRead s at (Err (mismatch i))
+      go true x = sign_end s at i r (leb-true (length s) i x)
+      go false x = let h = leb-false (length s) i x in sign_wrong s at i r h (n h)
 
 -- which tag it is, behind a < --------------------------------------------------------------------
 
 module _ (s : List ℕ) (at : ℕ) where
-  pub markup_over : length s ≤ at → MarkupRead s at (NoTag at)
+  pub markup_over : length s ≤ at → MarkupRead s at (Err (mismatch at))
   markup_over h = markup_wrong {j = at} (λ w n ns m. stops_end s (behind_open n ns) m at h refl)
 
   module _ (h : at < length s) where
-    pub markup_slash : (c : Cursor) → get_or s at 0 ≡ slash → c.at ≡ at + 1 → MarkupRead s at (EndTag c)
+    pub markup_slash : (c : Cursor) → get_or s at 0 ≡ slash → c.at ≡ at + 1 → MarkupRead s at (Ok (EndTag c))
     unfolding step name_start
     markup_slash c e p = markup_end {c = c} p h (λ n ns. rw p (passes_step s (behind_open n ns) at h (end_name n ns n) (rw e) refl))
 
-    pub markup_other : (get_or s at 0 ≡ slash → ⊥) → name_start (get_or s at 0) ≡ false → MarkupRead s at (NoTag at)
+    pub markup_other : (get_or s at 0 ≡ slash → ⊥) → name_start (get_or s at 0) ≡ false → MarkupRead s at (Err (mismatch at))
     unfolding step
     markup_other e f =
         markup_wrong {j = at} (λ w n ns m. stops_stuck s (behind_open n ns) m at h (rw (f, ne_eqb (get_or s at 0) slash e)))
@@ -237,17 +269,25 @@ module _ (s : List ℕ) (at i : ℕ) (r : Run blank s at i) where
   to_close n ns =
       passes_then (passes_blanks s (end_name n ns []) (λ b e. rw e) refl at) (passes_same s (end_name n ns []) _ i (sym r.ends))
 
-  pub close_over : length s ≤ i → CloseRead s at (Mismatch i)
+  pub close_over : length s ≤ i → CloseRead s at (Err (mismatch i))
   close_over h = close_wrong {j = i} (λ w n ns m. ((to_close n ns).goes m).back _ (stops_end s (end_name n ns []) m i h refl))
 
   module _ (h : i < length s) where
-    pub close_other : (get_or s i 0 ≡ greater_than → ⊥) → CloseRead s at (Mismatch i)
+    pub close_other : (get_or s i 0 ≡ greater_than → ⊥) → CloseRead s at (Err (mismatch i))
     unfolding step
     close_other e = close_wrong {j = i} (λ w n ns m. ((to_close n ns).goes m).back _
         (stops_stuck s (end_name n ns []) m i h (rw (no_blank_here s at i r h, ne_eqb (get_or s i 0) greater_than e))))
 
-    pub close_here : (c : Cursor) → get_or s i 0 ≡ greater_than → c.at ≡ i + 1 → CloseRead s at (Behind c)
+    pub close_here : (c : Cursor) → get_or s i 0 ≡ greater_than → c.at ≡ i + 1 → CloseRead s at (Ok c)
     unfolding step blank
     close_here c e p =
         close_behind {c = c} (omega (arith, r.ends)) (omega arith) (rw p (no_opener s i (rw e)))
         (λ n ns. passes_then (to_close n ns) (rw p (passes_step s (end_name n ns []) i h (closed ns) (rw e) (calm_closed ns))))
+
+  pub close_read : {x : Result Cursor Mismatch} → ByteRead s i greater_than x → CloseRead s at x
+  close_read (byte_there {c = c} p h e) = close_here h c e p
+  close_read (byte_missing p n) = rw p (go (leb (length s) i) refl)
+    where
+      go : (t : Bool) → leb (length s) i ≡ t → CloseRead s at (Err (mismatch i))
+      go true x = close_over (leb-true (length s) i x)
+      go false x = let h = leb-false (length s) i x in close_other h (n h)

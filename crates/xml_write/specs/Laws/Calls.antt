@@ -1,5 +1,5 @@
 -- The whole call: each answer is the definition's.
-use Rattle.std.specs.Prelude.{◌≡◌, ℕ, ◌≤◌, ◌<◌, Bool, ◌&&◌, List, length}
+use Rattle.std.specs.Prelude.{◌≡◌, ℕ, ◌≤◌, ◌<◌, Bool, ◌&&◌, List, length, Some, None}
 use Rattle.std.proofs.Math.Path.{refl}
 use Rattle.std.proofs.Common.{sym, ap, ◌∙◌, true≢false, arith}
 use Rattle.std.proofs.Math.Bool.{true, false, cond}
@@ -16,12 +16,12 @@ use Rattle.table.specs.Layout.{nodes}
 use Rattle.form.specs.Form.{form, Holds}
 use Rattle.form.specs.Laws.Holds.{holds_form}
 use Rattle.xml.specs.Writing.{write, expressible}
-use Rattle.xml_text.specs.Rows.{measured, written_rows}
+use Rattle.xml_text.specs.Rows.{Line, measured, written_rows}
 use Rattle.xml_text.specs.Lending.{Wrote}
 use Rattle.xml_text.specs.Laws.Documents.{written_is, measured_is}
 use Rattle.xml_text.specs.Laws.Rules.{legal_ordered}
 use Rattle.xml_measure.specs.declared.committed.Rows.{Rows}
-use Rattle.xml_measure.specs.Lines.{lines, Selected}
+use Rattle.xml_measure.specs.Lines.{lines, Selected, Measured, is_none, is_length}
 use Rattle.xml_write.specs.Laws.Documents.{root_content, root_below, rooted_shape, lines_of}
 use Rattle.xml_write.specs.Contract.{writable, writing, text_after, write_answer, write_buffer, Written}
 
@@ -62,6 +62,13 @@ module _ (s o o' : List ℕ) (r : Answer) (f : form s ≡ true) where
 write_some : (d : Document) → 1 ≤ length (write d)
 unfolding write
 write_some d = omega arith
+
+-- what measuring found: no length, or one
+pub none_measured : (l : List Line) → Measured l None → 0 ≡ measured l
+none_measured l (is_none e) = sym e
+
+pub length_measured : (l : List Line) (n : ℕ) → Measured l (Some n) → (n ≡ measured l) × (1 ≤ n)
+length_measured l n (is_length e some most) = (e, some)
 
 -- n is the length that was measured
 module _ {s : List ℕ} {w : Rows} {n : ℕ} (f : form s ≡ true) (c : Selected (nodes s) w)

@@ -1,6 +1,6 @@
 -- The loops over open nodes and over rows.
 use Rattle.std.specs.Prelude.{◌≡◌, refl, get_or, take, set}
-use Rattle.std.proofs.Common.{sym, ◌∙◌, Fits, get_or-set_same}
+use Rattle.std.proofs.Common.{sym, ◌∙◌, get_or-set_same, length-set, length-take, length-drop, get_or-take, get_or-drop}
 use Rattle.std.proofs.Math.Path.{ap}
 use Prim.Native.Nat.{ℕ, zero, suc, ◌+◌, ◌-◌, ◌≤◌, ◌<◌}
 use mathlib.Core.List.{List, [], ◌∷◌, ◌++◌, append-nil}
@@ -8,19 +8,33 @@ use native.Mathlib.Omega.{arith}
 use Rattle.std.proofs.Math.Numerals.{add-one}
 use Rattle.std.proofs.Math.ListN.{length, drop, drop_of_length-le}
 use borrow.Rule.Slice.PartMut.{put_mid}
-use Rattle.std.specs.Int.{w64}
-use Rattle.table.specs.Layout.{Entry, Layout, nodes}
+use Rattle.table.specs.Layout.{Entry}
 use Rattle.rows.specs.Places.{depth}
 use Rattle.xml.specs.Shape.{Label}
 use Rattle.xml_text.specs.Rows.{begin, end, ends, previous_of, emit, body}
 use Rattle.xml_measure.specs.Lines.{label_at, line_at, lines, Listed}
 use Rattle.xml_measure.specs.Laws.Lines.{length_lines, lines_from}
 use Rattle.xml_measure.specs.Walk.{open_labels, OnPath, OfKinds, previous_kind, Walk}
-use Rattle.xml_measure.specs.Laws.Walk.{previous_is, length_open, parent_is, opened_is, walk_below, walk_steps, walk_deep}
-use Rattle.xml_text.specs.Lending.{Wrote, wrote_as, front, inside, room, sum_fits, behind, Partly, partly_start, partly_as, partly_end}
+use Rattle.xml_measure.specs.Laws.Walk.{previous_is, length_open, parent_is, opened_is, walk_below, walk_steps, walk_deep, walk_on, row_low, row_deep}
+use Rattle.xml_text.specs.Lending.{Wrote, wrote_as, front, room, behind, Partly, partly_as, partly_end}
 use Rattle.xml_write.specs.Texts.{of_kind, row_text}
 use Rattle.xml_text.specs.Laws.Next.{Next, next}
 use Rattle.xml_write.specs.Laws.Pieces.{begin_kind}
+
+-- one node is open, at the place p and of kind k
+module _ {l : List Entry} (path kinds : List ℕ) (p k : ℕ) (m : length path ≡ 1024) (n : length kinds ≡ 1024) where
+  pub path_start : p < length l → OnPath l (set path 0 p) 0
+  path_start h = record {
+    long = length-set path 0 p ∙ m;
+    deep = omega arith;
+    inside = λ j i. let z : j ≡ 0 = omega arith in rw (z, get_or-set_same path 0 p 0 (omega arith)) h;
+  }
+
+  pub kinds_start : k ≡ (label_at l p).kind → OfKinds l (set path 0 p) (set kinds 0 k) 0
+  kinds_start e = record {
+    long = length-set kinds 0 k ∙ n;
+    same = λ j i. let z : j ≡ 0 = omega arith in rw (z, get_or-set_same kinds 0 k 0 (omega arith), get_or-set_same path 0 p 0 (omega arith)) e;
+  }
 
 -- one open node more ends
 pub ends_more : (l : List Entry) (path : List ℕ) (e d last : ℕ) → d < e
@@ -42,43 +56,24 @@ pub record EndsTo (l : List Entry) (path : List ℕ) (top d : ℕ) (o₀ o : Lis
   pub most : e ≤ suc top
   pub partly : Partly (ends (suc top - d) (open_labels l path (suc top)) 0) (ends (e - d) (open_labels l path e) last) o₀ o at
 
-pub ends_start : {l : List Entry} {path o : List ℕ} {top d : ℕ} → EndsTo l path top d o o 0 0 (top + 1)
-ends_start {top = top} = rw (add-one top) (record { most = omega arith; partly = partly_start _ _ })
-
 pub ends_over : {l : List Entry} {path o₀ o : List ℕ} {top d at last e : ℕ} → EndsTo l path top d o₀ o at last e → e ≤ d
     → Wrote (ends (suc top - d) (open_labels l path (suc top)) 0) o₀ o at
 ends_over {l} {path} {d = d} {last = last} {e = e} x h = partly_end (partly_as (ends_none (open_labels l path e) e d last h) x.partly)
 
--- the next end is that of the node at depth e - 1
-pub record EndsOn (l : List Entry) (path kinds : List ℕ) (top d : ℕ) (o₀ o : List ℕ) (at last e : ℕ) : Type 0 where
-  pub index : e - 1 < 1024
-  pub place : get_or path (e - 1) 0 < length l
-  pub small_place : get_or path (e - 1) 0 < 1024
-  pub kind : get_or kinds (e - 1) 0 ≡ (label_at l (get_or path (e - 1) 0)).kind
-  pub piece : Next (end (label_at l (get_or path (e - 1) 0)) last) (ends (suc top - d) (open_labels l path (suc top)) 0)
-      (ends (e - 1 - d) (open_labels l path (e - 1)) (get_or kinds (e - 1) 0)) o₀ o at
+-- the next end is that of the node at depth e - 1, at the place p
+module _ {l : List Entry} {path kinds o₀ o : List ℕ} {top d at last e p : ℕ} (k : OfKinds l path kinds top) (x : EndsTo l path top d o₀ o at last e)
+    (h : d < e) (room : length (ends (suc top - d) (open_labels l path (suc top)) 0) ≤ length o₀) (q : p ≡ get_or path (e - 1) 0)
+  where
+    pub next_end : Next (end (label_at l p) last) (ends (suc top - d) (open_labels l path (suc top)) 0)
+        (ends (e - 1 - d) (open_labels l path (e - 1)) (get_or kinds (e - 1) 0)) o₀ o at
+    next_end =
+        let y = k.same (e - 1) (omega (arith, x.most)) in
+        rw (y, q) (next (end (label_at l (get_or path (e - 1) 0)) last) _ (ends_more l path e d last h) x.partly room)
 
-module _ {s path kinds o₀ : List ℕ} {top d : ℕ} (p : Layout s × OnPath (nodes s) path top × OfKinds (nodes s) path kinds top
-    × (length (ends (suc top - d) (open_labels (nodes s) path (suc top)) 0) ≤ length o₀))
-    {o : List ℕ} {at last e : ℕ} (x : EndsTo (nodes s) path top d o₀ o at last e) (h : d < e) where
-  pub ends_on : EndsOn (nodes s) path kinds top d o₀ o at last e
-  ends_on =
-      let k = p.2.same (e - 1) (omega (arith, x.most)) in
-      let i = p.1.inside (e - 1) (omega (arith, x.most)) in
-      record {
-        index = omega (arith, x.most, p.1.deep);
-        place = i;
-        small_place = omega (arith, i, p.0.many, p.0.room);
-        kind = k;
-        piece =
-            rw k (next (end (label_at (nodes s) (get_or path (e - 1) 0)) last) _ (ends_more (nodes s) path e d last h) x.partly p.3);
-      }
-
-  -- once it is written
-  pub ends_turn : (new : List ℕ) (q : ℕ)
-      → Wrote (end (label_at (nodes s) (get_or path (e - 1) 0)) last) (take (length o - at) (drop at o)) new q
-      → EndsTo (nodes s) path top d o₀ (put_mid at (length o - at) o new) (at + q) (get_or kinds (e - 1) 0) (e - 1)
-  ends_turn new q w = record { most = omega (arith, x.most); partly = ends_on.piece.on new q w }
+    -- once it is written
+    pub ends_turn : (new : List ℕ) (r : ℕ) → Wrote (end (label_at l p) last) (take (length o - at) (drop at o)) new r
+        → EndsTo l path top d o₀ (put_mid at (length o - at) o new) (at + r) (get_or kinds (e - 1) 0) (e - 1)
+    ends_turn new r w = record { most = omega (arith, x.most); partly = next_end.on new r w }
 
 -- the ends before a row, and then the row; q is the kind of its previous sibling
 module _ {l : List Entry} {path kinds : List ℕ} {top : ℕ} (k : OfKinds l path kinds top) (d p q : ℕ) (f : q ≡ previous_kind kinds top d)
@@ -95,15 +90,8 @@ module _ {l : List Entry} {path kinds : List ℕ} {top : ℕ} (k : OfKinds l pat
     ends_room = front (ends (suc top - d) (open_labels l path (suc top)) 0) _ o₀ (rw as_two at h)
 
     module _ {o : List ℕ} {r : ℕ} (w : Wrote (ends (suc top - d) (open_labels l path (suc top)) 0) o₀ o r) where
-      pub row_inside : r ≤ length o
-      row_inside = inside _ (begin (of_kind (get_or kinds (d - 1) 0)) q (label_at l p)) o₀ o r w (rw as_two at h)
-
       pub row_room : length (begin (of_kind (get_or kinds (d - 1) 0)) q (label_at l p)) ≤ length (take (length o - r) (drop r o))
       row_room = room _ (begin (of_kind (get_or kinds (d - 1) 0)) q (label_at l p)) o₀ o r w (rw as_two at h)
-
-      pub row_fits : (x y : List ℕ) (m : ℕ) → Wrote (begin (of_kind (get_or kinds (d - 1) 0)) q (label_at l p)) x y m → Fits w64 (length o₀)
-          → Fits w64 (r + m)
-      row_fits x y m v g = sum_fits w v (rw as_two at h) g
 
       pub row_behind : (y : List ℕ) (m : ℕ)
           → Wrote (begin (of_kind (get_or kinds (d - 1) 0)) q (label_at l p)) (take (length o - r) (drop r o)) y m
@@ -114,13 +102,13 @@ module _ {l : List Entry} {path kinds : List ℕ} {top : ℕ} (k : OfKinds l pat
 abbrev pub from : List Entry → List ℕ → ℕ → List ℕ → ℕ → ℕ → List ℕ
 from l places count path top i = emit (open_labels l path (suc top)) 0 (drop i (lines l places count))
 
-pub from_start : {l : List Entry} {places : List ℕ} {count : ℕ} (path : List ℕ) → Listed l places count → length path ≡ 1024
-    → body (lines l places count) ≡ from l places count (set path 0 (get_or places 0 0)) 0 1
+pub from_start : {l : List Entry} {places : List ℕ} {count : ℕ} (path : List ℕ) → Listed l places count → get_or path 0 0 ≡ get_or places 0 0
+    → body (lines l places count) ≡ from l places count path 0 1
 unfolding body open_labels
-from_start {l} {places} {count} path c n =
+from_start {l} {places} {count} path c q =
     let e : lines l places count ≡ line_at l (get_or places 0 0) ∷ drop 1 (lines l places count) = lines_from l places count
     (omega (arith, c.long, c.room)) 0 c.some in
-    ap body e ∙ rw (get_or-set_same path 0 (get_or places 0 0) 0 (omega arith))
+    ap body e ∙ rw q refl
 
 module _ {l : List Entry} {places path kinds : List ℕ} {count top i : ℕ} (c : Listed l places count) (w : Walk l places path kinds top i)
   where
@@ -164,24 +152,44 @@ module _ {l : List Entry} {places path kinds : List ℕ} {count top i : ℕ} (c 
         → Next (ends (suc top - 0) (open_labels l path (suc top)) 0) text [] o₀ o at
     last_ends h q k = next (ends (suc top - 0) (open_labels l path (suc top)) 0) [] (from_end h) q k
 
--- the same, fact by fact: the row at place p of depth d
-module _ {l : List Entry} {places path kinds : List ℕ} {count top i d : ℕ} (c : Listed l places count) (w : Walk l places path kinds top i)
-    (h : i < count)
-    (e : d ≡ depth l (get_or places i 0)) where
-  module _ {text o₀ o : List ℕ} {at : ℕ} (q : Partly text (from l places count path top i) o₀ o at) (k : length text ≤ length o₀) where
-    pub next_inside : at ≤ length o
-    next_inside = (next_row c w h refl e q k).inside
+-- the rows behind the first, one by one
+module _ {l : List Entry} {places path kinds : List ℕ} {count top j : ℕ} (c : Listed l places count) (w : Walk l places path kinds top (j + 1))
+    (h : j < length (take (count - 1) (drop 1 places)))
+  where
+    item_in : j + 1 < count
+    item_in = omega (arith, simp (length-take, length-drop) at h)
 
-    pub next_fits : (x y : List ℕ) (m : ℕ) → Wrote (row_text l path top d (get_or places i 0)) x y m → Fits w64 (length o₀)
-        → Fits w64 (at + m)
-    next_fits x y m v f = omega (arith, (next_row c w h refl e q k).small, v.count, f)
+    module _ {p : ℕ} (ep : p ≡ get_or (take (count - 1) (drop 1 places)) j 0) where
+      item_at : p ≡ get_or places (j + 1) 0
+      item_at =
+          let one : 1 + j ≡ j + 1 = omega arith in
+          ep ∙ get_or-take (count - 1) (drop 1 places) j 0 (omega (arith, item_in)) ∙ get_or-drop 1 places j 0
+          ∙ ap (λ i. get_or places i 0) one
 
-module _ {l : List Entry} {places path kinds : List ℕ} {count top i : ℕ} (c : Listed l places count) (w : Walk l places path kinds top i)
-    (h : count ≤ i)
-    {text o₀ o : List ℕ} {at : ℕ} (q : Partly text (from l places count path top i) o₀ o at) (k : length text ≤ length o₀) where
-  pub last_inside : at ≤ length o
-  last_inside = (last_ends c w h q k).inside
+      pub item_inside : p < length l
+      item_inside = rw item_at (c.inside (j + 1) item_in)
 
-  pub last_fits : (x y : List ℕ) (m : ℕ) → Wrote (ends (suc top - 0) (open_labels l path (suc top)) 0) x y m → Fits w64 (length o₀)
-      → Fits w64 (at + m)
-  last_fits x y m v f = omega (arith, (last_ends c w h q k).small, v.count, f)
+      module _ {d : ℕ} (ed : d ≡ depth l p) where
+        depth_at : d ≡ depth l (get_or places (j + 1) 0)
+        depth_at = ed ∙ ap (depth l) item_at
+
+        pub item_low : 1 ≤ d
+        item_low = row_low c w item_in depth_at
+
+        pub item_deep : d < 1024
+        item_deep = row_deep c w item_in depth_at
+
+        pub item_on : {k : ℕ} → k ≡ (label_at l p).kind → Walk l places (set path d p) (set kinds d k) d (j + 1 + 1)
+        item_on e = walk_on c w item_in depth_at item_at e
+
+        pub item_next : {text o₀ o : List ℕ} {at : ℕ} → Partly text (from l places count path top (j + 1)) o₀ o at → length text ≤ length o₀
+            → Next (row_text l path top d p) text (from l places count (set path d p) d (j + 1 + 1)) o₀ o at
+        item_next q k = next_row c w item_in item_at ed q k
+
+-- no row is left
+module _ {l : List Entry} {places path kinds : List ℕ} {count top j : ℕ} (c : Listed l places count) (w : Walk l places path kinds top (j + 1))
+    (h : length (take (count - 1) (drop 1 places)) ≤ j)
+  where
+    pub rows_over : {text o₀ o : List ℕ} {at : ℕ} → Partly text (from l places count path top (j + 1)) o₀ o at → length text ≤ length o₀
+        → Next (ends (suc top - 0) (open_labels l path (suc top)) 0) text [] o₀ o at
+    rows_over q k = last_ends c w (omega (arith, c.long, c.room, c.some, simp (length-take, length-drop) at h)) q k

@@ -1,21 +1,14 @@
+use Rattle.table.specs.Marks.{byte_of}
 use Rattle.ends.specs.Laws.Marks.{nobody_storable, cleared, not_cleared}
 use Rattle.ends.proofs.pass.clear_mark.Goals as goal
 
-pub set_field-requires : goal.set_field-requires
-set_field-requires c =
-    (c.requires.0, c.requires.1, c.requires.2, nobody_storable c.args.o)
+pub set_mark-requires : goal.set_mark-requires
+set_mark-requires c = (c.requires.0, c.requires.1, nobody_storable (byte_of c.args.mark))
 
-pub returns-then-field-t : goal.returns-then-field-t
-returns-then-field-t c =
-    let a = c.args in
-    let field = c.field in
-    let if1 = c.if-field-t in
-    let set_field = c.set_field in
-    cleared a.i a.o a.t _ field.ensures if1.true set_field.ensures
+pub returns-then-marked_by-t : goal.returns-then-marked_by-t
+returns-then-marked_by-t c =
+    cleared c.args.i (byte_of c.args.mark) c.args.t _ c.marked_by.ensures c.if-marked_by-t.true c.set_mark.ensures
 
-pub returns-else-field-t : goal.returns-else-field-t
-returns-else-field-t c =
-    let a = c.args in
-    let pre = c.requires in
-    let field = c.field in
-    not_cleared _ a.i a.o a.t _ field.ensures c.if-field-t.false pre.0
+pub returns-else-marked_by-t : goal.returns-else-marked_by-t
+returns-else-marked_by-t c =
+    not_cleared _ c.args.i (byte_of c.args.mark) c.args.t _ c.marked_by.ensures c.if-marked_by-t.false c.requires.0

@@ -1,10 +1,11 @@
 use borrow.Author.Rules.{rules}
+use Rattle.table.specs.Layout.{nodes}
 use Rattle.engine.specs.Laws.Way.{climbing_hidden, climbing_start, climbing_passed, climbing_deleted}
 use Rattle.engine.specs.Laws.Way.{climbing_found, climbing_done}
 use Rattle.engine.proofs.locking.way_up.Goals as goal
 
 pub returns-then-deleter-t : goal.returns-then-deleter-t
-returns-then-deleter-t c = climbing_hidden (search rules) _ c.deleter.ensures _ c.if-deleter-t.true
+returns-then-deleter-t c = climbing_hidden (nodes c.args.s.now) c.args.t c.args.p _ c.deleter.ensures c.if-deleter-t.true
 
 pub loop-k-init : goal.loop-k-init
 loop-k-init c =

@@ -4,6 +4,3 @@ use Rattle.engine.proofs.locking.way_up.Given as goal
 
 abbrev pub invariant-loop-k : goal.invariant-loop-k
 invariant-loop-k l = Climbing (nodes l.s) l.t l.p l.e l.k l.count l.places
-
-abbrev pub decreases-loop-k : goal.decreases-loop-k
-decreases-loop-k l = l.k

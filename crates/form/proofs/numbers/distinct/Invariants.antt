@@ -1,4 +1,3 @@
-use Prim.Native.Nat.{◌-◌, ◌≤◌}
 use mathlib.Core.Path.{◌≡◌}
 use Rattle.tree.specs.Lists.{distinct}
 use Rattle.table.specs.Layout.{number, tabulate}
@@ -8,7 +7,4 @@ use Rattle.form.proofs.numbers.distinct.Given as goal
 
 abbrev pub invariant-loop-i : goal.invariant-loop-i
 invariant-loop-i l =
-    (l.i ≤ l.n) × (distinct (tabulate l.n (number l.s)) ≡ numbers_from (number l.s) l.n l.heads l.next l.i) × (Chains l.i l.heads l.next)
-
-abbrev pub decreases-loop-i : goal.decreases-loop-i
-decreases-loop-i l = l.n - l.i
+    (distinct (tabulate l.n (number l.s)) ≡ numbers_from (number l.s) l.n l.heads l.next l.i) × (Chains l.i l.heads l.next)

@@ -1,7 +1,7 @@
+use Rattle.std.proofs.Common.{arith, ◌∙◌}
 use Rattle.table.specs.Layout.{word}
-use borrow.Author.Rules.{rules}
 use Rattle.table.proofs.layout.word.Goals as goal
 
 pub returns : goal.returns
 unfolding word
-returns c = search rules
+returns c = c.from_le_bytes.ensures ∙ omega arith

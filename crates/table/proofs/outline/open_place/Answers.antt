@@ -6,11 +6,5 @@ use Rattle.table.proofs.outline.open_place.Goals as goal
 
 pub returns : goal.returns
 returns c =
-    let count = c.count-m in
-    let slot = c.slot-k in
-    let clear = c.clear in
-    let shift = c.shift in
-    let set_entry = c.set_entry in
-    let set_word = c.set_word in
-    opened _ _ _ _ _ _ _ _ _ _ (search rules) (sym (length_nodes _) ∙ sym count.ensures) (search rules) (search rules)
-    slot.ensures.0 clear.ensures shift.ensures set_entry.ensures set_word.ensures
+    opened _ _ _ _ _ _ _ _ _ _ (search rules) (sym (length_nodes _) ∙ sym c.count-m.ensures) (search rules) (search rules)
+    c.slot-k.ensures.0 c.clear.ensures c.shift.ensures c.store.ensures c.set_word.ensures

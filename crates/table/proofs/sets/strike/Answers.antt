@@ -4,14 +4,10 @@ use Rattle.table.specs.Laws.Sets.{strike_start, strike_turn, strike_done}
 use Rattle.table.proofs.sets.strike.Goals as goal
 
 pub loop-v-init : goal.loop-v-init
-loop-v-init c = (search rules, search rules, strike_start _ _ (search rules))
+loop-v-init c = strike_start _ _ (search rules)
 
 pub loop-v-preserved : goal.loop-v-preserved
-loop-v-preserved c =
-    let l = c.loop-v in
-    (search rules, search rules, strike_turn _ _ l.invariant.2 c.strike_from.ensures)
+loop-v-preserved c = strike_turn _ _ c.loop-v.invariant c.strike_from.ensures
 
 pub returns : goal.returns
-returns c =
-    let l = c.loop-v in
-    strike_done _ _ (omega arith) l.invariant.2 c.remember.ensures (search rules) (search rules)
+returns c = strike_done _ _ (omega arith) c.loop-v.invariant c.remember.ensures (search rules) (search rules)

@@ -1,21 +1,14 @@
 use borrow.Author.Rules.{rules}
 use mathlib.Core.Path.{◌∙◌, sym}
-use borrow.Author.Tests.{not-true, not-false}
 use Rattle.table.specs.Laws.Sets.{not_there, taken_out}
 use Rattle.table.proofs.sets.strike_from.Goals as goal
 
-pub returns-then-not-has : goal.returns-then-not-has
-returns-then-not-has c =
-    let set = c.set-w in
-    not_there _ _ _ _ set.ensures (search rules) (search rules) (search rules) (search rules) (search rules)
-    (sym c.has.ensures ∙ not-true _ c.if-not-has.true-raw)
+pub returns-then-has : goal.returns-then-has
+returns-then-has c =
+    taken_out _ _ _ _ c.set-w.ensures (search rules) (search rules) (search rules) (search rules) (search rules)
+    (sym c.if-has.ensures) (c.remember.ensures ∙ rw c.turned.ensures)
 
-pub returns : goal.returns
-returns c =
-    let remember = c.remember in
-    let turned = c.turned in
-    let if1 = c.if-not-has in
-    let has = c.has in
-    let set = c.set-w in
-    taken_out _ _ _ _ set.ensures (search rules) (search rules) (search rules) (search rules) (search rules)
-    (sym has.ensures ∙ not-false _ if1.false-raw) (remember.ensures ∙ rw turned.ensures)
+pub returns-else-has : goal.returns-else-has
+returns-else-has c =
+    not_there _ _ _ _ c.set-w.ensures (search rules) (search rules) (search rules) (search rules) (search rules)
+    (sym c.if-has.ensures)

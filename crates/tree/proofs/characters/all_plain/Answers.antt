@@ -1,18 +1,12 @@
-use mathlib.Core.Path.{sym, ◌∙◌}
-use borrow.Author.Rules.{rules}
-use borrow.Author.Tests.{not-true, not-false}
-use Rattle.tree.proofs.Bytes.{stops, goes_on, ends}
+use Rattle.std.proofs.Common.{◌∙◌, rules, tests}
+use Rattle.std.proofs.lemmas.Iterator.{YieldsList-from_slice}
+use Rattle.std.proofs.lemmas.Iterator.Search.{all_from_yields_List}
+use Rattle.tree.specs.Values.{plain}
+use Rattle.tree.proofs.Bytes.{every_of}
 use Rattle.tree.proofs.characters.all_plain.Goals as goal
 
-pub returns-then-not-plain : goal.returns-then-not-plain
-returns-then-not-plain c =
-    let l = c.loop-i in
-    sym (l.invariant.1 ∙ stops _ _ l.i (search rules) (sym c.plain.ensures ∙ not-true _ c.if-not-plain.true-raw))
-
-pub loop-i-preserved : goal.loop-i-preserved
-loop-i-preserved c =
-    let l = c.loop-i in
-    (search rules, l.invariant.1 ∙ goes_on _ _ l.i (search rules) (sym c.plain.ensures ∙ not-false _ c.if-not-plain.false-raw))
-
 pub returns : goal.returns
-returns c = sym (c.loop-i.invariant.1 ∙ ends _ _ c.loop-i.i (search rules))
+returns c =
+    all_from_yields_List (plain c.args.text) _ _ c.all.result c.all.ensures.ran (YieldsList-from_slice c.args.b.now cc)
+    (λ x b q k. search (rules, tests))
+    ∙ every_of (plain c.args.text) c.args.b.now

@@ -11,5 +11,5 @@ returns-then-b-ge128 c = c.possible.ensures ∙ start_possible _ _ _ c.first_par
 pub returns-then-text : goal.returns-then-text
 returns-then-text c = c.text_byte.ensures ∙ text_begins _ _ c.if-b-ge128.false c.if-text.true
 
-pub returns : goal.returns
-returns c = c.name_start.ensures ∙ name_begins _ _ c.if-b-ge128.false c.if-text.false
+pub returns-else-text : goal.returns-else-text
+returns-else-text c = c.name_start.ensures ∙ name_begins _ _ c.if-b-ge128.false c.if-text.false

@@ -1,22 +1,14 @@
-use mathlib.Core.Path.{refl, sym, ◌∙◌}
-use borrow.Author.Rules.{rules}
-use Rattle.tree.proofs.Reading.{range_meets, range_misses, ranges_end}
+use Rattle.std.proofs.Common.{ℕ, Bool, ◌∙◌, rules, tests, max, min, leb}
+use Rattle.std.proofs.lemmas.Iterator.{YieldsList-from_slice}
+use Rattle.std.proofs.lemmas.Iterator.Search.{any_from_yields_List}
+use Rattle.tree.specs.Spelling.{meets}
+use Rattle.tree.proofs.Bytes.{any_of}
 use Rattle.tree.proofs.characters.meets.Goals as goal
 
-pub loop-i-init : goal.loop-i-init
-loop-i-init c = (search rules, refl)
-
-pub returns-then-larger-smaller : goal.returns-then-larger-smaller
-returns-then-larger-smaller c =
-    let l = c.loop-i in
-    let e = c.larger.ensures in
-    sym (l.invariant.1 ∙ range_meets _ l.i _ _ (search rules) _ _ e c.smaller.ensures c.if-larger-smaller.true)
-
-pub loop-i-preserved : goal.loop-i-preserved
-loop-i-preserved c =
-    let l = c.loop-i in
-    let e = c.larger.ensures in
-    (search rules, l.invariant.1 ∙ range_misses _ l.i _ _ (search rules) _ _ e c.smaller.ensures c.if-larger-smaller.false)
-
 pub returns : goal.returns
-returns c = sym (c.loop-i.invariant.1 ∙ ranges_end _ c.loop-i.i _ _ (search rules))
+unfolding meets
+returns c =
+    let t : ℕ × ℕ → Bool = λ r. leb (max c.args.low r.0) (min c.args.high r.1) in
+    any_from_yields_List t _ _ c.any.result c.any.ensures.ran
+    (YieldsList-from_slice c.args.table.now cc) (λ x b q k. search (rules, tests))
+    ∙ any_of t c.args.table.now

@@ -11,6 +11,3 @@ invariant-loop-i l =
     (l.from ≤ l.i) × (l.i ≤ l.to) × Small (part_of l.x.part)
     × (fault_in (start_of l.text) (take (l.to - l.from) (drop l.from l.s))
     ≡ after (l.i - l.from) (fault_in (state l.text l.x.first (part_of l.x.part)) (take (l.to - l.i) (drop l.i l.s))))
-
-abbrev pub decreases-loop-i : goal.decreases-loop-i
-decreases-loop-i l = l.to - l.i

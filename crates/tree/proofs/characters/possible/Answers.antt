@@ -20,4 +20,4 @@ overflow_add-low c =
 
 pub returns : goal.returns
 unfolding possible
-returns c = c.class_meets.ensures ∙ rw (c.larger.ensures, c.breadth-n.ensures)
+returns c = c.class_meets.ensures ∙ rw (c.max.ensures, c.breadth-n.ensures)

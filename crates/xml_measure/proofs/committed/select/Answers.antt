@@ -13,15 +13,15 @@ loop-i-preserved-then-left_out c =
     selecting_hidden c.loop-i.invariant (search rules) c.depth-d.ensures
     (sym c.left_out.ensures ∙ c.if-left_out.true)
 
-pub loop-i-preserved-then-inserter-ne0 : goal.loop-i-preserved-then-inserter-ne0
-loop-i-preserved-then-inserter-ne0 c =
+pub loop-i-preserved-then-inserted : goal.loop-i-preserved-then-inserted
+loop-i-preserved-then-inserted c =
     selecting_inserted c.loop-i.invariant (search rules) c.depth-d.ensures (sym c.left_out.ensures ∙ c.if-left_out.false)
-    c.inserter.ensures c.if-inserter-ne0.true
+    c.inserter-inserted.ensures c.if-inserted.true
 
 pub loop-i-preserved : goal.loop-i-preserved
 loop-i-preserved c =
     selecting_found c.loop-i.invariant (search rules) c.depth-d.ensures (sym c.left_out.ensures ∙ c.if-left_out.false)
-    c.inserter.ensures (search rules) c.if-inserter-ne0.false
+    c.inserter-inserted.ensures (search rules) c.if-inserted.false
 
 pub returns : goal.returns
 returns c = selecting_end c.loop-i.invariant (search rules) (search rules)

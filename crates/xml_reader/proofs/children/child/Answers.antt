@@ -1,31 +1,14 @@
-use Rattle.xml_tokens.specs.Steps.{TextRead}
-use Rattle.xml_tokens.specs.declared.Read.{Read}
+use borrow.Author.Rules.{rules}
 use Rattle.xml_reader.specs.Laws.Children.{child_refused, child_past, behind_text}
-use Rattle.xml.specs.Bytes.{less_than}
-use mathlib.Core.Path.{subst}
 use Rattle.xml_reader.proofs.children.child.Goals as goal
 
 pub tag-requires : goal.tag-requires
-tag-requires c =
-    let a = c.args in
-    let pre = c.requires in
-    let text = c.text in
-    behind_text pre.1 (subst (λ (r : Read). TextRead a.s.now less_than a.cursor.at a.spare r) c.in-Past.is
-    text.ensures)
+tag-requires c = behind_text c.requires.1 c.in_ok-text.ensures
 
-pub returns-in-Refused : goal.returns-in-Refused
-returns-in-Refused c =
-    let a = c.args in
-    let pre = c.requires in
-    let text = c.text in
-    child_refused a.s.now a.names.now a.depth a.spare a.cursor.at pre.1
-    (subst (λ (r : Read). TextRead a.s.now less_than a.cursor.at a.spare r) c.in-Refused.is text.ensures) _
+pub returns-in_err-text : goal.returns-in_err-text
+returns-in_err-text c = search (rules, child_refused)
 
-pub returns-in-Past : goal.returns-in-Past
-returns-in-Past c =
+pub returns : goal.returns
+returns c =
     let a = c.args in
-    let pre = c.requires in
-    let text = c.text in
-    child_past a.s.now a.names.now a.depth a.spare a.cursor.at pre.1 _
-    (subst (λ (r : Read). TextRead a.s.now less_than a.cursor.at a.spare r) c.in-Past.is text.ensures)
-    c.tag.ensures
+    child_past a.s.now a.names.now a.from.depth a.from.spare a.from.cursor.at c.requires.1 _ c.in_ok-text.ensures c.tag.ensures

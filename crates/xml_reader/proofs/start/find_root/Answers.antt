@@ -1,31 +1,17 @@
 use mathlib.Core.Path.{sym, ◌∙◌}
-use Rattle.xml_reader.specs.Laws.Declaration.{start_plain, start_short, start_long}
+use Rattle.xml_reader.specs.Laws.Declaration.{two_there, two_missing, start_plain, start_short, start_long}
 use Rattle.xml_reader.proofs.start.find_root.Goals as goal
 
-pub returns-then-first-ne60 : goal.returns-then-first-ne60
-returns-then-first-ne60 c = start_plain _ (λ e f. c.if-first-ne60.true (c.peek-first.ensures ∙ e)) c.root.ensures
+pub returns-then-not-starts_with : goal.returns-then-not-starts_with
+returns-then-not-starts_with c =
+    start_plain _ (two_missing c.args.s.now (sym c.starts_with.ensures.value ∙ c.if-not-starts_with.true)) c.root.ensures
 
-pub returns-then-second-ne63 : goal.returns-then-second-ne63
-returns-then-second-ne63 c = start_plain _ (λ e f. c.if-second-ne63.true (c.peek-second.ensures ∙ f)) c.root-then-second-ne63.ensures
-
-pub returns-then-behind-eq63 : goal.returns-then-behind-eq63
-returns-then-behind-eq63 c =
-    let peek = c.peek-first in
-    let peek2 = c.peek-second in
-    let if1 = c.if-first-ne60 in
-    let if2 = c.if-second-ne63 in
-    let peek3 = c.peek-behind in
-    let if3 = c.if-behind-eq63 in
-    start_short _ (sym peek.ensures ∙ if1.false) (sym peek2.ensures ∙ if2.false) (sym peek3.ensures ∙ if3.true)
-    c.declared.ensures
+pub returns-then-peek-eq63 : goal.returns-then-peek-eq63
+returns-then-peek-eq63 c =
+    let t = two_there c.args.s.now (sym c.starts_with.ensures.value ∙ c.if-not-starts_with.false) in
+    start_short _ t.0 t.1 (sym c.peek.ensures ∙ c.if-peek-eq63.true) c.declared.ensures
 
 pub returns : goal.returns
 returns c =
-    let peek = c.peek-first in
-    let peek2 = c.peek-second in
-    let if1 = c.if-first-ne60 in
-    let if2 = c.if-second-ne63 in
-    let peek3 = c.peek-behind in
-    let if3 = c.if-behind-eq63 in
-    start_long _ (sym peek.ensures ∙ if1.false) (sym peek2.ensures ∙ if2.false) (λ e. if3.false (peek3.ensures ∙ e))
-    c.declared-2.ensures
+    let t = two_there c.args.s.now (sym c.starts_with.ensures.value ∙ c.if-not-starts_with.false) in
+    start_long _ t.0 t.1 (λ e. c.if-peek-eq63.false (c.peek.ensures ∙ e)) c.declared-2.ensures

@@ -1,95 +1,82 @@
-use Rattle.xml_tokens.specs.declared.Item.{Item}
-use Rattle.xml_tokens.specs.Steps.{TagRead}
+use mathlib.Core.Path.{◌∙◌}
+use native.Mathlib.Omega.{arith}
+use borrow.Author.Rules.{rules}
+use Rattle.std.proofs.lemmas.Result.{err_from_is_err_and}
+use Rattle.byte_strings.specs.Laws.Sorted.{increasing_none}
 use Rattle.xml_reader.specs.Laws.StartTags.{placed_at, attributes_start, attributes_wrong, attributes_open}
 use Rattle.xml_reader.specs.Laws.StartTags.{attributes_empty, attributes_bad, attributes_turn, attribute_here, attribute_behind}
 use Rattle.xml_reader.specs.Laws.StartTags.{attribute_entered, kept_same, kept_less}
-use mathlib.Core.Path.{◌∙◌, subst}
-use native.Mathlib.Omega.{arith}
-use borrow.Author.Rules.{rules}
-use Rattle.xml.specs.Laws.Automaton.{behind_part}
-use Rattle.byte_strings.specs.Laws.Sorted.{increasing_none}
 use Rattle.xml_reader.proofs.start_tags.attributes.Goals as goal
 
-pub loop-j-init : goal.loop-j-init
-loop-j-init c =
-    let pre = c.requires in (
-      search rules,
-      search rules,
-      search rules,
-      search rules,
-      placed_at _ _ _ _ (omega arith) pre.2,
-      kept_same _ _,
-      attributes_start _ _ _ _ _,
-      pre.3,
-      increasing_none _,
-    )
+pub loop-behind-init : goal.loop-behind-init
+loop-behind-init c = record {
+  further = search rules;
+  inside = search rules;
+  fewer = search rules;
+  room = search rules;
+  placed = placed_at _ _ _ _ (omega arith) c.requires.2;
+  kept = kept_same _ _;
+  reads = attributes_start _ _ _ _ _;
+  long = c.requires.3;
+  sorted = increasing_none _;
+}
 
-pub returns-in-Wrong : goal.returns-in-Wrong
-returns-in-Wrong c =
-    let args = c.args in
-    let loop = c.loop-j in
-    let item = c.item in (
-      attributes_wrong _ _ _ _ _ _ _ _ loop.invariant.6 loop.invariant.0 loop.invariant.2
-          (subst (λ (r : Item). TagRead args.s.now behind_part loop.i r) c.in-Wrong.is item.ensures),
-      loop.invariant.5,
-    )
+pub item-requires : goal.item-requires
+item-requires c = c.loop-behind.invariant.inside
+
+pub returns-in_err-behind : goal.returns-in_err-behind
+returns-in_err-behind c =
+    let i = c.loop-behind.invariant in
+    let p = err_from_is_err_and c.from_residual.result c.from_residual.ensures.1 in
+    (rw (p.1, p.2) (attributes_wrong _ _ _ _ _ _ _ _ i.reads i.further i.fewer c.in_err-behind.ensures), i.kept)
 
 pub returns-in-Open : goal.returns-in-Open
 returns-in-Open c =
-    let args = c.args in
-    let loop = c.loop-j in
-    let item = c.item in (
-      attributes_open _ _ _ _ _ _ _ _ loop.invariant.6 loop.invariant.0 loop.invariant.2
-          (subst (λ (r : Item). TagRead args.s.now behind_part loop.i r) c.in-Open.is item.ensures),
-      loop.invariant.5,
-    )
+    let i = c.loop-behind.invariant in
+    (attributes_open _ _ _ _ _ _ _ _ i.reads i.further i.fewer (rw c.in-Open.is at c.in_ok-behind.ensures), i.kept)
 
 pub returns-in-Empty : goal.returns-in-Empty
 returns-in-Empty c =
-    let args = c.args in
-    let loop = c.loop-j in
-    let item = c.item in (
-      attributes_empty _ _ _ _ _ _ _ _ loop.invariant.6 loop.invariant.0 loop.invariant.2
-          (subst (λ (r : Item). TagRead args.s.now behind_part loop.i r) c.in-Empty.is item.ensures),
-      loop.invariant.5,
-    )
+    let i = c.loop-behind.invariant in
+    (attributes_empty _ _ _ _ _ _ _ _ i.reads i.further i.fewer (rw c.in-Empty.is at c.in_ok-behind.ensures), i.kept)
 
 pub attribute-requires : goal.attribute-requires
 attribute-requires c =
-    let loop = c.loop-j in (
-      (attribute_here c.item.ensures c.in-Attribute.is).0,
-      search rules,
-      loop.invariant.4,
-      loop.invariant.8,
-      loop.invariant.7,
+    let i = c.loop-behind.invariant in
+    ((attribute_here (rw c.in-Attribute.is at c.in_ok-behind.ensures)).0, i.room, i.placed, i.sorted, i.long)
+
+pub returns-in_err-read-in-Attribute : goal.returns-in_err-read-in-Attribute
+returns-in_err-read-in-Attribute c =
+    let i = c.loop-behind.invariant in
+    let r = c.from_residual-in_err-read-in-Attribute in
+    let p = err_from_is_err_and r.result r.ensures.1 in (
+      rw (p.1, p.2)
+          (attributes_bad _ _ _ _ _ _ _ _ i.reads i.further i.fewer (rw c.in-Attribute.is at c.in_ok-behind.ensures)
+          c.in_err-read-in-Attribute.ensures),
+      kept_less _ _ _ _ _ i.kept c.attribute.ensures.kept (omega arith),
     )
 
-pub returns-in-Refused : goal.returns-in-Refused
-returns-in-Refused c = search (attributes_bad, kept_less, rules)
-
-pub loop-j-smaller : goal.loop-j-smaller
-loop-j-smaller c =
-    let inv = c.loop-j.invariant in
-    let a = attribute_behind _ _ _ _ _ _ _ _ inv.6 inv.0 inv.2 c.item.ensures c.in-Attribute.is
-    c.attribute.ensures c.in-Past.is in
+pub loop-behind-smaller : goal.loop-behind-smaller
+loop-behind-smaller c =
+    let i = c.loop-behind.invariant in
+    let item = rw c.in-Attribute.is at c.in_ok-behind.ensures in
+    let a = attribute_behind _ _ _ _ _ _ _ _ i.reads i.further i.fewer item c.in_ok-read-in-Attribute.ensures in
     omega (arith, a.0, a.1, a.2)
 
-pub loop-j-preserved : goal.loop-j-preserved
-loop-j-preserved c =
-    let inv = c.loop-j.invariant in
-    let item = c.item.ensures in
-    let read = c.attribute.ensures in
-    let here = c.in-Attribute.is in
-    let next = c.in-Past.is in
-    let a = attribute_behind _ _ _ _ _ _ _ _ inv.6 inv.0 inv.2 item here read next in
-    let e = attribute_entered _ _ _ _ _ _ _ _ inv.6 inv.0 inv.2 item here read next in (
-      omega (arith, a.0, a.1),
-      a.2,
-      omega (arith, a.3),
-      omega (arith, a.3),
-      placed_at _ _ _ _ (omega arith) e.placed,
-      kept_less _ _ _ _ _ inv.5 read.kept (omega arith),
-      attributes_turn _ _ _ _ _ _ _ _ inv.6 inv.0 inv.2 item here read next,
-      read.kept.as_long ∙ inv.7,
-      e.added.sorted,
-    )
+pub loop-behind-preserved : goal.loop-behind-preserved
+loop-behind-preserved c =
+    let i = c.loop-behind.invariant in
+    let item = rw c.in-Attribute.is at c.in_ok-behind.ensures in
+    let read = c.in_ok-read-in-Attribute.ensures in
+    let a = attribute_behind _ _ _ _ _ _ _ _ i.reads i.further i.fewer item read in
+    let e = attribute_entered _ _ _ _ _ _ _ _ i.reads i.further i.fewer item read in record {
+      further = omega (arith, a.0, a.1);
+      inside = a.2;
+      fewer = omega (arith, a.3);
+      room = omega (arith, a.3);
+      placed = placed_at _ _ _ _ (omega arith) e.placed;
+      kept = kept_less _ _ _ _ _ i.kept c.attribute.ensures.kept (omega arith);
+      reads = attributes_turn _ _ _ _ _ _ _ _ i.reads i.further i.fewer item read;
+      long = c.attribute.ensures.kept.as_long ∙ i.long;
+      sorted = e.added.sorted;
+    }

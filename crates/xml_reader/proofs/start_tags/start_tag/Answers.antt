@@ -1,4 +1,5 @@
-use Rattle.xml_tokens.specs.Laws.Letters.{name_as, name_run}
+use Rattle.std.proofs.lemmas.Result.{err_from_is_err_and}
+use Rattle.xml_tokens.specs.Laws.Letters.{name_run}
 use Rattle.xml_reader.specs.Laws.StartTags.{element_unfit, element_rest, kept_set, kept_same, kept_less, placed_push}
 use lib.Seq.{get_or-set_same}
 use native.Mathlib.Omega.{arith}
@@ -17,33 +18,34 @@ spelled_name-requires c = let pre = c.requires in (pre.0.inside, pre.0.starts)
 pub attributes-requires : goal.attributes-requires
 attributes-requires c =
     let pre = c.requires in
-    let f = name_as c.in-Taken.is c.spelled_name.ensures in (
+    let f = c.in_ok-name.ensures in (
       (name_run f).0.inside,
       search rules,
       placed_push _ _ _ _ pre.2 (omega (arith, pre.0.inside)) (omega (arith, pre.3)),
       search rules,
     )
 
-pub returns-in-Unfit : goal.returns-in-Unfit
-returns-in-Unfit c =
+pub returns-in_err-name : goal.returns-in_err-name
+returns-in_err-name c =
     let a = c.args in
-    let pre = c.requires in (
-      element_unfit _ _ _ (name_as c.in-Unfit.is c.spelled_name.ensures),
+    let pre = c.requires in
+    let p = err_from_is_err_and c.from_residual.result c.from_residual.ensures.1 in (
+      rw (p.1, p.2) (element_unfit _ _ _ c.in_err-name.ensures),
       kept_set _ _ _ _ _ (kept_same _ _) (search rules),
-      omega (arith, pre.0.not_first, get_or-set_same a.names.now a.depth (a.cursor.at - 1) 0 (omega (arith, pre.3))),
+      omega (arith, pre.0.not_first, get_or-set_same a.names.now a.from.depth (a.from.cursor.at - 1) 0 (omega (arith, pre.3))),
     )
 
-pub returns-in-Taken : goal.returns-in-Taken
-returns-in-Taken c =
+pub returns : goal.returns
+returns c =
     let a = c.args in
     let pre = c.requires in (
-      element_rest _ _ _ (name_as c.in-Taken.is c.spelled_name.ensures) c.attributes.ensures.0,
-      kept_less _ _ _ _ _ (kept_set _ _ _ a.depth (a.cursor.at - 1) (kept_same _ _) (search rules)) c.attributes.ensures.1
+      element_rest _ _ _ c.in_ok-name.ensures c.attributes.ensures.0,
+      kept_less _ _ _ _ _ (kept_set _ _ _ a.from.depth (a.from.cursor.at - 1) (kept_same _ _) (search rules)) c.attributes.ensures.1
           (omega arith),
       omega (
         arith,
         pre.0.not_first,
-        c.attributes.ensures.1.kept a.depth (omega arith),
-        get_or-set_same a.names.now a.depth (a.cursor.at - 1) 0 (omega (arith, pre.3)),
+        c.attributes.ensures.1.kept a.from.depth (omega arith),
+        get_or-set_same a.names.now a.from.depth (a.from.cursor.at - 1) 0 (omega (arith, pre.3)),
       ),
     )

@@ -1,49 +1,35 @@
 use mathlib.Core.Path.{sym, ◌∙◌}
-use Rattle.xml_tokens.specs.Laws.Runs.{is_amp, is_apos, is_gt, is_lt, is_quot}
-use borrow.Author.Rules.{rules}
+use Rattle.xml_tokens.specs.Laws.Runs.{is_amp, is_apos, is_gt, is_lt, is_line_feed, is_tab, is_quot}
 use Rattle.xml_tokens.proofs.Cursor.reference.Goals as goal
 
-pub returns-then-second-eq109 : goal.returns-then-second-eq109
-returns-then-second-eq109 c =
-    let a = c.args in
-    let peek = c.peek-first in
-    let if1 = c.if-first-eq97 in
-    let peek2 = c.peek-second in
-    let if2 = c.if-second-eq109 in
-    is_amp a.s.now a.self.at _ (sym peek.ensures ∙ if1.true) (sym peek2.ensures ∙ if2.true) c.word.ensures
+pub returns-in-97-eq109 : goal.returns-in-97-eq109
+returns-in-97-eq109 c =
+    let i = c.in-97-eq109 in
+    is_amp _ _ _ (sym c.peek-first.ensures ∙ i.is-0) (sym c.peek-second.ensures ∙ i.is-1) c.word.ensures
 
-pub returns-then-first-eq97 : goal.returns-then-first-eq97
-returns-then-first-eq97 c =
-    let a = c.args in
-    let peek = c.peek-first in
-    let if1 = c.if-first-eq97 in
-    let peek2 = c.peek-second in
-    let if2 = c.if-second-eq109 in
-    is_apos a.s.now a.self.at _ (sym peek.ensures ∙ if1.true) (λ e. if2.false (peek2.ensures ∙ e)) c.word-then-first-eq97.ensures
+pub returns-in-97-default : goal.returns-in-97-default
+returns-in-97-default c =
+    let i = c.in-97-default in
+    is_apos _ _ _ (sym c.peek-first.ensures ∙ i.is-0) (λ e. i.is-1.1 (c.peek-second.ensures ∙ e)) c.word-in-97-default.ensures
 
-pub returns-then-first-eq103 : goal.returns-then-first-eq103
-returns-then-first-eq103 c =
-    let a = c.args in
-    let peek = c.peek-first in
-    let if3 = c.if-first-eq103 in
-    is_gt a.s.now a.self.at _ (sym peek.ensures ∙ if3.true) c.word-then-first-eq103.ensures
+pub returns-in-103-default : goal.returns-in-103-default
+returns-in-103-default c = is_gt _ _ _ (sym c.peek-first.ensures ∙ c.in-103-default.is-0) c.word-in-103-default.ensures
 
-pub returns-then-first-eq108 : goal.returns-then-first-eq108
-returns-then-first-eq108 c =
-    let a = c.args in
-    let peek = c.peek-first in
-    let if4 = c.if-first-eq108 in
-    is_lt a.s.now a.self.at _ (sym peek.ensures ∙ if4.true) c.word-then-first-eq108.ensures
+pub returns-in-108-default : goal.returns-in-108-default
+returns-in-108-default c = is_lt _ _ _ (sym c.peek-first.ensures ∙ c.in-108-default.is-0) c.word-in-108-default.ensures
 
-pub character_reference-requires : goal.character_reference-requires
-character_reference-requires c = (search rules, sym c.peek-first.ensures ∙ c.if-first-eq35.true)
+pub returns-in-35-eq49 : goal.returns-in-35-eq49
+returns-in-35-eq49 c =
+    let i = c.in-35-eq49 in
+    is_line_feed _ _ _ (sym c.peek-first.ensures ∙ i.is-0) (sym c.peek-second.ensures ∙ i.is-1) c.word-in-35-eq49.ensures
 
-pub returns-then-first-eq35 : goal.returns-then-first-eq35
-returns-then-first-eq35 c = c.character_reference.ensures
+pub returns-in-35-default : goal.returns-in-35-default
+returns-in-35-default c =
+    let i = c.in-35-default in
+    is_tab _ _ _ (sym c.peek-first.ensures ∙ i.is-0) (λ e. i.is-1.1 (c.peek-second.ensures ∙ e)) c.word-in-35-default.ensures
 
-pub returns : goal.returns
-returns c =
-    let a = c.args in
+pub returns-in_default : goal.returns-in_default
+returns-in_default c =
+    let i = c.in_default.is-0 in
     let p = c.peek-first.ensures in
-    is_quot a.s.now a.self.at _ (λ e. c.if-first-eq97.false (p ∙ e)) (λ e. c.if-first-eq103.false (p ∙ e))
-    (λ e. c.if-first-eq108.false (p ∙ e)) (λ e. c.if-first-eq35.false (p ∙ e)) c.word-2.ensures
+    is_quot _ _ _ (λ e. i.0.0.0.1 (p ∙ e)) (λ e. i.0.0.1 (p ∙ e)) (λ e. i.0.1 (p ∙ e)) (λ e. i.1 (p ∙ e)) c.word-in_default.ensures

@@ -1,12 +1,9 @@
-use Rattle.xml_tokens.specs.Laws.Tags.{slash_end, slash_wrong, slash_close}
 use borrow.Author.Rules.{rules}
+use Rattle.xml_tokens.specs.Laws.Tags.{slash_closed, slash_lost}
 use Rattle.xml_tokens.proofs.Cursor.slash.Goals as goal
 
-pub returns-then-at-s : goal.returns-then-at-s
-returns-then-at-s c = record { reads = λ F p. slash_end _ _ F p c.requires.0 c.requires.1 c.if-at-s.true }
-
-pub returns-then-s-at-ne62 : goal.returns-then-s-at-ne62
-returns-then-s-at-ne62 c = search (slash_wrong, rules)
+pub returns-in_err-behind : goal.returns-in_err-behind
+returns-in_err-behind c = search (rules, slash_lost)
 
 pub returns : goal.returns
-returns c = search (slash_close, rules)
+returns c = slash_closed _ _ c.requires.0 c.requires.1 c.in_ok-behind.ensures

@@ -7,16 +7,16 @@ use Rattle.xml_tokens.proofs.Cursor.spelled_name.Goals as goal
 pub returns-then-peek-ge128 : goal.returns-then-peek-ge128
 returns-then-peek-ge128 c =
     let p = c.requires in
-    name_fits _ _ p.0 p.1 _ (name_further _ _ _ c.plain_name-plain.ensures c.name-end.ensures) _ refl c.fit.ensures
+    name_fits _ _ p.0 p.1 _ (name_further _ _ _ c.plain_name-behind.ensures c.name-end.ensures) _ refl c.fit.ensures
 
-pub returns-then-i-at-gt32 : goal.returns-then-i-at-gt32
-returns-then-i-at-gt32 c =
+pub returns-then-length-gt32 : goal.returns-then-length-gt32
+returns-then-length-gt32 c =
     let p = c.requires in
-    plain_long _ _ _ c.plain_name-plain.ensures p.0 p.1 (omega (arith, c.peek.ensures, c.if-peek-ge128.false))
-    c.if-i-at-gt32.true
+    rw c.new.ensures (plain_long _ _ _ c.plain_name-behind.ensures p.0 p.1 (omega (arith, c.peek.ensures, c.if-peek-ge128.false))
+    c.if-length-gt32.true)
 
 pub returns : goal.returns
 returns c =
     let p = c.requires in
-    plain_short _ _ _ c.plain_name-plain.ensures p.0 p.1 (omega (arith, c.peek.ensures, c.if-peek-ge128.false))
-    c.if-i-at-gt32.false _ refl
+    plain_short _ _ _ c.plain_name-behind.ensures p.0 p.1 (omega (arith, c.peek.ensures, c.if-peek-ge128.false))
+    c.if-length-gt32.false _ refl

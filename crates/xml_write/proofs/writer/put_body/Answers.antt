@@ -1,104 +1,68 @@
-use Rattle.xml_write.specs.Laws.Rows.{from_start, next_row, last_ends, next_inside, next_fits, last_inside, last_fits}
-use Rattle.xml_measure.specs.Laws.Walk.{walk_start, walk_below, walk_steps, walk_deep, walk_on, row_deep}
-use Rattle.xml_text.specs.Laws.Next.{both}
+use Rattle.std.proofs.Common.{◌∙◌, sym, refl, arith, rules}
 use Rattle.xml_text.specs.Lending.{partly_start, partly_as}
-use Rattle.xml_measure.specs.Laws.Contents.{kind_at}
-use lib.ListN.{replicate}
-use mathlib.Core.Path.{refl, sym, ◌∙◌}
-use native.Mathlib.Omega.{arith}
-use borrow.Author.Rules.{rules}
+use Rattle.xml_text.specs.Laws.Next.{both}
+use Rattle.xml_write.specs.Laws.Rows.{from_start, item_inside, item_low, item_deep, item_on, item_next, rows_over}
 use Rattle.xml_write.proofs.writer.put_body.Goals as goal
 
-pub overflow_cast-first : goal.overflow_cast-first
-overflow_cast-first c =
-    omega (arith, c.requires.1.inside 0 c.requires.1.some, c.requires.0.many, c.requires.0.room)
+pub loop-here-init : goal.loop-here-init
+loop-here-init c =
+    let o = c.new-open in
+    let s = o.ensures.same ∙ c.at.ensures.0 in
+    record {
+      same = s;
+      long = refl;
+      walk = rw o.ensures.top (record {
+        on_path = rw (s, o.ensures.top) at o.result.on_path;
+        of_kinds = rw (s, o.ensures.top) at o.result.of_kinds;
+        some = omega arith;
+        high = omega arith;
+        row = sym c.requires.1.first;
+      });
+      partly =
+          rw o.ensures.top (partly_as (from_start o.result.path c.requires.1 (o.ensures.path ∙ c.at.ensures.1)) (partly_start _ _));
+    }
 
-pub kind-requires : goal.kind-requires
-kind-requires c = (c.requires.0, c.requires.1.inside 0 c.requires.1.some)
+pub at-node-requires : goal.at-node-requires
+at-node-requires c = (c.requires.0, item_inside c.requires.1 c.loop-here.invariant.walk c.loop-here-test.true refl)
 
-pub loop-i-init : goal.loop-i-init
-loop-i-init c = (
-  c.requires.1.some,
-  refl,
-  walk_start (replicate 1024 0) (replicate 1024 0) c.requires.1 refl refl (c.kind.ensures ∙ sym (kind_at _ _)),
-  partly_as (from_start (replicate 1024 0) c.requires.1 refl) (partly_start _ _),
-)
+pub put_row-at-requires-clause-low : goal.put_row-at-requires-clause-low
+put_row-at-requires-clause-low c =
+    let d = rw c.at-node.ensures.0 at c.depth-d.ensures in
+    item_low c.requires.1 c.loop-here.invariant.walk c.loop-here-test.true c.at-node.ensures.1 d
 
-pub offset_bounds-places-i : goal.offset_bounds-places-i
-offset_bounds-places-i c = omega (arith, c.requires.1.room)
+pub put_row-at-requires-clause-room : goal.put_row-at-requires-clause-room
+put_row-at-requires-clause-room c =
+    let d = rw c.at-node.ensures.0 at c.depth-d.ensures in
+    let n = item_next c.requires.1 c.loop-here.invariant.walk c.loop-here-test.true c.at-node.ensures.1 d c.loop-here.invariant.partly c.requires.2 in
+    rw c.loop-here.invariant.same n.room
 
-pub bounds-places-i : goal.bounds-places-i
-bounds-places-i c = omega (arith, c.requires.1.room)
+pub enter-requires-clause-deep : goal.enter-requires-clause-deep
+enter-requires-clause-deep c =
+    let d = rw c.at-node.ensures.0 at c.depth-d.ensures in
+    item_deep c.requires.1 c.loop-here.invariant.walk c.loop-here-test.true c.at-node.ensures.1 d
 
-pub overflow_cast-p : goal.overflow_cast-p
-overflow_cast-p c =
-    omega (arith, (c.requires.1.inside c.loop-i.i (omega arith)), c.requires.0.many, c.requires.0.room)
+pub loop-here-preserved : goal.loop-here-preserved
+loop-here-preserved c =
+    let n = c.at-node in
+    let d = rw n.ensures.0 at c.depth-d.ensures in
+    let k = rw n.ensures.0 at n.result.of_kind in
+    let e = c.enter.ensures in
+    record {
+      same = e.same ∙ c.loop-here.invariant.same;
+      long = search rules;
+      walk = rw (e.path, e.kinds, e.top) (item_on c.requires.1 c.loop-here.invariant.walk c.loop-here-test.true n.ensures.1 d k);
+      partly =
+          rw (e.path, e.top)
+          ((item_next c.requires.1 c.loop-here.invariant.walk c.loop-here-test.true n.ensures.1 d c.loop-here.invariant.partly c.requires.2).on _ _
+          (rw c.loop-here.invariant.same at c.put_row-at.ensures));
+    }
 
-pub depth-d-requires : goal.depth-d-requires
-depth-d-requires c =
-    (c.requires.0, c.requires.1.inside c.loop-i.i (omega arith))
-
-pub kind-kind-requires : goal.kind-kind-requires
-kind-kind-requires c =
-    (c.requires.0, c.requires.1.inside c.loop-i.i (omega arith))
-
-pub slice_bounds-put_row-count : goal.slice_bounds-put_row-count
-slice_bounds-put_row-count c = search (next_inside, rules)
-
-pub slice_bounds-put_row-start : goal.slice_bounds-put_row-start
-slice_bounds-put_row-start c = search (next_inside, rules)
-
-pub put_row-at-requires : goal.put_row-at-requires
-put_row-at-requires c = (
-  c.requires.0,
-  c.loop-i.invariant.2.on_path,
-  c.loop-i.invariant.2.of_kinds,
-  omega (arith, c.depth-d.ensures, (walk_below c.requires.1 c.loop-i.invariant.2 (omega arith))),
-  omega (arith, c.depth-d.ensures, (walk_steps c.requires.1 c.loop-i.invariant.2 (omega arith))),
-  c.requires.1.inside c.loop-i.i (omega arith),
-  c.kind-kind.ensures ∙ sym (kind_at _ _),
-  (next_row c.requires.1 c.loop-i.invariant.2 (omega arith) refl c.depth-d.ensures c.loop-i.invariant.3 c.requires.2).room,
-)
-
-pub overflow_add-at : goal.overflow_add-at
-overflow_add-at c = search (next_fits, rules)
-
-pub offset_bounds-path-d : goal.offset_bounds-path-d
-offset_bounds-path-d c =
-    omega (arith, c.depth-d.ensures, (walk_deep c.requires.1 c.loop-i.invariant.2 (omega arith)))
-
-pub bounds-path-d : goal.bounds-path-d
-bounds-path-d c = search (row_deep, rules)
-
-pub bounds-kinds-d : goal.bounds-kinds-d
-bounds-kinds-d c = search (row_deep, rules)
-
-pub loop-i-preserved : goal.loop-i-preserved
-loop-i-preserved c = (
-  omega arith,
-  search rules,
-  walk_on c.requires.1 c.loop-i.invariant.2 (omega arith) c.depth-d.ensures refl (c.kind-kind.ensures ∙ sym (kind_at _ _)),
-  (next_row c.requires.1 c.loop-i.invariant.2 (omega arith) refl c.depth-d.ensures c.loop-i.invariant.3 c.requires.2).on _ _
-      c.put_row-at.ensures,
-)
-
-pub slice_bounds-put_last_ends-count : goal.slice_bounds-put_last_ends-count
-slice_bounds-put_last_ends-count c = search (last_inside, rules)
-
-pub slice_bounds-put_last_ends-start : goal.slice_bounds-put_last_ends-start
-slice_bounds-put_last_ends-start c = search (last_inside, rules)
-
-pub put_last_ends-requires : goal.put_last_ends-requires
-put_last_ends-requires c = (
-  c.requires.0,
-  c.loop-i.invariant.2.on_path,
-  c.loop-i.invariant.2.of_kinds,
-  (last_ends c.requires.1 c.loop-i.invariant.2 (omega arith) c.loop-i.invariant.3 c.requires.2).room,
-)
-
-pub overflow_add-result : goal.overflow_add-result
-overflow_add-result c = search (last_fits, rules)
+pub put_ends-requires : goal.put_ends-requires
+put_ends-requires c =
+    rw c.loop-here.invariant.same
+    (rows_over c.requires.1 c.loop-here.invariant.walk (omega arith) c.loop-here.invariant.partly c.requires.2).room
 
 pub returns : goal.returns
 returns c =
-    both (last_ends c.requires.1 c.loop-i.invariant.2 (omega arith) c.loop-i.invariant.3 c.requires.2) _ _ c.put_last_ends.ensures
+    both (rows_over c.requires.1 c.loop-here.invariant.walk (omega arith) c.loop-here.invariant.partly c.requires.2) _ _
+    (rw c.loop-here.invariant.same at c.put_ends.ensures)
