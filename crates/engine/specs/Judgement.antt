@@ -81,6 +81,11 @@ abbrev pub CanStop : List ℕ → ℕ → Stop → Type 0
 CanStop s t (Refused c) = ⊤
 CanStop s t (Waits w) = (w ≡ 0 → ⊥) × Layout s × (1 ≤ t) × (t ≤ 16)
 
+-- the bytes can hold a wait for somebody; of an empty set nothing is remembered
+abbrev pub Storable : List ℕ → ℕ → Stop → Type 0
+Storable s t (Refused c) = ⊤
+Storable s t (Waits w) = (w ≡ 0 → ⊥) → Layout s × (1 ≤ t) × (t ≤ 16)
+
 -- step st of t stands at its node, has no cause before the wait, and needs these sets
 pub record Asked (s : List ℕ) (t : ℕ) (a : Site) (w : NeedWords) (st : Step) : Type 0 where
   pub standing : Standing s t (target st) a

@@ -19,7 +19,7 @@ ghost use Rattle.engine.specs.Grants.{GrantedStep};
 ghost use Rattle.engine.specs.Contract.{Performed, no_room};
 ghost use Rattle.engine.specs.Causes.{cause_of};
 ghost use Rattle.engine.specs.Admission.{Caller, site, Admitted};
-ghost use Rattle.engine.specs.Judgement.{Judged, Tried, CanStop, told, left_by};
+ghost use Rattle.engine.specs.Judgement.{Judged, Tried, Storable, told, left_by};
 
 use locks::{NeedWords, StepName};
 use protocol::{Answer, Cause};
@@ -97,9 +97,9 @@ impl From<Cause> for Stop {
     }
 }
 
-// What a step answers that was tried: a wait is remembered here, and a refusal changes nothing.
+// What a step answers that was tried: a wait is remembered here, and a refusal changes nothing, nor does a wait for nobody.
 pub fn answer(s: &mut [u8], t: u32, outcome: Result<Answer, Stop>) -> Answer
-    requires { MatchResult outcome (λ x. ⊤) (CanStop s.old t) }
+    requires { MatchResult outcome (λ x. ⊤) (Storable s.old t) }
     ensures told { result ≡ told outcome }
     ensures left { s.new ≡ left_by t outcome s.old }
     ensures performed { (first : List ℕ) (call : Call) → Tried first s.old t outcome call → Performed first s.new result call }
@@ -108,7 +108,9 @@ pub fn answer(s: &mut [u8], t: u32, outcome: Result<Answer, Stop>) -> Answer
         Ok(answer) => answer,
         Err(Stop::Refused(cause)) => Answer::from(cause),
         Err(Stop::Waits(set)) => {
-            sets::remember(s, t as usize, set);
+            if set != 0 {
+                sets::remember(s, t as usize, set);
+            }
             Answer::Waits(set)
         }
     }
@@ -153,7 +155,7 @@ pub fn grant(s: &mut [u8], at: Admission, w: NeedWords)
 // The number of the node's parent, the second on the way up, or 0 for the document.
 // T answers 0 where there is no parent (parent in tree/specs/Steps.antt), so this is no Option.
 fn parent(s: &[u8], at: Admission) -> u32
-    requires { (Layout s.now) × Climbed (nodes s.now) at.place at.way.now }
+    requires { (Layout s.now) × Climbed (nodes s.now) at.place at.way.now × (at.place < length (nodes s.now)) }
     ensures { result ≡ parent (numbers_above (nodes s.now) at.entry.place) }
 {
     match at.way.get(1) {

@@ -1,4 +1,4 @@
-use Rattle.engine.specs.Laws.Judgement.{performed_refused, performed_waits, left_refused, left_waits}
+use Rattle.engine.specs.Laws.Judgement.{performed_refused, performed_waits, left_refused, left_waits, left_none}
 use Rattle.engine.proofs.answer.Goals as goal
 
 pub returns-in-Err-Refused-clause-left : goal.returns-in-Err-Refused-clause-left
@@ -10,11 +10,15 @@ returns-in-Err-Refused-clause-performed c =
     let reason = rw arm.is at arm.field-0-is in
     λ first call h. performed_refused (rw reason at (rw arm.is at h)) c.from.ensures
 
-pub returns-in-Err-Waits-clause-left : goal.returns-in-Err-Waits-clause-left
-returns-in-Err-Waits-clause-left c = left_waits _ _ c.in-Err-Waits.is (rw c.in-Err-Waits.is at c.in-Err-Waits.field-0-is) c.requires c.remember.ensures
+pub returns-then-set-ne0-clause-left : goal.returns-then-set-ne0-clause-left
+returns-then-set-ne0-clause-left c =
+    left_waits _ _ c.in-Err-Waits.is (rw c.in-Err-Waits.is at c.in-Err-Waits.field-0-is) c.if-set-ne0.true c.remember.ensures
 
-pub returns-in-Err-Waits-clause-performed : goal.returns-in-Err-Waits-clause-performed
-returns-in-Err-Waits-clause-performed c =
+pub returns-then-set-ne0-clause-performed : goal.returns-then-set-ne0-clause-performed
+returns-then-set-ne0-clause-performed c =
     let arm = c.in-Err-Waits in
     let reason = rw arm.is at arm.field-0-is in
     λ first call h. performed_waits (rw reason at (rw arm.is at h)) c.remember.ensures
+
+pub returns-else-set-ne0-clause-left : goal.returns-else-set-ne0-clause-left
+returns-else-set-ne0-clause-left c = left_none _ _ c.in-Err-Waits.is (rw c.in-Err-Waits.is at c.in-Err-Waits.field-0-is) c.if-set-ne0.false

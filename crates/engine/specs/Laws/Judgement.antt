@@ -47,7 +47,7 @@ use Rattle.engine.specs.Grants.{Settled, GrantedStep}
 use Rattle.engine.specs.Laws.Way.{climbed_nodes, climbed_grants}
 use Rattle.engine.specs.Admission.{Site, Rejected, Standing}
 use Rattle.engine.specs.Judgement.{Cause, first_cause, own_causes, own_cause, late_causes, Stopped, with_wait}
-use Rattle.engine.specs.Judgement.{left_by, CanStop, Asked, Free, Passed, HeldBack, Halted, Tried, TriedLent}
+use Rattle.engine.specs.Judgement.{left_by, CanStop, Storable, Asked, Free, Passed, HeldBack, Halted, Tried, TriedLent}
 use Rattle.engine.specs.Laws.Causes.{cause_named}
 use Rattle.engine.specs.declared.Stop.{Stop}
 use Rattle.engine.specs.declared.Stop.TheVariants as stop
@@ -230,6 +230,15 @@ pub can_answer : (s s' : List ℕ) (t : ℕ) (r : Result Answer Stop) (call : Ca
 can_answer s s' t (Ok a) call h = tt
 can_answer s s' t (Err x) call h = rw h.same h.can_stop
 
+can_store : (s : List ℕ) (t : ℕ) (x : Stop) → CanStop s t x → Storable s t x
+can_store s t (stop.Refused c) h = tt
+can_store s t (stop.Waits w) h = λ n. (h.1, h.2, h.3)
+
+pub can_remember : (s s' : List ℕ) (t : ℕ) (r : Result Answer Stop) (call : Call) → Tried s s' t r call
+    → MatchResult r (λ a. ⊤) (Storable s' t)
+can_remember s s' t (Ok a) call h = tt
+can_remember s s' t (Err x) call h = can_store s' t x (can_answer s s' t (Err x) call h)
+
 pub tried_lent : (lent : Value → List ℕ) (s s' b b' : List ℕ) (t : ℕ) (r : Result Answer Stop) (call : Call) → Tried s s' t r call
     → TriedLent lent s b b' r call
     → Lent lent s b b' call
@@ -253,9 +262,14 @@ unfolding with_wait
 left_refused s t e f = rw (e, f) refl
 
 pub left_waits : (s : List ℕ) {s' : List ℕ} (t : ℕ) {w : ℕ} {o : Result Answer Stop} {x : Stop} → o ≡ Err x → x ≡ stop.Waits w
-    → MatchResult o (λ y. ⊤) (CanStop s t) → s' ≡ put_word s (set_at t) w → s' ≡ left_by t o s
+    → (w ≡ 0 → ⊥) → s' ≡ put_word s (set_at t) w → s' ≡ left_by t o s
 unfolding with_wait
-left_waits s t {w = w} e f h k = let q = (rw (e, f) at h) in rw (e, f) (rw (ne_eqb w 0 q.0) k)
+left_waits s t {w = w} e f n k = rw (e, f) (rw (ne_eqb w 0 n) k)
+
+-- behind a wait for nobody
+pub left_none : (s : List ℕ) (t : ℕ) {w : ℕ} {o : Result Answer Stop} {x : Stop} → o ≡ Err x → x ≡ stop.Waits w → w ≡ 0 → s ≡ left_by t o s
+unfolding with_wait
+left_none s t e f z = rw (e, f, z) refl
 
 -- behind the wait --------------------------------------------------------------------------
 

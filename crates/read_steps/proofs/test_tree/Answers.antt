@@ -1,8 +1,8 @@
-use Rattle.engine.specs.Laws.Judgement.{can_answer, tried_lent}
+use Rattle.engine.specs.Laws.Judgement.{can_remember, tried_lent}
 use Rattle.read_steps.proofs.test_tree.Goals as goal
 
 pub answer-requires : goal.answer-requires
-answer-requires c = can_answer _ _ _ _ _ c.try_test_tree-outcome.ensures.0
+answer-requires c = can_remember _ _ _ _ _ c.try_test_tree-outcome.ensures.0
 
 pub returns : goal.returns
 returns c =
