@@ -58,17 +58,30 @@ pub own_saved : (s : List ℕ) (i t r : ℕ) → r ≡ writer_of (get_or (nodes 
     → has_text 1 (get_or (nodes s) i no_entry).1 ≡ true
 own_saved s i t r e p l = rw (ne_eqb (writer_of (get_or (nodes s) i no_entry).1.update) nobody (λ q. omega arith))
 
-pub rewritten_own : {s s' s'' : List ℕ} (i t r : ℕ) → r ≡ writer_of (get_or (nodes s) i no_entry).1.update → r ≡ t
+pub rewritten_own : {s s' : List ℕ} (i t r : ℕ) → r ≡ writer_of (get_or (nodes s) i no_entry).1.update → r ≡ t
+    → Kept s s' (modify i (second restored) (nodes s)) → Kept s s' (modify i (second (rewritten t)) (nodes s))
+rewritten_own {s} i t r e p k =
+    let a : Marked = (get_or (nodes s) i no_entry).1 in
+    same_kept i restored (rewritten t) (rw (eq-eqb (writer_of a.update) t (sym e ∙ p))) k
+
+pub not_rewritten : (s : List ℕ) (i t r : ℕ) → r ≡ writer_of (get_or (nodes s) i no_entry).1.update → (r ≡ t → ⊥) → Layout s
+    → Kept s s (modify i (second (rewritten t)) (nodes s))
+not_rewritten s i t r e p h =
+    let a : Marked = (get_or (nodes s) i no_entry).1 in
+    none_kept s i (rewritten t) (rw (ne_eqb (writer_of a.update) t (λ x. p (e ∙ x)))) h
+
+-- the same, with the mark cleared behind it
+pub written_cleared : {s s' s'' : List ℕ} (i t r : ℕ) → r ≡ writer_of (get_or (nodes s) i no_entry).1.update → r ≡ t
     → Kept s s' (modify i (second restored) (nodes s)) → Kept s' s'' (modify i (second (with_field 1 nobody)) (nodes s'))
     → Kept s s'' (modify i (second (λ a. without_mark 1 t (rewritten t a))) (nodes s))
-rewritten_own {s} i t r e p j k =
+written_cleared {s} i t r e p j k =
     let a : Marked = (get_or (nodes s) i no_entry).1 in
     same_kept i (λ b. with_field 1 nobody (restored b)) (λ b. without_mark 1 t (rewritten t b)) (rw (eq-eqb (writer_of a.update) t (sym e ∙ p)))
     (both_marks i restored (with_field 1 nobody) j k)
 
-pub not_rewritten : (s : List ℕ) (i t r : ℕ) → r ≡ writer_of (get_or (nodes s) i no_entry).1.update → (r ≡ t → ⊥) → Layout s
+pub unwritten_cleared : (s : List ℕ) (i t r : ℕ) → r ≡ writer_of (get_or (nodes s) i no_entry).1.update → (r ≡ t → ⊥) → Layout s
     → Kept s s (modify i (second (λ a. without_mark 1 t (rewritten t a))) (nodes s))
-not_rewritten s i t r e p h =
+unwritten_cleared s i t r e p h =
     let a : Marked = (get_or (nodes s) i no_entry).1 in
     none_kept s i (λ b. without_mark 1 t (rewritten t b)) (rw (ne_eqb (writer_of a.update) t (λ x. p (e ∙ x)))) h
 

@@ -1,5 +1,5 @@
-use Rattle.engine.specs.Laws.Judgement.{can_answer}
+use Rattle.engine.specs.Laws.Judgement.{can_remember}
 use Rattle.write_steps.proofs.delete.Goals as goal
 
 pub answer-requires : goal.answer-requires
-answer-requires c = can_answer _ _ _ _ _ c.try_delete-outcome.ensures
+answer-requires c = can_remember _ _ _ _ _ c.try_delete-outcome.ensures

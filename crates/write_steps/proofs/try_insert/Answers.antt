@@ -11,7 +11,7 @@ use Rattle.engine.specs.Laws.Causes.{cause_named}
 use Rattle.engine.specs.Laws.Outcomes.{performed_grants}
 use Rattle.engine.specs.Laws.Judgement.{asked, tried_rejected, tried_own, tried_judged, tried_refused, free_fits, free_refused, free_granted, free_locked}
 use Rattle.write_steps.specs.Laws.Contents.{allowed_short, kind_small}
-use Rattle.write_steps.specs.Laws.Inserts.{standing_depth, insert_spare, insert_counted, insert_left}
+use Rattle.write_steps.specs.Laws.Inserts.{standing_depth, room_left, place_counted, insert_left}
 use Rattle.write_steps.proofs.try_insert.Goals as goal
 
 pub returns-in_err-at : goal.returns-in_err-at
@@ -43,7 +43,7 @@ new_place-q-requires c =
     let a = asked name.I (I c.args.m c.args.kind c.args.b.now c.args.n c.args.k) refl c.in_ok-at.ensures c.in_ok-insert_cause.ensures
     c.needed-need.ensures in
     let f = c.in_ok-judge.ensures.free a in
-    (f.standing.layout, f.standing.inside, insert_counted f c.in_ok-place_cause.ensures)
+    (f.standing.layout, f.standing.inside, place_counted f c.in_ok-place_cause.ensures)
 
 pub overflow_add-d : goal.overflow_add-d
 overflow_add-d c =
@@ -65,7 +65,7 @@ put-requires c =
     let f = c.in_ok-judge.ensures.free a in
     let g = free_locked f c.grant.ensures in (
       g.left.layout,
-      omega (arith, g.many, insert_spare f c.in_ok-place_cause.ensures),
+      omega (arith, g.many, room_left f c.in_ok-place_cause.ensures),
       omega (arith, g.many, c.new_place-q.ensures.1),
       allowed_short _ _ (not-false _ (free_fits f).1),
       f.standing.low,

@@ -1,8 +1,8 @@
 -- I on the node at p: its depth, causes 11 and 12, and the rows that it leaves.
 use Rattle.std.specs.Prelude.{◌≡◌, ℕ, zero, suc, ◌+◌, ◌≤◌, ◌<◌, Bool, true, false, cond, not, ◌&&◌, ◌||◌, List, [], ◌∷◌, map, length, eqb, leb}
-use Rattle.std.proofs.Common.{refl, arith}
+use Rattle.std.proofs.Common.{refl, sym, ◌∙◌, arith}
 use Rattle.std.proofs.Math.Numerals.{add-one}
-use borrow.Author.Tests.{leb-false, leb-true, eqb-true}
+use borrow.Author.Tests.{le-leb, lt-leb, leb-false, leb-true, eqb-true}
 use Rattle.tree.specs.Content.{between}
 use Rattle.tree.specs.Steps.{I, placed}
 use Rattle.tree.specs.Laws.Tests.{and_left, and_right}
@@ -49,9 +49,26 @@ pub standing_depth : {s : List ℕ} {t n : ℕ} {a : Site} → Standing s t n a 
 standing_depth {s} {a = a} f =
     omega (arith, depth_small (nodes s) a.place (form_parts f.formed).rows f.inside, f.inside, f.layout.room, f.layout.many)
 
--- neither cause 11 nor 12, and the rows --------------------------------------------------------
+-- causes 11 and 12, neither of them, and the rows ------------------------------------------------
 
 module _ {s : List ℕ} {t : ℕ} {a : Site} {w : NeedWords} {m kind n k : ℕ} {b : List ℕ} (f : Free s t a w (I m kind b n k)) where
+  module _ {r : Bool}
+      (e : r ≡ placed (item (nodes s) a.place).now.kind kind k (map (λ c. c.now.kind) (children a.t (nodes s) a.place))) where
+    pub insert_misplaced : r ≡ false → 11 ≡ first_cause (late_causes a.t (I m kind b n k) no_room (nodes s) a.place)
+    insert_misplaced z = rw (← e, z)
+
+    module _ (z : r ≡ true) where
+      pub insert_full : 1024 ≤ length (nodes s) → 12 ≡ first_cause (late_causes a.t (I m kind b n k) no_room (nodes s) a.place)
+      insert_full h = rw (← e, z, le-leb 1024 (length (nodes s)) h)
+
+      pub insert_spare : length (nodes s) < 1024 → first_cause (late_causes a.t (I m kind b n k) no_room (nodes s) a.place) ≡ 0
+      unfolding first_lent second_lent
+      insert_spare h = rw (← e, z, lt-leb 1024 (length (nodes s)) h)
+
+      pub insert_counted : 1 ≤ k
+      unfolding placed
+      insert_counted = leb-true 1 k (and_left _ _ (and_left _ _ (sym e ∙ z)))
+
   module _ (e : 0 ≡ first_cause (late_causes a.t (I m kind b n k) no_room (nodes s) a.place)) where
     insert_placed : (placed (item (nodes s) a.place).now.kind kind k (map (λ c. c.now.kind) (children a.t (nodes s) a.place)) ≡ true)
         × (leb 1024 (length (nodes s)) ≡ false)
@@ -64,12 +81,11 @@ module _ {s : List ℕ} {t : ℕ} {a : Site} {w : NeedWords} {m kind n k : ℕ} 
         go true false e = (refl, refl)
         go false y e = absurd (omega arith)
 
-    pub insert_spare : length (nodes s) < 1024
-    insert_spare = leb-false 1024 (length (nodes s)) insert_placed.1
+    pub room_left : length (nodes s) < 1024
+    room_left = leb-false 1024 (length (nodes s)) insert_placed.1
 
-    pub insert_counted : 1 ≤ k
-    unfolding placed
-    insert_counted = leb-true 1 k (and_left _ _ (and_left _ _ insert_placed.0))
+    pub place_counted : 1 ≤ k
+    place_counted = insert_counted refl insert_placed.0
 
   pub insert_left : {s₁ s₂ : List ℕ} (q d : ℕ) → q ≡ new_place a.t k a.place (nodes s) → d ≡ depth (nodes s) a.place
       → GrantedStep s s₁ a.t w a.way
