@@ -8,8 +8,10 @@ ghost use Rattle.xml_tokens.specs.Classes.{begins, alone, ascii_name};
 pub fn may_stand(b: u8, stop: u8, k: usize) -> bool
     ensures { result ≡ begins stop k b }
 {
+    if b > b'>' {
+        return tree::text_byte(b);
+    }
     match b {
-        b'?'..=255 => tree::text_byte(b),
         b'&' => true,
         b'<' => false,
         b'>' => stop != b'<' || k != 2,

@@ -30,7 +30,8 @@ fn put_body(out: &mut [u8], s: &[u8], rows: &Rows) -> usize
     at + open.put_ends(&mut out[at..], 0)
 }
 
-// What stands for the rows of the document.
+// What stands for the rows of the document. Not inlined, since write would take 1 KB more of the stack.
+#[inline(never)]
 #[tactic(auto, unfolding(xml_text::specs::Rows::written_rows))]
 fn put_document(out: &mut [u8], s: &[u8], rows: &Rows) -> usize
     requires { (Layout s.now) × (Listed (nodes s.now) rows.now.places rows.now.count)

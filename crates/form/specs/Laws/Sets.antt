@@ -77,17 +77,17 @@ module _ (opens t w : ℕ) where
 -- all sets ---------------------------------------------------------------------------------------
 
 -- those below t pass
-pub Passed : List ℕ → ℕ → Type 0
-Passed s t = (v : ℕ) → 1 ≤ v → v < t → set_open (word s open_at) v (word s (set_at v)) ≡ true
+pub PassedBelow : List ℕ → ℕ → Type 0
+PassedBelow s t = (v : ℕ) → 1 ≤ v → v < t → set_open (word s open_at) v (word s (set_at v)) ≡ true
 
 module _ (s : List ℕ) where
-  pub passed_none : Passed s 1
-  unfolding Passed
-  passed_none v a b = absurd (omega arith)
+  pub below_none : PassedBelow s 1
+  unfolding PassedBelow
+  below_none v a b = absurd (omega arith)
 
-  pub passed_more : (t : ℕ) → Passed s t → set_open (word s open_at) t (word s (set_at t)) ≡ true → Passed s (t + 1)
-  unfolding Passed
-  passed_more t p e v a b = go (eqb v t) refl
+  pub below_more : (t : ℕ) → PassedBelow s t → set_open (word s open_at) t (word s (set_at t)) ≡ true → PassedBelow s (t + 1)
+  unfolding PassedBelow
+  below_more t p e v a b = go (eqb v t) refl
     where
       go : (x : Bool) → eqb v t ≡ x → set_open (word s open_at) v (word s (set_at v)) ≡ true
       go true q = rw (eqb-true v t q) e
@@ -102,9 +102,9 @@ module _ (s : List ℕ) where
   row_is t a b = let o = word s open_at in
       ap (λ (S : ℕ → Bool). every (λ u. not (S u) || (in_set o t && in_set o u)) transactions) (sym (set_word s t a b))
 
-  pub passed_all : (t : ℕ) → t ≡ 17 → Passed s t → true ≡ sets_open (header s)
-  unfolding Passed row sets_open
-  passed_all t e p = sym (all_sixteen row (λ v a b. row_is v a b ∙ p v a (omega arith)))
+  pub below_all : (t : ℕ) → t ≡ 17 → PassedBelow s t → true ≡ sets_open (header s)
+  unfolding PassedBelow row sets_open
+  below_all t e p = sym (all_sixteen row (λ v a b. row_is v a b ∙ p v a (omega arith)))
 
   pub one_fails : (t : ℕ) → 1 ≤ t → t ≤ 16 → set_open (word s open_at) t (word s (set_at t)) ≡ false → false ≡ sets_open (header s)
   unfolding row sets_open

@@ -1,10 +1,10 @@
 use borrow.Author.Rules.{rules}
 use mathlib.Core.Path.{sym}
-use Rattle.form.specs.Laws.Sets.{passed_none, passed_more, passed_all, one_fails}
+use Rattle.form.specs.Laws.Sets.{below_none, below_more, below_all, one_fails}
 use Rattle.form.proofs.sets.among_open.Goals as goal
 
 pub loop-t-init : goal.loop-t-init
-loop-t-init c = passed_none _
+loop-t-init c = below_none _
 
 pub returns-then-not-set_open : goal.returns-then-not-set_open
 returns-then-not-set_open c =
@@ -12,7 +12,7 @@ returns-then-not-set_open c =
 
 pub loop-t-preserved : goal.loop-t-preserved
 loop-t-preserved c =
-    passed_more _ c.loop-t.t c.loop-t.invariant (rw (← c.word-opens.ensures, ← c.set.ensures) (sym c.if-not-set_open.ensures))
+    below_more _ c.loop-t.t c.loop-t.invariant (rw (← c.word-opens.ensures, ← c.set.ensures) (sym c.if-not-set_open.ensures))
 
 pub returns : goal.returns
-returns c = passed_all _ c.loop-t.t (search rules) c.loop-t.invariant
+returns c = below_all _ c.loop-t.t (search rules) c.loop-t.invariant
