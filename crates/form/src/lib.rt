@@ -16,25 +16,11 @@ ghost use Rattle.form.specs.Check.{valid_header, marked, sum, cell_in_range, val
 use table::layout;
 use table::outline::Entry;
 
-// Whether s begins with the bytes of b.
-// A loop: with starts_with, one in four places that a linker may give to `formed` makes the loop of mark_slots take twice as long.
-fn begins(s: &[u8], b: &[u8]) -> bool
-    requires { length b.now ≤ length s.now }
-    ensures { result ≡ same (part s.now 0 (length b.now)) b.now }
-{
-    for (i, x) in b.iter().enumerate() {
-        if s[i] != *x {
-            return false;
-        }
-    }
-    true
-}
-
 // Whether the bytes are enough, and begin as those of a state.
 fn header(s: &[u8]) -> bool
     ensures { result ≡ valid_header s.now }
 {
-    if s.len() < layout::SIZE || !begins(s, &layout::MARK) {
+    if s.len() < layout::SIZE || !s.starts_with(&layout::MARK) {
         return false;
     }
     let n = usize::from(layout::word(s, layout::COUNT));
@@ -43,6 +29,8 @@ fn header(s: &[u8]) -> bool
 
 // Marks the slots of all entries of the outline, each at its remainder modulo 1,024; whether all are below 1,024. The bits of all slots are
 // joined, so that no turn of the loop branches on a slot.
+// Not inlined: within `formed` the loop is a byte longer, and takes twice as long at one of four places that a linker may give to it.
+#[inline(never)]
 fn mark_slots(s: &[u8], met: &mut [u8; 1024]) -> bool
     requires { state_size ≤ length s.now }
     ensures { (result ≡ every (λ k. ltb k node_limit) (slots s.now))

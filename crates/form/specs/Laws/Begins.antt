@@ -1,35 +1,26 @@
--- The comparison of the first bytes, turn by turn.
-use Rattle.std.specs.Prelude.{◌≡◌, refl, ℕ, ◌+◌, ◌≤◌, ◌<◌, Bool, true, false, List, length, get_or, drop}
-use Rattle.std.proofs.Math.Path.{sym}
-use Rattle.std.proofs.Common.{ap, ◌∙◌, arith, zero-add}
+-- The comparison of the first bytes: as `starts_with` compares, and as the form does.
+use Rattle.std.specs.Prelude.{◌≡◌, refl, ℕ, Bool, true, false, List, [], ◌∷◌, length, eqb}
+use Rattle.std.specs.List.{starts_with}
+use Rattle.std.specs.Cmp.Lexicographic.{pointwise}
+use Rattle.std.proofs.Common.{sym, ◌∙◌, eqb-true, eq-eqb}
+use Rattle.std.proofs.lemmas.Bool.{eqb-false}
+use borrow.Author.Tests.{ne_eqb}
 use Rattle.tree.specs.Lists.{same}
-use Rattle.tree.specs.Laws.Compare.{same_differs, same_turn, same_end}
 use Rattle.table.specs.Layout.{part}
-use Rattle.table.specs.Laws.Bytes.{length_part, part_at}
 
--- the first bytes of s against b, from place i on
-unfoldable pub same_from : ℕ → List ℕ → List ℕ → Bool
-same_from i s b = same (drop i (part s 0 (length b))) (drop i b)
+eqb_swap : (a b : ℕ) → eqb a b ≡ eqb b a
+eqb_swap a b = go (eqb a b) refl
+  where
+    go : (t : Bool) → eqb a b ≡ t → eqb a b ≡ eqb b a
+    go true p = p ∙ sym (eq-eqb b a (sym (eqb-true a b p)))
+    go false p = p ∙ sym (ne_eqb b a (λ e. eqb-false a b p (sym e)))
 
-pub begins_start : (s b : List ℕ) → same (part s 0 (length b)) b ≡ same_from 0 s b
-unfolding same_from
-begins_start s b = refl
+same_pointwise : (a b : List ℕ) → same a b ≡ pointwise eqb b a
+same_pointwise [] [] = refl
+same_pointwise [] (y ∷ b) = refl
+same_pointwise (x ∷ a) [] = refl
+same_pointwise (x ∷ a) (y ∷ b) = rw (eqb_swap x y, same_pointwise a b)
 
-module _ (s b : List ℕ) (i : ℕ) (f : length b ≤ length s) (v : same (part s 0 (length b)) b ≡ same_from i s b) where
-  long : length (part s 0 (length b)) ≡ length b
-  long = length_part s 0 (length b) (omega arith)
-
-  byte : i < length b → get_or (part s 0 (length b)) i 0 ≡ get_or s i 0
-  byte h = part_at s 0 (length b) i h ∙ ap (λ (j : ℕ). get_or s j 0) (zero-add i)
-
-  pub begins_differs : i < length b → (get_or s i 0 ≡ get_or b i 0 → ⊥) → false ≡ same (part s 0 (length b)) b
-  unfolding same_from
-  begins_differs h ne = sym (same_differs _ b i v (sym long) (omega (arith, long)) (λ e. ne (sym (e ∙ byte h))))
-
-  pub begins_next : i < length b → get_or s i 0 ≡ get_or b i 0 → same (part s 0 (length b)) b ≡ same_from (i + 1) s b
-  unfolding same_from
-  begins_next h e = same_turn _ b i v (sym long) (omega (arith, long)) (sym (byte h ∙ e))
-
-  pub begins_end : length b ≤ i → true ≡ same (part s 0 (length b)) b
-  unfolding same_from
-  begins_end h = sym (same_end _ b i v (sym long) (omega (arith, long)))
+pub starts_same : (s b : List ℕ) → same (part s 0 (length b)) b ≡ starts_with eqb s b
+unfolding part
+starts_same s b = same_pointwise _ b
