@@ -155,12 +155,12 @@ pub fn grant(s: &mut [u8], at: Admission, w: NeedWords)
 // The number of the node's parent, the second on the way up, or 0 for the document.
 // T answers 0 where there is no parent (parent in tree/specs/Steps.antt), so this is no Option.
 fn parent(s: &[u8], at: Admission) -> u32
-    requires { (Layout s.now) × Climbed (nodes s.now) at.place at.way.now × (at.place < length (nodes s.now)) }
+    requires { (Layout s.now) × Climbed (nodes s.now) at.place at.way.now }
     ensures { result ≡ parent (numbers_above (nodes s.now) at.entry.place) }
 {
-    match at.way.get(1) {
-        Some(place) => table::number(s, usize::from(*place)),
-        None => 0,
+    match at.way {
+        [_, place, ..] => table::number(s, usize::from(*place)),
+        _ => 0,
     }
 }
 

@@ -38,8 +38,14 @@ impl Cursor {
                 behind: Cursor { at: to },
                 length: count + (to - at),
             }),
-            Err(n) if n <= room => Err(Refusal::new(Cause::NotOfGrammar, at + n)),
-            _ => Err(Refusal::new(Cause::ContentOverLimit, full)),
+            Err(n) if n <= room => Err(Refusal {
+                cause: Cause::NotOfGrammar,
+                offset: at + n,
+            }),
+            _ => Err(Refusal {
+                cause: Cause::ContentOverLimit,
+                offset: full,
+            }),
         }
     }
 
