@@ -7,7 +7,7 @@ ghost use Rattle.tree.specs.Content.{name_start, name_byte, text_byte, is_name, 
 pub mod characters;
 
 // Classes of bytes by comparisons: a table in a constant would be laid out anew at each lookup. Small letters, the most frequent, come
-// first; a match over all ranges is compiled to comparisons in another order, with which load of such names takes more instructions.
+// first; a match over all ranges is compiled to comparisons in another order, and load of names in small letters takes more instructions.
 #[tactic(auto, unfolding(crate::specs::Content::name_start))]
 pub fn name_start(x: u8) -> bool
     ensures { result ≡ name_start x }

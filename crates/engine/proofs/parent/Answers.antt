@@ -1,4 +1,4 @@
-use mathlib.Core.Path.{sym, ◌∙◌}
+use mathlib.Core.Path.{◌∙◌}
 use Rattle.engine.specs.Laws.Way.{climbed_top, climbed_parent}
 use Rattle.engine.proofs.parent.Goals as goal
 
